@@ -21,8 +21,10 @@ pub bit_below-true : (b : List ℕ) (end k : ℕ) → k < end → true ≡ bit b
 bit_below-true b end k below is = and_from _ _ (lt-ltb k end below) (sym is)
 
 -- the first bit that is 1, and as many as are 1 from there on
-IsFirstRun-found : (b : List ℕ) (end from most k count : ℕ) → from ≤ k → ((j : ℕ) → from ≤ j → j < k → bit_below b end j ≡ false) → k < end → bit_below b end k ≡ true → 0 < most
-    → count ≤ min most 256 → ((j : ℕ) → k ≤ j → j < k + count → bit_below b end j ≡ true) → (count < min most 256 → bit_below b end (k + count) ≡ false) → IsFirstRun (bit_below b end) from most k count
+IsFirstRun-found : (b : List ℕ) (end from most k count : ℕ) → from ≤ k → ((j : ℕ) → from ≤ j → j < k → bit_below b end j ≡ false) → k < end
+    → bit_below b end k ≡ true → 0 < most
+    → count ≤ min most 256 → ((j : ℕ) → k ≤ j → j < k + count → bit_below b end j ≡ true)
+    → (count < min most 256 → bit_below b end (k + count) ≡ false) → IsFirstRun (bit_below b end) from most k count
 IsFirstRun-found b end from most k count above first below here some short each ended =
     record {
       above = above;
@@ -41,6 +43,7 @@ IsFirstRun-found b end from most k count above first below here some short each 
     }
 
 pub IsFirstRun-set : (b : List ℕ) (end from most k count : ℕ) → IsFirstSet (bit_below b end) from end k → 0 < most → count ≤ min most 256
-    → ((j : ℕ) → k ≤ j → j < k + count → bit_below b end j ≡ true) → (count < min most 256 → bit_below b end (k + count) ≡ false) → IsFirstRun (bit_below b end) from most k count
+    → ((j : ℕ) → k ≤ j → j < k + count → bit_below b end j ≡ true) → (count < min most 256 → bit_below b end (k + count) ≡ false)
+    → IsFirstRun (bit_below b end) from most k count
 IsFirstRun-set b end from most k count first some short each ended =
     IsFirstRun-found b end from most k count first.above first.before first.below first.is_set some short each ended

@@ -27,25 +27,46 @@ count_below-le test (suc n) =
     ]
 
 -- the numbers below the first n, and those from there on
-pub count_below-append : (p q : ℕ → Bool) (n m : ℕ) → ((k : ℕ) → k < m → p (n + k) ≡ q k) → count_below p (n + m) ≡ count_below p n + count_below q m
+pub count_below-append : (p q : ℕ → Bool) (n m : ℕ) → ((k : ℕ) → k < m → p (n + k) ≡ q k)
+    → count_below p (n + m) ≡ count_below p n + count_below q m
 count_below-append p q n zero agree = let none : n + 0 ≡ n = omega arith in omega (arith, ap (count_below p) none, count_below-zero q)
 count_below-append p q n (suc m) agree =
     let sum : n + suc m ≡ suc (n + m) = omega arith in
     let last : p (n + m) ≡ q m = agree m (omega arith) in
-    omega (arith, ap (count_below p) sum, count_below-suc p (n + m), count_below-suc q m, ap one_if last, count_below-append p q n m (λ k below. agree k (omega arith)))
+    omega (
+      arith,
+      ap (count_below p) sum,
+      count_below-suc p (n + m),
+      count_below-suc q m,
+      ap one_if last,
+      count_below-append p q n m (λ k below. agree k (omega arith)),
+    )
 
 -- where n numbers in a row pass so many do
-pub count_below-run : (test : ℕ → Bool) (from n end : ℕ) → from + n ≤ end → ((k : ℕ) → from ≤ k → k < from + n → test k ≡ true) → n ≤ count_below test end
+pub count_below-run : (test : ℕ → Bool) (from n end : ℕ) → from + n ≤ end → ((k : ℕ) → from ≤ k → k < from + n → test k ≡ true)
+    → n ≤ count_below test end
 count_below-run test from n end within each =
     let whole : from + n + (end - (from + n)) ≡ end = omega (arith, within) in
-    omega (arith, upto n (λ k low high. each k low high), count_below-append test (λ k. test (from + n + k)) (from + n) (end - (from + n)) (λ k below. refl), ap (count_below test) whole)
+    omega (
+      arith,
+      upto n (λ k low high. each k low high),
+      count_below-append test (λ k. test (from + n + k)) (from + n) (end - (from + n))
+          (λ k below. refl),
+      ap (count_below test) whole,
+    )
   where
     upto : (m : ℕ) → ((k : ℕ) → from ≤ k → k < from + m → test k ≡ true) → m ≤ count_below test (from + m)
     upto zero passes = omega arith
     upto (suc m) passes =
         let sum : from + suc m ≡ suc (from + m) = omega arith in
         let last : test (from + m) ≡ true = passes (from + m) (omega arith) (omega arith) in
-        omega (arith, ap (count_below test) sum, count_below-suc test (from + m), ap one_if last, upto m (λ k low high. passes k low (omega (arith, high))))
+        omega (
+          arith,
+          ap (count_below test) sum,
+          count_below-suc test (from + m),
+          ap one_if last,
+          upto m (λ k low high. passes k low (omega (arith, high))),
+        )
 
 -- tests that agree but for count numbers from lbn on, which pass the one and not the other
 pub count_below-more : (p q : ℕ → Bool) (lbn count n : ℕ) → lbn + count ≤ n
@@ -74,4 +95,5 @@ count_below-more p q lbn count n within passes fails before after = omega (arith
 -- as many pass two tests that agree
 pub count_below-same : (p q : ℕ → Bool) (n : ℕ) → ((k : ℕ) → p k ≡ q k) → count_below p n ≡ count_below q n
 count_below-same p q zero agree = count_below-zero p ∙ sym (count_below-zero q)
-count_below-same p q (suc n) agree = omega (arith, count_below-suc p n, count_below-suc q n, ap one_if (agree n), count_below-same p q n agree)
+count_below-same p q (suc n) agree =
+    omega (arith, count_below-suc p n, count_below-suc q n, ap one_if (agree n), count_below-same p q n agree)

@@ -1,5 +1,6 @@
 -- Facts about room for n free blocks in a row, sought a bitmap block at a time.
-use Rattle.std.proofs.Common.{◌≡◌, inl, inr, ℕ, ◌+◌, ◌-◌, ◌*◌, ◌<◌, ◌≤◌, min, Bool, true, false, List, get_or, Some, sym, ap, subst, ◌∙◌, arith}
+use Rattle.std.proofs.Common.{◌≡◌, inl, inr, ℕ, ◌+◌, ◌-◌, ◌*◌, ◌<◌, ◌≤◌, min, Bool, true, false, List, get_or, Some, sym, ap, subst, ◌∙◌}
+use Rattle.std.proofs.Common.{arith}
 use Rattle.std.specs.List.{slice_get}
 use Rattle.std.proofs.lemmas.Bool.{cases_lt, both_ways}
 use Rattle.f11_bytes.specs.Bits.{bit}
@@ -23,7 +24,8 @@ abbrev pub AreBits : (ℕ → Bool) → ℕ → ℕ → List ℕ → Type 0
 AreBits free begin end block = (k : ℕ) → k < end → free (begin + k) ≡ bit block k
 
 -- the first room goes on, up to where it has n blocks or the bitmap block ends
-pub first_room-on : (free : ℕ → Bool) (n begin start end rest : ℕ) (block : List ℕ) → AreBits free begin end block → start ≤ begin → rest ≡ min end (n - (begin - start))
+pub first_room-on : (free : ℕ → Bool) (n begin start end rest : ℕ) (block : List ℕ) → AreBits free begin end block → start ≤ begin
+    → rest ≡ min end (n - (begin - start))
     → ((k : ℕ) → 0 ≤ k → k < rest → bit block k ≡ true) → IsFirstRoom free n 0 begin start → IsFirstRoom free n 0 (begin + end) start
 first_room-on free n begin start end rest block are above rest_is each room = record {
   above = room.above;
@@ -39,8 +41,10 @@ first_room-on free n begin start end rest block are above rest_is each room = re
 }
 
 -- a used block is within its reach, and the first room behind that is the first
-pub first_room-next : (free : ℕ → Bool) (n begin start end rest used at : ℕ) (block : List ℕ) → AreBits free begin end block → start ≤ begin → rest ≡ min end (n - (begin - start))
-    → used < rest → bit block used ≡ false → IsFirstRoom (bit block) n (used + 1) end at → IsFirstRoom free n 0 begin start → IsFirstRoom free n 0 (begin + end) (begin + at)
+pub first_room-next : (free : ℕ → Bool) (n begin start end rest used at : ℕ) (block : List ℕ) → AreBits free begin end block → start ≤ begin
+    → rest ≡ min end (n - (begin - start))
+    → used < rest → bit block used ≡ false → IsFirstRoom (bit block) n (used + 1) end at → IsFirstRoom free n 0 begin start
+    → IsFirstRoom free n 0 (begin + end) (begin + at)
 first_room-next free n begin start end rest used at block are above rest_is near is found room = record {
   above = omega arith;
   within = omega (arith, found.within);
@@ -53,29 +57,35 @@ first_room-next free n begin start end rest used at block are above rest_is near
     | inr late ↦ elim (cases_lt (begin + used) j) [
       | inl past ↦ λ further. found.first (j - begin) (omega (arith, past)) (omega (arith, past, high)) (λ k up down inside.
           sym (are k inside) ∙ further (begin + k) (omega (arith, up, past)) (omega (arith, down, past)) (omega (arith, inside)))
-      | inr behind ↦ no-room free n (begin + end) j (begin + used) (are used (omega (arith, near, rest_is)) ∙ is) behind (omega (arith, near, rest_is, late, above)) (omega (arith, near, rest_is))
+      | inr behind ↦ no-room free n (begin + end) j (begin + used) (are used (omega (arith, near, rest_is)) ∙ is) behind
+          (omega (arith, near, rest_is, late, above)) (omega (arith, near, rest_is))
     ]
   ];
 }
 
 -- the bits of a bitmap block tell which of its blocks are free
-are-bits : (image : Image) (bitmap : Bitmap) (index end : ℕ) (block : List ℕ) → end ≡ min (bitmap.size - 4096 * index) 4096 → slice_get image (get_or bitmap.places index 0) ≡ Some block
+are-bits : (image : Image) (bitmap : Bitmap) (index end : ℕ) (block : List ℕ) → end ≡ min (bitmap.size - 4096 * index) 4096
+    → slice_get image (get_or bitmap.places index 0) ≡ Some block
     → AreBits (is_free image bitmap) (index * 4096) end block
 are-bits image bitmap index end block end_is stands k below =
     let at : index * 4096 + k ≡ 4096 * index + k = omega arith in
-    ap (is_free image bitmap) at ∙ is_free-bit image bitmap (4096 * index + k) (omega (arith, below, end_is)) ∙ bitmap_bit-at image bitmap index k block (omega (arith, below, end_is)) stands
+    ap (is_free image bitmap) at ∙ is_free-bit image bitmap (4096 * index + k) (omega (arith, below, end_is))
+    ∙ bitmap_bit-at image bitmap index k block (omega (arith, below, end_is)) stands
 
 -- the first room, one bitmap block further
-pub first_room-more : (image : Image) (bitmap : Bitmap) (n index start end next : ℕ) (block : List ℕ) → 4096 * index < bitmap.size → end ≡ min (bitmap.size - 4096 * index) 4096
+pub first_room-more : (image : Image) (bitmap : Bitmap) (n index start end next : ℕ) (block : List ℕ) → 4096 * index < bitmap.size
+    → end ≡ min (bitmap.size - 4096 * index) 4096
     → slice_get image (get_or bitmap.places index 0) ≡ Some block
-    → ((free : ℕ → Bool) → AreBits free (index * 4096) end block → IsFirstRoom free n 0 (index * 4096) start → IsFirstRoom free n 0 (index * 4096 + end) next)
+    → ((free : ℕ → Bool) → AreBits free (index * 4096) end block → IsFirstRoom free n 0 (index * 4096) start
+    → IsFirstRoom free n 0 (index * 4096 + end) next)
     → IsFirstRoom (is_free image bitmap) n 0 (min (4096 * index) bitmap.size) start
     → IsFirstRoom (is_free image bitmap) n 0 (min (4096 * (index + 1)) bitmap.size) next
 first_room-more image bitmap n index start end next block inside end_is stands further room =
     let begin : min (4096 * index) bitmap.size ≡ index * 4096 = omega (arith, inside) in
     let stop : index * 4096 + end ≡ min (4096 * (index + 1)) bitmap.size = omega (arith, inside, end_is) in
     let free : ℕ → Bool = is_free image bitmap in
-    subst (λ (e : ℕ). IsFirstRoom free n 0 e next) stop (further free (are-bits image bitmap index end block end_is stands) (subst (λ (e : ℕ). IsFirstRoom free n 0 e start) begin room))
+    subst (λ (e : ℕ). IsFirstRoom free n 0 e next) stop
+    (further free (are-bits image bitmap index end block end_is stands) (subst (λ (e : ℕ). IsFirstRoom free n 0 e start) begin room))
 
 -- room that has its n blocks is the first run of n
 pub IsFirstRunOf-found : (free : ℕ → Bool) (n end start : ℕ) → start + n ≤ end → IsFirstRoom free n 0 end start → IsFirstRunOf free n start
@@ -85,15 +95,18 @@ IsFirstRunOf-found free n end start whole room = record {
 }
 
 -- where the first room is too near the volume's end there is no such run
-pub NoRunOf-found : (image : Image) (bitmap : Bitmap) (n end start : ℕ) → 0 < n → bitmap.size < start + n → IsFirstRoom (is_free image bitmap) n 0 end start → NoRunOf (is_free image bitmap) n
+pub NoRunOf-found : (image : Image) (bitmap : Bitmap) (n end start : ℕ) → 0 < n → bitmap.size < start + n
+    → IsFirstRoom (is_free image bitmap) n 0 end start → NoRunOf (is_free image bitmap) n
 NoRunOf-found image bitmap n end start some short room k run = elim (cases_lt k start) [
   | inl early ↦ room.first k (omega arith) early (λ j low near below. run j low near)
-  | inr late ↦ both_ways (is_free image bitmap (k + n - 1)) (is_free-past image bitmap (k + n - 1) (omega (arith, late, short))) (run (k + n - 1) (omega (arith, some)) (omega (arith, some)))
+  | inr late ↦ both_ways (is_free image bitmap (k + n - 1)) (is_free-past image bitmap (k + n - 1) (omega (arith, late, short)))
+      (run (k + n - 1) (omega (arith, some)) (omega (arith, some)))
 ]
 
 -- nor where fewer blocks are free
 pub NoRunOf-few : (image : Image) (bitmap : Bitmap) (n : ℕ) → free_blocks image bitmap < n → NoRunOf (is_free image bitmap) n
 NoRunOf-few image bitmap n few k run = elim (cases_lt bitmap.size (k + n)) [
-  | inl past ↦ both_ways (is_free image bitmap (k + n - 1)) (is_free-past image bitmap (k + n - 1) (omega (arith, past))) (run (k + n - 1) (omega (arith, few)) (omega (arith, few)))
+  | inl past ↦ both_ways (is_free image bitmap (k + n - 1)) (is_free-past image bitmap (k + n - 1) (omega (arith, past)))
+      (run (k + n - 1) (omega (arith, few)) (omega (arith, few)))
   | inr within ↦ absurd (omega (arith, few, count_below-run (is_free image bitmap) k n bitmap.size within run))
 ]

@@ -1,5 +1,6 @@
 -- Facts about runs of free blocks, found a bitmap block at a time.
-use Rattle.std.proofs.Common.{◌≡◌, inl, inr, ℕ, ◌+◌, ◌-◌, ◌*◌, ◌%◌, ◌<◌, ◌≤◌, min, true, false, ltb, List, get_or, Some, sym, ap, ◌∙◌, arith}
+use Rattle.std.proofs.Common.{◌≡◌, inl, inr, ℕ, ◌+◌, ◌-◌, ◌*◌, ◌%◌, ◌<◌, ◌≤◌, min, true, false, ltb, List, get_or, Some, sym, ap, ◌∙◌}
+use Rattle.std.proofs.Common.{arith}
 use Rattle.std.specs.List.{slice_get}
 use Rattle.std.proofs.lemmas.Bool.{cases_lt, and_parts, ltb-true}
 use Rattle.f11_bytes.specs.Bits.{bit}
@@ -15,17 +16,22 @@ bit_below-within : (b : List ℕ) (end k : ℕ) → bit_below b end k ≡ true �
 bit_below-within b end k is = let parts = and_parts (ltb k end) (bit b k) is in ltb-true k end parts.0
 
 -- as many bits as are 1 from a bit on end below the end
-pub bits-within : (b : List ℕ) (end at count : ℕ) → 0 < count → ((k : ℕ) → at ≤ k → k < at + count → bit_below b end k ≡ true) → at + count ≤ end
-bits-within b end at count some each = omega (arith, bit_below-within b end (at + count - 1) (each (at + count - 1) (omega arith) (omega arith)))
+pub bits-within : (b : List ℕ) (end at count : ℕ) → 0 < count → ((k : ℕ) → at ≤ k → k < at + count → bit_below b end k ≡ true)
+    → at + count ≤ end
+bits-within b end at count some each =
+    omega (arith, bit_below-within b end (at + count - 1) (each (at + count - 1) (omega arith) (omega arith)))
 
 -- whether a block of a bitmap block is free
-free_at : (image : Image) (bitmap : Bitmap) (index limit lbn k : ℕ) (block : List ℕ) → limit ≡ min (bitmap.size - 4096 * index) 4096 → lbn ≡ 4096 * index + k → k < 4096
+free_at : (image : Image) (bitmap : Bitmap) (index limit lbn k : ℕ) (block : List ℕ) → limit ≡ min (bitmap.size - 4096 * index) 4096
+    → lbn ≡ 4096 * index + k → k < 4096
     → slice_get image (get_or bitmap.places index 0) ≡ Some block → is_free image bitmap lbn ≡ bit_below block limit k
 free_at image bitmap index limit lbn k block limit_is is below stands =
-    ap (is_free image bitmap) is ∙ is_free-at image bitmap index k block below stands ∙ ap (λ (end : ℕ). bit_below block end k) (sym limit_is)
+    ap (is_free image bitmap) is ∙ is_free-at image bitmap index k block below stands
+    ∙ ap (λ (end : ℕ). bit_below block end k) (sym limit_is)
 
 -- a run of bits is one of blocks
-pub IsPart-found : (size from most index start limit at count : ℕ) (block : List ℕ) → start ≡ from - index * 4096 → limit ≡ min (size - 4096 * index) 4096
+pub IsPart-found : (size from most index start limit at count : ℕ) (block : List ℕ) → start ≡ from - index * 4096
+    → limit ≡ min (size - 4096 * index) 4096
     → IsFirstRun (bit_below block limit) start most at count → IsPart size from most (index * 4096 + at) count
 IsPart-found size from most index start limit at count block start_is limit_is run =
     let end = bits-within block limit at count run.some run.each in
@@ -49,10 +55,13 @@ IsFirstPart-found image bitmap from most index start limit at count block few st
     record {
       first = λ k low high. elim (cases_lt k (4096 * index)) [
         | inl before ↦ none k low before
-        | inr here ↦ free_at image bitmap index limit k (k - 4096 * index) block limit_is (omega arith) (omega arith) stands ∙ run.first (k - 4096 * index) (omega arith) (omega arith)
+        | inr here ↦ free_at image bitmap index limit k (k - 4096 * index) block limit_is (omega arith) (omega arith) stands
+            ∙ run.first (k - 4096 * index) (omega arith) (omega arith)
       ];
-      each = λ k low high. free_at image bitmap index limit k (k - 4096 * index) block limit_is (omega arith) (omega arith) stands ∙ run.each (k - 4096 * index) (omega arith) (omega arith);
-      ended = λ cut inside. free_at image bitmap index limit (index * 4096 + at + count) (at + count) block limit_is (omega arith) (omega arith) stands ∙ run.ended (omega arith) cut;
+      each = λ k low high. free_at image bitmap index limit k (k - 4096 * index) block limit_is (omega arith) (omega arith) stands
+          ∙ run.each (k - 4096 * index) (omega arith) (omega arith);
+      ended = λ cut inside. free_at image bitmap index limit (index * 4096 + at + count) (at + count) block limit_is (omega arith)
+          (omega arith) stands ∙ run.ended (omega arith) cut;
     }
 
 -- one bitmap block more without a free block
@@ -64,29 +73,35 @@ pub none_free-more : (image : Image) (bitmap : Bitmap) (from index start limit :
     → (k : ℕ) → from ≤ k → k < 4096 * (index + 1) → is_free image bitmap k ≡ false
 none_free-more image bitmap from index start limit block start_is limit_is stands none here k low high = elim (cases_lt k (4096 * index)) [
   | inl before ↦ none k low before
-  | inr after ↦ free_at image bitmap index limit k (k - 4096 * index) block limit_is (omega arith) (omega arith) stands ∙ here (k - 4096 * index) (omega arith)
+  | inr after ↦ free_at image bitmap index limit k (k - 4096 * index) block limit_is (omega arith) (omega arith) stands
+      ∙ here (k - 4096 * index) (omega arith)
 ]
 
 -- none up to the volume's end is none
-pub NoneFrom-all : (image : Image) (bitmap : Bitmap) (from end : ℕ) → bitmap.size ≤ end → ((k : ℕ) → from ≤ k → k < end → is_free image bitmap k ≡ false) → NoneFrom (is_free image bitmap) from
+pub NoneFrom-all : (image : Image) (bitmap : Bitmap) (from end : ℕ) → bitmap.size ≤ end
+    → ((k : ℕ) → from ≤ k → k < end → is_free image bitmap k ≡ false) → NoneFrom (is_free image bitmap) from
 NoneFrom-all image bitmap from end past none k low = elim (cases_lt k end) [
   | inl below ↦ none k low below
   | inr beyond ↦ is_free-past image bitmap k (omega arith)
 ]
 
 -- the rest of a run, where a bitmap block begins
-pub IsFreeRest-found : (image : Image) (bitmap : Bitmap) (most end index limit count : ℕ) (block : List ℕ) → limit ≡ min (bitmap.size - 4096 * index) 4096 → most ≤ 256 → end ≡ 4096 * index → count ≤ most
+pub IsFreeRest-found : (image : Image) (bitmap : Bitmap) (most end index limit count : ℕ) (block : List ℕ)
+    → limit ≡ min (bitmap.size - 4096 * index) 4096 → most ≤ 256 → end ≡ 4096 * index → count ≤ most
     → slice_get image (get_or bitmap.places index 0) ≡ Some block
     → ((k : ℕ) → 0 ≤ k → k < 0 + count → bit_below block limit k ≡ true)
     → (count < most → bit_below block limit (0 + count) ≡ false)
     → IsFreeRest (is_free image bitmap) most end count
 IsFreeRest-found image bitmap most end index limit count block limit_is short is few stands each ended = record {
-  each = λ k low high. free_at image bitmap index limit k (k - 4096 * index) block limit_is (omega arith) (omega arith) stands ∙ each (k - 4096 * index) (omega arith) (omega arith);
-  ended = λ cut edge. free_at image bitmap index limit (end + count) (0 + count) block limit_is (omega arith) (omega arith) stands ∙ ended cut;
+  each = λ k low high. free_at image bitmap index limit k (k - 4096 * index) block limit_is (omega arith) (omega arith) stands
+      ∙ each (k - 4096 * index) (omega arith) (omega arith);
+  ended = λ cut edge. free_at image bitmap index limit (end + count) (0 + count) block limit_is (omega arith) (omega arith) stands
+      ∙ ended cut;
 }
 
 -- no bitmap block begins at the end of the first part, or none is to come
-pub IsFreeRest-none : (image : Image) (bitmap : Bitmap) (most end : ℕ) → (0 < most → end % 4096 ≡ 0 → bitmap.size ≤ end) → IsFreeRest (is_free image bitmap) most end 0
+pub IsFreeRest-none : (image : Image) (bitmap : Bitmap) (most end : ℕ) → (0 < most → end % 4096 ≡ 0 → bitmap.size ≤ end)
+    → IsFreeRest (is_free image bitmap) most end 0
 IsFreeRest-none image bitmap most end past = record {
   each = λ k low high. absurd (omega arith);
   ended = λ cut edge. is_free-past image bitmap (end + 0) (omega (arith, past cut edge));

@@ -22,9 +22,12 @@ front_and_last xs some =
 pub without_trailing-take : (test : ℕ → Bool) (xs : List ℕ) → 1 ≤ length xs → test (get_or xs (length xs - 1) 0) ≡ true
     → without_trailing test (take (length xs - 1) xs) ≡ without_trailing test xs
 without_trailing-take test xs some passes =
-    sym (push_trailing test (take (length xs - 1) xs) (get_or xs (length xs - 1) 0) passes) ∙ ap (without_trailing test) (front_and_last xs some)
+    sym (push_trailing test (take (length xs - 1) xs) (get_or xs (length xs - 1) 0) passes)
+    ∙ ap (without_trailing test) (front_and_last xs some)
 
 -- bytes whose last one doesn't pass are left whole
-pub without_trailing_whole : (test : ℕ → Bool) (xs : List ℕ) → 1 ≤ length xs → test (get_or xs (length xs - 1) 0) ≡ false → without_trailing test xs ≡ xs
+pub without_trailing_whole : (test : ℕ → Bool) (xs : List ℕ) → 1 ≤ length xs → test (get_or xs (length xs - 1) 0) ≡ false
+    → without_trailing test xs ≡ xs
 without_trailing_whole test xs some other =
-    ap (without_trailing test) (sym (front_and_last xs some)) ∙ push_other test (take (length xs - 1) xs) (get_or xs (length xs - 1) 0) other ∙ front_and_last xs some
+    ap (without_trailing test) (sym (front_and_last xs some))
+    ∙ push_other test (take (length xs - 1) xs) (get_or xs (length xs - 1) 0) other ∙ front_and_last xs some

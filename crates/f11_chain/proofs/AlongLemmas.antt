@@ -1,5 +1,6 @@
 -- What holds of a device while the headers of a file are read one after another.
-use Rattle.std.proofs.Common.{◌≡◌, ◌≢◌, ℕ, ◌+◌, ◌-◌, ◌*◌, ◌<◌, ◌≤◌, IsTrue, List, [], ◌∷◌, ◌++◌, length, get_or, Some, Err, refl, sym, ap, subst, ◌∙◌, inl, inr, arith}
+use Rattle.std.proofs.Common.{◌≡◌, ◌≢◌, ℕ, ◌+◌, ◌-◌, ◌*◌, ◌<◌, ◌≤◌, IsTrue, List, [], ◌∷◌, ◌++◌, length, get_or, Some, Err, refl, sym, ap}
+use Rattle.std.proofs.Common.{subst, ◌∙◌, inl, inr, arith}
 use Rattle.std.specs.Prelude.{Result, Ok, IsErrAnd, IsErrOf}
 use Rattle.std.proofs.lemmas.Bool.{cases_lt}
 use Rattle.std.specs.List.{slice_get}
@@ -20,7 +21,9 @@ use Rattle.f11_index.proofs.InUseLemmas.{in_use-some}
 use Rattle.f11_index.proofs.SegmentLemmas.{table-bytes}
 use Rattle.f11_index.proofs.HeadersLemmas.{Comes-first, Comes-count, Comes-count-next, last-ends, last-whole}
 use Rattle.f11_chain.specs.FileHeaders.{blocks_by, blocks_before, file_blocks, block_by_vbn}
-use Rattle.f11_chain.specs.Calls.{table, HoldsHeader, HoldsFirst, ReadsFirst, FindsNoFile, ReadsNext, FindsLast, FindsWrongLink, IsNextOf, FailsToReadNext, next_reads, LooksAlongFile, FailsAlong, FindsBreak, FindsDamage, HasBlockAt, ReadsLast, Locates, Seeks, FindsEnd}
+use Rattle.f11_chain.specs.Calls.{table, HoldsHeader, HoldsFirst, ReadsFirst, FindsNoFile, ReadsNext, FindsLast, FindsWrongLink, IsNextOf}
+use Rattle.f11_chain.specs.Calls.{FailsToReadNext, next_reads, LooksAlongFile, FailsAlong, FindsBreak, FindsDamage, HasBlockAt, ReadsLast}
+use Rattle.f11_chain.specs.Calls.{Locates, Seeks, FindsEnd}
 use Rattle.f11_chain.specs.Windows.{Fills, FindsWindow, HoldsRuns, IsPast}
 use Rattle.f11_chain.specs.declared.blocks.FileEnd.{FileEnd}
 use Rattle.f11_chain.specs.declared.blocks.Place.{Place}
@@ -46,7 +49,8 @@ abbrev pub Along : Index → ℕ → ℕ → ℕ → List ℕ → List ℕ → D
 Along = AlongFrom 0
 
 -- a header in hand is live where the device is honest
-pub HoldsHeader-live : (index : Index) (m : ℕ) (block : List ℕ) (disk : Disk) → HoldsHeader index m block disk → IsTrue disk.honest → IsLive (table index disk) m
+pub HoldsHeader-live : (index : Index) (m : ℕ) (block : List ℕ) (disk : Disk) → HoldsHeader index m block disk → IsTrue disk.honest
+    → IsLive (table index disk) m
 HoldsHeader-live index m block disk holds honest = record {
   in_use = table-in_use index disk m ∙ holds.in_use;
   valid = subst (λ (b : List ℕ). IsHeader b m) (holds.block_is honest) holds.valid;
@@ -75,7 +79,8 @@ reached-first index n block disk holds is honest = Reached-first (table index di
   first = ap segment_number (sym (holds.block_is honest)) ∙ is;
 })
 
-pub Along-first : (index : Index) (n : ℕ) (block : List ℕ) (old now : Disk) → ReadsFirst index n block old now → Along index n n 0 [] block old now
+pub Along-first : (index : Index) (n : ℕ) (block : List ℕ) (old now : Disk) → ReadsFirst index n block old now
+    → Along index n n 0 [] block old now
 Along-first index n block old now reads = record {
   header = reads.header;
   segment = reads.first;
@@ -87,7 +92,8 @@ Along-first index n block old now reads = record {
 }
 
 -- or was in hand
-pub Along-in-hand : (index : Index) (n : ℕ) (block : List ℕ) (disk : Disk) → HoldsFirst index n block disk → AlongFrom 1 index n n 0 [] block disk disk
+pub Along-in-hand : (index : Index) (n : ℕ) (block : List ℕ) (disk : Disk) → HoldsFirst index n block disk
+    → AlongFrom 1 index n n 0 [] block disk disk
 Along-in-hand index n block disk holds = record {
   header = holds.header;
   segment = holds.first;
@@ -99,7 +105,8 @@ Along-in-hand index n block disk holds = record {
 }
 
 -- it wasn't one of a file, or couldn't be read
-first-looked : (index : Index) (n : ℕ) (old new : Disk) (faults : ℕ) → 0 < n → Looked old new 1 faults → LooksAlongFile index n 0 old new faults
+first-looked : (index : Index) (n : ℕ) (old new : Disk) (faults : ℕ) → 0 < n → Looked old new 1 faults
+    → LooksAlongFile index n 0 old new faults
 first-looked index n old new faults some looked = record {
   headers = 1;
   few = omega arith;
@@ -132,7 +139,8 @@ module _ (index : Index) (n : ℕ) (block : List ℕ) (old now : Disk) (reads : 
   along-behind new faults looks = record {
     headers = 1 + looks.headers;
     few = omega (arith, looks.few);
-    each_once = λ honest. let once = subst (λ (t : Table). looks.headers + 1 ≤ length (headers_of t n)) same (looks.each_once (honest-now honest)) in omega (arith, once);
+    each_once = λ honest. let once = subst (λ (t : Table). looks.headers + 1 ≤ length (headers_of t n)) same
+        (looks.each_once (honest-now honest)) in omega (arith, once);
     looked = looked_more reads.looked looks.looked;
   }
 
@@ -149,7 +157,8 @@ module _ (index : Index) (n : ℕ) (block : List ℕ) (old now : Disk) (reads : 
     looked = along-behind new 0 finds.looked;
   }
 
-  pub last-behind : (last : FileEnd) (after : List ℕ) (new : Disk) → ReadsLast index n 1 last after now new → ReadsLast index n 0 last after old new
+  pub last-behind : (last : FileEnd) (after : List ℕ) (new : Disk) → ReadsLast index n 1 last after now new
+      → ReadsLast index n 0 last after old new
   last-behind last after new goes = record {
     header = holds-stays index old now 1 reads.looked last.number after goes.header;
     no_link = goes.no_link;
@@ -166,8 +175,10 @@ module _ (index : Index) (n : ℕ) (block : List ℕ) (old now : Disk) (reads : 
 
   -- a place of the file was found
   module _ (vbn : ℕ) (place : Place) (after : List ℕ) (new : Disk) (goes : Seeks index n 1 (vbn - 1) place after now new) where
-    found : (lbn : ℕ) → slice_get (blocks_named after) place.left ≡ Some lbn → IsTrue old.honest → block_by_vbn (table index old) n vbn ≡ Some lbn
-    found lbn is honest = subst (λ (t : Table). slice_get (file_blocks t n) (vbn - 1) ≡ Some lbn) same (goes.block_is (honest-now honest) ∙ is)
+    found : (lbn : ℕ) → slice_get (blocks_named after) place.left ≡ Some lbn → IsTrue old.honest
+        → block_by_vbn (table index old) n vbn ≡ Some lbn
+    found lbn is honest =
+        subst (λ (t : Table). slice_get (file_blocks t n) (vbn - 1) ≡ Some lbn) same (goes.block_is (honest-now honest) ∙ is)
 
     pub locates : (lbn : ℕ) → HasBlockAt after place.left (length new.image) lbn → Locates index n vbn lbn old new
     locates lbn has = record {
@@ -175,7 +186,8 @@ module _ (index : Index) (n : ℕ) (block : List ℕ) (old now : Disk) (reads : 
       of_file = λ honest. subst (λ (t : Table). IsHeaderOf t n place.number) same (goes.of_file (honest-now honest));
       named = λ honest.
           let here : List ℕ = blocks_named ((table index old).header place.number) in
-          let at : slice_get here place.left ≡ Some lbn = ap (λ (b : List ℕ). slice_get (blocks_named b) place.left) (sym (there honest)) ∙ has.named in
+          let at : slice_get here place.left ≡ Some lbn = ap (λ (b : List ℕ). slice_get (blocks_named b) place.left) (sym (there honest))
+          ∙ has.named in
           (place.left, slice_get_within here place.left lbn at, get_or_from_slice_get here place.left lbn lbn at);
       block_is = found lbn has.named;
       within = rw sizes at has.within;
@@ -194,7 +206,8 @@ module _ (index : Index) (n : ℕ) (block : List ℕ) (old now : Disk) (reads : 
     damage-outside none = record {
       damaged = λ honest sound.
           let lbn : ℕ = get_or (blocks_named after) place.left 0 in
-          let is : slice_get (blocks_named after) place.left ≡ Some lbn = slice_get-get_or (blocks_named after) place.left 0 goes.left_within in
+          let is : slice_get (blocks_named after) place.left ≡ Some lbn = slice_get-get_or (blocks_named after) place.left 0
+          goes.left_within in
           let at : slice_get (file_blocks (table index old) n) (vbn - 1) ≡ Some lbn = found lbn is honest in
           let within = sound.within (vbn - 1) 0 (slice_get_within _ _ _ at) in
           let here = get_or_from_slice_get (file_blocks (table index old) n) (vbn - 1) lbn 0 at in
@@ -236,9 +249,11 @@ module _ (index : Index) (n : ℕ) (block : List ℕ) (old now : Disk) (reads : 
             let (k, lbn, beyond, at) = past-block after place.left (length new.image) past in
             let of = subst (λ (t : Table). IsHeaderOf t n place.number) same (goes.of_file (honest-now honest)) in
             let few = table-bytes old.image index image place.number in
-            let here : slice_get (blocks_named (t.header place.number)) k ≡ Some lbn = ap (λ (b : List ℕ). slice_get (blocks_named b) k) (sym (in-hand honest)) ∙ at in
+            let here : slice_get (blocks_named (t.header place.number)) k ≡ Some lbn = ap (λ (b : List ℕ). slice_get (blocks_named b) k)
+            (sym (in-hand honest)) ∙ at in
             let row = header-stands t t n place.number of few (λ m of below. refl) in
-            let there = row-has (file_blocks t n) (blocks_named (t.header place.number)) (blocks_before t n place.number) k row (slice_get_within _ k lbn here) ∙ here in
+            let there = row-has (file_blocks t n) (blocks_named (t.header place.number)) (blocks_before t n place.number) k row
+            (slice_get_within _ k lbn here) ∙ here in
             let within = sound.within (blocks_before t n place.number + k) 0 (slice_get_within _ _ _ there) in
             let is = get_or_from_slice_get (file_blocks t n) (blocks_before t n place.number + k) lbn 0 there in
             absurd (omega (arith, within, is, beyond, size));
@@ -253,7 +268,8 @@ pub handed-on : {T U E : Type 0} (r : Result T E) (e f : E) → IsErrAnd r (λ x
 handed-on (Ok x) e f is of = absurd is
 handed-on (Err x) e f is of = ap Err (sym is ∙ same_error x f of)
 
-module _ {in_hand : ℕ} (index : Index) (n m k : ℕ) (behind : List ℕ) (block : List ℕ) (old now : Disk) (along : AlongFrom in_hand index n m k behind block old now) where
+module _ {in_hand : ℕ} (index : Index) (n m k : ℕ) (behind : List ℕ) (block : List ℕ) (old now : Disk)
+    (along : AlongFrom in_hand index n m k behind block old now) where
   pub header-some : 0 < m
   header-some = in_use-some index m along.header.in_use
 
@@ -266,12 +282,14 @@ module _ {in_hand : ℕ} (index : Index) (n m k : ℕ) (behind : List ℕ) (bloc
   along-looked = record {
     headers = along.reads;
     few = omega (arith, along.few, along.count);
-    each_once = λ honest. let here = Comes-count (table index old) n m k behind (along.reached honest).comes header-some along.few in omega (arith, here, along.count);
+    each_once = λ honest. let here = Comes-count (table index old) n m k behind (along.reached honest).comes header-some along.few in
+        omega (arith, here, along.count);
     looked = along.looked;
   }
 
   -- and those read for the next one, where there is a link
-  pub along-more : (new : Disk) (faults : ℕ) → (IsTrue old.honest → (link_of block).number ≢ 0) → Looked now new (next_reads block) faults → LooksAlongFile index n in_hand old new faults
+  pub along-more : (new : Disk) (faults : ℕ) → (IsTrue old.honest → (link_of block).number ≢ 0) → Looked now new (next_reads block) faults
+      → LooksAlongFile index n in_hand old new faults
   along-more new faults link looked = record {
     headers = along.reads + next_reads block;
     few = omega (arith, along.few, along.segment, along.count);
@@ -288,7 +306,8 @@ module _ {in_hand : ℕ} (index : Index) (n m k : ℕ) (behind : List ℕ) (bloc
   }
 
   -- the next one was read
-  pub Along-next : (to : ℕ) (after : List ℕ) (new : Disk) → ReadsNext index to block after now new → AlongFrom in_hand index n to (k + 1) (behind ++ m ∷ []) after old new
+  pub Along-next : (to : ℕ) (after : List ℕ) (new : Disk) → ReadsNext index to block after now new
+      → AlongFrom in_hand index n to (k + 1) (behind ++ m ∷ []) after old new
   Along-next to after new reads = record {
     header = header;
     segment = reads.segment ∙ ap (λ (s : ℕ). s + 1) along.segment;
@@ -325,7 +344,8 @@ module _ {in_hand : ℕ} (index : Index) (n m k : ℕ) (behind : List ℕ) (bloc
       wrong honest =
           let same : table index now ≡ table index old = table-stays index old now along.reads along.looked in
           let none : (m : ℕ) → ¬ IsNextOf (table index old) block m =
-          subst (λ (t : Table). (m : ℕ) → ¬ IsNextOf t block m) same (finds.wrong (honest-stays index old now along.reads along.looked honest)) in
+          subst (λ (t : Table). (m : ℕ) → ¬ IsNextOf t block m) same
+          (finds.wrong (honest-stays index old now along.reads along.looked honest)) in
           wrong-link (table index old) m block (block-is honest) finds.some_link none
 
   -- it couldn't be read
@@ -333,11 +353,13 @@ module _ {in_hand : ℕ} (index : Index) (n m k : ℕ) (behind : List ℕ) (bloc
   failed-next new fails = along-more new 1 (λ honest. fails.some_link) fails.looked
 
   -- the blocks named up to this header
-  pub counted-more : (blocks here : ℕ) → (IsTrue old.honest → blocks ≡ length (blocks_by (table index old) behind)) → here ≡ length (blocks_named block)
+  pub counted-more : (blocks here : ℕ) → (IsTrue old.honest → blocks ≡ length (blocks_by (table index old) behind))
+      → here ≡ length (blocks_named block)
       → IsTrue old.honest → blocks + here ≡ length (blocks_by (table index old) (behind ++ m ∷ []))
   counted-more blocks here so_far is honest =
       let t : Table = table index old in
-      let split = ap length (flat_map-append (λ (n : ℕ). blocks_named (t.header n)) behind (m ∷ [])) ∙ length-append (blocks_by t behind) (blocks_by t (m ∷ [])) in
+      let split = ap length (flat_map-append (λ (n : ℕ). blocks_named (t.header n)) behind (m ∷ []))
+      ∙ length-append (blocks_by t behind) (blocks_by t (m ∷ [])) in
       let one = length-append (blocks_named (t.header m)) [] in
       let named = ap (λ (b : List ℕ). length (blocks_named b)) (block-is honest) in
       omega (arith, split, one, named, is, so_far honest)
@@ -350,8 +372,10 @@ module _ {in_hand : ℕ} (index : Index) (n m k : ℕ) (behind : List ℕ) (bloc
   }
 
   -- and the file's headers and blocks were counted
-  pub reads-last : (blocks here : ℕ) (after : List ℕ) (new : Disk) → (IsTrue old.honest → blocks ≡ length (blocks_by (table index old) behind)) → here ≡ length (blocks_named block)
-      → blocks ≤ 32512 * k → here ≤ 32512 → FindsLast block after now new → ReadsLast index n in_hand (record { number = m; headers = k + 1; blocks = blocks + here }) after old new
+  pub reads-last : (blocks here : ℕ) (after : List ℕ) (new : Disk)
+      → (IsTrue old.honest → blocks ≡ length (blocks_by (table index old) behind)) → here ≡ length (blocks_named block)
+      → blocks ≤ 32512 * k → here ≤ 32512 → FindsLast block after now new
+      → ReadsLast index n in_hand (record { number = m; headers = k + 1; blocks = blocks + here }) after old new
   reads-last blocks here after new so_far is fewer few finds = rw (finds.block_stays, finds.disk_stays) (record {
     header = along.header;
     no_link = finds.no_link;
@@ -366,7 +390,8 @@ module _ {in_hand : ℕ} (index : Index) (n m k : ℕ) (behind : List ℕ) (bloc
         omega (arith, all, segment);
     blocks_are = λ honest.
         let t : Table = table index old in
-        let all = ap length (blocks-last t n m k behind (along.reached honest) header-some along.few (ends-file finds.no_link honest).no_link) ∙ length-append (blocks_by t behind) (blocks_named (t.header m)) in
+        let all = ap length (blocks-last t n m k behind (along.reached honest) header-some along.few
+        (ends-file finds.no_link honest).no_link) ∙ length-append (blocks_by t behind) (blocks_named (t.header m)) in
         let named = ap (λ (b : List ℕ). length (blocks_named b)) (block-is honest) in
         omega (arith, all, named, is, so_far honest);
     looked = along-looked;
@@ -374,7 +399,8 @@ module _ {in_hand : ℕ} (index : Index) (n m k : ℕ) (behind : List ℕ) (bloc
   })
 
   -- it names the block
-  pub seeks : (at left segment : ℕ) → (IsTrue old.honest → at ≡ length (blocks_by (table index old) behind) + left) → left < length (blocks_named block) → segment ≡ segment_number block → left ≤ at
+  pub seeks : (at left segment : ℕ) → (IsTrue old.honest → at ≡ length (blocks_by (table index old) behind) + left)
+      → left < length (blocks_named block) → segment ≡ segment_number block → left ≤ at
       → Seeks index n in_hand at (record { number = m; segment = segment; left = left }) block old now
   seeks at left segment behind-is within is low = record {
     header = along.header;
@@ -382,26 +408,30 @@ module _ {in_hand : ℕ} (index : Index) (n m k : ℕ) (behind : List ℕ) (bloc
     left_within = within;
     left_low = low;
     of_file = λ honest. (along.reached honest).of;
-    at_is = λ honest. let before = blocks-behind (table index old) n m k behind (along.reached honest) in omega (arith, before, behind-is honest);
+    at_is = λ honest. let before = blocks-behind (table index old) n m k behind (along.reached honest) in
+        omega (arith, before, behind-is honest);
     block_is = λ honest.
         let t : Table = table index old in
         let here : List ℕ = blocks_named (t.header m) in
         let same : blocks_named block ≡ here = ap blocks_named (block-is honest) in
         ap (slice_get (file_blocks t n)) (behind-is honest)
-        ∙ block-behind t n m k behind (along.reached honest) header-some along.few left (subst (λ (bs : List ℕ). left < length bs) same within)
+        ∙ block-behind t n m k behind (along.reached honest) header-some along.few left
+        (subst (λ (bs : List ℕ). left < length bs) same within)
         ∙ ap (λ (bs : List ℕ). slice_get bs left) (sym same);
     looked = along-looked;
     no_further = omega (arith, is, along.segment, along.count);
   }
 
   -- it is the last, and names fewer blocks
-  pub finds-end : (at left : ℕ) (after : List ℕ) (new : Disk) → (IsTrue old.honest → at ≡ length (blocks_by (table index old) behind) + left) → length (blocks_named block) ≤ left
+  pub finds-end : (at left : ℕ) (after : List ℕ) (new : Disk)
+      → (IsTrue old.honest → at ≡ length (blocks_by (table index old) behind) + left) → length (blocks_named block) ≤ left
       → FindsLast block after now new → FindsEnd index n in_hand (at + 1) old new
   finds-end at left after new behind-is few finds = rw finds.disk_stays (record {
     whole = λ honest. last-whole (table index old) n m (ends-file finds.no_link honest);
     fewer = λ honest.
         let t : Table = table index old in
-        let all = ap length (blocks-last t n m k behind (along.reached honest) header-some along.few (ends-file finds.no_link honest).no_link) ∙ length-append (blocks_by t behind) (blocks_named (t.header m)) in
+        let all = ap length (blocks-last t n m k behind (along.reached honest) header-some along.few
+        (ends-file finds.no_link honest).no_link) ∙ length-append (blocks_by t behind) (blocks_named (t.header m)) in
         let named = ap (λ (b : List ℕ). length (blocks_named b)) (block-is honest) in
         omega (arith, all, named, few, behind-is honest);
     looked = along-looked;

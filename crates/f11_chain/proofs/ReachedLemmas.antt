@@ -34,13 +34,15 @@ module _ (t : Table) (n m k : ℕ) (behind : List ℕ) (at : Reached t n m k beh
   named h = blocks_named (t.header h)
 
   -- the blocks before those of this header, its own, and the others
-  pub blocks-split : file_blocks t n ≡ blocks_by t behind ++ (blocks_named (t.header m) ++ blocks_by t (headers_from (255 - k) t (link_number t m)))
+  pub blocks-split : file_blocks t n ≡ blocks_by t
+      behind ++ (blocks_named (t.header m) ++ blocks_by t (headers_from (255 - k) t (link_number t m)))
   unfolding file_blocks named
   blocks-split =
       let rest : List ℕ = headers_from (255 - k) t (link_number t m) in
       let here : blocks_by t (m ∷ []) ≡ blocks_named (t.header m) = append-nil (blocks_named (t.header m)) in
       ap (blocks_by t) (Comes-split t n m k behind at.comes some few) ∙ flat_map-append named (behind ++ m ∷ []) rest
-      ∙ ap (λ (front : List ℕ). front ++ blocks_by t rest) (flat_map-append named behind (m ∷ []) ∙ ap (λ (b : List ℕ). blocks_by t behind ++ b) here)
+      ∙ ap (λ (front : List ℕ). front ++ blocks_by t rest)
+      (flat_map-append named behind (m ∷ []) ∙ ap (λ (b : List ℕ). blocks_by t behind ++ b) here)
       ∙ append_assoc (blocks_by t behind) (blocks_named (t.header m)) (blocks_by t rest)
 
   -- this header is the last
@@ -52,7 +54,8 @@ module _ (t : Table) (n m k : ℕ) (behind : List ℕ) (at : Reached t n m k beh
       ∙ flat_map-append named behind (m ∷ []) ∙ ap (λ (b : List ℕ). blocks_by t behind ++ b) here
 
   -- the block at a place among its own, among the file's
-  pub block-behind : (left : ℕ) → left < length (blocks_named (t.header m)) → slice_get (file_blocks t n) (length (blocks_by t behind) + left) ≡ slice_get (blocks_named (t.header m)) left
+  pub block-behind : (left : ℕ) → left < length (blocks_named (t.header m))
+      → slice_get (file_blocks t n) (length (blocks_by t behind) + left) ≡ slice_get (blocks_named (t.header m)) left
   block-behind left within =
       let front : List ℕ = blocks_by t behind in
       let here : List ℕ = blocks_named (t.header m) in
@@ -68,5 +71,6 @@ pub blocks-behind : (t : Table) (n m k : ℕ) (behind : List ℕ) → Reached t 
 blocks-behind t n m k behind at =
     let rest : List ℕ = headers_from (256 - k) t m in
     let taken : take (segment_number (t.header m)) (headers_of t n) ≡ behind =
-    ap (take (segment_number (t.header m))) at.comes.list ∙ ap (λ (c : ℕ). take c (behind ++ rest)) (at.segment ∙ sym at.comes.count) ∙ take-append_seam behind rest in
+    ap (take (segment_number (t.header m))) at.comes.list ∙ ap (λ (c : ℕ). take c (behind ++ rest)) (at.segment ∙ sym at.comes.count)
+    ∙ take-append_seam behind rest in
     ap (λ (hs : List ℕ). length (blocks_by t hs)) taken

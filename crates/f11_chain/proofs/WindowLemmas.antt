@@ -1,10 +1,12 @@
 -- Runs of a header in a row, and the blocks that they name.
-use Rattle.std.proofs.Common.{◌≡◌, ℕ, zero, suc, ◌+◌, ◌-◌, ◌<◌, ◌≤◌, List, [], ◌∷◌, ◌++◌, length, get_or, take, drop, min, Some, refl, sym, ap, subst, ◌∙◌, inl, inr, arith, drop-cons, append_assoc}
+use Rattle.std.proofs.Common.{◌≡◌, ℕ, zero, suc, ◌+◌, ◌-◌, ◌<◌, ◌≤◌, List, [], ◌∷◌, ◌++◌, length, get_or, take, drop, min, Some, refl, sym}
+use Rattle.std.proofs.Common.{ap, subst, ◌∙◌, inl, inr, arith, drop-cons, append_assoc}
 use Rattle.std.specs.Prelude.{slice_set, slice_range}
 use Rattle.std.specs.List.{All, slice_get, range_with_len}
 use Rattle.std.proofs.Math.Seq.{take-append_seam}
 use Rattle.std.proofs.lemmas.Bool.{cases_lt}
-use Rattle.std.proofs.lemmas.List.{length-append, length-take, length-drop, get_or-drop, get_or-take, take_more, take_more_set, take_all, take-append-drop}
+use Rattle.std.proofs.lemmas.List.{length-append, length-take, length-drop, get_or-drop, get_or-take, take_more, take_more_set, take_all}
+use Rattle.std.proofs.lemmas.List.{take-append-drop}
 use Rattle.std.proofs.lemmas.List.Elements.{All-push}
 use Rattle.std.proofs.lemmas.List.FromFn.{length-range_with_len, get_or-range_with_len}
 use Rattle.std.proofs.lemmas.Option.{same_Some, slice_get-get_or, get_or_from_slice_get, slice_get_within}
@@ -16,12 +18,14 @@ use Rattle.f11_map.specs.MapArea.{runs_of, blocks_in, LiesIn}
 use Rattle.f11_map.proofs.MapLemmas.{blocks_in-append, slice_get-append_back}
 use Rattle.f11_map.proofs.RunLemmas.{slice_get-blocks_in}
 use Rattle.f11_chain.specs.FileHeaders.{file_blocks, blocks_before, block_by_vbn}
-use Rattle.f11_chain.specs.Windows.{runs_held, blocks_held, StandsIn, IsWindowOf, HoldsBlock, HoldsAt, HoldsRuns, LiesOn, Fills, IsPast, IsWindowAt, empty_window}
+use Rattle.f11_chain.specs.Windows.{runs_held, blocks_held, StandsIn, IsWindowOf, HoldsBlock, HoldsAt, HoldsRuns, LiesOn, Fills, IsPast}
+use Rattle.f11_chain.specs.Windows.{IsWindowAt, empty_window}
 use Rattle.f11_chain.specs.declared.windows.Window.{Window}
 use Rattle.f11_chain.proofs.ChangeLemmas.{header-stands}
 
 -- one run more is held
-pub held-more : (runs all : List (ℕ × ℕ)) (p i : ℕ) (run : ℕ × ℕ) → take i runs ≡ take i (drop p all) → slice_get all (p + i) ≡ Some run → i < length runs
+pub held-more : (runs all : List (ℕ × ℕ)) (p i : ℕ) (run : ℕ × ℕ) → take i runs ≡ take i (drop p all) → slice_get all (p + i) ≡ Some run
+    → i < length runs
     → take (i + 1) (slice_set runs i run) ≡ take (i + 1) (drop p all)
 held-more runs all p i run so_far at below =
     let inside : i < length (drop p all) = omega (arith, length-drop p all, slice_get_within all (p + i) run at) in
@@ -29,10 +33,12 @@ held-more runs all p i run so_far at below =
     take_more_set runs i run below ∙ ap (λ (front : List (ℕ × ℕ)). front ++ run ∷ []) so_far
     ∙ sym (take_more (drop p all) i run inside ∙ ap (λ (r : ℕ × ℕ). take i (drop p all) ++ r ∷ []) here)
 
-pub within-more : (runs : List (ℕ × ℕ)) (i blocks : ℕ) (run : ℕ × ℕ) → i < length runs → All (λ (r : ℕ × ℕ). r.0 + r.1 ≤ blocks) (take i runs) → run.0 + run.1 ≤ blocks
+pub within-more : (runs : List (ℕ × ℕ)) (i blocks : ℕ) (run : ℕ × ℕ) → i < length runs
+    → All (λ (r : ℕ × ℕ). r.0 + r.1 ≤ blocks) (take i runs) → run.0 + run.1 ≤ blocks
     → All (λ (r : ℕ × ℕ). r.0 + r.1 ≤ blocks) (take (i + 1) (slice_set runs i run))
 within-more runs i blocks run below so_far is =
-    subst (λ (rs : List (ℕ × ℕ)). All (λ (r : ℕ × ℕ). r.0 + r.1 ≤ blocks) rs) (sym (take_more_set runs i run below)) (All-push (λ (r : ℕ × ℕ). r.0 + r.1 ≤ blocks) (take i runs) run so_far is)
+    subst (λ (rs : List (ℕ × ℕ)). All (λ (r : ℕ × ℕ). r.0 + r.1 ≤ blocks) rs) (sym (take_more_set runs i run below))
+    (All-push (λ (r : ℕ × ℕ). r.0 + r.1 ≤ blocks) (take i runs) run so_far is)
 
 -- so many of them as there are
 pub take-as-many : (rs : List (ℕ × ℕ)) (n k used : ℕ) → used ≡ min (length rs - n) k → take used (drop n rs) ≡ take k (drop n rs)
@@ -47,7 +53,8 @@ runs-stand rs i k = record {
   before = blocks_in (take i rs);
   behind = blocks_in (drop k (drop i rs));
   whole_is = ap blocks_in (sym (take-append-drop i rs)) ∙ blocks_in-append (take i rs) (drop i rs)
-      ∙ ap (λ (rest : List ℕ). blocks_in (take i rs) ++ rest) (ap blocks_in (sym (take-append-drop k (drop i rs))) ∙ blocks_in-append (take k (drop i rs)) (drop k (drop i rs)));
+      ∙ ap (λ (rest : List ℕ). blocks_in (take i rs) ++ rest)
+      (ap blocks_in (sym (take-append-drop k (drop i rs))) ∙ blocks_in-append (take k (drop i rs)) (drop k (drop i rs)));
   at_is = refl;
 }
 
@@ -57,7 +64,9 @@ stands-in xs ys zs a b one two = record {
   before = one.before ++ two.before;
   behind = two.behind ++ one.behind;
   whole_is = one.whole_is ∙ ap (λ (part : List ℕ). one.before ++ (part ++ one.behind)) two.whole_is
-      ∙ ap (λ (rest : List ℕ). one.before ++ rest) (append_assoc two.before (zs ++ two.behind) one.behind ∙ ap (λ (rest : List ℕ). two.before ++ rest) (append_assoc zs two.behind one.behind))
+      ∙ ap (λ (rest : List ℕ). one.before ++ rest)
+      (append_assoc two.before (zs ++ two.behind) one.behind ∙ ap (λ (rest : List ℕ). two.before ++ rest)
+      (append_assoc zs two.behind one.behind))
       ∙ sym (append_assoc one.before two.before (zs ++ (two.behind ++ one.behind)));
   at_is = omega (arith, length-append one.before two.before, one.at_is, two.at_is);
 }
@@ -90,7 +99,8 @@ drop_seam (x ∷ xs) ys = drop_seam xs ys
 pub row-slice : (whole part : List ℕ) (at : ℕ) → StandsIn whole at part → slice_range whole at (at + length part) ≡ part
 row-slice whole part at row =
     let size : at + length part - at ≡ length part = omega arith in
-    let rest : drop at whole ≡ part ++ row.behind = ap (drop at) row.whole_is ∙ ap (λ (n : ℕ). drop n (row.before ++ (part ++ row.behind))) (sym row.at_is) ∙ drop_seam row.before (part ++ row.behind) in
+    let rest : drop at whole ≡ part ++ row.behind = ap (drop at) row.whole_is
+    ∙ ap (λ (n : ℕ). drop n (row.before ++ (part ++ row.behind))) (sym row.at_is) ∙ drop_seam row.before (part ++ row.behind) in
     ap (λ (n : ℕ). take n (drop at whole)) size ∙ ap (take (length part)) rest ∙ take-append_seam part row.behind
 
 pub slice-row : (whole part : List ℕ) (at : ℕ) → at ≤ length whole → slice_range whole at (at + length part) ≡ part → StandsIn whole at part
@@ -100,7 +110,10 @@ slice-row whole part at within is = record {
   whole_is =
       let size : at + length part - at ≡ length part = omega arith in
       let here : take (length part) (drop at whole) ≡ part = ap (λ (n : ℕ). take n (drop at whole)) (sym size) ∙ is in
-      sym (take-append-drop at whole) ∙ ap (λ (rest : List ℕ). take at whole ++ rest) (sym (take-append-drop (length part) (drop at whole)) ∙ ap (λ (front : List ℕ). front ++ drop (length part) (drop at whole)) here);
+      sym (take-append-drop at whole)
+      ∙ ap (λ (rest : List ℕ). take at whole ++ rest)
+      (sym (take-append-drop (length part) (drop at whole)) ∙ ap (λ (front : List ℕ). front ++ drop (length part) (drop at whole))
+      here);
   at_is = omega (arith, length-take at whole, within);
 }
 
@@ -110,11 +123,13 @@ unfolding blocks_named runs_named
 named-runs b = refl
 
 -- the block that was asked for stands in the window
-first-held : (rs : List (ℕ × ℕ)) (i within : ℕ) → i < length rs → within < (get_or rs i (0, 0)).1 → within < length (blocks_in (take 7 (drop i rs)))
+first-held : (rs : List (ℕ × ℕ)) (i within : ℕ) → i < length rs → within < (get_or rs i (0, 0)).1
+    → within < length (blocks_in (take 7 (drop i rs)))
 first-held rs i within inside below =
     let run : ℕ × ℕ = get_or rs i (0, 0) in
     let rest : List ℕ = blocks_in (take 6 (drop (suc i) rs)) in
-    let first : length (blocks_in (take 7 (drop i rs))) ≡ length (range_with_len run.0 run.1 ++ rest) = ap (λ (xs : List (ℕ × ℕ)). length (blocks_in (take 7 xs))) (drop-cons rs i (0, 0) inside) in
+    let first : length (blocks_in (take 7 (drop i rs))) ≡ length (range_with_len run.0 run.1 ++ rest) =
+    ap (λ (xs : List (ℕ × ℕ)). length (blocks_in (take 7 xs))) (drop-cons rs i (0, 0) inside) in
     omega (arith, below, first, length-append (range_with_len run.0 run.1) rest, length-range_with_len run.0 run.1)
 
 pub holds-block : (block : List ℕ) (left vbn : ℕ) (w : Window) → HoldsRuns block left vbn w → HoldsBlock w vbn
@@ -133,7 +148,8 @@ window-in-header block left vbn w holds =
     rw (named-runs block, holds.runs) (runs-stand (runs_named block) holds.pointer 7)
 
 -- and in the file's
-pub window-stands : (t : Table) (f vbn : ℕ) (w : Window) (is : IsWindowAt t f vbn w) → segment_number (t.header is.header) < 256 → IsWindowOf t f w
+pub window-stands : (t : Table) (f vbn : ℕ) (w : Window) (is : IsWindowAt t f vbn w) → segment_number (t.header is.header) < 256
+    → IsWindowOf t f w
 window-stands t f vbn w is few =
     let header : List ℕ = t.header is.header in
     let b : ℕ = length (blocks_in (take is.holds.pointer (runs_named header))) in
@@ -143,7 +159,8 @@ window-stands t f vbn w is few =
     subst (λ (n : ℕ). StandsIn (file_blocks t f) n (blocks_held w)) first row
 
 -- a run past the device names a block past it
-pub past-block : (block : List ℕ) (left blocks : ℕ) → IsPast block left blocks → (place : ℕ) × (lbn : ℕ) × (blocks ≤ lbn) × (slice_get (blocks_named block) place ≡ Some lbn)
+pub past-block : (block : List ℕ) (left blocks : ℕ) → IsPast block left blocks
+    → (place : ℕ) × (lbn : ℕ) × (blocks ≤ lbn) × (slice_get (blocks_named block) place ≡ Some lbn)
 past-block block left blocks is =
     let rs : List (ℕ × ℕ) = runs_named block in
     let i : ℕ = is.pointer + is.behind in
@@ -153,16 +170,24 @@ past-block block left blocks is =
       pointer = slice_get_within rs i is.run is.run_is;
       within = omega (arith, is.some, ap (λ (r : ℕ × ℕ). r.1) run);
       behind = refl;
-    } in
-    (place, is.run.0 + (is.run.1 - 1), omega (arith, is.some, is.past), ap (λ (bs : List ℕ). slice_get bs place) (named-runs block) ∙ slice_get-blocks_in rs place i (is.run.1 - 1) is.run is.run_is lies)
+    } in (
+      place,
+      is.run.0 + (is.run.1 - 1),
+      omega (arith, is.some, is.past),
+      ap (λ (bs : List ℕ). slice_get bs place) (named-runs block)
+          ∙ slice_get-blocks_in rs place i (is.run.1 - 1) is.run is.run_is lies,
+    )
 
 -- a window was filled
-pub fills : (block area : List ℕ) (left vbn blocks pointer within used i : ℕ) (runs : List (ℕ × ℕ)) → area ≡ map_area block → left < vbn → LiesIn (runs_of area) left pointer within
-    → used ≡ min (length (runs_of area) - pointer) 7 → i ≡ used → take i runs ≡ take i (drop pointer (runs_of area)) → All (λ (run : ℕ × ℕ). run.0 + run.1 ≤ blocks) (take i runs)
+pub fills : (block area : List ℕ) (left vbn blocks pointer within used i : ℕ) (runs : List (ℕ × ℕ)) → area ≡ map_area block → left < vbn
+    → LiesIn (runs_of area) left pointer within
+    → used ≡ min (length (runs_of area) - pointer) 7 → i ≡ used → take i runs ≡ take i (drop pointer (runs_of area))
+    → All (λ (run : ℕ × ℕ). run.0 + run.1 ≤ blocks) (take i runs)
     → Fills block left vbn blocks (record { first = vbn - within; used = used; runs = runs })
 unfolding runs_named
 fills block area left vbn blocks pointer within used i runs area-is low lies used-is end held on =
-    let held-all : take used runs ≡ take 7 (drop pointer (runs_of area)) = ap (λ (n : ℕ). take n runs) (sym end) ∙ held ∙ ap (λ (n : ℕ). take n (drop pointer (runs_of area))) end ∙ take-as-many (runs_of area) pointer 7 used used-is in
+    let held-all : take used runs ≡ take 7 (drop pointer (runs_of area)) = ap (λ (n : ℕ). take n runs) (sym end) ∙ held
+    ∙ ap (λ (n : ℕ). take n (drop pointer (runs_of area))) end ∙ take-as-many (runs_of area) pointer 7 used used-is in
     record {
       holds = record {
         pointer = pointer;
@@ -179,15 +204,18 @@ fills block area left vbn blocks pointer within used i runs area-is low lies use
     }
 
 -- a block of a window is the file's by VBN
-pub window-has : (t : Table) (f vbn lbn : ℕ) (w : Window) → IsWindowOf t f w → 0 < w.first → HoldsAt w vbn lbn → block_by_vbn t f vbn ≡ Some lbn
+pub window-has : (t : Table) (f vbn lbn : ℕ) (w : Window) → IsWindowOf t f w → 0 < w.first → HoldsAt w vbn lbn
+    → block_by_vbn t f vbn ≡ Some lbn
 window-has t f vbn lbn w is some held =
     let place : vbn - 1 ≡ w.first - 1 + (vbn - w.first) = omega (arith, some, held.holds.from) in
     let below : vbn - w.first < length (blocks_held w) = omega (arith, held.holds.from, held.holds.before) in
     ap (slice_get (file_blocks t f)) place ∙ row-has (file_blocks t f) (blocks_held w) (w.first - 1) (vbn - w.first) is below ∙ held.lbn_is
 
-pub window-stays : (old new : Table) (f : ℕ) (w : Window) (more : List ℕ) → file_blocks new f ≡ file_blocks old f ++ more → IsWindowOf old f w → IsWindowOf new f w
+pub window-stays : (old new : Table) (f : ℕ) (w : Window) (more : List ℕ) → file_blocks new f ≡ file_blocks old f ++ more
+    → IsWindowOf old f w → IsWindowOf new f w
 window-stays old new f w more grows is =
-    subst (λ (blocks : List ℕ). StandsIn blocks (w.first - 1) (blocks_held w)) (sym grows) (row-stays (file_blocks old f) (blocks_held w) more (w.first - 1) is)
+    subst (λ (blocks : List ℕ). StandsIn blocks (w.first - 1) (blocks_held w)) (sym grows)
+    (row-stays (file_blocks old f) (blocks_held w) more (w.first - 1) is)
 
 pub empty-window : (t : Table) (f : ℕ) → IsWindowOf t f empty_window
 empty-window t f = record {
@@ -203,7 +231,8 @@ run-held w i below within =
     let some : i < length (runs_held w) = omega (arith, below, within, length-take w.used w.runs) in
     slice_get-get_or (runs_held w) i (0, 0) some ∙ ap Some (get_or-take w.used w.runs i (0, 0) below)
 
-pub held-at : (w : Window) (vbn i left : ℕ) (run : ℕ × ℕ) → slice_get (runs_held w) i ≡ Some run → left < run.1 → w.first ≤ vbn → vbn - w.first ≡ length (blocks_in (take i (runs_held w))) + left
+pub held-at : (w : Window) (vbn i left : ℕ) (run : ℕ × ℕ) → slice_get (runs_held w) i ≡ Some run → left < run.1 → w.first ≤ vbn
+    → vbn - w.first ≡ length (blocks_in (take i (runs_held w))) + left
     → HoldsAt w vbn (run.0 + left)
 held-at w vbn i left run at below from behind =
     let here : get_or (runs_held w) i (0, 0) ≡ run = get_or_from_slice_get (runs_held w) i run (0, 0) at in
@@ -219,14 +248,16 @@ held-at w vbn i left run at below from behind =
     }
 
 -- all runs were passed
-pub held-none : (w : Window) (vbn i left : ℕ) → i ≡ w.used → w.used ≤ length w.runs → vbn - w.first ≡ length (blocks_in (take i (runs_held w))) + left → ¬ HoldsBlock w vbn
+pub held-none : (w : Window) (vbn i left : ℕ) → i ≡ w.used → w.used ≤ length w.runs
+    → vbn - w.first ≡ length (blocks_in (take i (runs_held w))) + left → ¬ HoldsBlock w vbn
 held-none w vbn i left end within behind holds =
     let all : take i (runs_held w) ≡ runs_held w = take_all i (runs_held w) (omega (arith, end, length-take w.used w.runs)) in
     let size = ap (λ (rs : List (ℕ × ℕ)). length (blocks_in rs)) all in
     absurd (omega (arith, holds.from, holds.before, behind, size))
 
 -- a block of runs that lie on the device does
-blocks-on : (rs : List (ℕ × ℕ)) (blocks i lbn : ℕ) → All (λ (run : ℕ × ℕ). run.0 + run.1 ≤ blocks) rs → slice_get (blocks_in rs) i ≡ Some lbn → lbn < blocks
+blocks-on : (rs : List (ℕ × ℕ)) (blocks i lbn : ℕ) → All (λ (run : ℕ × ℕ). run.0 + run.1 ≤ blocks) rs
+    → slice_get (blocks_in rs) i ≡ Some lbn → lbn < blocks
 blocks-on [] blocks i lbn on at = let none : i < 0 = slice_get_within [] i lbn at in absurd (omega arith)
 blocks-on (r ∷ rs) blocks i lbn on at =
     let size = length-range_with_len r.0 r.1 in
@@ -235,7 +266,8 @@ blocks-on (r ∷ rs) blocks i lbn on at =
           let first : r.0 + r.1 ≤ blocks = on zero r (omega arith) in
           let some : i < length (range_with_len r.0 r.1) = omega (arith, here, size) in
           let one = slice_get-get_or (range_with_len r.0 r.1) i 0 some ∙ ap Some (get_or-range_with_len r.0 r.1 i 0 here) in
-          let is : r.0 + i ≡ lbn = same_Some (r.0 + i) lbn (sym (slice_get-append_front (range_with_len r.0 r.1) (blocks_in rs) i (r.0 + i) one) ∙ at) in
+          let is : r.0 + i ≡ lbn =
+          same_Some (r.0 + i) lbn (sym (slice_get-append_front (range_with_len r.0 r.1) (blocks_in rs) i (r.0 + i) one) ∙ at) in
           omega (arith, first, here, is)
       | inr behind ↦
           blocks-on rs blocks (i - r.1) lbn (λ k d below. on (suc k) d (omega (arith, below)))

@@ -1,5 +1,7 @@
--- A volume of which things are asked one after another: its home block stays, and where its disk is honest it fails by a failed transfer alone.
-use Rattle.std.proofs.Common.{◌≡◌, ◌≢◌, ◌⊎◌, inl, inr, ℕ, ◌<◌, ◌≤◌, ◌+◌, ◌||◌, if◌then◌else◌, Bool, true, false, IsTrue, List, [], ◌∷◌, Result, Ok, Err, refl, sym, ap, subst, ◌∙◌, arith}
+-- A volume of which things are asked one after another: its home block stays, and where its disk is honest it fails by a failed transfer
+-- alone.
+use Rattle.std.proofs.Common.{◌≡◌, ◌≢◌, ◌⊎◌, inl, inr, ℕ, ◌<◌, ◌≤◌, ◌+◌, ◌||◌, if◌then◌else◌, Bool, true, false, IsTrue, List, [], ◌∷◌}
+use Rattle.std.proofs.Common.{Result, Ok, Err, refl, sym, ap, subst, ◌∙◌, arith}
 use Rattle.f11_dev.specs.declared.device.Device.{Ghosts}
 use Rattle.f11_fcp.specs.Handles.{State, is_damage}
 use Rattle.f11_fcp.specs.Lengths.{AnswersLength}
@@ -34,10 +36,13 @@ never {b = false} h k = absurd (cc)
 
 module _ {D : Type 0} {met : Ghosts D} where
   serves-home : (v w : Volume D met) (c : Call) (a : Answer) → ServesCall v c a w → (state_in w).home ≡ (state_in v).home
-  serves-home v w c a h = by-bool (is_spent v) (λ is. ap (λ (x : State). x.home) (h.serving.untouched is).0) (λ is. (h.serving.handled is).home)
+  serves-home v w c a h =
+      by-bool (is_spent v) (λ is. ap (λ (x : State). x.home) (h.serving.untouched is).0) (λ is. (h.serving.handled is).home)
 
-  measures-home : (v w : Volume D met) (task lun : ℕ) (result : Result ℕ Refusal) → AnswersLength task lun result v w → (state_in w).home ≡ (state_in v).home
-  measures-home v w task lun result h = by-bool (is_spent v) (λ is. ap (λ (x : State). x.home) (h.untouched is)) (λ is. (h.measures is).home)
+  measures-home : (v w : Volume D met) (task lun : ℕ) (result : Result ℕ Refusal) → AnswersLength task lun result v w
+      → (state_in w).home ≡ (state_in v).home
+  measures-home v w task lun result h =
+      by-bool (is_spent v) (λ is. ap (λ (x : State). x.home) (h.untouched is)) (λ is. (h.measures is).home)
 
   pub granted-home : (who : Who) (x : Asking) (v w : Volume D met) → Grants of_volume who x v w → (state_in w).home ≡ (state_in v).home
   granted-home who (asks r) v w h = serves-home v w _ _ h.3
@@ -46,7 +51,8 @@ module _ {D : Type 0} {met : Ghosts D} where
   granted-home who (writes lun vbn block) v w h = serves-home v w _ _ h.2
   granted-home who (counts lun blocks) v w h = measures-home v w who.task lun (Ok blocks) h.0
 
-  pub denied-home : (who : Who) (x : Asking) (e : Refusal) (v w : Volume D met) → Denies of_volume who x e v w → (state_in w).home ≡ (state_in v).home
+  pub denied-home : (who : Who) (x : Asking) (e : Refusal) (v w : Volume D met) → Denies of_volume who x e v w
+      → (state_in w).home ≡ (state_in v).home
   denied-home who (asks r) e v w h = serves-home v w _ _ h.2
   denied-home who (told r a) e v w h = serves-home v w _ _ h.2
   denied-home who (reads lun vbn block) e v w h = serves-home v w _ _ h.2
@@ -62,11 +68,13 @@ module _ {D : Type 0} {met : Ghosts D} where
       one (inr d) = denied-home who x d.0 v h.0 d.1
 
   -- no honest disk is damaged
-  serves-undamaged : (v w : Volume D met) (c : Call) (a : Answer) (e : Refusal) → a.result ≡ Err e → is_spent v ≡ false → IsTrue (state_in v).disk.honest → ServesCall v c a w → e ≢ Damaged
+  serves-undamaged : (v w : Volume D met) (c : Call) (a : Answer) (e : Refusal) → a.result ≡ Err e → is_spent v ≡ false
+      → IsTrue (state_in v).disk.honest → ServesCall v c a w → e ≢ Damaged
   serves-undamaged v w c a e is alive honest h =
       undamaged-of e (sym (ap (λ r. is_refused is_damage r) is) ∙ (h.serving.handled alive).undamaged honest)
 
-  pub denied-undamaged : (who : Who) (x : Asking) (e : Refusal) (v w : Volume D met) → is_spent v ≡ false → IsTrue (state_in v).disk.honest → Denies of_volume who x e v w → e ≢ Damaged
+  pub denied-undamaged : (who : Who) (x : Asking) (e : Refusal) (v w : Volume D met) → is_spent v ≡ false → IsTrue (state_in v).disk.honest
+      → Denies of_volume who x e v w → e ≢ Damaged
   denied-undamaged who (asks r) e v w alive honest h = serves-undamaged v w _ _ e refl alive honest h.2
   denied-undamaged who (told r a) e v w alive honest h = serves-undamaged v w _ _ e refl alive honest h.2
   denied-undamaged who (reads lun vbn block) e v w alive honest h = serves-undamaged v w _ _ e refl alive honest h.2
@@ -83,7 +91,8 @@ module _ {D : Type 0} {met : Ghosts D} where
       one (inr d) = let f = (denied-fared who x d.0 v h.0 d.1).failures in omega (arith, f)
 
   -- a volume of an honest disk that fails meanwhile has met a failed transfer
-  pub tried-breaks : (who : Who) (xs : List Asking) (v w : Volume D met) → Tried of_volume who xs v w → IsTrue (state_in v).disk.honest → is_spent v ≡ false → is_spent w ≡ true → failures_of v < failures_of w
+  pub tried-breaks : (who : Who) (xs : List Asking) (v w : Volume D met) → Tried of_volume who xs v w → IsTrue (state_in v).disk.honest
+      → is_spent v ≡ false → is_spent w ≡ true → failures_of v < failures_of w
   tried-breaks who [] v w h honest alive dead = never (sym (ap (λ (u : Volume D met). is_spent u) h) ∙ dead) alive
   tried-breaks who (x ∷ xs) v w h honest alive dead =
       one (λ honest' alive'. tried-breaks who xs h.0 w h.2 honest' alive' dead) (tried-more who xs h.0 w h.2) h.1
@@ -97,15 +106,18 @@ module _ {D : Type 0} {met : Ghosts D} where
           let same = fared.failures in
           omega (arith, more, same)
 
-      broken : failures_of h.0 ≤ failures_of w → (e : Refusal) → Denies of_volume who x e v h.0 → is_fatal e ≡ true → failures_of v < failures_of w
+      broken : failures_of h.0 ≤ failures_of w → (e : Refusal) → Denies of_volume who x e v h.0 → is_fatal e ≡ true
+          → failures_of v < failures_of w
       broken later e denies fatal =
           let fault = fault-of e fatal (denied-undamaged who x e v h.0 alive honest denies) in
           let more = (denied-fared who x e v h.0 denies).failures ∙ ap (λ b. failures_of v + (if b then 1 else 0)) fault in
           omega (arith, more, later)
 
       clean : Rest → (e : Refusal) → Denies of_volume who x e v h.0 → is_fatal e ≡ false → failures_of v < failures_of w
-      clean rest e denies not-fatal = behind rest (is_fault e) (subst (λ b. IsFared (is_fault e) b v h.0) not-fatal (denied-fared who x e v h.0 denies))
+      clean rest e denies not-fatal =
+          behind rest (is_fault e) (subst (λ b. IsFared (is_fault e) b v h.0) not-fatal (denied-fared who x e v h.0 denies))
 
-      one : Rest → failures_of h.0 ≤ failures_of w → (Grants of_volume who x v h.0) ⊎ ((e : Refusal) × Denies of_volume who x e v h.0) → failures_of v < failures_of w
+      one : Rest → failures_of h.0 ≤ failures_of w → (Grants of_volume who x v h.0) ⊎ ((e : Refusal) × Denies of_volume who x e v h.0)
+          → failures_of v < failures_of w
       one rest later (inl g) = behind rest false (granted-fared who x v h.0 g)
       one rest later (inr d) = by-bool (is_fatal d.0) (broken later d.0 d.1) (clean rest d.0 d.1)

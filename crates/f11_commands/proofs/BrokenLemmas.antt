@@ -96,7 +96,8 @@ module _ {D : Type 0} {met : Ghosts D} (v w : Volume D met) (sound : is_sound v 
           denied-stays d.0 d.1 (store_of_volume h.at) (store_of_volume w) (volume-seen.denied operator d.0 d.1 h.at w d.3 seen.1 d.2).0
 
 -- an RT-11 volume that is copied to has the files that it had, or its new one besides, where the other volume broke the copy off
-pub begun-left : {V E : Type 0} {met : Ghosts E} (S : FilesService V) (disk : E → Disk) (who : Who) (lun : ℕ) (file : FileId) (name : List ℕ) (day : ℕ) (m : CopyMode) (e : Refusal)
+pub begun-left : {V E : Type 0} {met : Ghosts E} (S : FilesService V) (disk : E → Disk) (who : Who) (lun : ℕ) (file : FileId)
+    (name : List ℕ) (day : ℕ) (m : CopyMode) (e : Refusal)
     (v w : V) (rt rt' : RtAccepted E met) → EndsOnFiles m S disk who lun file name day e v w rt rt' → IsSoundDisk (rt_disk disk rt) →
     IsSoundDisk (rt_disk disk rt') × LeavesBegun name (rt_store disk rt) (rt_store disk rt')
 begun-left {E = E} {met = met} S disk who lun file name day m e v w rt rt' h sound = by h.target
@@ -105,7 +106,8 @@ begun-left {E = E} {met = met} S disk who lun file name day m e v w rt rt' h sou
         IsSoundDisk (rt_disk disk rt') × LeavesBegun name (rt_store disk rt) (rt_store disk rt')
     by (inl (inl same)) = (
       subst (λ (x : RtAccepted E met). IsSoundDisk (rt_disk disk x)) (sym same) sound,
-      inl (subst (λ (x : RtAccepted E met). HasSameFiles name (rt_store disk rt) (rt_store disk x)) (sym same) (record { named = refl; others = λ other apart. refl })),
+      inl (subst (λ (x : RtAccepted E met). HasSameFiles name (rt_store disk rt) (rt_store disk x)) (sym same)
+          (record { named = refl; others = λ other apart. refl })),
     )
     by (inl (inr p)) =
         let puts = took-puts disk name 0 p.pieces p.made rt' p.took in

@@ -31,7 +31,8 @@ both false b h k = absurd (let never : false ≡ true = h in cc)
 module _ {D E : Type 0} {met : Ghosts D} {met' : Ghosts E} (rt-disk : E → Disk) (c : Copying) (result : Result ℕ FlxRefusal) (old : Disk)
     (first last : Volume D met) (rt rt' : RtAccepted E met') (mounts : Mounts old first)
     (accepted : IsTrue (rt-disk (volume_device rt)).honest → IsRtAccepted (rt-disk (volume_device rt)).image)
-    (unfailed : has_failed rt ≡ false) (answers : FaresAsAnswered rt-disk c.direction c.rt_name result (OutcomeIs c result) first last rt rt')
+    (unfailed : has_failed rt ≡ false)
+    (answers : FaresAsAnswered rt-disk c.direction c.rt_name result (OutcomeIs c result) first last rt rt')
   where
     first-is : store_of_volume first ≡ held_in no_entries (store_of old.image (state_in first).home)
     first-is =
@@ -59,8 +60,10 @@ module _ {D E : Type 0} {met : Ghosts D} {met' : Ghosts E} (rt-disk : E → Disk
       held = (state_in last).table;
       home_is = mounts.home;
       outcome = λ is rt-is whole.
-          subst (λ (s : Store). OutcomeIs c result s (held_in (state_in last).table (store_of (state_in last).disk.image (state_in first).home)) d d') first-is
-          (subst (λ (s : Store). OutcomeIs c result (store_of_volume first) s d d') last-is (answers.outcome (sound is) (sound-rt rt-is) whole));
+          subst (λ (s : Store). OutcomeIs c result s
+          (held_in (state_in last).table (store_of (state_in last).disk.image (state_in first).home)) d d') first-is
+          (subst (λ (s : Store). OutcomeIs c result (store_of_volume first) s d d') last-is
+          (answers.outcome (sound is) (sound-rt rt-is) whole));
       undamaged = λ is. answers.undamaged mounts.fresh (mounts.looked.honest ∙ is);
       fares = record {
         failures = let none = mounts.looked.failures in let some = answers.fares.failures in omega (arith, none, some);
@@ -72,14 +75,16 @@ module _ {D E : Type 0} {met : Ghosts D} {met' : Ghosts E} (rt-disk : E → Disk
       };
       source = answers.source;
       broken = λ is fault.
-          subst (λ (s : Store). StandsAsIs s (held_in (state_in last).table (store_of (state_in last).disk.image (state_in first).home))) first-is
+          subst (λ (s : Store). StandsAsIs s (held_in (state_in last).table (store_of (state_in last).disk.image (state_in first).home)))
+          first-is
           (subst (λ (s : Store). StandsAsIs (store_of_volume first) s) last-is (answers.broken (sound is) fault));
       accepted = λ is. answers.fares.accepted (answers.fares.honest ∙ mounts.looked.honest ∙ is);
       rt_broken = λ is. answers.rt_broken (sound-rt is);
       rt_accepted = λ is none. (answers.sound_rt (sound-rt is) none).accepted;
     }
 
-    pub ends-between : {W : Type 0} (told : Result CopyAnswer Failure) (contents : W → Option (List ℕ)) (before after : W) (new rt-new : Disk)
+    pub ends-between : {W : Type 0} (told : Result CopyAnswer Failure) (contents : W → Option (List ℕ)) (before after : W)
+        (new rt-new : Disk)
         → new ≡ (state_in last).disk → rt-new ≡ d' → TellsCopy result told contents before after
         → EndsBetween c told old new d rt-new contents before after
     ends-between told contents before after new rt-new at rt-at tells =

@@ -33,7 +33,8 @@ kind = refl
 
 proper : (uic : Uic) → IsProper (three_octal uic.group ++ three_octal uic.member) (codes "DIR") 1
 proper uic = record {
-  name_characters = AllPass-from_list_all is_name_character (three_octal uic.group ++ three_octal uic.member) (three uic.group (three_octal uic.member) (three uic.member [] refl));
+  name_characters = AllPass-from_list_all is_name_character (three_octal uic.group ++ three_octal uic.member)
+      (three uic.group (three_octal uic.member) (three uic.member [] refl));
   name_length = omega arith;
   type_characters = AllPass-from_list_all is_name_character (codes "DIR") kind;
   type_length = omega arith;

@@ -1,5 +1,6 @@
 -- A copy by names: what its steps tell, one after another.
-use Rattle.std.proofs.Common.{◌≡◌, ◌≢◌, inl, inr, ℕ, ◌+◌, ◌||◌, not, Bool, true, false, IsTrue, if◌then◌else◌, List, Result, Ok, Err, IfOk, IfErr, refl, sym, ap, subst, ◌∙◌, arith}
+use Rattle.std.proofs.Common.{◌≡◌, ◌≢◌, inl, inr, ℕ, ◌+◌, ◌||◌, not, Bool, true, false, IsTrue, if◌then◌else◌, List, Result, Ok, Err, IfOk}
+use Rattle.std.proofs.Common.{IfErr, refl, sym, ap, subst, ◌∙◌, arith}
 use Rattle.f11_dev.specs.Disk.{Disk}
 use Rattle.f11_dev.specs.declared.device.Device.{Ghosts}
 use Rattle.f11_fcp.specs.Lists.{failures_of, is_sound, store_of_volume}
@@ -9,7 +10,8 @@ use Rattle.f11_files.specs.Answers.{is_fatal, is_fault}
 use Rattle.f11_flx.proofs.KeptLemmas.{denied-live, rt-apart, same-refusal}
 use Rattle.f11_flx.proofs.VolumeLemmas.{IsFared, denied-fared, granted-fared, volume-seen}
 use Rattle.f11_flx.specs.Asking.{Asking, Denies, Fails, Grants, Who, asks, plain, told, who_asks}
-use Rattle.f11_flx.specs.Copying.{AsksOnly, FaresFiles, FaresRt, MayMakeFile, MakesRtFile, ReadsFiles, ReadsRt, WhereSound, is_whole, of_files, of_rt, of_volume}
+use Rattle.f11_flx.specs.Copying.{AsksOnly, FaresFiles, FaresRt, MayMakeFile, MakesRtFile, ReadsFiles, ReadsRt, WhereSound, is_whole}
+use Rattle.f11_flx.specs.Copying.{of_files, of_rt, of_volume}
 use Rattle.f11_flx.specs.CopyFromRt.{CopiesFromRt, FailsToCopyFromRt}
 use Rattle.f11_flx.specs.CopyToRt.{CopiesToRt, FailsToCopyToRt, RefusesCopyToRt}
 use Rattle.f11_flx.specs.Ended.{Ends}
@@ -34,7 +36,8 @@ use Rattle.rt11_volume.specs.declared.refusal.RtRefusal.TheVariants.{Failed}
 use Rattle.rt11_volume.specs.declared.volume.RtAccepted.{RtAccepted}
 use Rattle.f11_commands.proofs.AskedLemmas.{denied-home, denied-undamaged, granted-home, never, tried-breaks, tried-home}
 use Rattle.f11_commands.proofs.BrokenLemmas.{begun-left, held-stands, stands-behind, unread-stands}
-use Rattle.f11_commands.specs.Copying.{CopiesWithin, KeepsRt, LeavesBegun, OutcomeIs, ReadsSource, StandsAsIs, directory_name, is_undoing, master_directory, operator}
+use Rattle.f11_commands.specs.Copying.{CopiesWithin, KeepsRt, LeavesBegun, OutcomeIs, ReadsSource, StandsAsIs, directory_name, is_undoing}
+use Rattle.f11_commands.specs.Copying.{master_directory, operator}
 use Rattle.f11_commands.specs.Finding.{FaresAsAnswered, WithinDirectory, is_found}
 use Rattle.f11_commands.specs.declared.copy.Copying.{Copying}
 use Rattle.f11_commands.specs.declared.copy.Direction.{Direction}
@@ -52,7 +55,8 @@ plus-none : (n : ℕ) → n ≡ n + 0
 plus-none n = omega arith
 
 -- what a volume's answer to a find is on an honest disk
-module _ {D : Type 0} {met : Ghosts D} (dir : FileId) (name : List ℕ) (answer : Reply) (v w : Volume D met) (grants : Grants of_volume operator (told (request.Find dir name) answer) v w) (honest : IsTrue (state_in v).disk.honest) where
+module _ {D : Type 0} {met : Ghosts D} (dir : FileId) (name : List ℕ) (answer : Reply) (v w : Volume D met)
+    (grants : Grants of_volume operator (told (request.Find dir name) answer) v w) (honest : IsTrue (state_in v).disk.honest) where
   pub found-reply : is_found answer ≡ true
   found-reply = by_spent (is_spent v) refl
     where
@@ -61,7 +65,8 @@ module _ {D : Type 0} {met : Ghosts D} (dir : FileId) (name : List ℕ) (answer 
       by_spent false is = ap is_found ((grants.2.serving.handled is).step honest refl).reply_is
 
 -- an RT-11 volume of which nothing was asked
-untouched : {E : Type 0} {met : Ghosts E} (disk : E → Disk) (e : Refusal) (rt : RtAccepted E met) → FaresRt {T = ℕ} disk (Err (Files e)) rt rt
+untouched : {E : Type 0} {met : Ghosts E} (disk : E → Disk) (e : Refusal) (rt : RtAccepted E met)
+    → FaresRt {T = ℕ} disk (Err (Files e)) rt rt
 untouched disk e rt = record {
   failures = plus-none (disk (volume_device rt)).failures;
   quiet = λ fault. absurd (cc);
@@ -78,7 +83,8 @@ unread ToRt d = tt
 unread FromRt d = record { image = refl; history = refl }
 
 module _ {D : Type 0} {met : Ghosts D} where
-  fares-behind : (result : Result ℕ FlxRefusal) (v u w : Volume D met) → IsFared false false v u → FaresFiles result u w → FaresFiles result v w
+  fares-behind : (result : Result ℕ FlxRefusal) (v u w : Volume D met) → IsFared false false v u → FaresFiles result u w
+      → FaresFiles result v w
   fares-behind result v u w f g =
       let alive : is_spent u ≡ is_spent v = f.next ∙ or-false (is_spent v) in
       let first = f.failures in
@@ -93,7 +99,8 @@ module _ {D : Type 0} {met : Ghosts D} where
       }
 
   -- a volume that a copy was asked of, as it tells itself
-  undamaged-asked : (is_one : Asking → Bool) (who : Who) (result : Result ℕ FlxRefusal) (v w : Volume D met) → FaresFiles result v w → AsksOnly is_one who v w
+  undamaged-asked : (is_one : Asking → Bool) (who : Who) (result : Result ℕ FlxRefusal) (v w : Volume D met) → FaresFiles result v w
+      → AsksOnly is_one who v w
       → is_spent v ≡ false → IsTrue (state_in v).disk.honest → result ≢ Err (Files Damaged)
   undamaged-asked is_one who result v w fares asked alive honest is =
       let dead = fares.next honest ∙ ap (λ r. is_spent v || of_files is_fatal r) is ∙ or-true (is_spent v) in
@@ -103,9 +110,11 @@ module _ {D : Type 0} {met : Ghosts D} where
 
 module _ {D E : Type 0} {met : Ghosts D} {met' : Ghosts E} (disk : E → Disk) where
   -- a copy behind something that was granted
-  pub answers-behind : (direction : Direction) (rt-name : List ℕ) (result : Result ℕ FlxRefusal) (Holds Holds' : Store → Store → Disk → Disk → Type 0) (x : Asking) (v u w : Volume D met) (rt rt' : RtAccepted E met')
+  pub answers-behind : (direction : Direction) (rt-name : List ℕ) (result : Result ℕ FlxRefusal)
+      (Holds Holds' : Store → Store → Disk → Disk → Type 0) (x : Asking) (v u w : Volume D met) (rt rt' : RtAccepted E met')
       → is_undoing x ≡ false → Grants of_volume operator x v u → FaresAsAnswered disk direction rt-name result Holds u w rt rt'
-      → (Grants plain operator x (store_of_volume v) (store_of_volume u) → Holds (store_of_volume u) (store_of_volume w) (disk (volume_device rt)) (disk (volume_device rt'))
+      → (Grants plain operator x (store_of_volume v) (store_of_volume u) → Holds (store_of_volume u) (store_of_volume w)
+      (disk (volume_device rt)) (disk (volume_device rt'))
       → Holds' (store_of_volume v) (store_of_volume w) (disk (volume_device rt)) (disk (volume_device rt')))
       → FaresAsAnswered disk direction rt-name result Holds' v w rt rt'
   answers-behind direction rt-name result Holds Holds' x v u w rt rt' none grants a step =
@@ -129,7 +138,8 @@ module _ {D E : Type 0} {met : Ghosts D} {met' : Ghosts E} (disk : E → Disk) w
       }
 
   -- a find that is refused
-  pub answers-not-found : (direction : Direction) (rt-name : List ℕ) (Holds : Store → Store → Disk → Disk → Type 0) (dir : FileId) (name : List ℕ) (e : Refusal) (v w : Volume D met) (rt : RtAccepted E met')
+  pub answers-not-found : (direction : Direction) (rt-name : List ℕ) (Holds : Store → Store → Disk → Disk → Type 0) (dir : FileId)
+      (name : List ℕ) (e : Refusal) (v w : Volume D met) (rt : RtAccepted E met')
       → Fails of_volume operator is_found (request.Find dir name) e v w
       → (Denies plain operator (asks (request.Find dir name)) e (store_of_volume v) (store_of_volume w)
       → Holds (store_of_volume v) (store_of_volume w) (disk (volume_device rt)) (disk (volume_device rt)))
@@ -147,13 +157,16 @@ module _ {D E : Type 0} {met : Ghosts D} {met' : Ghosts E} (disk : E → Disk) w
         };
         fares_rt = untouched disk e rt;
         source = unread direction (disk (volume_device rt));
-        alive = λ alive is. (denied-live operator (asks (request.Find dir name)) e v w alive denies).other (same-refusal (Files e) (Files VolumeFailed) is);
+        alive = λ alive is. (denied-live operator (asks (request.Find dir name)) e v w alive denies).other
+            (same-refusal (Files e) (Files VolumeFailed) is);
         rt_alive = λ alive is. rt-apart e Failed (same-refusal (Files e) (Rt Failed) is);
         home = denied-home operator (asks (request.Find dir name)) e v w denies;
-        undamaged = λ alive honest is. denied-undamaged operator (asks (request.Find dir name)) e v w alive honest denies (let same = is in cc);
+        undamaged = λ alive honest is. denied-undamaged operator (asks (request.Find dir name)) e v w alive honest denies
+            (let same = is in cc);
         sound_rt = λ sound none. sound;
         rt_broken = λ sound fatal. inl (same-files rt-name (rt_store_of (disk (volume_device rt)).image));
-        outcome = λ sound rt-sound whole. step (volume-seen.denied operator (asks (request.Find dir name)) e v w denies sound (not-true whole)).0;
+        outcome = λ sound rt-sound whole.
+            step (volume-seen.denied operator (asks (request.Find dir name)) e v w denies sound (not-true whole)).0;
         broken = λ sound fault. absurd (cc);
       }
     where
@@ -202,12 +215,15 @@ module _ {D E : Type 0} {met : Ghosts D} {met' : Ghosts E} (disk : E → Disk) w
 
     -- a copy to the RT-11 volume
     abbrev pub OfSource : FileId → Result ℕ FlxRefusal → Store → Store → Disk → Disk → Type 0
-    OfSource source (Ok blocks) t t' e e' = CopiesToRt c.mode operator 0 source c.rt_name 0 blocks t t' (rt_store_of e.image) (rt_store_of e'.image)
+    OfSource source (Ok blocks) t t' e e' =
+        CopiesToRt c.mode operator 0 source c.rt_name 0 blocks t t' (rt_store_of e.image) (rt_store_of e'.image)
     OfSource source (Err refusal) t t' e e' =
         FailsToCopyToRt refusal c.mode operator 0 source c.rt_name t t' e × (rt_store_of e'.image ≡ rt_store_of e.image)
 
-    pub answers-to-rt : (source : FileId) (result : Result ℕ FlxRefusal) → ReadsFiles result operator v w → MakesRtFile disk result c.rt_name rt rt'
-        → IfOk result (λ blocks. WhereSound disk v rt (CopiesToRt c.mode operator 0 source c.rt_name 0 blocks s s' (rt_store_of d.image) (rt_store_of d'.image)))
+    pub answers-to-rt : (source : FileId) (result : Result ℕ FlxRefusal) → ReadsFiles result operator v w
+        → MakesRtFile disk result c.rt_name rt rt'
+        → IfOk result (λ blocks.
+        WhereSound disk v rt (CopiesToRt c.mode operator 0 source c.rt_name 0 blocks s s' (rt_store_of d.image) (rt_store_of d'.image)))
         → IfErr result (λ e. is_whole result ≡ true → WhereSound disk v rt (RefusesCopyToRt e c.mode operator 0 source c.rt_name s s' d d'))
         → IfErr result (λ e. is_lethal e ≡ true → EndsToRt c.mode of_volume disk operator 0 source c.rt_name 0 e v w rt rt')
         → FaresAsAnswered disk ToRt c.rt_name result (OfSource source result) v w rt rt'
@@ -226,7 +242,8 @@ module _ {D E : Type 0} {met : Ghosts D} {met' : Ghosts E} (disk : E → Disk) w
     }
       where
         sounds : IsSoundDisk d → (r : Result ℕ FlxRefusal) → MakesRtFile disk r c.rt_name rt rt'
-            → IfErr r (λ e. is_lethal e ≡ true → EndsToRt c.mode of_volume disk operator 0 source c.rt_name 0 e v w rt rt') → of_rt is_rt_fault r ≡ false → IsSoundDisk d'
+            → IfErr r (λ e. is_lethal e ≡ true → EndsToRt c.mode of_volume disk operator 0 source c.rt_name 0 e v w rt rt')
+            → of_rt is_rt_fault r ≡ false → IsSoundDisk d'
         sounds rt-sound (Ok blocks) made h none = made.sound rt-sound refl
         sounds rt-sound (Err (Files e)) made h none = by (is_lethal (Files e)) refl
           where
@@ -237,15 +254,18 @@ module _ {D E : Type 0} {met : Ghosts D} {met' : Ghosts E} (disk : E → Disk) w
         sounds rt-sound (Err BadRecord) made h none = made.sound rt-sound refl
         sounds rt-sound (Err LineTooLong) made h none = made.sound rt-sound refl
 
-        begun : IsSoundDisk d → (r : Result ℕ FlxRefusal) → IfErr r (λ e. is_lethal e ≡ true → EndsToRt c.mode of_volume disk operator 0 source c.rt_name 0 e v w rt rt')
+        begun : IsSoundDisk d → (r : Result ℕ FlxRefusal)
+            → IfErr r (λ e. is_lethal e ≡ true → EndsToRt c.mode of_volume disk operator 0 source c.rt_name 0 e v w rt rt')
             → of_files is_fatal r ≡ true → LeavesBegun c.rt_name (rt_store_of d.image) (rt_store_of d'.image)
-        begun rt-sound (Err (Files e)) h fatal = (begun-left of_volume disk operator 0 source c.rt_name 0 c.mode e v w rt rt' (h fatal) rt-sound).1
+        begun rt-sound (Err (Files e)) h fatal =
+            (begun-left of_volume disk operator 0 source c.rt_name 0 c.mode e v w rt rt' (h fatal) rt-sound).1
         begun rt-sound (Err (Rt e)) h fatal = absurd (cc)
         begun rt-sound (Err BadRecord) h fatal = absurd (cc)
         begun rt-sound (Err LineTooLong) h fatal = absurd (cc)
         begun rt-sound (Ok blocks) h fatal = absurd (cc)
 
-        held : is_sound v ≡ true → (r : Result ℕ FlxRefusal) → IfErr r (λ e. is_lethal e ≡ true → EndsToRt c.mode of_volume disk operator 0 source c.rt_name 0 e v w rt rt')
+        held : is_sound v ≡ true → (r : Result ℕ FlxRefusal)
+            → IfErr r (λ e. is_lethal e ≡ true → EndsToRt c.mode of_volume disk operator 0 source c.rt_name 0 e v w rt rt')
             → of_rt is_rt_fault r ≡ true → StandsAsIs s s'
         held sound (Err (Rt e)) h fault = held-stands v w sound (h fault)
         held sound (Err (Files e)) h fault = absurd (cc)
@@ -254,16 +274,20 @@ module _ {D E : Type 0} {met : Ghosts D} {met' : Ghosts E} (disk : E → Disk) w
         held sound (Ok blocks) h fault = absurd (cc)
 
         by_result : (r : Result ℕ FlxRefusal) → MakesRtFile disk r c.rt_name rt rt'
-            → IfOk r (λ blocks. WhereSound disk v rt (CopiesToRt c.mode operator 0 source c.rt_name 0 blocks s s' (rt_store_of d.image) (rt_store_of d'.image)))
+            → IfOk r (λ blocks. WhereSound disk v rt
+            (CopiesToRt c.mode operator 0 source c.rt_name 0 blocks s s' (rt_store_of d.image) (rt_store_of d'.image)))
             → IfErr r (λ e. is_whole r ≡ true → WhereSound disk v rt (RefusesCopyToRt e c.mode operator 0 source c.rt_name s s' d d'))
             → is_sound v ≡ true → IsSoundDisk d → is_whole r ≡ true → OfSource source r s s' d d'
         by_result (Ok blocks) made copies not-copied sound rt-sound whole = copies sound rt-sound
-        by_result (Err e) made copies not-copied sound rt-sound whole = let is = not-copied whole sound rt-sound in (is.why, ap (λ i. rt_store_of i) is.unwritten)
+        by_result (Err e) made copies not-copied sound rt-sound whole =
+            let is = not-copied whole sound rt-sound in (is.why, ap (λ i. rt_store_of i) is.unwritten)
 
     -- a copy from it
     pub answers-from-rt : (dir : FileId) (result : Result ℕ FlxRefusal) → ReadsRt disk result rt rt' → MayMakeFile result operator v w
-        → IfOk result (λ blocks. WhereSound disk v rt (CopiesFromRt c.mode c.rt_name operator 0 dir c.name 0 blocks (rt_store_of d.image) s s'))
-        → IfErr result (λ e. is_whole result ≡ true → WhereSound disk v rt (FailsToCopyFromRt e c.mode c.rt_name operator 0 dir c.name 0 d s s'))
+        → IfOk result (λ blocks.
+        WhereSound disk v rt (CopiesFromRt c.mode c.rt_name operator 0 dir c.name 0 blocks (rt_store_of d.image) s s'))
+        → IfErr result (λ e. is_whole result ≡ true
+        → WhereSound disk v rt (FailsToCopyFromRt e c.mode c.rt_name operator 0 dir c.name 0 d s s'))
         → IfErr result (λ e. is_lethal e ≡ true → Ends of_volume operator e v w)
         → FaresAsAnswered disk FromRt c.rt_name result (WithinDirectory FromRt c dir result) v w rt rt'
     answers-from-rt dir result source files copied refused ended = record {
@@ -274,8 +298,14 @@ module _ {D E : Type 0} {met : Ghosts D} {met' : Ghosts E} (disk : E → Disk) w
       rt_alive = λ alive is. never (source.keeps.only is) alive;
       home = tried-home operator files.asked.asked v w files.asked.tried;
       undamaged = undamaged-asked _ operator result v w files.fares files.asked;
-      rt_broken = λ sound fatal. inl (record { named = ap (λ i. files_named c.rt_name (rt_store_of i)) source.image; others = λ other apart. ap (λ i. files_named other (rt_store_of i)) source.image });
-      sound_rt = λ sound none. record { honest = source.fares.honest ∙ sound.honest; accepted = subst (λ i. IsRtAccepted i) (sym source.image) sound.accepted };
+      rt_broken = λ sound fatal.
+          inl (record {
+            named = ap (λ i. files_named c.rt_name (rt_store_of i)) source.image;
+            others = λ other apart.
+                ap (λ i. files_named other (rt_store_of i)) source.image;
+          });
+      sound_rt = λ sound none.
+          record { honest = source.fares.honest ∙ sound.honest; accepted = subst (λ i. IsRtAccepted i) (sym source.image) sound.accepted };
       outcome = λ sound rt-sound whole. (by_result result files copied refused sound rt-sound whole, same result);
       broken = λ sound. stopped sound result ended;
     }
@@ -292,11 +322,13 @@ module _ {D E : Type 0} {met : Ghosts D} {met' : Ghosts E} (disk : E → Disk) w
         same r = ap (λ i. rt_store_of i) source.image
 
         by_result : (r : Result ℕ FlxRefusal) → MayMakeFile r operator v w
-            → IfOk r (λ blocks. WhereSound disk v rt (CopiesFromRt c.mode c.rt_name operator 0 dir c.name 0 blocks (rt_store_of d.image) s s'))
+            → IfOk r (λ blocks. WhereSound disk v rt
+            (CopiesFromRt c.mode c.rt_name operator 0 dir c.name 0 blocks (rt_store_of d.image) s s'))
             → IfErr r (λ e. is_whole r ≡ true → WhereSound disk v rt (FailsToCopyFromRt e c.mode c.rt_name operator 0 dir c.name 0 d s s'))
             → is_sound v ≡ true → IsSoundDisk d → is_whole r ≡ true → CopiesWithin FromRt c dir r s s' d d'
         by_result (Ok blocks) made copies not-copied sound rt-sound whole = copies sound rt-sound
-        by_result (Err e) made copies not-copied sound rt-sound whole = record { refused = not-copied whole sound rt-sound; undone = made.undone e refl sound whole }
+        by_result (Err e) made copies not-copied sound rt-sound whole =
+            record { refused = not-copied whole sound rt-sound; undone = made.undone e refl sound whole }
 
 keeps-rt : (direction : Direction) (e : FlxRefusal) (t : RtStore) → KeepsRt direction (Err e) t t
 keeps-rt ToRt e t = refl
@@ -304,36 +336,49 @@ keeps-rt FromRt e t = refl
 
 module _ {D E : Type 0} {met : Ghosts D} {met' : Ghosts E} (disk : E → Disk) (c : Copying) where
   -- a copy to the RT-11 volume, asked for by a task and a lun of these numbers
-  pub copied-to-rt : (task lun : ℕ) → task ≡ 0 → lun ≡ 0 → (source : FileId) (result : Result ℕ FlxRefusal) (v w : Volume D met) (rt rt' : RtAccepted E met')
+  pub copied-to-rt : (task lun : ℕ) → task ≡ 0 → lun ≡ 0
+      → (source : FileId) (result : Result ℕ FlxRefusal) (v w : Volume D met) (rt rt' : RtAccepted E met')
       → ReadsFiles result (who_asks task operator.caller) v w → MakesRtFile disk result c.rt_name rt rt'
-      → IfOk result (λ blocks. WhereSound disk v rt (CopiesToRt c.mode (who_asks task operator.caller) lun source c.rt_name 0 blocks (store_of_volume v) (store_of_volume w)
+      → IfOk result (λ blocks.
+      WhereSound disk v rt
+      (CopiesToRt c.mode (who_asks task operator.caller) lun source c.rt_name 0 blocks (store_of_volume v) (store_of_volume w)
       (rt_store_of (disk (volume_device rt)).image) (rt_store_of (disk (volume_device rt')).image)))
       → IfErr result (λ e. is_whole result ≡ true → WhereSound disk v rt
-      (RefusesCopyToRt e c.mode (who_asks task operator.caller) lun source c.rt_name (store_of_volume v) (store_of_volume w) (disk (volume_device rt)) (disk (volume_device rt'))))
-      → IfErr result (λ e. is_lethal e ≡ true → EndsToRt c.mode of_volume disk (who_asks task operator.caller) lun source c.rt_name 0 e v w rt rt')
+      (RefusesCopyToRt e c.mode (who_asks task operator.caller) lun source c.rt_name (store_of_volume v) (store_of_volume w)
+      (disk (volume_device rt)) (disk (volume_device rt'))))
+      → IfErr result (λ e. is_lethal e ≡ true → EndsToRt c.mode of_volume disk (who_asks task operator.caller) lun source c.rt_name 0 e v w
+      rt rt')
       → FaresAsAnswered disk ToRt c.rt_name result (OfSource disk c v w rt rt' source result) v w rt rt'
-  copied-to-rt task lun task-is lun-is source result v w rt rt' = subst (λ t. By t lun) (sym task-is) (subst (λ l. By 0 l) (sym lun-is) (answers-to-rt disk c v w rt rt' source result))
+  copied-to-rt task lun task-is lun-is source result v w rt rt' =
+      subst (λ t. By t lun) (sym task-is) (subst (λ l. By 0 l) (sym lun-is) (answers-to-rt disk c v w rt rt' source result))
     where
       By : ℕ → ℕ → Type 0
       By t l =
           ReadsFiles result (who_asks t operator.caller) v w → MakesRtFile disk result c.rt_name rt rt'
-          → IfOk result (λ blocks. WhereSound disk v rt (CopiesToRt c.mode (who_asks t operator.caller) l source c.rt_name 0 blocks (store_of_volume v) (store_of_volume w)
+          → IfOk result (λ blocks.
+          WhereSound disk v rt
+          (CopiesToRt c.mode (who_asks t operator.caller) l source c.rt_name 0 blocks (store_of_volume v) (store_of_volume w)
           (rt_store_of (disk (volume_device rt)).image) (rt_store_of (disk (volume_device rt')).image)))
           → IfErr result (λ e. is_whole result ≡ true → WhereSound disk v rt
-          (RefusesCopyToRt e c.mode (who_asks t operator.caller) l source c.rt_name (store_of_volume v) (store_of_volume w) (disk (volume_device rt)) (disk (volume_device rt'))))
-          → IfErr result (λ e. is_lethal e ≡ true → EndsToRt c.mode of_volume disk (who_asks t operator.caller) l source c.rt_name 0 e v w rt rt')
+          (RefusesCopyToRt e c.mode (who_asks t operator.caller) l source c.rt_name (store_of_volume v) (store_of_volume w)
+          (disk (volume_device rt)) (disk (volume_device rt'))))
+          → IfErr result (λ e. is_lethal e ≡ true → EndsToRt c.mode of_volume disk (who_asks t operator.caller) l source c.rt_name 0 e v w
+          rt rt')
           → FaresAsAnswered disk ToRt c.rt_name result (OfSource disk c v w rt rt' source result) v w rt rt'
 
   -- and one from it
-  pub copied-from-rt : (task lun : ℕ) → task ≡ 0 → lun ≡ 0 → (dir : FileId) (result : Result ℕ FlxRefusal) (v w : Volume D met) (rt rt' : RtAccepted E met')
+  pub copied-from-rt : (task lun : ℕ) → task ≡ 0 → lun ≡ 0
+      → (dir : FileId) (result : Result ℕ FlxRefusal) (v w : Volume D met) (rt rt' : RtAccepted E met')
       → ReadsRt disk result rt rt' → MayMakeFile result (who_asks task operator.caller) v w
       → IfOk result (λ blocks. WhereSound disk v rt (CopiesFromRt c.mode c.rt_name (who_asks task operator.caller) lun dir c.name 0 blocks
       (rt_store_of (disk (volume_device rt)).image) (store_of_volume v) (store_of_volume w)))
       → IfErr result (λ e. is_whole result ≡ true → WhereSound disk v rt
-      (FailsToCopyFromRt e c.mode c.rt_name (who_asks task operator.caller) lun dir c.name 0 (disk (volume_device rt)) (store_of_volume v) (store_of_volume w)))
+      (FailsToCopyFromRt e c.mode c.rt_name (who_asks task operator.caller) lun dir c.name 0 (disk (volume_device rt)) (store_of_volume v)
+      (store_of_volume w)))
       → IfErr result (λ e. is_lethal e ≡ true → Ends of_volume (who_asks task operator.caller) e v w)
       → FaresAsAnswered disk FromRt c.rt_name result (WithinDirectory FromRt c dir result) v w rt rt'
-  copied-from-rt task lun task-is lun-is dir result v w rt rt' = subst (λ t. By t lun) (sym task-is) (subst (λ l. By 0 l) (sym lun-is) (answers-from-rt disk c v w rt rt' dir result))
+  copied-from-rt task lun task-is lun-is dir result v w rt rt' =
+      subst (λ t. By t lun) (sym task-is) (subst (λ l. By 0 l) (sym lun-is) (answers-from-rt disk c v w rt rt' dir result))
     where
       By : ℕ → ℕ → Type 0
       By t l =
@@ -341,51 +386,67 @@ module _ {D E : Type 0} {met : Ghosts D} {met' : Ghosts E} (disk : E → Disk) (
           → IfOk result (λ blocks. WhereSound disk v rt (CopiesFromRt c.mode c.rt_name (who_asks t operator.caller) l dir c.name 0 blocks
           (rt_store_of (disk (volume_device rt)).image) (store_of_volume v) (store_of_volume w)))
           → IfErr result (λ e. is_whole result ≡ true → WhereSound disk v rt
-          (FailsToCopyFromRt e c.mode c.rt_name (who_asks t operator.caller) l dir c.name 0 (disk (volume_device rt)) (store_of_volume v) (store_of_volume w)))
+          (FailsToCopyFromRt e c.mode c.rt_name (who_asks t operator.caller) l dir c.name 0 (disk (volume_device rt)) (store_of_volume v)
+          (store_of_volume w)))
           → IfErr result (λ e. is_lethal e ≡ true → Ends of_volume (who_asks t operator.caller) e v w)
           → FaresAsAnswered disk FromRt c.rt_name result (WithinDirectory FromRt c dir result) v w rt rt'
 
   -- the file is found, and then it is copied
   pub found-source : (dir source : FileId) (result : Result ℕ FlxRefusal) (v u w : Volume D met) (rt rt' : RtAccepted E met')
-      → Grants of_volume operator (told (request.Find dir c.name) (reply.Found source)) v u → FaresAsAnswered disk ToRt c.rt_name result (OfSource disk c u w rt rt' source result) u w rt rt'
+      → Grants of_volume operator (told (request.Find dir c.name) (reply.Found source)) v u
+      → FaresAsAnswered disk ToRt c.rt_name result (OfSource disk c u w rt rt' source result) u w rt rt'
       → FaresAsAnswered disk ToRt c.rt_name result (WithinDirectory ToRt c dir result) v w rt rt'
   found-source dir source result v u w rt rt' grants answers =
-      answers-behind disk ToRt c.rt_name result (OfSource disk c u w rt rt' source result) (WithinDirectory ToRt c dir result) (told (request.Find dir c.name) (reply.Found source))
+      answers-behind disk ToRt c.rt_name result (OfSource disk c u w rt rt' source result) (WithinDirectory ToRt c dir result)
+      (told (request.Find dir c.name) (reply.Found source))
       v u w rt rt' refl grants answers (by_result result)
     where
-      by_result : (r : Result ℕ FlxRefusal) → Grants plain operator (told (request.Find dir c.name) (reply.Found source)) (store_of_volume v) (store_of_volume u)
+      by_result : (r : Result ℕ FlxRefusal)
+          → Grants plain operator (told (request.Find dir c.name) (reply.Found source)) (store_of_volume v) (store_of_volume u)
           → OfSource disk c u w rt rt' source r (store_of_volume u) (store_of_volume w) (disk (volume_device rt)) (disk (volume_device rt'))
           → WithinDirectory ToRt c dir r (store_of_volume v) (store_of_volume w) (disk (volume_device rt)) (disk (volume_device rt'))
-      by_result (Ok blocks) granted holds = (record { source = source; found = store_of_volume u; finds = (store_of_volume u, granted, refl); copies = holds }, tt)
-      by_result (Err e) granted holds = (inr (record { source = source; found = store_of_volume u; finds = (store_of_volume u, granted, refl); refused = holds.0 }), holds.1)
+      by_result (Ok blocks) granted holds =
+          (record { source = source; found = store_of_volume u; finds = (store_of_volume u, granted, refl); copies = holds }, tt)
+      by_result (Err e) granted holds = (
+        inr (record { source = source; found = store_of_volume u; finds = (store_of_volume u, granted, refl); refused = holds.0 }),
+        holds.1,
+      )
 
-  pub lacks-source : (dir : FileId) (e : Refusal) (v w : Volume D met) (rt : RtAccepted E met') → Fails of_volume operator is_found (request.Find dir c.name) e v w
+  pub lacks-source : (dir : FileId) (e : Refusal) (v w : Volume D met) (rt : RtAccepted E met')
+      → Fails of_volume operator is_found (request.Find dir c.name) e v w
       → FaresAsAnswered disk ToRt c.rt_name (Err (Files e)) (WithinDirectory ToRt c dir (Err (Files e))) v w rt rt
   lacks-source dir e v w rt fails =
       answers-not-found disk ToRt c.rt_name (WithinDirectory ToRt c dir (Err (Files e))) dir c.name e v w rt fails
       (λ denies. (inl (record { refusal = e; is = refl; not_found = denies }), refl))
 
   -- the user's directory is found, and then a file is copied from it, or to it
-  pub found-directory : (direction : Direction) → c.direction ≡ direction → (name : List ℕ) → name ≡ directory_name c.directory → (dir : FileId) (result : Result ℕ FlxRefusal)
+  pub found-directory : (direction : Direction) → c.direction ≡ direction → (name : List ℕ) → name ≡ directory_name c.directory
+      → (dir : FileId) (result : Result ℕ FlxRefusal)
       (v u w : Volume D met) (rt rt' : RtAccepted E met')
-      → Grants of_volume operator (told (request.Find master_directory name) (reply.Found dir)) v u → FaresAsAnswered disk direction c.rt_name result (WithinDirectory direction c dir result) u w rt rt'
+      → Grants of_volume operator (told (request.Find master_directory name) (reply.Found dir)) v u
+      → FaresAsAnswered disk direction c.rt_name result (WithinDirectory direction c dir result) u w rt rt'
       → FaresAsAnswered disk c.direction c.rt_name result (OutcomeIs c result) v w rt rt'
   found-directory direction is name name-is dir result v u w rt rt' grants answers =
       subst (λ x. FaresAsAnswered disk x c.rt_name result (OutcomeIs c result) v w rt rt') (sym is)
-      (answers-behind disk direction c.rt_name result (WithinDirectory direction c dir result) (OutcomeIs c result) (told (request.Find master_directory (directory_name c.directory)) (reply.Found dir))
-      v u w rt rt' refl (subst (λ n. Grants of_volume operator (told (request.Find master_directory n) (reply.Found dir)) v u) name-is grants) answers
+      (answers-behind disk direction c.rt_name result (WithinDirectory direction c dir result) (OutcomeIs c result)
+      (told (request.Find master_directory (directory_name c.directory)) (reply.Found dir))
+      v u w rt rt' refl (subst (λ n. Grants of_volume operator (told (request.Find master_directory n) (reply.Found dir)) v u) name-is
+      grants) answers
       (λ granted holds. record {
         files = inl (record {
           dir = dir;
           found = store_of_volume u;
           finds = (store_of_volume u, granted, refl);
-          within = subst (λ x. CopiesWithin x c dir result (store_of_volume u) (store_of_volume w) (disk (volume_device rt)) (disk (volume_device rt'))) (sym is) holds.0;
+          within = subst (λ x. CopiesWithin x c dir result (store_of_volume u) (store_of_volume w) (disk (volume_device rt))
+              (disk (volume_device rt'))) (sym is) holds.0;
         });
-        rt = subst (λ x. KeepsRt x result (rt_store_of (disk (volume_device rt)).image) (rt_store_of (disk (volume_device rt')).image)) (sym is) holds.1;
+        rt = subst (λ x. KeepsRt x result (rt_store_of (disk (volume_device rt)).image) (rt_store_of (disk (volume_device rt')).image))
+            (sym is) holds.1;
       }))
 
   pub lacks-directory : (name : List ℕ) → name ≡ directory_name c.directory → (e : Refusal) (v w : Volume D met) (rt : RtAccepted E met')
-      → Fails of_volume operator is_found (request.Find master_directory name) e v w → FaresAsAnswered disk c.direction c.rt_name (Err (Files e)) (OutcomeIs c (Err (Files e))) v w rt rt
+      → Fails of_volume operator is_found (request.Find master_directory name) e v w
+      → FaresAsAnswered disk c.direction c.rt_name (Err (Files e)) (OutcomeIs c (Err (Files e))) v w rt rt
   lacks-directory name name-is e v w rt fails =
       answers-not-found disk c.direction c.rt_name (OutcomeIs c (Err (Files e))) master_directory (directory_name c.directory) e v w rt
       (subst (λ n. Fails of_volume operator is_found (request.Find master_directory n) e v w) name-is fails)

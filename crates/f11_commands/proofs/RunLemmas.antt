@@ -1,5 +1,6 @@
 -- A script that is served on an image.
-use Rattle.std.proofs.Common.{◌≡◌, ◌⊎◌, inl, inr, ℕ, ◌&&◌, not, Bool, true, false, List, Option, Result, Ok, Err, refl, sym, ◌∙◌, ap, subst, arith}
+use Rattle.std.proofs.Common.{◌≡◌, ◌⊎◌, inl, inr, ℕ, ◌&&◌, not, Bool, true, false, List, Option, Result, Ok, Err, refl, sym, ◌∙◌, ap, subst}
+use Rattle.std.proofs.Common.{arith}
 use Rattle.f11_dev.specs.Disk.{Disk}
 use Rattle.f11_dev.specs.Image.{Image}
 use Rattle.f11_dev.specs.Looked.{Looked}
@@ -31,8 +32,10 @@ both true true h k = absurd (let never : true ≡ false = k in cc)
 both false b h k = absurd (let never : false ≡ true = h in cc)
 
 -- a volume that was mounted served the script
-module _ {D W : Type 0} {met : Ghosts D} (disk : Disk) (first last : Volume D met) (remaining : Option (List ℕ)) (contents : W → Option (List ℕ)) (before after : W)
-    (result : Result ℕ ScriptError) (mounts : Mounts disk first) (runs : RunsScript ServesCall remaining first last (contents before) (contents after) result)
+module _ {D W : Type 0} {met : Ghosts D} (disk : Disk) (first last : Volume D met) (remaining : Option (List ℕ))
+    (contents : W → Option (List ℕ)) (before after : W)
+    (result : Result ℕ ScriptError) (mounts : Mounts disk first)
+    (runs : RunsScript ServesCall remaining first last (contents before) (contents after) result)
     (run : ServesScriptRun first last remaining (contents before) (contents after) result) (accepted : StaysAccepted (state_in last))
   where
     kept : KeepsVolume first last
@@ -55,27 +58,40 @@ module _ {D W : Type 0} {met : Ghosts D} (disk : Disk) (first last : Volume D me
       run = λ is none.
           let sound : is_sound first ≡ true = both (state_in first).disk.honest (is_spent first) (mounts.looked.honest ∙ is) mounts.fresh in
           let same : failures_of last ≡ failures_of first = omega (arith, mounts.looked.failures, none) in
-          subst (λ (s : Store). RunsScript Steps remaining s (held_in (state_in last).table (store_of (state_in last).disk.image (state_in first).home)) (contents before) (contents after) result) first-is
-          (subst (λ (s : Store). RunsScript Steps remaining (store_of_volume first) s (contents before) (contents after) result) last-is (run sound same));
+          subst (λ (s : Store). RunsScript Steps remaining s
+          (held_in (state_in last).table (store_of (state_in last).disk.image (state_in first).home)) (contents before) (contents after)
+          result) first-is
+          (subst (λ (s : Store). RunsScript Steps remaining (store_of_volume first) s (contents before) (contents after) result) last-is
+          (run sound same));
     }
 
-    by-outcome : (spent : Bool) → is_spent last ≡ spent → EndsServing (outcome_of spent result) remaining disk (state_in last).disk contents before after
+    by-outcome : (spent : Bool) → is_spent last ≡ spent
+        → EndsServing (outcome_of spent result) remaining disk (state_in last).disk contents before after
     by-outcome = ends result serves-image
       where
-        ends : (r : Result ℕ ScriptError) → ServesImage r remaining disk (state_in last).disk contents before after → (spent : Bool) → is_spent last ≡ spent
+        ends : (r : Result ℕ ScriptError) → ServesImage r remaining disk (state_in last).disk contents before after → (spent : Bool)
+            → is_spent last ≡ spent
             → EndsServing (outcome_of spent r) remaining disk (state_in last).disk contents before after
-        ends r s true is = (inr (r, s), λ honest. let more = kept.more (mounts.looked.honest ∙ honest) mounts.fresh is in omega (arith, more, mounts.looked.failures))
+        ends r s true is = (
+          inr (r, s),
+          λ honest. let more = kept.more (mounts.looked.honest ∙ honest) mounts.fresh is in
+              omega (arith, more, mounts.looked.failures),
+        )
         ends (Ok count) s false is = (count, s, omega (arith, kept.same is, mounts.looked.failures))
         ends (Err e) s false is = (s, omega (arith, kept.same is, mounts.looked.failures))
 
-    pub ends-serving : (new : Disk) (told : Result Answer RunFailure) → new ≡ (state_in last).disk → told ≡ outcome_of (is_spent last) result → EndsServing told remaining disk new contents before after
+    pub ends-serving : (new : Disk) (told : Result Answer RunFailure) → new ≡ (state_in last).disk
+        → told ≡ outcome_of (is_spent last) result → EndsServing told remaining disk new contents before after
     ends-serving new told at is =
         subst (λ t. EndsServing t remaining disk new contents before after) (sym is)
-        (subst (λ (d : Disk). EndsServing (outcome_of (is_spent last) result) remaining disk d contents before after) (sym at) (by-outcome (is_spent last) refl))
+        (subst (λ (d : Disk). EndsServing (outcome_of (is_spent last) result) remaining disk d contents before after) (sym at)
+        (by-outcome (is_spent last) refl))
 
 -- an image that was looked over first
-module _ {W : Type 0} (remaining : Option (List ℕ)) (contents : W → Option (List ℕ)) (before after : W) (old mid new : Disk) (n : ℕ) (looked : Looked old mid n 0) where
-  serves-behind : (result : Result ℕ ScriptError) → ServesImage result remaining mid new contents before after → ServesImage result remaining old new contents before after
+module _ {W : Type 0} (remaining : Option (List ℕ)) (contents : W → Option (List ℕ)) (before after : W) (old mid new : Disk) (n : ℕ)
+    (looked : Looked old mid n 0) where
+  serves-behind : (result : Result ℕ ScriptError) → ServesImage result remaining mid new contents before after
+      → ServesImage result remaining old new contents before after
   serves-behind result s = record {
     home = s.home;
     held = s.held;
@@ -83,28 +99,34 @@ module _ {W : Type 0} (remaining : Option (List ℕ)) (contents : W → Option (
     accepted = λ is. s.accepted (looked.honest ∙ is);
     run = λ is none.
         let same : new.failures ≡ mid.failures = omega (arith, looked.failures, none) in
-        subst (λ (i : Image). RunsScript Steps remaining (held_in no_entries (store_of i s.home)) (held_in s.held (store_of new.image s.home)) (contents before) (contents after) result)
+        subst (λ (i : Image). RunsScript Steps remaining (held_in no_entries (store_of i s.home))
+        (held_in s.held (store_of new.image s.home)) (contents before) (contents after) result)
         looked.image (s.run (looked.honest ∙ is) same);
   }
 
   nothing-behind : WritesNothing mid new contents before after → WritesNothing old new contents before after
   nothing-behind w = record { image = w.image ∙ looked.image; history = w.history ∙ looked.history; written = w.written }
 
-  pub ends-behind : (told : Result Answer RunFailure) → EndsServing told remaining mid new contents before after → EndsRun told remaining old new contents before after
+  pub ends-behind : (told : Result Answer RunFailure) → EndsServing told remaining mid new contents before after
+      → EndsRun told remaining old new contents before after
   ends-behind (Ok Done) h = (h.0, serves-behind (Ok h.0) h.1, omega (arith, h.2, looked.failures))
   ends-behind (Ok Fault) h = absurd h
   ends-behind (Err (Script e)) h = (serves-behind (Err e) h.0, omega (arith, h.1, looked.failures))
-  ends-behind (Err (Command DeviceFault)) h = (begun h.0, λ honest. let more = h.1 (looked.honest ∙ honest) in omega (arith, more, looked.failures))
+  ends-behind (Err (Command DeviceFault)) h =
+      (begun h.0, λ honest. let more = h.1 (looked.honest ∙ honest) in omega (arith, more, looked.failures))
     where
-      begun : WritesNothing mid new contents before after ⊎ ((result : Result ℕ ScriptError) × ServesImage result remaining mid new contents before after)
-          → WritesNothing old new contents before after ⊎ ((result : Result ℕ ScriptError) × ServesImage result remaining old new contents before after)
+      begun : WritesNothing mid new contents before after
+          ⊎ ((result : Result ℕ ScriptError) × ServesImage result remaining mid new contents before after)
+          → WritesNothing old new contents before after
+          ⊎ ((result : Result ℕ ScriptError) × ServesImage result remaining old new contents before after)
       begun (inl w) = inl (nothing-behind w)
       begun (inr s) = inr (s.0, serves-behind s.0 s.1)
   ends-behind (Err (Command NoMemory)) h = (nothing-behind h.0, omega (arith, h.1, looked.failures))
   ends-behind (Err (Command CannotWrite)) h = absurd h
 
 -- an image with faults whose report wasn't written to its end
-pub ends-unwritten : {W : Type 0} (remaining : Option (List ℕ)) (contents : W → Option (List ℕ)) (before after : W) (old new : Disk) (run : RunFailure) (failure : Failure)
+pub ends-unwritten : {W : Type 0} (remaining : Option (List ℕ)) (contents : W → Option (List ℕ)) (before after : W) (old new : Disk)
+    (run : RunFailure) (failure : Failure)
     → run ≡ Command failure → failure ≡ CannotWrite → HasFaults old new → EndsRun (Err run) remaining old new contents before after
 ends-unwritten remaining contents before after old new run failure is failed h =
     subst (λ (r : RunFailure). EndsRun (Err r) remaining old new contents before after) (sym (is ∙ ap Command failed)) h

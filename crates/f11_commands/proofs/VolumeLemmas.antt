@@ -18,7 +18,8 @@ candidates-counted : (blocks : ℕ) → 1 < blocks → candidates blocks ≡ (bl
 candidates-counted blocks some = grind (arith, nat_tests)
 
 -- how many blocks are read
-reads-few : (home : HomeFields) (blocks headers : ℕ) → IsSound home blocks → headers ≤ 256 → home.lbn / 256 + 1 + (home.index_blocks + headers) ≤ candidates blocks + 272
+reads-few : (home : HomeFields) (blocks headers : ℕ) → IsSound home blocks → headers ≤ 256
+    → home.lbn / 256 + 1 + (home.index_blocks + headers) ≤ candidates blocks + 272
 reads-few home blocks headers sound at_most =
     let few = sound.valid.fields.small_bitmap in
     let is = ap (λ (h : HomeFields). h.index_blocks) sound.fields in
@@ -39,21 +40,25 @@ module _ (home : HomeFields) (index : Index) (old mid new : Disk) (finds : Finds
       is_home = finds.is_home honest;
       index_file = subst (λ (i : Image). IsIndexFile i home) finds.looked.image (loads.sound (mid-honest honest));
       none_past = subst HasNonePast
-          (loads.is_for.keeps (loads.looked.looked.honest ∙ mid-honest honest) ∙ ap (λ (i : Image). index_of i home) image-is) loads.none_past;
+          (loads.is_for.keeps (loads.looked.looked.honest ∙ mid-honest honest) ∙ ap (λ (i : Image). index_of i home) image-is)
+          loads.none_past;
     };
     is_for = loads.is_for;
-    looked = looked_within (looked_more finds.looked loads.looked.looked) (reads-few home (length old.image) loads.looked.headers finds.sound loads.looked.few);
+    looked = looked_within (looked_more finds.looked loads.looked.looked)
+        (reads-few home (length old.image) loads.looked.headers finds.sound loads.looked.few);
   }
 
 -- what is said of a header whose slot isn't there, and of one that is
-pub no_slot-dump : (index : Index) (image : Image) (n : ℕ) → (n ≡ 0) ⊎ (slots index < n) → IsHeaderDump (table_in image index) n (no_header_line n)
+pub no_slot-dump : (index : Index) (image : Image) (n : ℕ) → (n ≡ 0) ⊎ (slots index < n)
+    → IsHeaderDump (table_in image index) n (no_header_line n)
 unfolding table_in
 no_slot-dump index image n none = record {
   slot = λ some within. elim none [ inl is ↦ absurd (omega (arith, is, some)) | inr past ↦ absurd (omega (arith, past, within)) ];
   no_slot = λ _. refl;
 }
 
-pub slot-dump : (index : Index) (image : Image) (n lbn : ℕ) (block text : List ℕ) → 0 < n → n ≤ slots index → lbn ≡ header_lbn index n → slice_get image lbn ≡ Some block
+pub slot-dump : (index : Index) (image : Image) (n lbn : ℕ) (block text : List ℕ) → 0 < n → n ≤ slots index → lbn ≡ header_lbn index n
+    → slice_get image lbn ≡ Some block
     → IsDump block n text → IsHeaderDump (table_in image index) n text
 unfolding table_in
 slot-dump index image n lbn block text some within at reads dump = record {

@@ -174,4 +174,5 @@ EndsVerifying FromRt told files files' rt rt' contents before after =
 abbrev pub EndsCopy : {W : Type 0} → Direction → Copying → Result CopyAnswer Failure → Disk → Disk → Disk → Disk →
     (W → Option (List ℕ)) → W → W → Type 0
 EndsCopy direction c told files files' rt rt' contents before after =
-    (EndsVerifying direction told files files' rt rt' contents before after) ⊎ (EndsVerified c told files files' rt rt' contents before after)
+    (EndsVerifying direction told files files' rt rt' contents before after)
+    ⊎ (EndsVerified c told files files' rt rt' contents before after)

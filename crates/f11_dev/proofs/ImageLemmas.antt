@@ -7,11 +7,13 @@ use Rattle.std.proofs.lemmas.Option.{slice_get-get_or, get_or_from_slice_get}
 use Rattle.f11_dev.specs.Image.{Image, image_block}
 
 -- the block that was written
-pub image_block-written : (image : Image) (lbn : ℕ) (block : List ℕ) → lbn < length image → image_block (slice_set image lbn block) lbn ≡ block
+pub image_block-written : (image : Image) (lbn : ℕ) (block : List ℕ) → lbn < length image
+    → image_block (slice_set image lbn block) lbn ≡ block
 image_block-written image lbn block within = get_or-set_same image lbn block [] within
 
 -- another block stays
-pub image_block-other : (image : Image) (lbn other : ℕ) (block : List ℕ) → other ≢ lbn → image_block (slice_set image lbn block) other ≡ image_block image other
+pub image_block-other : (image : Image) (lbn other : ℕ) (block : List ℕ) → other ≢ lbn
+    → image_block (slice_set image lbn block) other ≡ image_block image other
 image_block-other image lbn other block apart = get_or-set_other image lbn other block [] apart
 
 -- a block before the end, as a read gives it

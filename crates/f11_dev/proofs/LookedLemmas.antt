@@ -5,12 +5,29 @@ use Rattle.f11_dev.specs.Looked.{Looked}
 
 -- no transfer
 pub looked_none : (d : Disk) → Looked d d 0 0
-looked_none d = record { image = refl; history = refl; honest = refl; transfers = omega arith; failures = omega arith; quiet = λ some. absurd (omega arith) }
+looked_none d =
+    record {
+      image = refl;
+      history = refl;
+      honest = refl;
+      transfers = omega arith;
+      failures = omega arith;
+      quiet = λ some.
+          absurd (omega arith);
+    }
 
 -- a read that succeeded
 pub looked_read : (old new : Disk) → new ≡ with_transfer true old → Looked old new 1 0
 looked_read old new is = subst (λ d. Looked old d 1 0) (sym is)
-    record { image = refl; history = refl; honest = refl; transfers = omega arith; failures = omega arith; quiet = λ some. absurd (omega arith) }
+    record {
+      image = refl;
+      history = refl;
+      honest = refl;
+      transfers = omega arith;
+      failures = omega arith;
+      quiet = λ some.
+          absurd (omega arith);
+    }
 
 -- a read that failed
 pub looked_failed_read : (old new : Disk) → new ≡ with_transfer false old → Looked old new 1 1

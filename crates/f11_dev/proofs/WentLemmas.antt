@@ -1,5 +1,6 @@
 -- What carries `Went` from call to call.
-use Rattle.std.proofs.Common.{◌≡◌, ◌⊎◌, ℕ, zero, suc, ◌+◌, ◌≤◌, List, [], ◌∷◌, ◌++◌, length, get_or, true, false, refl, sym, subst, ap, ◌∙◌, ⊎_elim, append_assoc, arith}
+use Rattle.std.proofs.Common.{◌≡◌, ◌⊎◌, ℕ, zero, suc, ◌+◌, ◌≤◌, List, [], ◌∷◌, ◌++◌, length, get_or, true, false, refl, sym, subst, ap, ◌∙◌}
+use Rattle.std.proofs.Common.{⊎_elim, append_assoc, arith}
 use Rattle.std.specs.List.{All}
 use Rattle.std.proofs.Math.ListN.{set}
 use Rattle.std.proofs.lemmas.List.{length-set}
@@ -30,7 +31,8 @@ All-one P image holds zero d within = holds
 All-one P image holds (suc k) d within = absurd (omega arith)
 
 -- a write that succeeded
-pub went_write : (P : Image → Type 0) (old new : Disk) (lbn : ℕ) (block : List ℕ) → new ≡ with_transfer true (with_block_at lbn block old) → P (set old.image lbn block) → Went P old new 1 0
+pub went_write : (P : Image → Type 0) (old new : Disk) (lbn : ℕ) (block : List ℕ) → new ≡ with_transfer true (with_block_at lbn block old)
+    → P (set old.image lbn block) → Went P old new 1 0
 went_write P old new lbn block is holds = subst (λ d. Went P old d 1 0) (sym is) record {
   since = set old.image lbn block ∷ [];
   history = refl;
@@ -44,7 +46,9 @@ went_write P old new lbn block is holds = subst (λ d. Went P old d 1 0) (sym is
 }
 
 -- a write that failed
-pub went_failed_write : (P : Image → Type 0) (old new : Disk) (lbn : ℕ) (block : List ℕ) → (new ≡ with_transfer false old) ⊎ (new ≡ with_transfer false (with_block_at lbn block old)) → P (set old.image lbn block) → Went P old new 1 1
+pub went_failed_write : (P : Image → Type 0) (old new : Disk) (lbn : ℕ) (block : List ℕ)
+    → (new ≡ with_transfer false old) ⊎ (new ≡ with_transfer false (with_block_at lbn block old)) → P (set old.image lbn block)
+    → Went P old new 1 1
 went_failed_write P old new lbn block is holds = ⊎_elim (λ kept. went_looked P (looked_failed_read old new kept)) lands is
   where
     lands : new ≡ with_transfer false (with_block_at lbn block old) → Went P old new 1 1
@@ -93,7 +97,8 @@ went_within P went fewer = record {
 }
 
 -- what else holds of each image
-pub went_weaker : (P Q : Image → Type 0) {a b : Disk} {most faults : ℕ} → ((image : Image) → P image → Q image) → Went P a b most faults → Went Q a b most faults
+pub went_weaker : (P Q : Image → Type 0) {a b : Disk} {most faults : ℕ} → ((image : Image) → P image → Q image) → Went P a b most faults
+    → Went Q a b most faults
 went_weaker P Q implies went = record {
   since = went.since;
   history = went.history;

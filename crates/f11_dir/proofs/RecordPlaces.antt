@@ -1,5 +1,6 @@
 -- The first record of a block that passes a test.
-use Rattle.std.proofs.Common.{◌≡◌, ℕ, ◌<◌, Bool, true, false, List, [], Some, None, length, get_or, nat_lt, if◌then◌else◌, refl, ◌∙◌, ap, arith, map}
+use Rattle.std.proofs.Common.{◌≡◌, ℕ, ◌<◌, Bool, true, false, List, [], Some, None, length, get_or, nat_lt, if◌then◌else◌, refl, ◌∙◌, ap}
+use Rattle.std.proofs.Common.{arith, map}
 use Rattle.std.specs.Prelude.{position}
 use Rattle.std.specs.List.{range_with_len, position_or_len}
 use Rattle.std.proofs.lemmas.Bool.{lt-ltb}
@@ -43,7 +44,8 @@ position-records_in block n i p within passes fails = placed records p i is (ome
 
 -- none of the first n records passes
 pub none-records_in :
-    (block : List ℕ) (n : ℕ) (p : List ℕ → Bool) → ((k : ℕ) → k < n → p (record_in block k) ≡ false) → position p (records_in block n) ≡ None
+    (block : List ℕ) (n : ℕ) (p : List ℕ → Bool) → ((k : ℕ) → k < n → p (record_in block k) ≡ false)
+    → position p (records_in block n) ≡ None
 unfolding records_in
 none-records_in block n p fails = unplaced records p is
   where
@@ -55,5 +57,6 @@ none-records_in block n p fails = unplaced records p is
 
     is : position_or_len p records ≡ length records
     is = position_or_len_is p records (length records) [] (omega arith)
-        (λ k h. ap p (get_or-map-range_with_len (record_in block) 0 n k k [] (omega (arith, h, long)) (omega arith)) ∙ fails k (omega (arith, h, long)))
+        (λ k h. ap p (get_or-map-range_with_len (record_in block) 0 n k k [] (omega (arith, h, long)) (omega arith))
+        ∙ fails k (omega (arith, h, long)))
         (λ h. absurd (omega (arith, h)))

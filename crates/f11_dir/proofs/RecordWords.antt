@@ -30,14 +30,16 @@ length-name name is = sym (ap length is.same_words)
 -- the eight words of a record
 pub record_bytes-words :
     (id : FileId) (name words : List ℕ) → IsName name → words ≡ name →
-    flat_map word_bytes (id.number ∷ id.sequence ∷ id.volume ∷ get_or words 0 0 ∷ get_or words 1 0 ∷ get_or words 2 0 ∷ get_or words 3 0 ∷ get_or words 4 0 ∷ [])
+    flat_map word_bytes (id.number ∷ id.sequence ∷ id.volume ∷ get_or words 0 0 ∷ get_or words 1 0 ∷ get_or words 2 0 ∷ get_or words 3 0 ∷
+    get_or words 4 0 ∷ [])
     ≡ record_bytes id name
 unfolding record_bytes
 record_bytes-words id name words is same =
     rw same (ap (λ n. flat_map word_bytes (id.number ∷ id.sequence ∷ id.volume ∷ n)) (sym (five_words name (length-name name is))))
 
 -- what a record says is what was put there
-pub record_of_bytes-record_bytes : (id : FileId) (name : List ℕ) → IsName name → record_of_bytes (record_bytes id name) ≡ record { id = id; words = name }
+pub record_of_bytes-record_bytes : (id : FileId) (name : List ℕ) → IsName name
+    → record_of_bytes (record_bytes id name) ≡ record { id = id; words = name }
 record_of_bytes-record_bytes id name is = λ i. record {
   id = record_id-record_bytes id name i;
   words = record_name-record_bytes id name (length-name name is) i;

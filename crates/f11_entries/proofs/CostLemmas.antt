@@ -1,5 +1,6 @@
 -- The transfers of Find, Enter and Remove.
-use Rattle.std.proofs.Common.{◌≡◌, ℕ, ◌+◌, ◌*◌, ◌/◌, ◌≤◌, Bool, false, List, Option, if◌then◌else◌, is_none, unwrap_or, length, take, arith, ap, subst, ◌∙◌, length-append}
+use Rattle.std.proofs.Common.{◌≡◌, ℕ, ◌+◌, ◌*◌, ◌/◌, ◌≤◌, Bool, false, List, Option, if◌then◌else◌, is_none, unwrap_or, length, take, arith}
+use Rattle.std.proofs.Common.{ap, subst, ◌∙◌, length-append}
 use Rattle.f11_store.specs.declared.files.FileId.{FileId}
 use Rattle.f11_store.specs.Causes.{is_missing}
 use Rattle.f11_store.specs.Changes.{Extends}
@@ -28,7 +29,8 @@ look_fits f =
     omega (arith, blocks)
 
 pub find_fits : FindFits
-find_fits s task d name = rw (more_times (end_blocks (file_named s d)) (header_count (file_named s d) + 1)) (omega (arith, look_fits (file_named s d)))
+find_fits s task d name =
+    rw (more_times (end_blocks (file_named s d)) (header_count (file_named s d) + 1)) (omega (arith, look_fits (file_named s d)))
 
 pub remove_fits : RemoveFits
 remove_fits s task d name =
@@ -46,7 +48,8 @@ taken_at_most : (n : ℕ) (slots : List ℕ) → length (take n slots) ≤ n
 taken_at_most n slots = rw length-take (omega arith)
 
 -- headers of a file that grew by one block
-headers_grown : (s grown : Store) (d : FileId) → is_missing s d ≡ false → Extends s d.number 1 grown → header_count (file_named grown d) ≤ header_count (file_named s d) + 1
+headers_grown : (s grown : Store) (d : FileId) → is_missing s d ≡ false → Extends s d.number 1 grown
+    → header_count (file_named grown d) ≤ header_count (file_named s d) + 1
 headers_grown s grown d there grows =
     rw (named_grown s grown d there grows, length-append (file_named s d).held (take grows.added (free_slots s)))
     (omega (arith, taken_at_most grows.added (free_slots s), grows.may_grow.headers, few))
@@ -62,5 +65,6 @@ grown_headers s grown d other there h =
 
 pub grown_fits : GrownFits
 grown_fits s grown d other there needs h =
-    let headers : headers_to_enter (file_named s d) ≡ need (file_named s d).room 1 = ap (λ (b : Bool). if b then need (file_named s d).room 1 else 0) needs in
+    let headers : headers_to_enter (file_named s d) ≡ need (file_named s d).room 1 =
+    ap (λ (b : Bool). if b then need (file_named s d).room 1 else 0) needs in
     rw headers (omega (arith, grown_headers s grown d other there h))

@@ -1,5 +1,6 @@
 -- What stands while a record is entered.
-use Rattle.std.proofs.Common.{◌≡◌, ℕ, ◌+◌, ◌-◌, ◌*◌, ◌/◌, ◌%◌, get_or, set, ◌==◌, ◌||◌, Bool, true, false, List, [], ◌∷◌, length, Option, Some, None, option_map, if◌then◌else◌, refl, sym, ◌∙◌, ap, subst, arith, append_assoc}
+use Rattle.std.proofs.Common.{◌≡◌, ℕ, ◌+◌, ◌-◌, ◌*◌, ◌/◌, ◌%◌, get_or, set, ◌==◌, ◌||◌, Bool, true, false, List, [], ◌∷◌, length, Option}
+use Rattle.std.proofs.Common.{Some, None, option_map, if◌then◌else◌, refl, sym, ◌∙◌, ap, subst, arith, append_assoc}
 use Rattle.std.proofs.lemmas.List.{append-nil}
 use Rattle.std.proofs.lemmas.Bool.{or_parts}
 use Rattle.f11_store.specs.declared.files.FileId.{FileId}
@@ -9,7 +10,8 @@ use Rattle.f11_store.specs.File.{File}
 use Rattle.f11_store.specs.Store.{Store, file_named}
 use Rattle.f11_store.specs.Directory.{index_of_empty, entry_count, needs_block, with_bytes, with_record, with_end}
 use Rattle.f11_store.specs.Changes.{with_change, with_entry, with_end_after, EntersAtEnd, EntersAt, Enters}
-use Rattle.f11_store.specs.Lags.{file_changes, Work, no_work, one_part, and_then, lengthen_work, end_work, append_work, enter_work, served_work, work_if, LagsBy}
+use Rattle.f11_store.specs.Lags.{file_changes, Work, no_work, one_part, and_then, lengthen_work, end_work, append_work, enter_work}
+use Rattle.f11_store.specs.Lags.{served_work, work_if, LagsBy}
 use Rattle.f11_store.specs.Moments.{Respects, Did}
 use Rattle.f11_entries.specs.Entering.{EnteringInPlace, EnteringAtEnd, EnteringInNewBlock, EnterLags, EntryIsBlock, EndIsAttr}
 use Rattle.f11_store.proofs.ProgressLaws.{more_work_lags, lags_after, did_both, change_did, nothing_did}
@@ -28,7 +30,8 @@ pub two_changes : (s : Store) (k : ℕ) (c e : File → File) → with_change (w
 two_changes s k c e = λ j. record s { file = λ n. same n j }
   where
     by_test : (b : Bool) (o v : Option File) →
-        (if b then option_map e (option_map c o) else if b then option_map c o else v) ≡ (if b then option_map {T = File} {U = File} (λ f. e (c f)) o else v)
+        (if b then option_map e (option_map c o) else if b then option_map c o else v)
+        ≡ (if b then option_map {T = File} {U = File} (λ f. e (c f)) o else v)
     by_test true None v = refl
     by_test true (Some f) v = refl
     by_test false o v = refl
@@ -61,7 +64,8 @@ move_lags w t u s k i r did lags =
     (sym (append-nil _ ∙ append_assoc w.parts (file_changes k (with_entry i r) ∷ []) (file_changes k (with_end_after i) ∷ [])))
     (λ n out. twice (w.is_meant n) (n == k) out) (omega arith) (omega arith)
     (lags_after (and_then w (entry_work k i r)) (move_work k i) t (with_change u k (with_entry i r)) s
-    (did_both w (entry_work k i r) (with_change u k (with_entry i r)) u s did refl (entry_respects i r, tt) (change_did u k (with_entry i r)))
+    (did_both w (entry_work k i r) (with_change u k (with_entry i r)) u s did refl (entry_respects i r, tt)
+    (change_did u k (with_entry i r)))
     refl (end_respects i, tt) lags)
   where
     twice : (a b : Bool) → (a || b) ≡ false → ((a || b) || b) ≡ false
@@ -115,8 +119,10 @@ entering_in_new_block s d r other none needs = (
       (more_work_lags t s extending (and_then extending (end_work d.number i r)) (end_work d.number i r).parts refl
       (λ n out. (or_parts (extending.is_meant n) (n == d.number) out).0) (omega arith) (omega arith) lags),
   λ grown grows. record {
-    entry = λ t lags. work_at_end s t d r true none needs (entry_lags extending t grown s d.number i r (lengthens-did grown s d 1 other grows) lags);
-    end = λ t lags. work_at_end s t d r true none needs (move_lags extending t grown s d.number i r (lengthens-did grown s d 1 other grows) lags);
+    entry = λ t lags. work_at_end s t d r true none needs
+        (entry_lags extending t grown s d.number i r (lengthens-did grown s d 1 other grows) lags);
+    end = λ t lags. work_at_end s t d r true none needs
+        (move_lags extending t grown s d.number i r (lengthens-did grown s d 1 other grows) lags);
     enters = enters_at_end s (with_change (with_change grown d.number (with_entry i r)) d.number (with_end_after i)) d r true none needs
         (grown, grows, two_changes grown d.number (with_entry i r) (with_end_after i));
   },

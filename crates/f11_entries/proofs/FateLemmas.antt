@@ -12,14 +12,17 @@ use Rattle.f11_store.proofs.FateLaws.{Fate, fate-after, fate-change, gained-keep
 -- after one more block
 fate-in-block : (s grown s' : Store) (k i n : ℕ) (r : List ℕ) → Extends s k 1 grown → s' ≡ with_entry_at_end grown k i r → Fate s s' n
 fate-in-block s grown s' k i n r grows h =
-    fate-set s s' k n grows.before (with_end_after i (with_entry i r g)) grows.was refl (ap (λ b. b == 1) (mark-of-cleared grows.before.characteristics))
-    (ap (λ (x : Store). x.file n) (h ∙ ap (λ (x : Store). with_entry_at_end x k i r) grows.store_is) ∙ rw (same_number k) (by_test (n == k) (s.file n)))
+    fate-set s s' k n grows.before (with_end_after i (with_entry i r g)) grows.was refl
+    (ap (λ b. b == 1) (mark-of-cleared grows.before.characteristics))
+    (ap (λ (x : Store). x.file n) (h ∙ ap (λ (x : Store). with_entry_at_end x k i r) grows.store_is)
+    ∙ rw (same_number k) (by_test (n == k) (s.file n)))
   where
     g : File
     g = grown_file s grows.before (zero_blocks 1) grows.added grows.pointers grows.room
 
     by_test : (b : Bool) (o : Option File) →
-        (if b then option_map (λ f. with_end_after i (with_entry i r f)) (Some g) else if b then Some g else o) ≡ (if b then Some (with_end_after i (with_entry i r g)) else o)
+        (if b then option_map (λ f. with_end_after i (with_entry i r f)) (Some g) else if b then Some g else o)
+        ≡ (if b then Some (with_end_after i (with_entry i r g)) else o)
     by_test true o = refl
     by_test false o = refl
 

@@ -7,7 +7,8 @@ use Rattle.f11_entries.specs.Looks.{IsInHand, IsSpotOf}
 
 -- the spot that is known after a block
 pub spot_known :
-    (f : File) (number : ℕ) (block : List ℕ) (before after : Option Spot) → slice_get f.blocks number ≡ Some block → IsSpotOf before number block after →
+    (f : File) (number : ℕ) (block : List ℕ) (before after : Option Spot) → slice_get f.blocks number ≡ Some block
+    → IsSpotOf before number block after →
     IfSome before (IsInHand f) → IfSome after (IsInHand f)
 spot_known f number block (Some spot) after is at known = subst (λ (o : Option Spot). IfSome o (IsInHand f)) (sym at) known
 spot_known f number block None None is at known = tt

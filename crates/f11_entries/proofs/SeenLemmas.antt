@@ -1,5 +1,7 @@
 -- A directory's records, seen block by block.
-use Rattle.std.proofs.Common.{◌≡◌, ℕ, zero, suc, ◌+◌, ◌-◌, ◌*◌, ◌/◌, ◌%◌, ◌<◌, ◌≤◌, ◌==◌, ◌&&◌, Bool, true, false, List, [], ◌∷◌, ◌++◌, Option, Some, None, length, get_or, map, min, nat_lt, nat_le, is_none, unwrap_or, if◌then◌else◌, refl, sym, ◌∙◌, ap, subst, arith, length-append}
+use Rattle.std.proofs.Common.{◌≡◌, ℕ, zero, suc, ◌+◌, ◌-◌, ◌*◌, ◌/◌, ◌%◌, ◌<◌, ◌≤◌, ◌==◌, ◌&&◌, Bool, true, false, List, [], ◌∷◌, ◌++◌}
+use Rattle.std.proofs.Common.{Option, Some, None, length, get_or, map, min, nat_lt, nat_le, is_none, unwrap_or, if◌then◌else◌, refl, sym}
+use Rattle.std.proofs.Common.{◌∙◌, ap, subst, arith, length-append}
 use Rattle.std.specs.Prelude.{position, find}
 use Rattle.std.specs.List.{range_with_len, position_or_len, list_any, slice_get}
 use Rattle.std.proofs.lemmas.Bool.{lt-ltb, ltb-true}
@@ -14,13 +16,15 @@ use Rattle.f11_store.proofs.SlotsFirst.{gained-is-ready, of-stays}
 use Rattle.f11_store.specs.declared.files.FileId.{FileId}
 use Rattle.f11_store.specs.Causes.{is_missing}
 use Rattle.f11_store.specs.Store.{Store, of_sequence, file_named, file_of}
-use Rattle.f11_store.specs.Directory.{record_at, record_in, entry_count, entries_of, index_of_name, is_entered, has_name, is_empty, index_of_empty, needs_block, with_record}
+use Rattle.f11_store.specs.Directory.{record_at, record_in, entry_count, entries_of, index_of_name, is_entered, has_name, is_empty}
+use Rattle.f11_store.specs.Directory.{index_of_empty, needs_block, with_record}
 use Rattle.f11_store.specs.Changes.{grown_file, Extends}
 use Rattle.f11_store.proofs.RecordLemmas.{first_found, some_passes}
 use Rattle.f11_dir.specs.Records.{records_in}
 use Rattle.std.specs.Option.{option_and_then}
 use Rattle.f11_entries.proofs.GrownLemmas.{grown_there, named_grown}
-use Rattle.f11_entries.specs.Seen.{NamedIsThere, first_records, seen, here, first_place, LookingBegins, LookingGoesOn, IsFirstOf, NameIsFound, LookingEnds, EntryIsPut, BlockIsThere, IsNewBlock, NewBlockIsZeros}
+use Rattle.f11_entries.specs.Seen.{NamedIsThere, first_records, seen, here, first_place, LookingBegins, LookingGoesOn, IsFirstOf}
+use Rattle.f11_entries.specs.Seen.{NameIsFound, LookingEnds, EntryIsPut, BlockIsThere, IsNewBlock, NewBlockIsZeros}
 
 -- the first of n things that passes a test, if there is one
 abbrev IsPlace : (ℕ → Bool) → ℕ → Option ℕ → Type 0
@@ -28,10 +32,13 @@ IsPlace q n None = (j : ℕ) → j < n → q j ≡ false
 IsPlace q n (Some i) = (i < n) × (q i ≡ true) × ((j : ℕ) → j < i → q j ≡ false)
 
 -- the place found in a list made from a function
-found_place : (p : List ℕ → Bool) (g : ℕ → List ℕ) (n : ℕ) (o : Option ℕ) → position p (map g (range_with_len 0 n)) ≡ o → IsPlace (λ j. p (g j)) n o
-found_place p g n (Some i) h = (within, ap p (sym (at i within)) ∙ some.1, λ j below. ap p (sym (at j (omega (arith, below, within)))) ∙ some.2 j below)
+found_place : (p : List ℕ → Bool) (g : ℕ → List ℕ) (n : ℕ) (o : Option ℕ) → position p (map g (range_with_len 0 n)) ≡ o
+    → IsPlace (λ j. p (g j)) n o
+found_place p g n (Some i) h =
+    (within, ap p (sym (at i within)) ∙ some.1, λ j below. ap p (sym (at j (omega (arith, below, within)))) ∙ some.2 j below)
   where
-    some : (i < length (map g (range_with_len 0 n))) × (p (get_or (map g (range_with_len 0 n)) i []) ≡ true) × ((k : ℕ) → k < i → p (get_or (map g (range_with_len 0 n)) k []) ≡ false)
+    some : (i < length (map g (range_with_len 0 n))) × (p (get_or (map g (range_with_len 0 n)) i []) ≡ true)
+        × ((k : ℕ) → k < i → p (get_or (map g (range_with_len 0 n)) k []) ≡ false)
     some = position-Some p (map g (range_with_len 0 n)) i [] h
 
     within : i < n
@@ -44,15 +51,18 @@ found_place p g n None h = by_test (nat_lt (position_or_len p xs) (length xs)) r
     xs : List (List ℕ)
     xs = map g (range_with_len 0 n)
 
-    by_test : (b : Bool) → nat_lt (position_or_len p xs) (length xs) ≡ b → (if b then Some (position_or_len p xs) else None) ≡ None → (j : ℕ) → j < n → p (g j) ≡ false
+    by_test : (b : Bool) → nat_lt (position_or_len p xs) (length xs) ≡ b → (if b then Some (position_or_len p xs) else None) ≡ None
+        → (j : ℕ) → j < n → p (g j) ≡ false
     by_test true t e = absurd (cc)
     by_test false t e = λ j below.
         let long : length xs ≡ n = length-map-range_with_len g 0 n in
         let past : length xs ≤ position_or_len p xs = grind (arith, nat_tests) in
-        ap p (sym (get_or-map-range_with_len g 0 n j j [] below (omega arith))) ∙ fails_before_first p xs j [] (omega (arith, below, long, past))
+        ap p (sym (get_or-map-range_with_len g 0 n j j [] below (omega arith)))
+        ∙ fails_before_first p xs j [] (omega (arith, below, long, past))
 
 -- and what is so is found
-place_found : (p : List ℕ → Bool) (g : ℕ → List ℕ) (n : ℕ) (o : Option ℕ) → IsPlace (λ j. p (g j)) n o → position p (map g (range_with_len 0 n)) ≡ o
+place_found : (p : List ℕ → Bool) (g : ℕ → List ℕ) (n : ℕ) (o : Option ℕ) → IsPlace (λ j. p (g j)) n o
+    → position p (map g (range_with_len 0 n)) ≡ o
 place_found p g n (Some i) h = let inside = lt-ltb i (length xs) (omega (arith, long, h.0)) in rw (is, inside) refl
   where
     xs : List (List ℕ)
@@ -65,7 +75,9 @@ place_found p g n (Some i) h = let inside = lt-ltb i (length xs) (omega (arith, 
     at j below = get_or-map-range_with_len g 0 n j j [] below (omega arith)
 
     is : position_or_len p xs ≡ i
-    is = position_or_len_is p xs i [] (omega (arith, long, h.0)) (λ k below. ap p (at k (omega (arith, below, h.0))) ∙ h.2 k below) (λ below. ap p (at i h.0) ∙ h.1)
+    is =
+        position_or_len_is p xs i [] (omega (arith, long, h.0)) (λ k below. ap p (at k (omega (arith, below, h.0))) ∙ h.2 k below)
+        (λ below. ap p (at i h.0) ∙ h.1)
 place_found p g n None h = rw is (by_test (nat_lt (length xs) (length xs)) refl)
   where
     xs : List (List ℕ)
@@ -76,7 +88,8 @@ place_found p g n None h = rw is (by_test (nat_lt (length xs) (length xs)) refl)
 
     is : position_or_len p xs ≡ length xs
     is = position_or_len_is p xs (length xs) [] (omega arith)
-        (λ k below. ap p (get_or-map-range_with_len g 0 n k k [] (omega (arith, below, long)) (omega arith)) ∙ h k (omega (arith, below, long)))
+        (λ k below. ap p (get_or-map-range_with_len g 0 n k k [] (omega (arith, below, long)) (omega arith))
+        ∙ h k (omega (arith, below, long)))
         (λ below. absurd (omega (arith, below)))
 
     by_test : (b : Bool) → nat_lt (length xs) (length xs) ≡ b → (if b then Some (length xs) else None) ≡ None
@@ -96,13 +109,15 @@ below_both q w m u same low k few high j below = by_test (nat_lt j m) refl
         subst (λ (i : ℕ). q i ≡ false) at (same (j - m) (omega (arith, above, below, few)) ∙ high (j - m) (omega (arith, above, below)))
 
 -- the first of so many, and then of so many more
-place_then : (q w : ℕ → Bool) (m u : ℕ) (o next : Option ℕ) → ((j : ℕ) → j < u → q (m + j) ≡ w j) → IsPlace q m o → IsPlace w u next → IsPlace q (m + u) (first_place m o next)
+place_then : (q w : ℕ → Bool) (m u : ℕ) (o next : Option ℕ) → ((j : ℕ) → j < u → q (m + j) ≡ w j) → IsPlace q m o → IsPlace w u next
+    → IsPlace q (m + u) (first_place m o next)
 place_then q w m u (Some i) next same h k = (omega (arith, h.0), h.1, h.2)
 place_then q w m u None None same h k = below_both q w m u same h u (omega arith) k
 place_then q w m u None (Some p) same h k = (omega (arith, k.0), same p k.0 ∙ k.1, below_both q w m u same h p (omega (arith, k.0)) k.2)
 
 -- a record of block k
-record_here : (blocks : List (List ℕ)) (k j : ℕ) (block : List ℕ) → slice_get blocks k ≡ Some block → j < 32 → record_at blocks (32 * k + j) ≡ record_in block j
+record_here : (blocks : List (List ℕ)) (k j : ℕ) (block : List ℕ) → slice_get blocks k ≡ Some block → j < 32
+    → record_at blocks (32 * k + j) ≡ record_in block j
 unfolding record_at
 record_here blocks k j block is below =
     let over : (32 * k + j) / 32 ≡ k = omega (arith, below) in
@@ -118,7 +133,8 @@ seen_more f k h = omega (arith, h)
 
 -- the first that passes in one block more
 place_goes_on :
-    (p : List ℕ → Bool) (f : File) (k : ℕ) (o next : Option ℕ) (block : List ℕ) → 32 * k ≤ entry_count f → slice_get f.blocks k ≡ Some block →
+    (p : List ℕ → Bool) (f : File) (k : ℕ) (o next : Option ℕ) (block : List ℕ) → 32 * k ≤ entry_count f → slice_get f.blocks k ≡ Some block
+    →
     position p (first_records f.blocks (seen f k)) ≡ o → position p (records_in block (here f k)) ≡ next →
     position p (first_records f.blocks (seen f (k + 1))) ≡ first_place (32 * k) o next
 unfolding first_records records_in
@@ -126,7 +142,8 @@ place_goes_on p f k o next block low is was now =
     rw (seen_more f k low) (place_found p (record_at f.blocks) (32 * k + here f k) (first_place (32 * k) o next)
     (place_then (λ j. p (record_at f.blocks j)) (λ j. p (record_in block j)) (32 * k) (here f k) o next
     (λ j below. ap p (record_here f.blocks k j block is (omega (arith, below))))
-    (found_place p (record_at f.blocks) (32 * k) o (subst (λ (n : ℕ). position p (map (record_at f.blocks) (range_with_len 0 n)) ≡ o) (seen_whole f k low) was))
+    (found_place p (record_at f.blocks) (32 * k) o
+    (subst (λ (n : ℕ). position p (map (record_at f.blocks) (range_with_len 0 n)) ≡ o) (seen_whole f k low) was))
     (found_place p (record_in block) (here f k) next now)))
 
 pub looking_begins : LookingBegins
@@ -138,7 +155,8 @@ looking_begins name f =
 pub looking_goes_on : LookingGoesOn
 looking_goes_on name f k empty block looked more is none = record {
   none = place_goes_on (has_name name) f k None None block (omega (arith, more)) is looked.none none;
-  empty_is = sym (place_goes_on is_empty f k empty (position is_empty (records_in block (here f k))) block (omega (arith, more)) is (sym looked.empty_is) refl);
+  empty_is = sym (place_goes_on is_empty f k empty (position is_empty (records_in block (here f k))) block (omega (arith, more)) is
+      (sym looked.empty_is) refl);
 }
 
 -- all records, as those seen
@@ -147,9 +165,11 @@ unfolding first_records entries_of
 all_seen f k h = let all : min (entry_count f) (32 * k) ≡ entry_count f = omega (arith, h) in rw all refl
 
 -- no number passes, so none of the list does
-none_any : (p : List ℕ → Bool) (g : ℕ → List ℕ) (a m : ℕ) → ((j : ℕ) → a ≤ j → j < a + m → p (g j) ≡ false) → list_any p (map g (range_with_len a m)) ≡ false
+none_any : (p : List ℕ → Bool) (g : ℕ → List ℕ) (a m : ℕ) → ((j : ℕ) → a ≤ j → j < a + m → p (g j) ≡ false)
+    → list_any p (map g (range_with_len a m)) ≡ false
 none_any p g a zero h = refl
-none_any p g a (suc m) h = rw (h a (omega arith) (omega arith)) (none_any p g (a + 1) m (λ j low high. h j (omega (arith, low)) (omega (arith, high))))
+none_any p g a (suc m) h =
+    rw (h a (omega arith) (omega arith)) (none_any p g (a + 1) m (λ j low high. h j (omega (arith, low)) (omega (arith, high))))
 
 none_entered : (name : List ℕ) (f : File) → index_of_name name f ≡ None → is_entered name f ≡ false
 unfolding entries_of
@@ -173,7 +193,8 @@ looking_ends name f k empty looked done = record {
 
 -- the first place with the name
 first_of_name :
-    (name : List ℕ) (f : File) (i : ℕ) (r : List ℕ) → i < entry_count f → IsPlace (λ j. has_name name (record_at f.blocks j)) (entry_count f) (Some i) →
+    (name : List ℕ) (f : File) (i : ℕ) (r : List ℕ) → i < entry_count f
+    → IsPlace (λ j. has_name name (record_at f.blocks j)) (entry_count f) (Some i) →
     record_at f.blocks i ≡ r → IsFirstOf name f i r
 unfolding entries_of
 first_of_name name f i r within place is = record {
@@ -184,7 +205,9 @@ first_of_name name f i r within place is = record {
 }
   where
     found : find (has_name name) (map (record_at f.blocks) (range_with_len 0 (entry_count f))) ≡ Some (record_at f.blocks i)
-    found = first_found (has_name name) (record_at f.blocks) 0 (entry_count f) i (omega arith) (omega (arith, within)) place.1 (λ j low below. place.2 j below)
+    found =
+        first_found (has_name name) (record_at f.blocks) 0 (entry_count f) i (omega arith) (omega (arith, within)) place.1
+        (λ j low below. place.2 j below)
 
 pub name_is_found : NameIsFound
 unfolding first_records records_in
@@ -216,7 +239,8 @@ both true c h = h
 both false c h = absurd (cc)
 
 -- the file with one more block
-is_new_block : (s : Store) (f : File) (added pointers room : ℕ) → needs_block f ≡ true → IsNewBlock f (grown_file s f (zero_blocks 1) added pointers room)
+is_new_block : (s : Store) (f : File) (added pointers room : ℕ) → needs_block f ≡ true
+    → IsNewBlock f (grown_file s f (zero_blocks 1) added pointers room)
 unfolding zero_blocks
 is_new_block s f added pointers room needs = record {
   count = count;
@@ -258,7 +282,8 @@ new_block_is_zeros grown s d other there needs h =
 pub named_is_there : NamedIsThere
 named_is_there s d there = at (s.file d.number) there
   where
-    at : (o : Option File) → is_none (option_and_then (of_sequence d.sequence) o) ≡ false → o ≡ Some (unwrap_or (option_and_then (of_sequence d.sequence) o) no_file)
+    at : (o : Option File) → is_none (option_and_then (of_sequence d.sequence) o) ≡ false
+        → o ≡ Some (unwrap_or (option_and_then (of_sequence d.sequence) o) no_file)
     at None h = absurd (cc)
     at (Some f) h = by_test (f.sequence == d.sequence) h
       where

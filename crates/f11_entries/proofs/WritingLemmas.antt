@@ -1,10 +1,12 @@
 -- Enter by a write of a block and one of attributes.
-use Rattle.std.proofs.Common.{◌≡◌, ℕ, ◌+◌, ◌*◌, ◌/◌, ◌||◌, Bool, true, false, not, List, ◌∷◌, Option, Some, None, length, refl, sym, ◌∙◌, ap, subst, arith, nat_lt, unwrap_or}
+use Rattle.std.proofs.Common.{◌≡◌, ℕ, ◌+◌, ◌*◌, ◌/◌, ◌||◌, Bool, true, false, not, List, ◌∷◌, Option, Some, None, length, refl, sym, ◌∙◌}
+use Rattle.std.proofs.Common.{ap, subst, arith, nat_lt, unwrap_or}
 use Rattle.std.proofs.lemmas.List.{length-set}
 use Rattle.f11_store.specs.declared.files.FileId.{FileId}
 use Rattle.f11_store.specs.declared.refusals.Refusal.{Refusal}
 use Rattle.f11_store.specs.declared.requests.Request.TheVariants as request
-use Rattle.f11_store.specs.declared.refusals.Refusal.TheVariants.{BadArgument, SystemFile, NoSuchFile, Marked, NoPrivilege, Conflict, NotDirectory, DuplicateName}
+use Rattle.f11_store.specs.declared.refusals.Refusal.TheVariants.{BadArgument, SystemFile, NoSuchFile, Marked, NoPrivilege, Conflict}
+use Rattle.f11_store.specs.declared.refusals.Refusal.TheVariants.{NotDirectory, DuplicateName}
 use Rattle.f11_store.specs.declared.protection.Right.TheVariants as right
 use Rattle.f11_store.specs.File.{File, is_marked}
 use Rattle.f11_store.specs.Store.{Store, file_named, is_held, bars_writing}
@@ -15,7 +17,8 @@ use Rattle.f11_store.specs.Lags.{no_work, one_part, file_changes, enter_work, se
 use Rattle.f11_store.proofs.StoreLemmas.{same_number}
 use Rattle.f11_entries.specs.Entering.{EnteringFrom, EnteringIn}
 use Rattle.f11_entries.proofs.EnteringLemmas.{entering_in_place}
-use Rattle.f11_entries.specs.Writing.{put_in, end_put, EnteringByWrites, RoomIsAsked, EnteringInPlaceByWrite, RemovingIsOneWrite, RefusedLagsToo}
+use Rattle.f11_entries.specs.Writing.{put_in, end_put, EnteringByWrites, RoomIsAsked, EnteringInPlaceByWrite, RemovingIsOneWrite}
+use Rattle.f11_entries.specs.Writing.{RefusedLagsToo}
 use Rattle.f11_store.proofs.ProgressLaws.{same_change, same_change_lags, more_work_lags}
 use Rattle.f11_entries.proofs.SeenLemmas.{entry_is_put, named_is_there}
 
@@ -29,20 +32,24 @@ length-with_record blocks i r = length-set blocks (i / 32) _
 
 -- the end moved by attributes is the end moved
 same_end : (g : File) (i : ℕ) (r : List ℕ) → end_put g i (with_entry i r g) ≡ with_end_after i (with_entry i r g)
-same_end g i r = ap (λ (n : ℕ). record (with_entry i r g) { attr = with_end g.attr n (16 * (i + 1)) }) (sym (length-with_record g.blocks i r))
+same_end g i r =
+    ap (λ (n : ℕ). record (with_entry i r g) { attr = with_end g.attr n (16 * (i + 1)) }) (sym (length-with_record g.blocks i r))
 
 -- the two changes, one after the other, where the file is this
 by_writes :
     (u s : Store) (d : FileId) (g : File) (i : ℕ) (r : List ℕ) (put move : File → File) (o : Option ℕ) → u.file d.number ≡ Some g →
     put g ≡ with_entry i r g → move (with_entry i r g) ≡ with_end_after i (with_entry i r g) → EnteringFrom u s d i r o →
     ((t : Store) → LagsBy (one_part d.number (file_changes d.number put)) t u → LagsBy (enter_work o s d r) t s)
-    × ((t : Store) → LagsBy (one_part d.number (file_changes d.number move)) t (with_change u d.number put) → LagsBy (enter_work o s d r) t s)
+    × ((t : Store) → LagsBy (one_part d.number (file_changes d.number move)) t (with_change u d.number put)
+    → LagsBy (enter_work o s d r) t s)
     × Enters s d r (with_change (with_change u d.number put) d.number move)
 by_writes u s d g i r put move o was puts moves from = (
   λ t lags. from.entry t (same_change_lags t u d.number g put (with_entry i r) was puts lags),
   λ t lags. from.end t (same_change_lags t v d.number (with_entry i r g) move (with_end_after i) there moves
       (subst (λ (x : Store). LagsBy (one_part d.number (file_changes d.number move)) t x) first lags)),
-  subst (λ (x : Store). Enters s d r x) (sym (ap (λ (x : Store). with_change x d.number move) first ∙ same_store v d.number (with_entry i r g) move (with_end_after i) there moves)) from.enters,
+  subst (λ (x : Store). Enters s d r x)
+      (sym (ap (λ (x : Store). with_change x d.number move) first ∙ same_store v d.number (with_entry i r g) move (with_end_after i) there
+      moves)) from.enters,
 )
   where
     v : Store
@@ -56,7 +63,8 @@ by_writes u s d g i r put move o was puts moves from = (
 
 pub entering_by_writes : EnteringByWrites
 entering_by_writes u s d number place block r there below is count from =
-    let by = by_writes u s d (file_named u d) (32 * number + place) r (put_in number place block r) (end_put (file_named u d) (32 * number + place))
+    let by = by_writes u s d (file_named u d) (32 * number + place) r (put_in number place block r)
+    (end_put (file_named u d) (32 * number + place))
     (index_of_empty (file_named s d)) (named_is_there u d there) (sym (entry_is_put (file_named u d) number place block r below is))
     (same_end (file_named u d) (32 * number + place) r)
     (subst (λ (i : ℕ). EnteringFrom u s d i r (index_of_empty (file_named s d))) count from) in
@@ -64,24 +72,29 @@ entering_by_writes u s d number place block r there below is count from =
 
 -- causes that don't hold are passed
 passed :
-    (a b c e f g h i : Bool) (rest : List Cause) → a ≡ false → b ≡ false → c ≡ false → e ≡ false → f ≡ false → g ≡ false → h ≡ true → i ≡ false →
+    (a b c e f g h i : Bool) (rest : List Cause) → a ≡ false → b ≡ false → c ≡ false → e ≡ false → f ≡ false → g ≡ false → h ≡ true
+    → i ≡ false →
     first_of ((BadArgument ⇐ a) ∷ (SystemFile ⇐ b) ∷ (NoSuchFile ⇐ c) ∷ (Marked ⇐ e) ∷ (NoPrivilege ⇐ f) ∷ (Conflict ⇐ g)
     ∷ (NotDirectory ⇐ not h) ∷ (DuplicateName ⇐ i) ∷ rest) ≡ first_of rest
 passed a b c e f g h i rest pa pb pc pe pf pg ph pi = rw (pa, pb, pc, pe, pf, pg, ph, pi) refl
 
 pub room_is_asked : RoomIsAsked
 room_is_asked s task caller d name id may =
-    passed (is_bad d || is_bad id) (nat_lt d.number 4) (is_missing s d) (is_marked (file_named s d)) (lacks right.Write caller (file_named s d))
+    passed (is_bad d || is_bad id) (nat_lt d.number 4) (is_missing s d) (is_marked (file_named s d))
+    (lacks right.Write caller (file_named s d))
     (is_held bars_writing s d) (is_directory (file_named s d)) (is_entered name (file_named s d))
     (extend_causes_if (needs_block (file_named s d)) s (file_named s d) 1)
     may.good may.own may.there may.unmarked may.may_write may.unheld may.directory may.new_name
 
 pub entering_in_place_by_write : EnteringInPlaceByWrite
 entering_in_place_by_write s d number place block r there below is empty = record {
-  putting = λ t lags. from.entry t (same_change_lags t s d.number (file_named s d) (put_in number place block r) (with_entry (32 * number + place) r)
+  putting =
+      λ t lags. from.entry t
+      (same_change_lags t s d.number (file_named s d) (put_in number place block r) (with_entry (32 * number + place) r)
       (named_is_there s d there) puts lags);
   enters = subst (λ (x : Store). Enters s d r x)
-      (sym (same_store s d.number (file_named s d) (put_in number place block r) (with_entry (32 * number + place) r) (named_is_there s d there) puts)) from.enters;
+      (sym (same_store s d.number (file_named s d) (put_in number place block r) (with_entry (32 * number + place) r)
+      (named_is_there s d there) puts)) from.enters;
 }
   where
     from : EnteringIn s d (32 * number + place) r (index_of_empty (file_named s d))
@@ -94,10 +107,14 @@ pub removing_is_one_write : RemovingIsOneWrite
 removing_is_one_write s task caller d name number place block unused served there below is first = record {
   putting = λ t lags.
       subst (λ (o : Option Refusal). LagsBy (work_if o (served_work s task caller (request.Remove d name) unused)) t s) (sym served)
-      (subst (λ (o : Option ℕ). LagsBy (one_part d.number (file_changes d.number (with_entry (unwrap_or o 0) empty_record))) t s) (sym first)
-      (same_change_lags t s d.number (file_named s d) (put_in number place block empty_record) (with_entry (32 * number + place) empty_record)
+      (subst (λ (o : Option ℕ). LagsBy (one_part d.number (file_changes d.number (with_entry (unwrap_or o 0) empty_record))) t s)
+      (sym first)
+      (same_change_lags t s d.number (file_named s d) (put_in number place block empty_record)
+      (with_entry (32 * number + place) empty_record)
       (named_is_there s d there) puts lags));
-  removes = same_store s d.number (file_named s d) (put_in number place block empty_record) (with_entry (32 * number + place) empty_record) (named_is_there s d there) puts
+  removes =
+      same_store s d.number (file_named s d) (put_in number place block empty_record) (with_entry (32 * number + place) empty_record)
+      (named_is_there s d there) puts
       ∙ ap (λ (o : Option ℕ). with_change s d.number (with_entry (unwrap_or o 0) empty_record)) (sym first);
 }
   where

@@ -1,5 +1,6 @@
 -- A record that is entered in a directory that was looked through: in place of an empty one, or at the end.
-use Rattle.std.proofs.Common.{◌≡◌, ◌≢◌, ◌⊎◌, inl, inr, ℕ, ◌+◌, ◌-◌, ◌*◌, ◌/◌, ◌%◌, ◌<◌, ◌≤◌, ◌==◌, ◌&&◌, Bool, true, false, IsTrue, List, [], ◌∷◌, Option, Some, None, refl, sym, ◌∙◌, ap, subst, arith, if◌then◌else◌, is_none, nat_le, map}
+use Rattle.std.proofs.Common.{◌≡◌, ◌≢◌, ◌⊎◌, inl, inr, ℕ, ◌+◌, ◌-◌, ◌*◌, ◌/◌, ◌%◌, ◌<◌, ◌≤◌, ◌==◌, ◌&&◌, Bool, true, false, IsTrue, List}
+use Rattle.std.proofs.Common.{[], ◌∷◌, Option, Some, None, refl, sym, ◌∙◌, ap, subst, arith, if◌then◌else◌, is_none, nat_le, map}
 use Rattle.std.specs.List.{slice_get}
 use Rattle.std.proofs.lemmas.Bool.{ne_eqb}
 use Rattle.std.proofs.lemmas.Bool.Decides.{nat_tests}
@@ -29,7 +30,8 @@ use Rattle.f11_entries.proofs.CostLemmas.{append_fits, grown_fits}
 use Rattle.f11_entries.proofs.EnteringLemmas.{entering_at_end, entering_in_new_block}
 use Rattle.f11_entries.proofs.SeenLemmas.{new_block_is_zeros}
 use Rattle.f11_entries.proofs.WritingLemmas.{entering_by_writes, entering_in_place_by_write}
-use Rattle.f11_files.specs.Answers.{Breaks, FailsToRead, FailsToWrite, IsRight, IsUnderWay, Meanwhile, ReadsAtMost, WritesAtMost, faults_of, is_among, is_cause, is_fatal}
+use Rattle.f11_files.specs.Answers.{Breaks, FailsToRead, FailsToWrite, IsRight, IsUnderWay, Meanwhile, ReadsAtMost, WritesAtMost, faults_of}
+use Rattle.f11_files.specs.Answers.{is_among, is_cause, is_fatal}
 use Rattle.f11_files.specs.Finding.Blocks.{ReadsBlock}
 use Rattle.f11_files.specs.Extending.Runs.{ExtendsFile, FailsToExtend}
 use Rattle.f11_files.specs.Overall.{ExtendsOverall}
@@ -37,7 +39,9 @@ use Rattle.f11_files.proofs.Overall.{extends-is}
 use Rattle.f11_files.specs.Operations.{extend_causes}
 use Rattle.f11_image_store.specs.StoreOf.{store_of}
 use Rattle.f11_dev.proofs.WentLemmas.{went_looked, went_weaker}
-use Rattle.f11_fcp.specs.Entries.{HasBlocks, put_work, ReplacesEntry, BreaksReplacing, IsDirectoryTail, IsAppending, putting, moving, Appending, Appends, cause_if, entry_causes, entry_wants, entry_work, IsDirectoryEnd, IsFull, HasEmpty, PutsEntry, FailsToPut}
+use Rattle.f11_fcp.specs.Entries.{HasBlocks, put_work, ReplacesEntry, BreaksReplacing, IsDirectoryTail, IsAppending, putting, moving}
+use Rattle.f11_fcp.specs.Entries.{Appending, Appends, cause_if, entry_causes, entry_wants, entry_work, IsDirectoryEnd, IsFull, HasEmpty}
+use Rattle.f11_fcp.specs.Entries.{PutsEntry, FailsToPut}
 use Rattle.f11_fcp.specs.Handles.{of_known}
 use Rattle.f11_fcp.specs.declared.search.Search.{Search}
 use Rattle.f11_fcp.specs.declared.tail.Tail.{Tail}
@@ -61,23 +65,28 @@ pub not-index : (d : FileId) → 4 ≤ d.number → (d.number == 1) ≡ false
 not-index d own = ne_eqb d.number 1 (λ is. absurd (omega (arith, own, is)))
 
 -- with the home block that the volume had
-pub appends-at-home : {h home : HomeFields} {d : FileId} {tail : Tail} {r : List ℕ} {old new : Disk} → h ≡ home → Appends h d tail r old new → Appends home d tail r old new
-appends-at-home {d = d} {tail = tail} {r = r} {old = old} {new = new} same appends = subst (λ (x : HomeFields). Appends x d tail r old new) same appends
+pub appends-at-home : {h home : HomeFields} {d : FileId} {tail : Tail} {r : List ℕ} {old new : Disk} → h ≡ home → Appends h d tail r old new
+    → Appends home d tail r old new
+appends-at-home {d = d} {tail = tail} {r = r} {old = old} {new = new} same appends =
+    subst (λ (x : HomeFields). Appends x d tail r old new) same appends
 
 pub breaks-at-home : {h home : HomeFields} (d : FileId) (tail : Tail) (r : List ℕ) {e : Refusal} (old : Disk) {new : Disk} → h ≡ home
-    → Breaks (Appending h d tail r old) (append_cost (file_named (store_of old.image h) d)) e old new → Breaks (Appending home d tail r old) (append_cost (file_named (store_of old.image home) d)) e old new
+    → Breaks (Appending h d tail r old) (append_cost (file_named (store_of old.image h) d)) e old new
+    → Breaks (Appending home d tail r old) (append_cost (file_named (store_of old.image home) d)) e old new
 breaks-at-home d tail r {e = e} old {new = new} same breaks =
     subst (λ (x : HomeFields). Breaks (Appending x d tail r old) (append_cost (file_named (store_of old.image x) d)) e old new) same breaks
 
 -- the block in which the next record goes is there
-pub end-there : (found : Search) (s : Store) (d : FileId) → found.count < 32 * found.length → IsDirectoryEnd found s d → HasBlocks s d (found.count / 32 + 1)
+pub end-there : (found : Search) (s : Store) (d : FileId) → found.count < 32 * found.length → IsDirectoryEnd found s d
+    → HasBlocks s d (found.count / 32 + 1)
 end-there found s d room end = record {
   there = end.there;
   more = let long = end.length_is in omega (arith, room, long);
 }
 
 -- where the records don't end with a block it is the last one that was read
-pub end-in-hand : (found : Search) (s : Store) (d : FileId) → found.count % 32 ≢ 0 → IsDirectoryEnd found s d → slice_get (file_named s d).blocks (found.count / 32) ≡ Some found.last
+pub end-in-hand : (found : Search) (s : Store) (d : FileId) → found.count % 32 ≢ 0 → IsDirectoryEnd found s d
+    → slice_get (file_named s d).blocks (found.count / 32) ≡ Some found.last
 end-in-hand found s d inside end =
     let counted = end.count_is in
     let some : 0 < entry_count (file_named s d) = omega (arith, inside, counted) in
@@ -85,10 +94,12 @@ end-in-hand found s d inside end =
     ap (slice_get (file_named s d).blocks) place ∙ end.last_is some
 
 -- or it was read now
-pub end-read : (home : HomeFields) (d : FileId) (number : ℕ) (block : List ℕ) (old new : Disk) → ReadsBlock home d (number + 1) block old new → IsTrue old.honest
+pub end-read : (home : HomeFields) (d : FileId) (number : ℕ) (block : List ℕ) (old new : Disk)
+    → ReadsBlock home d (number + 1) block old new → IsTrue old.honest
     → slice_get (file_named (store_of old.image home) d).blocks number ≡ Some block
 end-read home d number block old new read honest =
-    let place : number ≡ number + 1 - 1 = omega arith in ap (slice_get (file_named (store_of old.image home) d).blocks) place ∙ read.block_is honest
+    let place : number ≡ number + 1 - 1 = omega arith in ap (slice_get (file_named (store_of old.image home) d).blocks) place
+    ∙ read.block_is honest
 
 -- the first empty record is in hand
 pub place-of : (found : Search) (spot : Spot) (s : Store) (d : FileId) (empty : Option Spot) → empty ≡ Some spot → HasEmpty empty found s d
@@ -102,13 +113,20 @@ pub full-of : (found : Search) (s : Store) (d : FileId) (needs : Bool) (empty : 
     → nat_le (512 * length_of (file_named s d)) (16 * entry_count (file_named s d)) ≡ needs → IsFull needs found s d
 full-of found s d needs empty is has full =
     let at = subst (λ (o : Option Spot). HasEmpty o found s d) is has in
-    record { end = at.end; none = at.first; needs_is = ap (λ (o : Option ℕ). is_none o && nat_le (512 * length_of (file_named s d)) (16 * entry_count (file_named s d))) at.first ∙ full }
+    record {
+      end = at.end;
+      none = at.first;
+      needs_is = ap (λ (o : Option ℕ). is_none o && nat_le (512 * length_of (file_named s d)) (16 * entry_count (file_named s d)))
+          at.first ∙ full;
+    }
 
 -- by what is kept of the directory
-pub room-left : (found : Search) (s : Store) (d : FileId) → IsDirectoryEnd found s d → found.count < 32 * found.length → nat_le (512 * length_of (file_named s d)) (16 * entry_count (file_named s d)) ≡ false
+pub room-left : (found : Search) (s : Store) (d : FileId) → IsDirectoryEnd found s d → found.count < 32 * found.length
+    → nat_le (512 * length_of (file_named s d)) (16 * entry_count (file_named s d)) ≡ false
 room-left found s d end room = let counted = end.count_is in let long = end.length_is in grind (arith, nat_tests)
 
-pub none-left : (found : Search) (s : Store) (d : FileId) → IsDirectoryEnd found s d → 32 * found.length ≤ found.count → nat_le (512 * length_of (file_named s d)) (16 * entry_count (file_named s d)) ≡ true
+pub none-left : (found : Search) (s : Store) (d : FileId) → IsDirectoryEnd found s d → 32 * found.length ≤ found.count
+    → nat_le (512 * length_of (file_named s d)) (16 * entry_count (file_named s d)) ≡ true
 none-left found s d end full = let counted = end.count_is in let long = end.length_is in grind (arith, nat_tests)
 
 module _ (home : HomeFields) (d : FileId) (r : List ℕ) (old : Disk) where
@@ -126,8 +144,10 @@ module _ (home : HomeFields) (d : FileId) (r : List ℕ) (old : Disk) where
   needed needs = ap (λ (b : Bool). first_of (map (cause_if b) (causes.extend_causes s f 1))) needs
 
   -- a part that fails the volume is a failure of the whole
-  pub breaks-whole : {Q : Image → Type 0} {n : ℕ} {e : Refusal} {mid new : Disk} → (IsTrue old.honest → first_of (entry_causes s d) ≡ None) → (IsTrue old.honest → IsTrue mid.honest)
-      → Breaks Q n e mid new → WritesAtMost (Meanwhile (entry_work s d r) home old) (entry_cost s f) old new (faults_of e) → FailsToPut home d r e old new
+  pub breaks-whole : {Q : Image → Type 0} {n : ℕ} {e : Refusal} {mid new : Disk} → (IsTrue old.honest → first_of (entry_causes s d) ≡ None)
+      → (IsTrue old.honest → IsTrue mid.honest)
+      → Breaks Q n e mid new → WritesAtMost (Meanwhile (entry_work s d r) home old) (entry_cost s f) old new (faults_of e)
+      → FailsToPut home d r e old new
   breaks-whole {e = e} none honest breaks writes = wants-none refl (record {
     right = record {
       volume = λ is. absurd (let fatal : is_fatal VolumeFailed ≡ true = subst (λ (x : Refusal). is_fatal x ≡ true) is breaks.fatal in cc);
@@ -137,21 +157,26 @@ module _ (home : HomeFields) (d : FileId) (r : List ℕ) (old : Disk) where
     };
     writes = record {
       transfers = writes.transfers;
-      went = went_weaker (Meanwhile (entry_work s d r) home old) (Meanwhile (work_if (first_of (entry_causes s d)) (entry_work s d r)) home old)
-          (λ image stands sure. subst (λ (o : Option Refusal). IsUnderWay (work_if o (entry_work s d r)) home old.image image) (sym (none sure)) (stands sure)) writes.went;
+      went =
+          went_weaker (Meanwhile (entry_work s d r) home old)
+          (Meanwhile (work_if (first_of (entry_causes s d)) (entry_work s d r)) home old)
+          (λ image stands sure. subst (λ (o : Option Refusal). IsUnderWay (work_if o (entry_work s d r)) home old.image image)
+          (sym (none sure)) (stands sure)) writes.went;
       few = writes.few;
     };
     unchanged = λ clean. absurd (let no : true ≡ false = sym breaks.fatal ∙ clean in cc);
   })
 
   -- in place of an empty record
-  module _ (new : Disk) (spot : Spot) (below : spot.place < 32) (known : IsTrue old.honest → (is_missing s d ≡ false) × IsInHand f spot × (index_of_empty f ≡ Some (place_of spot))) where
+  module _ (new : Disk) (spot : Spot) (below : spot.place < 32) (known : IsTrue old.honest → (is_missing s d ≡ false) × IsInHand f spot
+      × (index_of_empty f ≡ Some (place_of spot))) where
     unneeded : IsTrue old.honest → first_of (entry_causes s d) ≡ None
     unneeded honest = none-needed (ap (λ (o : Option ℕ). is_none o && nat_le (512 * length_of f) (16 * entry_count f)) (known honest).2)
 
     under-place : (image : Image) → Meanwhile (put_work d spot r) home old image → Meanwhile (entry_work s d r) home old image
     under-place image stands honest =
-        let by = entering_in_place_by_write s d spot.number spot.place spot.block r (known honest).0 below (known honest).1 (known honest).2 in
+        let by = entering_in_place_by_write s d spot.number spot.place spot.block r (known honest).0 below (known honest).1 (known honest).2
+        in
         record { sound = (stands honest).sound; lags = by.putting (store_of image home) (stands honest).lags }
 
     fits-place : header_count f + 1 ≤ entry_cost s f
@@ -161,7 +186,8 @@ module _ (home : HomeFields) (d : FileId) (r : List ℕ) (old : Disk) where
     placed does = record {
       no_cause = unneeded;
       makes = λ honest.
-          let by = entering_in_place_by_write s d spot.number spot.place spot.block r (known honest).0 below (known honest).1 (known honest).2 in
+          let by = entering_in_place_by_write s d spot.number spot.place spot.block r (known honest).0 below (known honest).1
+          (known honest).2 in
           subst (λ (t : Store). Enters s d r t) (sym (does.makes honest)) by.enters;
       allots = λ _. tt;
       writes = writes-weaker under-place (λ _. fits-place) does.writes;
@@ -172,7 +198,8 @@ module _ (home : HomeFields) (d : FileId) (r : List ℕ) (old : Disk) where
 
   -- behind the last record, where that enters it
   module _ {Q : Image → Type 0} {m : ℕ} (mid new : Disk) (tail : Tail) (none : IsTrue old.honest → first_of (entry_causes s d) ≡ None)
-      (by : IsTrue old.honest → EnteringBy (store_of mid.image home) s d tail.spot.number tail.spot.place tail.spot.block r (index_of_empty f))
+      (by : IsTrue old.honest → EnteringBy (store_of mid.image home) s d tail.spot.number tail.spot.place tail.spot.block r
+      (index_of_empty f))
       (weaker : (image : Image) → Q image → Meanwhile (entry_work s d r) home old image) (before : WritesAtMost Q m old mid 0)
       (fits : IsTrue old.honest → m + append_cost (file_named (store_of mid.image home) d) ≤ entry_cost s f)
     where
@@ -194,7 +221,9 @@ module _ (home : HomeFields) (d : FileId) (r : List ℕ) (old : Disk) where
         writes = writes-then weaker under-tail before does.writes fits;
       }
 
-      pub not-appended : {e : Refusal} → Breaks (Appending home d tail r mid) (append_cost (file_named (store_of mid.image home) d)) e mid new → FailsToPut home d r e old new
+      pub not-appended : {e : Refusal}
+          → Breaks (Appending home d tail r mid) (append_cost (file_named (store_of mid.image home) d)) e mid new
+          → FailsToPut home d r e old new
       not-appended breaks = breaks-whole none sure breaks (writes-then weaker under-tail before breaks.writes fits)
 
   -- in a block that the directory has, which may have been read
@@ -209,12 +238,23 @@ module _ (home : HomeFields) (d : FileId) (r : List ℕ) (old : Disk) where
         (record {
           fatal = fatal-alone e fails.right;
           undamaged = fails.right.undamaged;
-          writes = record { transfers = fails.reads.reads; went = went_looked (λ image. Unit {0}) fails.reads.looked; few = fails.reads.few };
+          writes = record {
+            transfers = fails.reads.reads;
+            went = went_looked (λ image. Unit {0}) fails.reads.looked;
+            few = fails.reads.few;
+          };
         })
-        (record { transfers = fails.reads.reads; went = went_looked (Meanwhile (entry_work s d r) home old) fails.reads.looked; few = λ honest. let few = fails.reads.few honest in omega (arith, few) })
+        (record {
+          transfers = fails.reads.reads;
+          went = went_looked (Meanwhile (entry_work s d r) home old) fails.reads.looked;
+          few = λ honest. let few = fails.reads.few honest in omega (arith, few);
+        })
 
-    module _ (mid : Disk) (reads : ReadsAtMost (header_count f + 1) old mid 0) (tail : Tail) (block : List ℕ) (number-is : tail.spot.number ≡ found.count / 32) (place-is : tail.spot.place ≡ found.count % 32) (block-is : tail.spot.block ≡ block)
-        (attr-is : tail.attr ≡ found.attr.attr) (length-is : tail.length ≡ found.length) (there : IsTrue old.honest → slice_get f.blocks (found.count / 32) ≡ Some block)
+    module _ (mid : Disk) (reads : ReadsAtMost (header_count f + 1) old mid 0) (tail : Tail) (block : List ℕ)
+        (number-is : tail.spot.number ≡ found.count / 32) (place-is : tail.spot.place ≡ found.count % 32)
+        (block-is : tail.spot.block ≡ block)
+        (attr-is : tail.attr ≡ found.attr.attr) (length-is : tail.length ≡ found.length)
+        (there : IsTrue old.honest → slice_get f.blocks (found.count / 32) ≡ Some block)
       where
         same : store_of mid.image home ≡ s
         same = ap (λ i. store_of i home) reads.looked.image
@@ -225,33 +265,46 @@ module _ (home : HomeFields) (d : FileId) (r : List ℕ) (old : Disk) where
             let end = (full honest).end in
             subst (λ (x : Store). IsDirectoryTail tail x d) (sym same)
             (record {
-              holds = record { there = end.there; in_hand = ap (slice_get f.blocks) number-is ∙ there honest ∙ ap (λ (b : List ℕ). Some b) (sym block-is) };
+              holds = record {
+                there = end.there;
+                in_hand = ap (slice_get f.blocks) number-is ∙ there honest
+                    ∙ ap (λ (b : List ℕ). Some b) (sym block-is);
+              };
               attr_is = attr-is ∙ end.attr_is;
               length_is = length-is ∙ end.length_is;
             })
 
-        end-by : IsTrue old.honest → EnteringBy (store_of mid.image home) s d tail.spot.number tail.spot.place tail.spot.block r (index_of_empty f)
+        end-by : IsTrue old.honest
+            → EnteringBy (store_of mid.image home) s d tail.spot.number tail.spot.place tail.spot.block r (index_of_empty f)
         end-by honest =
             let here = full honest in
             let at = end-tail (reads.looked.honest ∙ honest) in
             let counted = here.end.count_is in
-            entering_by_writes (store_of mid.image home) s d tail.spot.number tail.spot.place tail.spot.block r at.holds.there (omega (arith, place-is)) at.holds.in_hand (omega (arith, counted, number-is, place-is))
-            (subst (λ (x : Store). EnteringFrom x s d (entry_count f) r (index_of_empty f)) (sym same) (entering_at_end s d r here.none here.needs_is))
+            entering_by_writes (store_of mid.image home) s d tail.spot.number tail.spot.place tail.spot.block r at.holds.there
+            (omega (arith, place-is)) at.holds.in_hand (omega (arith, counted, number-is, place-is))
+            (subst (λ (x : Store). EnteringFrom x s d (entry_count f) r (index_of_empty f)) (sym same)
+            (entering_at_end s d r here.none here.needs_is))
 
         end-before : WritesAtMost (Meanwhile (entry_work s d r) home old) (header_count f + 1) old mid 0
-        end-before = record { transfers = reads.reads; went = went_looked (Meanwhile (entry_work s d r) home old) reads.looked; few = reads.few }
+        end-before =
+            record { transfers = reads.reads; went = went_looked (Meanwhile (entry_work s d r) home old) reads.looked; few = reads.few }
 
         end-fits : IsTrue old.honest → header_count f + 1 + append_cost (file_named (store_of mid.image home) d) ≤ entry_cost s f
-        end-fits honest = subst (λ (x : Store). header_count f + 1 + append_cost (file_named x d) ≤ entry_cost s f) (sym same) (append_fits s f)
+        end-fits honest =
+            subst (λ (x : Store). header_count f + 1 + append_cost (file_named x d) ≤ entry_cost s f) (sym same) (append_fits s f)
 
         pub end-appended : {new : Disk} → Appends home d tail r mid new → PutsEntry home d r old new
         end-appended {new = new} = appended mid new tail end-none end-by (λ image stands. stands) end-before end-fits
 
-        pub end-not-appended : {e : Refusal} {new : Disk} → Breaks (Appending home d tail r mid) (append_cost (file_named (store_of mid.image home) d)) e mid new → FailsToPut home d r e old new
-        end-not-appended {e = e} {new = new} = not-appended mid new tail end-none end-by (λ image stands. stands) end-before end-fits {e = e}
+        pub end-not-appended : {e : Refusal} {new : Disk}
+            → Breaks (Appending home d tail r mid) (append_cost (file_named (store_of mid.image home) d)) e mid new
+            → FailsToPut home d r e old new
+        end-not-appended {e = e} {new = new} =
+            not-appended mid new tail end-none end-by (λ image stands. stands) end-before end-fits {e = e}
 
   -- in one block more
-  module _ (mid : Disk) (found : Search) (other : (d.number == 1) ≡ false) (full : IsTrue old.honest → IsFull true found s d) (extends : ExtendsFile home d 1 old mid) where
+  module _ (mid : Disk) (found : Search) (other : (d.number == 1) ≡ false) (full : IsTrue old.honest → IsFull true found s d)
+      (extends : ExtendsFile home d 1 old mid) where
     abbrev grown : Store
     grown = store_of mid.image home
 
@@ -264,11 +317,14 @@ module _ (home : HomeFields) (d : FileId) (r : List ℕ) (old : Disk) where
     new-block : IsTrue old.honest → (is_missing grown d ≡ false) × IsNewBlock f (file_named grown d)
     new-block honest = new_block_is_zeros grown s d other (full honest).end.there (full honest).needs_is (whole.makes honest)
 
-    module _ (tail : Tail) (number-is : tail.spot.number ≡ found.length) (place-is : tail.spot.place ≡ 0) (block-is : tail.spot.block ≡ zero_block) (attr-is : tail.attr ≡ found.attr.attr)
+    module _ (tail : Tail) (number-is : tail.spot.number ≡ found.length) (place-is : tail.spot.place ≡ 0)
+        (block-is : tail.spot.block ≡ zero_block) (attr-is : tail.attr ≡ found.attr.attr)
         (length-is : tail.length ≡ found.length + 1)
       where
         in-hand : IsTrue old.honest → slice_get (file_named grown d).blocks tail.spot.number ≡ Some tail.spot.block
-        in-hand honest = ap (slice_get (file_named grown d).blocks) (number-is ∙ (full honest).end.length_is) ∙ (new-block honest).1.block ∙ ap (λ (b : List ℕ). Some b) (sym block-is)
+        in-hand honest =
+            ap (slice_get (file_named grown d).blocks) (number-is ∙ (full honest).end.length_is) ∙ (new-block honest).1.block
+            ∙ ap (λ (b : List ℕ). Some b) (sym block-is)
 
         pub new-tail : IsTrue mid.honest → IsDirectoryTail tail grown d
         new-tail sure =
@@ -285,12 +341,17 @@ module _ (home : HomeFields) (d : FileId) (r : List ℕ) (old : Disk) where
         new-by honest =
             let counted = (new-block honest).1.count in
             let long = (full honest).end.length_is in
-            entering_by_writes grown s d tail.spot.number tail.spot.place tail.spot.block r (new-block honest).0 (omega (arith, place-is)) (in-hand honest) (omega (arith, counted, long, number-is, place-is))
+            entering_by_writes grown s d tail.spot.number tail.spot.place tail.spot.block r (new-block honest).0 (omega (arith, place-is))
+            (in-hand honest) (omega (arith, counted, long, number-is, place-is))
             ((entering_in_new_block s d r other (full honest).none (full honest).needs_is).1 grown (whole.makes honest))
 
         new-weaker : (image : Image) → Meanwhile (lengthen_work s d 1) home old image → Meanwhile (entry_work s d r) home old image
         new-weaker image stands honest =
-            record { sound = (stands honest).sound; lags = (entering_in_new_block s d r other (full honest).none (full honest).needs_is).0 (store_of image home) (stands honest).lags }
+            record {
+              sound = (stands honest).sound;
+              lags = (entering_in_new_block s d r other (full honest).none (full honest).needs_is).0
+                  (store_of image home) (stands honest).lags;
+            }
 
         new-fits : IsTrue old.honest → lengthen_cost s f 1 - 1 + append_cost (file_named grown d) ≤ entry_cost s f
         new-fits honest = grown_fits s grown d other (full honest).end.there (full honest).needs_is (whole.makes honest)
@@ -298,18 +359,21 @@ module _ (home : HomeFields) (d : FileId) (r : List ℕ) (old : Disk) where
         pub new-appended : {new : Disk} → Appends home d tail r mid new → PutsEntry home d r old new
         new-appended {new = new} = appended mid new tail new-none new-by new-weaker whole.writes new-fits
 
-        pub new-not-appended : {e : Refusal} {new : Disk} → Breaks (Appending home d tail r mid) (append_cost (file_named grown d)) e mid new → FailsToPut home d r e old new
+        pub new-not-appended : {e : Refusal} {new : Disk}
+            → Breaks (Appending home d tail r mid) (append_cost (file_named grown d)) e mid new → FailsToPut home d r e old new
         new-not-appended {e = e} {new = new} = not-appended mid new tail new-none new-by new-weaker whole.writes new-fits {e = e}
 
   -- there is no room for one block more, memory was wanting, or the disk failed
-  among-more : (m : Bool) (e : Refusal) → is_among ((NoSuchFile ⇐ m) ∷ causes.extend_causes s f 1) e ≡ true → (e ≡ NoSuchFile) ⊎ ((of_known e ≡ e) × (is_among (entry_causes s d) e ≡ true))
+  among-more : (m : Bool) (e : Refusal) → is_among ((NoSuchFile ⇐ m) ∷ causes.extend_causes s f 1) e ≡ true
+      → (e ≡ NoSuchFile) ⊎ ((of_known e ≡ e) × (is_among (entry_causes s d) e ≡ true))
   among-more m NoSuchFile h = inl refl
   among-more m TooManySegments h = inr (refl, refl)
   among-more m DeviceFull h = inr (refl, refl)
   among-more m NoHeader h = inr (refl, refl)
   among-more m _ h = absurd (cc)
 
-  module _ (failed : Bool) (new : Disk) (found : Search) (e : Refusal) (alive : failed ≡ false) (other : (d.number == 1) ≡ false) (full : IsTrue old.honest → IsFull true found s d)
+  module _ (failed : Bool) (new : Disk) (found : Search) (e : Refusal) (alive : failed ≡ false) (other : (d.number == 1) ≡ false)
+      (full : IsTrue old.honest → IsFull true found s d)
       (fails : FailsToExtend failed home d 1 e old new)
     where
       causes-same : IsTrue old.honest → first_of (extend_causes s d 1) ≡ first_of (entry_causes s d)
@@ -321,16 +385,24 @@ module _ (home : HomeFields) (d : FileId) (r : List ℕ) (old : Disk) where
       within : IsTrue old.honest → lengthen_cost s f 1 - 1 ≤ entry_cost s f
       within honest = rw (ap (λ (b : Bool). if b then need f.room 1 else 0) (full honest).needs_is) (omega arith)
 
-      by-first : (image : Image) → IsTrue old.honest → (o : Option Refusal) → IsUnderWay (work_if o (lengthen_work s d 1)) home old.image image → IsUnderWay (work_if o (entry_work s d r)) home old.image image
+      by-first : (image : Image) → IsTrue old.honest → (o : Option Refusal)
+          → IsUnderWay (work_if o (lengthen_work s d 1)) home old.image image
+          → IsUnderWay (work_if o (entry_work s d r)) home old.image image
       by-first image honest None stands =
-          record { sound = stands.sound; lags = (entering_in_new_block s d r other (full honest).none (full honest).needs_is).0 (store_of image home) stands.lags }
+          record {
+            sound = stands.sound;
+            lags = (entering_in_new_block s d r other (full honest).none (full honest).needs_is).0
+                (store_of image home) stands.lags;
+          }
       by-first image honest (Some x) stands = stands
 
-      writes : WritesAtMost (Meanwhile (work_if (first_of (entry_causes s d)) (entry_work s d r)) home old) (entry_cost s f) old new (faults_of e)
+      writes : WritesAtMost (Meanwhile (work_if (first_of (entry_causes s d)) (entry_work s d r)) home old) (entry_cost s f) old new
+          (faults_of e)
       writes =
           writes-weaker
           (λ image stands honest. by-first image honest (first_of (entry_causes s d))
-          (subst (λ (o : Option Refusal). IsUnderWay (work_if o (lengthen_work s d 1)) home old.image image) (causes-same honest) (stands honest)))
+          (subst (λ (o : Option Refusal). IsUnderWay (work_if o (lengthen_work s d 1)) home old.image image) (causes-same honest)
+          (stands honest)))
           within fails.writes
 
       abbrev Fails : Refusal → Type 0
@@ -342,7 +414,12 @@ module _ (home : HomeFields) (d : FileId) (r : List ℕ) (old : Disk) where
           by_fatal : (b : Bool) → is_fatal e ≡ b → Fails (of_known e)
           by_fatal true fatal =
               subst Fails (sym (known-fatal e fatal))
-              (record { right = right-fatal (entry_causes s d) e refl fatal right; writes = writes; unchanged = λ clean. absurd (let no : true ≡ false = sym fatal ∙ clean in cc) })
+              (record {
+                right = right-fatal (entry_causes s d) e refl fatal right;
+                writes = writes;
+                unchanged = λ clean.
+                    absurd (let no : true ≡ false = sym fatal ∙ clean in cc);
+              })
           by_fatal false clean = by_case (among-more (is_missing s d) e (right.among cause))
             where
               failed-not : e ≢ VolumeFailed
@@ -356,14 +433,23 @@ module _ (home : HomeFields) (d : FileId) (r : List ℕ) (old : Disk) where
                   subst (λ (x : Refusal). Fails (of_known x)) (sym is)
                   (record {
                     right = right-damage old.honest (entry_causes s d)
-                        (λ honest. extend-never s f 1 (sym (there-first (is_missing s d) _ (full honest).end.there) ∙ right.cause honest cause ∙ ap (λ (x : Refusal). Some x) is));
-                    writes = subst (λ (k : ℕ). WritesAtMost (Meanwhile (work_if (first_of (entry_causes s d)) (entry_work s d r)) home old) (entry_cost s f) old new k) (clean-faults e clean) writes;
+                        (λ honest. extend-never s f 1
+                        (sym (there-first (is_missing s d) _ (full honest).end.there) ∙ right.cause honest cause
+                        ∙ ap (λ (x : Refusal). Some x) is));
+                    writes = subst (λ (k : ℕ). WritesAtMost (Meanwhile (work_if (first_of (entry_causes s d)) (entry_work s d r)) home old)
+                        (entry_cost s f) old new k) (clean-faults e clean) writes;
                     unchanged = λ no. absurd (cc);
                   })
               by_case (inr own) =
                   subst Fails (sym own.0)
                   (record {
-                    right = record { volume = right.volume; among = λ _. own.1; cause = λ honest c. sym (causes-same honest) ∙ right.cause honest c; undamaged = right.undamaged };
+                    right = record {
+                      volume = right.volume;
+                      among = λ _. own.1;
+                      cause = λ honest c. sym (causes-same honest)
+                          ∙ right.cause honest c;
+                      undamaged = right.undamaged;
+                    };
                     writes = writes;
                     unchanged = λ clean'. within-when within (fails.unchanged clean');
                   })
@@ -377,7 +463,11 @@ module _ (home : HomeFields) (d : FileId) (r : List ℕ) (old : Disk) where
               subst (λ (x : Refusal). FailsToPut home d r x old new) (is ∙ sym (ap of_known is))
               (record {
                 right = λ not. absurd (not is);
-                wanting = λ _. (refl, λ honest. let wants = (fails.wanting is).1 honest in (sym (causes-same honest) ∙ wants.0, sym (wants-same honest) ∙ wants.1));
+                wanting = λ _. (
+                  refl,
+                  λ honest. let wants = (fails.wanting is).1 honest in
+                      (sym (causes-same honest) ∙ wants.0, sym (wants-same honest) ∙ wants.1),
+                );
                 writes = writes;
                 unchanged = λ clean. within-when within (fails.unchanged clean);
               })

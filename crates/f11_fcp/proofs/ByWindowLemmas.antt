@@ -1,5 +1,6 @@
 -- What requests make of windows.
-use Rattle.std.proofs.Common.{◌≡◌, ℕ, ◌+◌, ◌≤◌, ◌==◌, ◌&&◌, Bool, true, false, Option, Some, None, Result, Ok, Err, refl, sym, ◌∙◌, ap, subst, arith, option_map, if◌then◌else◌}
+use Rattle.std.proofs.Common.{◌≡◌, ℕ, ◌+◌, ◌≤◌, ◌==◌, ◌&&◌, Bool, true, false, Option, Some, None, Result, Ok, Err, refl, sym, ◌∙◌, ap}
+use Rattle.std.proofs.Common.{subst, arith, option_map, if◌then◌else◌}
 use Rattle.std.specs.Prelude.{OnOk}
 use Rattle.std.proofs.lemmas.Option.{same_Some}
 use Rattle.f11_chain.specs.Windows.{HoldsBlock}
@@ -29,9 +30,12 @@ keeps-then t u v one two task lun e held =
 pub keeps-marked : (f : FileId) (t t' : AccessTable) → t' ≡ with_marks f t → KeepsWindows t t'
 keeps-marked f t t' is task lun e held = by_entry (t task lun) refl (ap (λ (u : AccessTable). u task lun) (sym is) ∙ held)
   where
-    by_test : (was : Entry) → t task lun ≡ Some was → (b : Bool) → (if b then record was { marked = true } else was) ≡ e → WasHeld t task lun e
-    by_test was at true to = record { was = was; held = at; file_is = ap (λ (x : Entry). x.file) (sym to); window_is = ap (λ (x : Entry). x.window) (sym to) }
-    by_test was at false to = record { was = was; held = at; file_is = ap (λ (x : Entry). x.file) (sym to); window_is = ap (λ (x : Entry). x.window) (sym to) }
+    by_test : (was : Entry) → t task lun ≡ Some was → (b : Bool) → (if b then record was { marked = true } else was) ≡ e
+        → WasHeld t task lun e
+    by_test was at true to =
+        record { was = was; held = at; file_is = ap (λ (x : Entry). x.file) (sym to); window_is = ap (λ (x : Entry). x.window) (sym to) }
+    by_test was at false to =
+        record { was = was; held = at; file_is = ap (λ (x : Entry). x.file) (sym to); window_is = ap (λ (x : Entry). x.window) (sym to) }
 
     by_entry : (o : Option Entry) → t task lun ≡ o → option_map (marked_if f) o ≡ Some e → WasHeld t task lun e
     by_entry None at none = absurd (cc)
@@ -50,12 +54,14 @@ pub no-block : (task : ℕ) (r : Request) (old new : State) → block_of r ≡ N
 no-block task r old new none lun vbn some stands = absurd (let no : None ≡ Some (lun, vbn) = sym none ∙ some in cc)
 
 -- one that does takes one transfer, where its block stands in the window of what its lun holds
-pub one-transfer : (task lun vbn : ℕ) (r : Request) (old new : State) (e : Entry) → block_of r ≡ Some (lun, vbn) → old.table task lun ≡ Some e → (HoldsBlock e.window vbn → new.disk.transfers ≤ old.disk.transfers + 1)
+pub one-transfer : (task lun vbn : ℕ) (r : Request) (old new : State) (e : Entry) → block_of r ≡ Some (lun, vbn)
+    → old.table task lun ≡ Some e → (HoldsBlock e.window vbn → new.disk.transfers ≤ old.disk.transfers + 1)
     → TakesOneTransfer task r old new
 one-transfer task lun vbn r old new e of held once l v is stands =
     let same : (lun, vbn) ≡ (l, v) = same_Some (lun, vbn) (l, v) (sym of ∙ is) in
     let entry : stands.entry ≡ e = same_Some _ _ (sym stands.held ∙ ap (λ (p : ℕ × ℕ). old.table task p.0) (sym same) ∙ held) in
-    once (subst (λ (n : ℕ). HoldsBlock e.window n) (ap (λ (p : ℕ × ℕ). p.1) (sym same)) (subst (λ (x : Entry). HoldsBlock x.window v) entry stands.holds))
+    once (subst (λ (n : ℕ). HoldsBlock e.window n) (ap (λ (p : ℕ × ℕ). p.1) (sym same))
+    (subst (λ (x : Entry). HoldsBlock x.window v) entry stands.holds))
 
 -- or none, where nothing was done
 pub none-made : (task : ℕ) (r : Request) (old : State) → TakesOneTransfer task r old old

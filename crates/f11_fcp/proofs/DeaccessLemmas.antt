@@ -1,5 +1,6 @@
 -- An access that is given up, and a marked file that goes with its last.
-use Rattle.std.proofs.Common.{◌≡◌, ◌≢◌, ◌⊎◌, inl, inr, ℕ, ◌+◌, ◌-◌, ◌≤◌, ◌==◌, ◌&&◌, not, Bool, true, false, IsTrue, [], ◌∷◌, Option, Some, None, Ok, Err, refl, sym, ◌∙◌, ap, subst, arith, is_none, option_map, unwrap_or, if◌then◌else◌}
+use Rattle.std.proofs.Common.{◌≡◌, ◌≢◌, ◌⊎◌, inl, inr, ℕ, ◌+◌, ◌-◌, ◌≤◌, ◌==◌, ◌&&◌, not, Bool, true, false, IsTrue, [], ◌∷◌, Option, Some}
+use Rattle.std.proofs.Common.{None, Ok, Err, refl, sym, ◌∙◌, ap, subst, arith, is_none, option_map, unwrap_or, if◌then◌else◌}
 use Rattle.std.proofs.lemmas.Bool.{and_left, and_right, and_from, not_from_true, not_from_false}
 use Rattle.f11_dev.specs.Image.{Image}
 use Rattle.f11_home.specs.Home.{HomeFields}
@@ -20,7 +21,8 @@ use Rattle.f11_dev.specs.Disk.{Disk}
 use Rattle.f11_files.specs.Answers.{WritesAtMost, is_fatal}
 use Rattle.f11_files.specs.Removing.Delete.{Deletes, FailsToDelete}
 use Rattle.f11_image_store.specs.StoreOf.{store_of}
-use Rattle.f11_fcp.specs.Accesses.{AccessTable, Entry, access_of, with_entry, held_in, is_held_in, any_mode, mark_there, mark_kept, HasAccessed}
+use Rattle.f11_fcp.specs.Accesses.{AccessTable, Entry, access_of, with_entry, held_in, is_held_in, any_mode, mark_there, mark_kept}
+use Rattle.f11_fcp.specs.Accesses.{HasAccessed}
 use Rattle.f11_store.specs.Accesses.{mark_of}
 use Rattle.f11_fcp.specs.Handles.{State, store_at, Meanwhile, Handles, of_accessed}
 use Rattle.f11_fcp.proofs.HandleLemmas.{clean-cause, handled-served, handled-does, reads-none, writes-none}
@@ -33,7 +35,8 @@ unfolding is_held_in is_held
 accessed-same t s id = refl
 
 -- a file that is accessed is refused deletion only where the volume fails
-pub deletion-fatal : {failed : Bool} (home : HomeFields) (id : FileId) (old new : Disk) (e : Refusal) → failed ≡ false → FailsToDelete failed home id e old new → is_fatal (of_accessed e) ≡ true
+pub deletion-fatal : {failed : Bool} (home : HomeFields) (id : FileId) (old new : Disk) (e : Refusal) → failed ≡ false
+    → FailsToDelete failed home id e old new → is_fatal (of_accessed e) ≡ true
 deletion-fatal home id old new e alive fails = by_fatal (is_fatal e) refl
   where
     by_fatal : (b : Bool) → is_fatal e ≡ b → is_fatal (of_accessed e) ≡ true
@@ -62,7 +65,9 @@ module _ (task lun : ℕ) (caller : Uic) (old : State) where
   given = with_entry old.table task lun None
 
   pub deaccess-none : old.table task lun ≡ None → Handles task caller r (Err NoSuchAccess) old [] old []
-  deaccess-none none = refused-early task caller r [] old NoSuchAccess refl refl (take-true (holds_none s task lun) _ _ (ap (λ (o : Option Entry). is_none (option_map access_of o)) none))
+  deaccess-none none =
+      refused-early task caller r [] old NoSuchAccess refl refl
+      (take-true (holds_none s task lun) _ _ (ap (λ (o : Option Entry). is_none (option_map access_of o)) none))
 
   by-entry : (b : Bool) (o : Option Entry) → option_map access_of (if b then None else o) ≡ (if b then None else option_map access_of o)
   by-entry true o = refl
@@ -95,20 +100,26 @@ module _ (task lun : ℕ) (caller : Uic) (old : State) where
     cost-is = ap (λ (o : Option Entry). give_up_cost s task lun (option_map access_of o)) held
 
     -- nothing goes: the file isn't marked, or somebody else accesses it
-    pub deaccess-plain : (mid : State) → mid.disk ≡ old.disk → mid.home ≡ old.home → mid.table ≡ given → (e.marked ≡ false) ⊎ (true ≡ is_held_in any_mode given e.file)
+    pub deaccess-plain : (mid : State) → mid.disk ≡ old.disk → mid.home ≡ old.home → mid.table ≡ given
+        → (e.marked ≡ false) ⊎ (true ≡ is_held_in any_mode given e.file)
         → Handles task caller r (Ok reply.Done) old [] mid []
     deaccess-plain mid disk home table stays =
         handled-served task caller r [] old reply.Done mid [] (λ _. none-held) (λ _. refl)
-        (λ honest. ap (λ (i : Image). held_in mid.table (store_of i mid.home)) (ap (λ (d : Disk). d.image) disk) ∙ ap (λ (h : HomeFields). held_in mid.table (store_of old.disk.image h)) home
-        ∙ ap (λ (t : AccessTable). held_in t s0) table ∙ given-is s0 ∙ sym (after-is ∙ drop-false (is_due u e.file) _ _ (not-due honest stays)))
+        (λ honest. ap (λ (i : Image). held_in mid.table (store_of i mid.home)) (ap (λ (d : Disk). d.image) disk)
+        ∙ ap (λ (h : HomeFields). held_in mid.table (store_of old.disk.image h)) home
+        ∙ ap (λ (t : AccessTable). held_in t s0) table ∙ given-is s0
+        ∙ sym (after-is ∙ drop-false (is_due u e.file) _ _ (not-due honest stays)))
         (λ _. refl)
-        (subst (λ (d : Disk). WritesAtMost (Meanwhile task caller r [] old) (cost s task r) old.disk d 0) (sym disk) (writes-none (Meanwhile task caller r [] old) old.disk (cost s task r))) home
+        (subst (λ (d : Disk). WritesAtMost (Meanwhile task caller r [] old) (cost s task r) old.disk d 0) (sym disk)
+        (writes-none (Meanwhile task caller r [] old) old.disk (cost s task r))) home
       where
         not-due : IsTrue old.disk.honest → (e.marked ≡ false) ⊎ (true ≡ is_held_in any_mode given e.file) → is_due u e.file ≡ false
-        not-due honest (inl unmarked) = and_left (is_marked (file_named s0 e.file)) (not (is_accessed u e.file)) (marked-is honest ∙ unmarked)
+        not-due honest (inl unmarked) =
+            and_left (is_marked (file_named s0 e.file)) (not (is_accessed u e.file)) (marked-is honest ∙ unmarked)
         not-due honest (inr other) =
             and_right (is_marked (file_named s0 e.file)) (not (is_accessed u e.file))
-            (not_from_true (is_accessed u e.file) (ap (λ (x : Store). is_accessed x e.file) (sym (given-is s0)) ∙ sym (other ∙ accessed-same given s0 e.file)))
+            (not_from_true (is_accessed u e.file)
+            (ap (λ (x : Store). is_accessed x e.file) (sym (given-is s0)) ∙ sym (other ∙ accessed-same given s0 e.file)))
 
     module _ (marked : e.marked ≡ true) (last : false ≡ is_held_in any_mode given e.file) where
       nobody : is_accessed (held_in given s0) e.file ≡ false
@@ -122,36 +133,51 @@ module _ (task lun : ℕ) (caller : Uic) (old : State) where
       there honest = there-marked s0 e.file e.marked (kept honest)
 
       fewer : IsTrue old.disk.honest → 0 + (cut_cost (file_named s0 e.file) - 1) ≤ cost s task r
-      fewer honest = subst (λ (n : ℕ). 0 + (cut_cost (file_named s0 e.file) - 1) ≤ n) (sym (cost-is ∙ take-true (is_due u e.file) _ _ (due honest))) (omega arith)
+      fewer honest =
+          subst (λ (n : ℕ). 0 + (cut_cost (file_named s0 e.file) - 1) ≤ n) (sym (cost-is ∙ take-true (is_due u e.file) _ _ (due honest)))
+          (omega arith)
 
       works : IsTrue old.disk.honest → go_work e.file.number ≡ served_work s task caller r []
       works honest = sym (work-is ∙ take-true (is_due u e.file) _ _ (due honest))
 
-      pub deaccess-deletes : (new : State) → Deletes old.home e.file old.disk new.disk → new.home ≡ old.home → new.table ≡ given → Handles task caller r (Ok reply.Done) old [] new []
+      pub deaccess-deletes : (new : State) → Deletes old.home e.file old.disk new.disk → new.home ≡ old.home → new.table ≡ given
+          → Handles task caller r (Ok reply.Done) old [] new []
       deaccess-deletes new does home table =
-          handled-does task caller r [] old reply.Done ((NoSuchFile ⇐ is_missing s0 e.file) ∷ []) (go_work e.file.number) old new [] (reads-none old.disk) refl does fewer
+          handled-does task caller r [] old reply.Done ((NoSuchFile ⇐ is_missing s0 e.file) ∷ []) (go_work e.file.number) old new []
+          (reads-none old.disk) refl does fewer
           (λ honest. drop-false (is_missing s0 e.file) _ _ (there honest) ∙ sym none-held) works (λ _. refl)
-          (λ honest makes. ap (λ (h : HomeFields). held_in new.table (store_of new.disk.image h)) home ∙ ap (λ (t : AccessTable). held_in t (store_of new.disk.image old.home)) table ∙ ap (held_in given) makes
-          ∙ ap (λ (x : Store). without_file_at x e.file.number) (given-is s0) ∙ sym (after-is ∙ take-true (is_due u e.file) _ _ (due honest)))
+          (λ honest makes. ap (λ (h : HomeFields). held_in new.table (store_of new.disk.image h)) home
+          ∙ ap (λ (t : AccessTable). held_in t (store_of new.disk.image old.home)) table ∙ ap (held_in given) makes
+          ∙ ap (λ (x : Store). without_file_at x e.file.number) (given-is s0)
+          ∙ sym (after-is ∙ take-true (is_due u e.file) _ _ (due honest)))
           (λ _. refl) home
 
-      pub deaccess-fails : {failed : Bool} (new : State) (er res : Refusal) → failed ≡ false → FailsToDelete failed old.home e.file er old.disk new.disk → new.home ≡ old.home
+      pub deaccess-fails : {failed : Bool} (new : State) (er res : Refusal) → failed ≡ false
+          → FailsToDelete failed old.home e.file er old.disk new.disk → new.home ≡ old.home
           → res ≡ of_accessed er → Handles task caller r (Err res) old [] new []
       deaccess-fails new er res alive fails home res_is =
-          accessed-broke task caller r [] old er res (is_missing s0 e.file) (go_work e.file.number) new [] alive fails fewer there (λ _. none-held) works home res_is
+          accessed-broke task caller r [] old er res (is_missing s0 e.file) (go_work e.file.number) new [] alive fails fewer there
+          (λ _. none-held) works home res_is
 
-      pub deleted-kept : (t : AccessTable) (s' : Store) → s' ≡ without_file_at s0 e.file.number → t ≡ given → IsTrue old.disk.honest → HasAccessed old.table s0 → HasAccessed t s'
+      pub deleted-kept : (t : AccessTable) (s' : Store) → s' ≡ without_file_at s0 e.file.number → t ≡ given → IsTrue old.disk.honest
+          → HasAccessed old.table s0 → HasAccessed t s'
       deleted-kept t s' same is_t honest all k l low small =
           subst (λ (x : Store). mark_there x (t k l) ≡ mark_kept (t k l)) (sym same)
-          (subst (λ (v : AccessTable). mark_there (without_file_at s0 e.file.number) (v k l) ≡ mark_kept (v k l)) (sym is_t) (by_test ((k == task) && (l == lun)) refl))
+          (subst (λ (v : AccessTable). mark_there (without_file_at s0 e.file.number) (v k l) ≡ mark_kept (v k l)) (sym is_t)
+          (by_test ((k == task) && (l == lun)) refl))
         where
-          by_old : (o : Option Entry) → old.table k l ≡ o → given k l ≡ o → mark_there s0 o ≡ mark_kept o → mark_there (without_file_at s0 e.file.number) o ≡ mark_kept o
+          by_old : (o : Option Entry) → old.table k l ≡ o → given k l ≡ o → mark_there s0 o ≡ mark_kept o
+              → mark_there (without_file_at s0 e.file.number) o ≡ mark_kept o
           by_old None is now h = refl
           by_old (Some f) is now h =
-              mark-stays (held_in given s0) (without_file_at (held_in given s0) e.file.number) f.file f.marked (fate-gone (held_in given s0) e.file f.file.number (there honest) nobody) h
-              (held-at (λ _. true) (without_file_at (held_in given s0) e.file.number) k l (access_of f) f.file low small (ap (option_map access_of) now) (same-self f.file) refl)
+              mark-stays (held_in given s0) (without_file_at (held_in given s0) e.file.number) f.file f.marked
+              (fate-gone (held_in given s0) e.file f.file.number (there honest) nobody) h
+              (held-at (λ _. true) (without_file_at (held_in given s0) e.file.number) k l (access_of f) f.file low small
+              (ap (option_map access_of) now) (same-self f.file) refl)
 
-          by_test : (b : Bool) → ((k == task) && (l == lun)) ≡ b → mark_there (without_file_at s0 e.file.number) (if b then None else old.table k l) ≡ mark_kept (if b then None else old.table k l)
+          by_test : (b : Bool) → ((k == task) && (l == lun)) ≡ b
+              → mark_there (without_file_at s0 e.file.number) (if b then None else old.table k l) ≡ mark_kept
+              (if b then None else old.table k l)
           by_test true is = refl
           by_test false is = by_old (old.table k l) refl (ap (λ (b : Bool). if b then None else old.table k l) is) (all k l low small)
 

@@ -1,5 +1,6 @@
 -- Enter, from what opening a directory, looking through it and putting a record answered.
-use Rattle.std.proofs.Common.{◌≡◌, ℕ, ◌+◌, ◌≤◌, ◌||◌, Bool, true, false, IsTrue, List, [], ◌∷◌, ◌++◌, Option, Some, None, Result, Ok, Err, refl, sym, ◌∙◌, ap, subst, arith, map}
+use Rattle.std.proofs.Common.{◌≡◌, ℕ, ◌+◌, ◌≤◌, ◌||◌, Bool, true, false, IsTrue, List, [], ◌∷◌, ◌++◌, Option, Some, None, Result, Ok, Err}
+use Rattle.std.proofs.Common.{refl, sym, ◌∙◌, ap, subst, arith, map}
 use Rattle.f11_dev.specs.declared.device.Device.{Ghosts}
 use Rattle.f11_home.specs.Home.{HomeFields}
 use Rattle.f11_store.specs.Causes.{Cause, ◌⇐◌, first_of, first_refusal, extend_causes, extend_causes_if, is_bad}
@@ -15,7 +16,9 @@ use Rattle.f11_store.specs.declared.callers.Uic.{Uic}
 use Rattle.f11_store.specs.declared.files.FileId.{FileId}
 use Rattle.f11_store.specs.declared.files.Mode.TheVariants as mode
 use Rattle.f11_store.specs.declared.refusals.Refusal.{Refusal}
-use Rattle.f11_store.specs.declared.refusals.Refusal.TheVariants.{BadArgument, SystemFile, NoSuchFile, Marked, NoPrivilege, Conflict, NotDirectory, DuplicateName, TooManySegments, DeviceFull, NoHeader, NoMemory}
+use Rattle.f11_store.specs.declared.refusals.Refusal.TheVariants.{BadArgument, SystemFile, NoSuchFile, Marked, NoPrivilege, Conflict}
+use Rattle.f11_store.specs.declared.refusals.Refusal.TheVariants.{NotDirectory, DuplicateName, TooManySegments, DeviceFull, NoHeader}
+use Rattle.f11_store.specs.declared.refusals.Refusal.TheVariants.{NoMemory}
 use Rattle.f11_store.specs.declared.requests.Reply.{Reply}
 use Rattle.f11_store.specs.declared.requests.Reply.TheVariants as reply
 use Rattle.f11_store.specs.declared.requests.Request.{Request}
@@ -52,11 +55,13 @@ use Rattle.f11_fcp.proofs.SearchLemmas.{search-refused, search-answered, search-
 
 -- a record is entered, with any accesses beside
 module _ (a : ℕ → ℕ → Option Access) where
-  end-held : (b : Bool) (s t : Store) (d : FileId) (i : ℕ) (r : List ℕ) → EntersAtEnd b s d i r t → EntersAtEnd b (with_accesses a s) d i r (with_accesses a t)
+  end-held : (b : Bool) (s t : Store) (d : FileId) (i : ℕ) (r : List ℕ) → EntersAtEnd b s d i r t
+      → EntersAtEnd b (with_accesses a s) d i r (with_accesses a t)
   end-held false s t d i r h = ap (with_accesses a) h
   end-held true s t d i r (grown, grows, h) = (with_accesses a grown, lengthens-held a s grown d 1 grows, ap (with_accesses a) h)
 
-  at-held : (o : Option ℕ) (s t : Store) (d : FileId) (r : List ℕ) → EntersAt o s d r t → EntersAt o (with_accesses a s) d r (with_accesses a t)
+  at-held : (o : Option ℕ) (s t : Store) (d : FileId) (r : List ℕ) → EntersAt o s d r t
+      → EntersAt o (with_accesses a s) d r (with_accesses a t)
   at-held (Some i) s t d r h = ap (with_accesses a) h
   at-held None s t d r h = end-held (needs_block (file_named s d)) s t d (entry_count (file_named s d)) r h
 
@@ -77,16 +82,23 @@ module _ (task : ℕ) (caller : Uic) (d : FileId) (name : List ℕ) (id : FileId
   rest = (DuplicateName ⇐ is_entered name (file_named s0 d)) ∷ extend_causes_if (needs_block (file_named s0 d)) s (file_named s0 d) 1
 
   pub enter-bad : is_bad d ≡ true → Handles task caller r (Err BadArgument) old [] old []
-  enter-bad bad = refused-early task caller r [] old BadArgument refl refl (take-true (is_bad d || is_bad id) _ _ (ap (λ (b : Bool). b || is_bad id) bad))
+  enter-bad bad =
+      refused-early task caller r [] old BadArgument refl refl
+      (take-true (is_bad d || is_bad id) _ _ (ap (λ (b : Bool). b || is_bad id) bad))
 
   pub enter-bad-file : is_bad d ≡ false → is_bad id ≡ true → Handles task caller r (Err BadArgument) old [] old []
-  enter-bad-file good bad = refused-early task caller r [] old BadArgument refl refl (take-true (is_bad d || is_bad id) _ _ (ap (λ (b : Bool). b || is_bad id) good ∙ bad))
+  enter-bad-file good bad =
+      refused-early task caller r [] old BadArgument refl refl
+      (take-true (is_bad d || is_bad id) _ _ (ap (λ (b : Bool). b || is_bad id) good ∙ bad))
 
   module _ (good : is_bad d ≡ false) (good' : is_bad id ≡ false) where
     judged : first_refusal s task caller r ≡ first_of (opening_causes purpose.Change old.table s0 caller d ++ rest)
-    judged = drop-false (is_bad d || is_bad id) _ _ (ap (λ (b : Bool). b || is_bad id) good ∙ good') ∙ ap (λ (b : Bool). first_of (opening_barred b old.table s0 caller d ++ rest)) (sym (barred-same mode.Write old.table s0 d))
+    judged =
+        drop-false (is_bad d || is_bad id) _ _ (ap (λ (b : Bool). b || is_bad id) good ∙ good')
+        ∙ ap (λ (b : Bool). first_of (opening_barred b old.table s0 caller d ++ rest)) (sym (barred-same mode.Write old.table s0 d))
 
-    enter-own : (e : Refusal) → is_among (opening_causes purpose.Change old.table s0 caller d) e ≡ true → is_among (own_causes s task caller r) e ≡ true
+    enter-own : (e : Refusal) → is_among (opening_causes purpose.Change old.table s0 caller d) e ≡ true
+        → is_among (own_causes s task caller r) e ≡ true
     enter-own SystemFile h = refl
     enter-own NoSuchFile h = refl
     enter-own Marked h = refl
@@ -98,15 +110,20 @@ module _ (task : ℕ) (caller : Uic) (d : FileId) (name : List ℕ) (id : FileId
     fits : look_cost (file_named s0 d) ≤ cost s task r
     fits = let all = enter_fits s task d id name in omega (arith, all)
 
-    pub enter-refused : (e : Refusal) (mid : State) → FailsToRead false (opening_causes purpose.Change old.table s0 caller d) (look_cost (file_named s0 d)) e old.disk mid.disk
+    pub enter-refused : (e : Refusal) (mid : State)
+        → FailsToRead false (opening_causes purpose.Change old.table s0 caller d) (look_cost (file_named s0 d)) e old.disk mid.disk
         → mid.home ≡ old.home → mid.table ≡ old.table → mid.counts ≡ old.counts → Handles task caller r (Err e) old [] mid []
-    enter-refused e mid fails home table counts = search-refused task caller r old d purpose.Change rest judged e mid fails fits (enter-own e) home table counts
+    enter-refused e mid fails home table counts =
+        search-refused task caller r old d purpose.Change rest judged e mid fails fits (enter-own e) home table counts
 
-    module _ (found : Search) (mid : State) (searches : Searches purpose.Change old.table caller d name found old.home old.disk mid.disk) (home : mid.home ≡ old.home) (counts : mid.counts ≡ old.counts) where
-      pub enter-found : (spot : Spot) (other : FileId) → found.looked ≡ looked.Found spot other → mid.table ≡ old.table → Handles task caller r (Err DuplicateName) old [] mid []
+    module _ (found : Search) (mid : State) (searches : Searches purpose.Change old.table caller d name found old.home old.disk mid.disk)
+        (home : mid.home ≡ old.home) (counts : mid.counts ≡ old.counts) where
+      pub enter-found : (spot : Spot) (other : FileId) → found.looked ≡ looked.Found spot other → mid.table ≡ old.table
+          → Handles task caller r (Err DuplicateName) old [] mid []
       enter-found spot other is table =
           search-answered task caller r old d purpose.Change rest judged DuplicateName mid refl refl searches.reads fits searches.no_cause
-          (λ honest. take-true (is_entered name (file_named s0 d)) _ _ (subst (λ (l : Looked). Tells name (file_named s0 d) l) is (searches.tells honest)).0.entered) home table counts
+          (λ honest. take-true (is_entered name (file_named s0 d)) _ _
+          (subst (λ (l : Looked). Tells name (file_named s0 d) l) is (searches.tells honest)).0.entered) home table counts
 
       module _ (empty : Option Spot) (is : found.looked ≡ looked.Absent empty) where
         abbrev sm : Store
@@ -138,10 +155,12 @@ module _ (task : ℕ) (caller : Uic) (d : FileId) (name : List ℕ) (id : FileId
         first : IsTrue old.disk.honest → first_of (entry_causes sm d) ≡ first_refusal s task caller r
         first honest =
             ap (λ (x : Store). first_of (entry_causes x d)) same ∙ by_need (needs_block (file_named s0 d)) refl
-            ∙ sym (drop-false (is_entered name (file_named s0 d)) (Some DuplicateName) (first_of (extend_causes_if (needs_block (file_named s0 d)) s (file_named s0 d) 1)) (tells honest).0.entered)
+            ∙ sym (drop-false (is_entered name (file_named s0 d)) (Some DuplicateName)
+            (first_of (extend_causes_if (needs_block (file_named s0 d)) s (file_named s0 d) 1)) (tells honest).0.entered)
             ∙ sym (search-then task caller r old d purpose.Change rest judged (searches.no_cause honest))
           where
-            by_need : (b : Bool) → needs_block (file_named s0 d) ≡ b → first_of (map (cause_if b) (extend_causes s0 (file_named s0 d) 1)) ≡ first_of (extend_causes_if b s (file_named s0 d) 1)
+            by_need : (b : Bool) → needs_block (file_named s0 d) ≡ b
+                → first_of (map (cause_if b) (extend_causes s0 (file_named s0 d) 1)) ≡ first_of (extend_causes_if b s (file_named s0 d) 1)
             by_need true needs = ap first_of (sym (extend-causes-held (accesses old.table) s0 (file_named s0 d) 1))
             by_need false needs = refl
 
@@ -171,38 +190,51 @@ module _ (task : ℕ) (caller : Uic) (d : FileId) (name : List ℕ) (id : FileId
         enough : IsTrue old.disk.honest → look_cost (file_named s0 d) + entry_cost sm (file_named sm d) ≤ cost s task r
         enough honest =
             subst (λ (x : Store). look_cost (file_named s0 d) + entry_cost x (file_named x d) ≤ cost s task r) (sym same)
-            (subst (λ (k : ℕ). look_cost (file_named s0 d) + (k + (growth_cost s0 (file_named s0 d) 1 + header_count (file_named s0 d) + 4)) ≤ cost s task r)
+            (subst (λ (k : ℕ). look_cost (file_named s0 d) + (k + (growth_cost s0 (file_named s0 d) 1 + header_count (file_named s0 d) + 4))
+            ≤ cost s task r)
             (slots-cost-held (accesses old.table) s0 (headers_to_enter (file_named s0 d))) (enter_fits s task d id name))
 
         work-is : IsTrue old.disk.honest → entry_work sm d (record_bytes id name) ≡ served_work s task caller r []
         work-is honest =
-            ap (λ (x : Store). entry_work x d (record_bytes id name)) same ∙ sym (enter-work-held (accesses old.table) (index_of_empty (file_named s0 d)) s0 d (record_bytes id name))
+            ap (λ (x : Store). entry_work x d (record_bytes id name)) same
+            ∙ sym (enter-work-held (accesses old.table) (index_of_empty (file_named s0 d)) s0 d (record_bytes id name))
 
         wants-is : IsTrue old.disk.honest → entry_wants sm d ≡ may_want_memory s task r
-        wants-is honest = ap (λ (x : Store). entry_wants x d) same ∙ sym (gets-held (accesses old.table) s0 (headers_to_enter (file_named s0 d)))
+        wants-is honest =
+            ap (λ (x : Store). entry_wants x d) same ∙ sym (gets-held (accesses old.table) s0 (headers_to_enter (file_named s0 d)))
 
         module _ (new : State) (home' : new.home ≡ mid.home) (table' : new.table ≡ old.table) where
           pub entered : PutsEntry mid.home d (record_bytes id name) mid.disk new.disk → Handles task caller r (Ok reply.Done) old [] new []
           entered does =
-              handled-does task caller r [] old reply.Done (entry_causes sm d) (entry_work sm d (record_bytes id name)) mid new [] searches.reads home does enough first work-is (λ _. refl)
+              handled-does task caller r [] old reply.Done (entry_causes sm d) (entry_work sm d (record_bytes id name)) mid new []
+              searches.reads home does enough first work-is (λ _. refl)
               (λ _ makes.
-              subst (λ (x : Store). Enters s d (record_bytes id name) x) (sym (ap (λ (h : HomeFields). held_in new.table (store_of new.disk.image h)) home' ∙ ap (λ (t : AccessTable). held_in t (store_of new.disk.image mid.home)) table'))
-              (enters-held (accesses old.table) s0 (store_of new.disk.image mid.home) d (record_bytes id name) (subst (λ (x : Store). Enters x d (record_bytes id name) (store_of new.disk.image mid.home)) same makes)))
+              subst (λ (x : Store). Enters s d (record_bytes id name) x)
+              (sym (ap (λ (h : HomeFields). held_in new.table (store_of new.disk.image h)) home'
+              ∙ ap (λ (t : AccessTable). held_in t (store_of new.disk.image mid.home)) table'))
+              (enters-held (accesses old.table) s0 (store_of new.disk.image mid.home) d (record_bytes id name)
+              (subst (λ (x : Store). Enters x d (record_bytes id name) (store_of new.disk.image mid.home)) same makes)))
               (λ _. refl) home'
 
-          pub not-entered : (e : Refusal) → FailsToPut mid.home d (record_bytes id name) e mid.disk new.disk → (is_clean e ≡ true → new.counts ≡ mid.counts) → Handles task caller r (Err e) old [] new []
+          pub not-entered : (e : Refusal) → FailsToPut mid.home d (record_bytes id name) e mid.disk new.disk
+              → (is_clean e ≡ true → new.counts ≡ mid.counts) → Handles task caller r (Err e) old [] new []
           not-entered e fails counts' =
-              handled-wants task caller r [] old e (entry_causes sm d) (entry_work sm d (record_bytes id name)) (entry_wants sm d) mid new searches.reads home counts fails
-              (growth-own (is_held bars_writing s d) (needs_block (file_named s0 d)) e) (memory-own (is_held bars_writing s d) (needs_block (file_named s0 d))) enough first work-is wants-is home' table' counts'
+              handled-wants task caller r [] old e (entry_causes sm d) (entry_work sm d (record_bytes id name)) (entry_wants sm d) mid new
+              searches.reads home counts fails
+              (growth-own (is_held bars_writing s d) (needs_block (file_named s0 d)) e)
+              (memory-own (is_held bars_writing s d) (needs_block (file_named s0 d))) enough first work-is wants-is home' table' counts'
 
 -- what a step of Enter makes of each file
-entered-fate : (s : Store) (task : ℕ) (caller : Uic) (d : FileId) (name : List ℕ) (id : FileId) (result : Result Reply Refusal) (s' : Store) → Step s task caller (request.Enter d name id) [] result s' [] → (n : ℕ) → Fate s s' n
+entered-fate : (s : Store) (task : ℕ) (caller : Uic) (d : FileId) (name : List ℕ) (id : FileId) (result : Result Reply Refusal) (s' : Store)
+    → Step s task caller (request.Enter d name id) [] result s' [] → (n : ℕ) → Fate s s' n
 entered-fate s task caller d name id (Ok reply) s' h n = fate-enter s s' d n (record_bytes id name) h.changes
 entered-fate s task caller d name id (Err e) s' h n = fate-none s s' n h.store_stays
 
 -- so all stays open
-pub stays-open-entered : {D : Type 0} {met : Ghosts D} (t : AccessTable) (old new : Files D met) (task : ℕ) (caller : Uic) (d : FileId) (name : List ℕ) (id : FileId) (result : Result Reply Refusal) → IsOpen t old
-    → Handles task caller (request.Enter d name id) result (state_of t old) [] (state_of t new) [] → (is_refused is_fatal result ≡ false → has_failed new ≡ false)
+pub stays-open-entered : {D : Type 0} {met : Ghosts D} (t : AccessTable) (old new : Files D met) (task : ℕ) (caller : Uic) (d : FileId)
+    (name : List ℕ) (id : FileId) (result : Result Reply Refusal) → IsOpen t old
+    → Handles task caller (request.Enter d name id) result (state_of t old) [] (state_of t new) []
+    → (is_refused is_fatal result ≡ false → has_failed new ≡ false)
     → OnOk result (HasWindows t new) → StaysOpen result t new
 stays-open-entered t old new task caller d name id result is handles alive windows clean = record {
   alive = alive clean;
@@ -210,5 +242,6 @@ stays-open-entered t old new task caller d name id result is handles alive windo
   kept = λ honest.
       let was : IsTrue (disk_in old).honest = sym handles.writes.went.honest ∙ honest in
       kept-by-step t (store_of (disk_in old).image (home_in old)) (store_of (disk_in new).image (home_in new))
-      (entered-fate (store_at (state_of t old)) task caller d name id result (store_at (state_of t new)) (handles.step was clean)) (is.kept was);
+      (entered-fate (store_at (state_of t old)) task caller d name id result (store_at (state_of t new)) (handles.step was clean))
+      (is.kept was);
 }

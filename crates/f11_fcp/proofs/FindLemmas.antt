@@ -7,7 +7,8 @@ use Rattle.f11_store.specs.Store.{Store, file_named}
 use Rattle.f11_store.specs.declared.callers.Uic.{Uic}
 use Rattle.f11_store.specs.declared.files.FileId.{FileId}
 use Rattle.f11_store.specs.declared.refusals.Refusal.{Refusal}
-use Rattle.f11_store.specs.declared.refusals.Refusal.TheVariants.{BadArgument, SystemFile, NoSuchFile, Marked, NoPrivilege, NotDirectory, NoSuchEntry}
+use Rattle.f11_store.specs.declared.refusals.Refusal.TheVariants.{BadArgument, SystemFile, NoSuchFile, Marked, NoPrivilege, NotDirectory}
+use Rattle.f11_store.specs.declared.refusals.Refusal.TheVariants.{NoSuchEntry}
 use Rattle.f11_store.specs.declared.requests.Reply.TheVariants as reply
 use Rattle.f11_store.specs.declared.requests.Request.{Request}
 use Rattle.f11_store.specs.declared.requests.Request.TheVariants as request
@@ -47,7 +48,8 @@ module _ (task : ℕ) (caller : Uic) (d : FileId) (name : List ℕ) (old : State
     judged : first_refusal s task caller r ≡ first_of (opening_causes purpose.Look old.table s0 caller d ++ rest)
     judged = drop-false (is_bad d) _ _ good
 
-    find-own : (e : Refusal) → is_among (opening_causes purpose.Look old.table s0 caller d) e ≡ true → is_among (own_causes s task caller r) e ≡ true
+    find-own : (e : Refusal) → is_among (opening_causes purpose.Look old.table s0 caller d) e ≡ true
+        → is_among (own_causes s task caller r) e ≡ true
     find-own SystemFile h = refl
     find-own NoSuchFile h = refl
     find-own Marked h = refl
@@ -55,22 +57,32 @@ module _ (task : ℕ) (caller : Uic) (d : FileId) (name : List ℕ) (old : State
     find-own NotDirectory h = refl
     find-own _ h = absurd (cc)
 
-    pub find-refused : (e : Refusal) (mid : State) → FailsToRead false (opening_causes purpose.Look old.table s0 caller d) (look_cost (file_named s0 d)) e old.disk mid.disk
+    pub find-refused : (e : Refusal) (mid : State)
+        → FailsToRead false (opening_causes purpose.Look old.table s0 caller d) (look_cost (file_named s0 d)) e old.disk mid.disk
         → mid.home ≡ old.home → mid.table ≡ old.table → mid.counts ≡ old.counts → Handles task caller r (Err e) old [] mid []
-    find-refused e mid fails home table counts = search-refused task caller r old d purpose.Look rest judged e mid fails (find_fits s task d name) (find-own e) home table counts
+    find-refused e mid fails home table counts =
+        search-refused task caller r old d purpose.Look rest judged e mid fails (find_fits s task d name) (find-own e) home table counts
 
-    module _ (found : Search) (mid : State) (searches : Searches purpose.Look old.table caller d name found old.home old.disk mid.disk) (home : mid.home ≡ old.home) (table : mid.table ≡ old.table) where
-      pub find-found : (spot : Spot) (id : FileId) → found.looked ≡ looked.Found spot id → Handles task caller r (Ok (reply.Found id)) old [] mid []
+    module _ (found : Search) (mid : State) (searches : Searches purpose.Look old.table caller d name found old.home old.disk mid.disk)
+        (home : mid.home ≡ old.home) (table : mid.table ≡ old.table) where
+      pub find-found : (spot : Spot) (id : FileId) → found.looked ≡ looked.Found spot id
+          → Handles task caller r (Ok (reply.Found id)) old [] mid []
       find-found spot id is =
           handled-served task caller r [] old (reply.Found id) mid []
-          (λ honest. let first = (tells honest).0 in search-then task caller r old d purpose.Look rest judged (searches.no_cause honest) ∙ drop-false (not (is_entered name (file_named s0 d))) _ _ (not_from_true _ first.entered))
+          (λ honest. let first = (tells honest).0 in search-then task caller r old d purpose.Look rest judged (searches.no_cause honest)
+          ∙ drop-false (not (is_entered name (file_named s0 d))) _ _ (not_from_true _ first.entered))
           (λ honest. ap (λ (i : FileId). reply.Found i) ((tells honest).2 ∙ ap record_id (sym (tells honest).0.is)))
-          (λ _. same-store old mid searches.reads.looked.image home table) (λ _. refl) (writes-looked task caller r [] old mid.disk searches.reads (find_fits s task d name)) home
+          (λ _. same-store old mid searches.reads.looked.image home table) (λ _. refl)
+          (writes-looked task caller r [] old mid.disk searches.reads (find_fits s task d name)) home
         where
           tells : IsTrue old.disk.honest → Tells name (file_named s0 d) (looked.Found spot id)
           tells honest = subst (λ (l : Looked). Tells name (file_named s0 d) l) is (searches.tells honest)
 
-      pub find-absent : (empty : Option Spot) → found.looked ≡ looked.Absent empty → mid.counts ≡ old.counts → Handles task caller r (Err NoSuchEntry) old [] mid []
+      pub find-absent : (empty : Option Spot) → found.looked ≡ looked.Absent empty → mid.counts ≡ old.counts
+          → Handles task caller r (Err NoSuchEntry) old [] mid []
       find-absent empty is counts =
-          search-answered task caller r old d purpose.Look rest judged NoSuchEntry mid refl refl searches.reads (find_fits s task d name) searches.no_cause
-          (λ honest. take-true (not (is_entered name (file_named s0 d))) _ _ (not_from_false _ (subst (λ (l : Looked). Tells name (file_named s0 d) l) is (searches.tells honest)).0.entered)) home table counts
+          search-answered task caller r old d purpose.Look rest judged NoSuchEntry mid refl refl searches.reads (find_fits s task d name)
+          searches.no_cause
+          (λ honest. take-true (not (is_entered name (file_named s0 d))) _ _
+          (not_from_false _ (subst (λ (l : Looked). Tells name (file_named s0 d) l) is (searches.tells honest)).0.entered)) home table
+          counts

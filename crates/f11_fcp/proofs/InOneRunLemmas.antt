@@ -41,7 +41,8 @@ unfolding volume_of
 free-then image image' home home' same same' =
     ap (λ (i : Image). is_free i (storage_bitmap i home')) same ∙ ap (λ (h : HomeFields). is_free image (storage_bitmap image h)) same'
 
-rows-then : (image : Image) (home home' : HomeFields) (k : ℕ) (row : List ℕ) → home' ≡ home → file_blocks (volume_of image home').table k ≡ row
+rows-then : (image : Image) (home home' : HomeFields) (k : ℕ) (row : List ℕ) → home' ≡ home
+    → file_blocks (volume_of image home').table k ≡ row
     → file_blocks (table_of image home) k ≡ row
 unfolding volume_of
 rows-then image home home' k row same is = subst (λ (h : HomeFields). file_blocks (table_of image h) k ≡ row) same is
@@ -52,15 +53,18 @@ module _ (task : ℕ) (caller : Uic) (lun n : ℕ) (old new : State) where
   r = request.Contiguous lun n
 
   -- what is said of this run is said of what it asks for
-  asked : {result : Result Reply Refusal} → (IsTrue old.disk.honest → LiesInRun task caller lun n result old new) → InOneRun task caller r result old new
+  asked : {result : Result Reply Refusal} → (IsTrue old.disk.honest → LiesInRun task caller lun n result old new)
+      → InOneRun task caller r result old new
   asked {result = result} lies lun' n' is honest =
       subst (λ (p : ℕ × ℕ). LiesInRun task caller p.0 p.1 result old new) (same_Some (lun, n) (lun', n') is) (lies honest)
 
   -- it is refused otherwise: for its first cause, or it failed the volume
-  pub refused-otherwise : (e : Refusal) (block block' : List ℕ) → e ≢ NoRun → Handles task caller r (Err e) old block new block' → InOneRun task caller r (Err e) old new
+  pub refused-otherwise : (e : Refusal) (block block' : List ℕ) → e ≢ NoRun → Handles task caller r (Err e) old block new block'
+      → InOneRun task caller r (Err e) old new
   refused-otherwise e block block' other handles = asked (λ honest. record {
     refused = λ is. absurd (other (let same : e ≡ NoRun = cc in same));
-    no_run = λ none lacks clean. absurd (other (lacking-alone (first_refusal (store_at old) task caller r) e (handles.step honest clean).may_refuse none));
+    no_run = λ none lacks clean.
+        absurd (other (lacking-alone (first_refusal (store_at old) task caller r) e (handles.step honest clean).may_refuse none));
     lies = tt;
   })
 

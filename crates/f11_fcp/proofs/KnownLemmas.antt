@@ -10,7 +10,8 @@ use Rattle.f11_store.specs.Store.{Store}
 use Rattle.f11_store.specs.declared.files.FileId.{FileId}
 use Rattle.f11_store.specs.declared.refusals.Refusal.{Refusal}
 use Rattle.f11_store.specs.declared.refusals.Refusal.TheVariants.{NoSuchFile, EndOfFile, VolumeFailed, DeviceFault, Damaged}
-use Rattle.f11_files.specs.Answers.{Breaks, FailsToRead, FailsToWrite, IsRight, IsUnderWay, Meanwhile, ReadsAtMost, WritesAtMost, faults_of, is_among, is_clean, is_fatal}
+use Rattle.f11_files.specs.Answers.{Breaks, FailsToRead, FailsToWrite, IsRight, IsUnderWay, Meanwhile, ReadsAtMost, WritesAtMost, faults_of}
+use Rattle.f11_files.specs.Answers.{is_among, is_clean, is_fatal}
 use Rattle.f11_files.specs.Operations.{file_causes, length_causes}
 use Rattle.f11_fcp.specs.Handles.{of_known}
 use Rattle.f11_fcp.proofs.HandleLemmas.{cause-not-fatal, clean-cause}
@@ -48,7 +49,8 @@ known-file s d NoSuchFile h = refl
 known-file s d _ h = absurd (cc)
 
 -- a refusal that fails the volume is right, whatever the causes
-pub right-fatal : {failed honest : Bool} {causes : List Cause} (others : List Cause) (e : Refusal) → failed ≡ false → is_fatal e ≡ true → IsRight failed honest causes e → IsRight false honest others e
+pub right-fatal : {failed honest : Bool} {causes : List Cause} (others : List Cause) (e : Refusal) → failed ≡ false → is_fatal e ≡ true
+    → IsRight failed honest causes e → IsRight false honest others e
 right-fatal others e alive fatal right = record {
   volume = λ is. sym alive ∙ right.volume is;
   among = λ cause. absurd (let no : true ≡ false = sym fatal ∙ cause-not-fatal e cause in cc);
@@ -66,42 +68,60 @@ right-damage honest others never = record {
 }
 
 -- it is no honest disk where a cause is answered that doesn't hold
-never : {failed honest : Bool} (causes : List Cause) (e : Refusal) → failed ≡ false → (IsTrue honest → first_of causes ≡ None) → is_fatal e ≡ false → IsRight failed honest causes e → IsTrue honest → ⊥
+never : {failed honest : Bool} (causes : List Cause) (e : Refusal) → failed ≡ false → (IsTrue honest → first_of causes ≡ None)
+    → is_fatal e ≡ false → IsRight failed honest causes e → IsTrue honest → ⊥
 never causes e alive none clean right sure =
     let other : e ≢ VolumeFailed = λ v. absurd (let no : false ≡ true = sym alive ∙ right.volume v in cc) in
     let first : first_of causes ≡ Some e = right.cause sure (clean-cause e clean other).0 in
     let no : None ≡ Some e = sym (none sure) ∙ first in cc
 
-is-damage : {failed honest : Bool} (causes : List Cause) (e : Refusal) → failed ≡ false → (is_among causes e ≡ true → of_known e ≡ Damaged) → is_fatal e ≡ false → IsRight failed honest causes e → of_known e ≡ Damaged
+is-damage : {failed honest : Bool} (causes : List Cause) (e : Refusal) → failed ≡ false → (is_among causes e ≡ true → of_known e ≡ Damaged)
+    → is_fatal e ≡ false → IsRight failed honest causes e → of_known e ≡ Damaged
 is-damage causes e alive among clean right =
     let other : e ≢ VolumeFailed = λ v. absurd (let no : false ≡ true = sym alive ∙ right.volume v in cc) in
     among (right.among (clean-cause e clean other).0)
 
 -- it was read
-pub known-fails : {failed : Bool} {n : ℕ} {old new : Disk} (causes : List Cause) (e : Refusal) → failed ≡ false → (is_among causes e ≡ true → of_known e ≡ Damaged) → (IsTrue old.honest → first_of causes ≡ None)
+pub known-fails : {failed : Bool} {n : ℕ} {old new : Disk} (causes : List Cause) (e : Refusal) → failed ≡ false
+    → (is_among causes e ≡ true → of_known e ≡ Damaged) → (IsTrue old.honest → first_of causes ≡ None)
     → FailsToRead failed causes n e old new → FailsToRead false [] n (of_known e) old new
 known-fails {n = n} {old = old} {new = new} causes e alive among none fails = by_fatal (is_fatal e) refl
   where
     by_fatal : (b : Bool) → is_fatal e ≡ b → FailsToRead false [] n (of_known e) old new
-    by_fatal true fatal = subst (λ (x : Refusal). FailsToRead false [] n x old new) (sym (known-fatal e fatal)) (record { right = right-fatal [] e alive fatal fails.right; reads = fails.reads })
+    by_fatal true fatal =
+        subst (λ (x : Refusal). FailsToRead false [] n x old new) (sym (known-fatal e fatal))
+        (record { right = right-fatal [] e alive fatal fails.right; reads = fails.reads })
     by_fatal false clean =
         subst (λ (x : Refusal). FailsToRead false [] n x old new) (sym (is-damage causes e alive among clean fails.right))
-        (record { right = right-damage old.honest [] (never causes e alive none clean fails.right); reads = subst (λ (k : ℕ). ReadsAtMost n old new k) (clean-faults e clean) fails.reads })
+        (record {
+          right = right-damage old.honest [] (never causes e alive none clean fails.right);
+          reads = subst (λ (k : ℕ). ReadsAtMost n old new k) (clean-faults e clean) fails.reads;
+        })
 
 -- it was written
-pub known-breaks : {failed : Bool} {n : ℕ} {old new : Disk} (causes : List Cause) (e : Refusal) → failed ≡ false → (is_among causes e ≡ true → of_known e ≡ Damaged) → (IsTrue old.honest → first_of causes ≡ None)
-    → (work : Work) (home : HomeFields) → FailsToWrite failed causes n work home e old new → Breaks (Meanwhile work home old) n (of_known e) old new
+pub known-breaks : {failed : Bool} {n : ℕ} {old new : Disk} (causes : List Cause) (e : Refusal) → failed ≡ false
+    → (is_among causes e ≡ true → of_known e ≡ Damaged) → (IsTrue old.honest → first_of causes ≡ None)
+    → (work : Work) (home : HomeFields) → FailsToWrite failed causes n work home e old new
+    → Breaks (Meanwhile work home old) n (of_known e) old new
 known-breaks {n = n} {old = old} {new = new} causes e alive among none work home fails = by_fatal (is_fatal e) refl
   where
     under-way : (image : Image) → Meanwhile (work_if (first_of causes) work) home old image → Meanwhile work home old image
-    under-way image stands honest = subst (λ (o : Option Refusal). IsUnderWay (work_if o work) home old.image image) (none honest) (stands honest)
+    under-way image stands honest =
+        subst (λ (o : Option Refusal). IsUnderWay (work_if o work) home old.image image) (none honest) (stands honest)
 
     writes : WritesAtMost (Meanwhile work home old) n old new (faults_of e)
-    writes = record { transfers = fails.writes.transfers; went = went_weaker (Meanwhile (work_if (first_of causes) work) home old) (Meanwhile work home old) under-way fails.writes.went; few = fails.writes.few }
+    writes =
+        record {
+          transfers = fails.writes.transfers;
+          went = went_weaker (Meanwhile (work_if (first_of causes) work) home old)
+              (Meanwhile work home old) under-way fails.writes.went;
+          few = fails.writes.few;
+        }
 
     by_fatal : (b : Bool) → is_fatal e ≡ b → Breaks (Meanwhile work home old) n (of_known e) old new
     by_fatal true fatal =
-        subst (λ (x : Refusal). Breaks (Meanwhile work home old) n x old new) (sym (known-fatal e fatal)) (record { fatal = fatal; undamaged = fails.right.undamaged; writes = writes })
+        subst (λ (x : Refusal). Breaks (Meanwhile work home old) n x old new) (sym (known-fatal e fatal))
+        (record { fatal = fatal; undamaged = fails.right.undamaged; writes = writes })
     by_fatal false clean =
         subst (λ (x : Refusal). Breaks (Meanwhile work home old) n x old new) (sym (is-damage causes e alive among clean fails.right))
         (record {

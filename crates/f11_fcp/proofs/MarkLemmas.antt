@@ -1,5 +1,6 @@
 -- The accesses to a file that is marked for delete.
-use Rattle.std.proofs.Common.{◌≡◌, ◌==◌, Bool, true, false, Option, Some, None, refl, sym, ◌∙◌, ap, arith, option_map, is_none, if◌then◌else◌}
+use Rattle.std.proofs.Common.{◌≡◌, ◌==◌, Bool, true, false, Option, Some, None, refl, sym, ◌∙◌, ap, arith, option_map, is_none}
+use Rattle.std.proofs.Common.{if◌then◌else◌}
 use Rattle.std.specs.Int.{bit_at}
 use Rattle.std.specs.Option.{option_and_then}
 use Rattle.std.proofs.lemmas.Bool.{and_from, and_parts, eq-eqb, eqb-true}
@@ -30,19 +31,22 @@ mark-set : (f : File) → is_marked (with_delete_mark f) ≡ true
 mark-set f = eq-eqb (bit_at (with_mark f.characteristics) 15) 1 (bit_at_or f.characteristics 32768 15 ∙ omega arith)
 
 -- what is kept of accesses is right where a file was marked, and the accesses to it are
-pub marks-kept : (id : FileId) (t : AccessTable) (s : Store) → is_missing s id ≡ false → HasAccessed t s → HasAccessed (with_marks id t) (with_marked_file s id.number)
+pub marks-kept : (id : FileId) (t : AccessTable) (s : Store) → is_missing s id ≡ false → HasAccessed t s
+    → HasAccessed (with_marks id t) (with_marked_file s id.number)
 marks-kept id t s there kept task lun low small = by_entry (t task lun) (kept task lun low small)
   where
     s' : Store
     s' = with_marked_file s id.number
 
     -- the file that is marked
-    by_file : (e : Entry) (same : Bool) → is_same e.file id ≡ same → (o : Option File) → s.file id.number ≡ o → is_none (option_and_then (of_sequence id.sequence) o) ≡ false
+    by_file : (e : Entry) (same : Bool) → is_same e.file id ≡ same → (o : Option File) → s.file id.number ≡ o
+        → is_none (option_and_then (of_sequence id.sequence) o) ≡ false
         → mark_of s e.file ≡ Some e.marked → mark_of s' e.file ≡ Some ((if same then record e { marked = true } else e).marked)
     by_file e same is None none h k = absurd (cc)
     by_file e true is (Some f) some h k =
         let parts = and_parts (e.file.number == id.number) (e.file.sequence == id.sequence) is in
-        rw (parts.0, some) (at-sequence (f.sequence == e.file.sequence) (ap (λ q. f.sequence == q) (eqb-true e.file.sequence id.sequence parts.1) ∙ seq))
+        rw (parts.0, some) (at-sequence (f.sequence == e.file.sequence)
+        (ap (λ q. f.sequence == q) (eqb-true e.file.sequence id.sequence parts.1) ∙ seq))
       where
         sequence-is : (b : Bool) → is_none (if b then Some f else None) ≡ false → b ≡ true
         sequence-is true h = refl
@@ -65,13 +69,16 @@ marks-kept id t s there kept task lun low small = by_entry (t task lun) (kept ta
             let at : s.file e.file.number ≡ Some f = ap s.file (eqb-true e.file.number id.number n) ∙ some in
             let one = eqb-true f.sequence e.file.sequence (seen-some e.file.sequence f e.marked (rw at at k)) in
             let two = eqb-true f.sequence id.sequence (here (f.sequence == id.sequence) h) in
-            absurd (let no : false ≡ true = sym is ∙ and_from (e.file.number == id.number) (e.file.sequence == id.sequence) n (eq-eqb e.file.sequence id.sequence (sym one ∙ two)) in cc)
+            absurd (let no : false ≡ true = sym is ∙ and_from (e.file.number == id.number) (e.file.sequence == id.sequence) n
+            (eq-eqb e.file.sequence id.sequence (sym one ∙ two)) in cc)
         by_number false n = rw n k
 
-    by_entry : (o : Option Entry) → mark_there s o ≡ mark_kept o → mark_there s' (option_map (marked_if id) o) ≡ mark_kept (option_map (marked_if id) o)
+    by_entry : (o : Option Entry) → mark_there s o ≡ mark_kept o
+        → mark_there s' (option_map (marked_if id) o) ≡ mark_kept (option_map (marked_if id) o)
     by_entry None h = refl
     by_entry (Some e) h = by_same (is_same e.file id) refl
       where
-        by_same : (b : Bool) → is_same e.file id ≡ b → mark_of s' (if b then record e { marked = true } else e).file ≡ Some ((if b then record e { marked = true } else e).marked)
+        by_same : (b : Bool) → is_same e.file id ≡ b
+            → mark_of s' (if b then record e { marked = true } else e).file ≡ Some ((if b then record e { marked = true } else e).marked)
         by_same true is = by_file e true is (s.file id.number) refl there h
         by_same false is = by_file e false is (s.file id.number) refl there h

@@ -1,5 +1,6 @@
 -- Requests that name a file: its header is read, and tells what stands against them.
-use Rattle.std.proofs.Common.{◌≡◌, ◌≢◌, ℕ, ◌≤◌, ◌==◌, Bool, true, false, [], ◌∷◌, Option, Some, None, Err, refl, sym, ◌∙◌, ap, subst, if◌then◌else◌}
+use Rattle.std.proofs.Common.{◌≡◌, ◌≢◌, ℕ, ◌≤◌, ◌==◌, Bool, true, false, [], ◌∷◌, Option, Some, None, Err, refl, sym, ◌∙◌, ap, subst}
+use Rattle.std.proofs.Common.{if◌then◌else◌}
 use Rattle.std.specs.Int.{bit_at}
 use Rattle.f11_home.specs.Home.{HomeFields}
 use Rattle.f11_dev.specs.Image.{Image}
@@ -32,7 +33,8 @@ found true h = absurd (cc)
 found false h = refl
 
 -- whether a file is marked stands in what was read
-pub marks-read : (s : Store) (id : FileId) (attr : Attr) → attr ≡ attr_of (file_named s id) → is_marked (file_named s id) ≡ (bit_at attr.characteristics 15 == 1)
+pub marks-read : (s : Store) (id : FileId) (attr : Attr) → attr ≡ attr_of (file_named s id)
+    → is_marked (file_named s id) ≡ (bit_at attr.characteristics 15 == 1)
 marks-read s id attr is = ap (λ (a : Attr). bit_at a.characteristics 15 == 1) (sym is)
 
 module _ (task : ℕ) (caller : Uic) (r : Request) (old : State) (id : FileId) where
@@ -43,22 +45,31 @@ module _ (task : ℕ) (caller : Uic) (r : Request) (old : State) (id : FileId) w
   s0 = store_of old.disk.image old.home
 
   -- the header wasn't read
-  pub unread : {failed : Bool} (rest : Option Refusal) (e : Refusal) (mid : State) → failed ≡ false → first_refusal s task caller r ≡ (if is_missing s0 id then Some NoSuchFile else rest)
-      → is_among (own_causes s task caller r) NoSuchFile ≡ true → 1 ≤ cost s task r → FailsToRead failed (file_causes s0 id) 1 e old.disk mid.disk
+  pub unread : {failed : Bool} (rest : Option Refusal) (e : Refusal) (mid : State) → failed ≡ false
+      → first_refusal s task caller r ≡ (if is_missing s0 id then Some NoSuchFile else rest)
+      → is_among (own_causes s task caller r) NoSuchFile ≡ true → 1 ≤ cost s task r
+      → FailsToRead failed (file_causes s0 id) 1 e old.disk mid.disk
       → mid.home ≡ old.home → mid.table ≡ old.table → mid.counts ≡ old.counts → Handles task caller r (Err e) old [] mid []
   unread rest e mid alive judged own least fails home table counts = by_fatal (is_fatal e) refl
     where
       by_fatal : (b : Bool) → is_fatal e ≡ b → Handles task caller r (Err e) old [] mid []
-      by_fatal true fatal = handled-fatal task caller r [] old e mid [] fatal fails.right.undamaged (writes-looked task caller r [] old mid.disk fails.reads least) home
+      by_fatal true fatal =
+          handled-fatal task caller r [] old e mid [] fatal fails.right.undamaged
+          (writes-looked task caller r [] old mid.disk fails.reads least) home
       by_fatal false clean =
           let other : e ≢ VolumeFailed = λ v. absurd (let no : false ≡ true = sym alive ∙ fails.right.volume v in cc) in
           let cause = (clean-cause e clean other).0 in
           let file = among-file (is_missing s0 id) e (fails.right.among cause) in
-          handled-clean task caller r [] old e mid clean other (subst (λ (x : Refusal). is_among (own_causes s task caller r) x ≡ true) (sym file) own)
-          (λ honest. judged ∙ take-true (is_missing s0 id) _ _ (missing-first (is_missing s0 id) (subst (λ (x : Refusal). first_of (file_causes s0 id) ≡ Some x) file (fails.right.cause honest cause)))
+          handled-clean task caller r [] old e mid clean other
+          (subst (λ (x : Refusal). is_among (own_causes s task caller r) x ≡ true) (sym file) own)
+          (λ honest. judged ∙ take-true (is_missing s0 id) _ _
+          (missing-first (is_missing s0 id)
+          (subst (λ (x : Refusal). first_of (file_causes s0 id) ≡ Some x) file (fails.right.cause honest cause)))
           ∙ ap (λ (x : Refusal). Some x) (sym file))
           (reads-within least (subst (λ (x : Refusal). ReadsAtMost 1 old.disk mid.disk (faults_of x)) file fails.reads)) home table counts
 
 -- a store after a look is the one before it
-pub same-behind : (old mid : State) {m : ℕ} → ReadsAtMost m old.disk mid.disk 0 → mid.home ≡ old.home → store_of mid.disk.image mid.home ≡ store_of old.disk.image old.home
-same-behind old mid reads home = ap (λ (i : Image). store_of i mid.home) reads.looked.image ∙ ap (λ (h : HomeFields). store_of old.disk.image h) home
+pub same-behind : (old mid : State) {m : ℕ} → ReadsAtMost m old.disk mid.disk 0 → mid.home ≡ old.home
+    → store_of mid.disk.image mid.home ≡ store_of old.disk.image old.home
+same-behind old mid reads home =
+    ap (λ (i : Image). store_of i mid.home) reads.looked.image ∙ ap (λ (h : HomeFields). store_of old.disk.image h) home

@@ -1,5 +1,6 @@
 -- Files stay open, and what is kept of accesses right.
-use Rattle.std.proofs.Common.{◌≡◌, ℕ, true, false, IsTrue, List, [], Option, Some, None, Result, Ok, Err, refl, sym, ◌∙◌, ap, subst, option_map}
+use Rattle.std.proofs.Common.{◌≡◌, ℕ, true, false, IsTrue, List, [], Option, Some, None, Result, Ok, Err, refl, sym, ◌∙◌, ap, subst}
+use Rattle.std.proofs.Common.{option_map}
 use Rattle.f11_dev.specs.declared.device.Device.{Ghosts}
 use Rattle.f11_store.specs.Store.{Store, is_same}
 use Rattle.f11_store.specs.Step.{Step, block_after}
@@ -46,24 +47,33 @@ kept-by-step t s s' fate kept task lun low small = by_entry (t task lun) refl (k
         (held-at (λ _. true) (held_in t s') task lun (access_of e) e.file low small (ap (option_map access_of) is) (same-self e.file) refl)
 
 -- so after a request that left the table as it was
-pub kept-after : {D : Type 0} {met : Ghosts D} (t : AccessTable) (old new : Files D met) (task : ℕ) (caller : Uic) (r : Request) (result : Result Reply Refusal) (block block' : List ℕ)
-    → IsOpen t old → (IsTrue (disk_in old).honest → SimpleIf result (store_at (state_of t old)) r) → Handles task caller r result (state_of t old) block (state_of t new) block' → is_refused is_fatal result ≡ false
+pub kept-after : {D : Type 0} {met : Ghosts D} (t : AccessTable) (old new : Files D met) (task : ℕ) (caller : Uic) (r : Request)
+    (result : Result Reply Refusal) (block block' : List ℕ)
+    → IsOpen t old → (IsTrue (disk_in old).honest → SimpleIf result (store_at (state_of t old)) r)
+    → Handles task caller r result (state_of t old) block (state_of t new) block' → is_refused is_fatal result ≡ false
     → is_honest new → HasAccessed t (store_in new)
 kept-after t old new task caller r result block block' is simple handles clean honest =
     let was : IsTrue (disk_in old).honest = sym handles.writes.went.honest ∙ honest in
     kept-by-step t (store_of (disk_in old).image (home_in old)) (store_of (disk_in new).image (home_in new))
-    (fate-step (store_at (state_of t old)) task caller r block result (store_at (state_of t new)) block' (unused-is-empty (disk_in old).image (home_in old)) (simple was) (handles.step was clean)) (is.kept was)
+    (fate-step (store_at (state_of t old)) task caller r block result (store_at (state_of t new)) block'
+    (unused-is-empty (disk_in old).image (home_in old)) (simple was) (handles.step was clean)) (is.kept was)
 
 -- windows are kept where they are by a request that was served, and by one that was refused
-pub windows-after : {D : Type 0} {met : Ghosts D} (t : AccessTable) (old new : Files D met) (task : ℕ) (caller : Uic) (r : Request) (result : Result Reply Refusal) (block block' : List ℕ)
-    → IsOpen t old → Handles task caller r result (state_of t old) block (state_of t new) block' → is_refused is_fatal result ≡ false → OnOk result (HasWindows t new) → HasWindows t new
+pub windows-after : {D : Type 0} {met : Ghosts D} (t : AccessTable) (old new : Files D met) (task : ℕ) (caller : Uic) (r : Request)
+    (result : Result Reply Refusal) (block block' : List ℕ)
+    → IsOpen t old → Handles task caller r result (state_of t old) block (state_of t new) block' → is_refused is_fatal result ≡ false
+    → OnOk result (HasWindows t new) → HasWindows t new
 windows-after t old new task caller r (Ok reply) block block' is handles clean windows = windows
 windows-after t old new task caller r (Err e) block block' is handles clean windows =
-    windows-on t old new is handles.writes handles.home (λ _. rows-same (home_in old) (disk_in old).image (disk_in new).image (handles.left (clean-of e clean)).image)
+    windows-on t old new is handles.writes handles.home
+    (λ _. rows-same (home_in old) (disk_in old).image (disk_in new).image (handles.left (clean-of e clean)).image)
 
 -- so all stays open where a request left the table as it was
-pub stays-open : {D : Type 0} {met : Ghosts D} (t : AccessTable) (old new : Files D met) (task : ℕ) (caller : Uic) (r : Request) (result : Result Reply Refusal) (block block' : List ℕ)
-    → IsOpen t old → (IsTrue (disk_in old).honest → SimpleIf result (store_at (state_of t old)) r) → Handles task caller r result (state_of t old) block (state_of t new) block' → (is_refused is_fatal result ≡ false → has_failed new ≡ false)
+pub stays-open : {D : Type 0} {met : Ghosts D} (t : AccessTable) (old new : Files D met) (task : ℕ) (caller : Uic) (r : Request)
+    (result : Result Reply Refusal) (block block' : List ℕ)
+    → IsOpen t old → (IsTrue (disk_in old).honest → SimpleIf result (store_at (state_of t old)) r)
+    → Handles task caller r result (state_of t old) block (state_of t new) block'
+    → (is_refused is_fatal result ≡ false → has_failed new ≡ false)
     → OnOk result (HasWindows t new) → StaysOpen result t new
 stays-open t old new task caller r result block block' is simple handles alive windows clean = record {
   alive = alive clean;
@@ -72,7 +82,8 @@ stays-open t old new task caller r result block block' is simple handles alive w
 }
 
 -- a request that doesn't touch the block
-changes-block : (s : Store) (task : ℕ) (caller : Uic) (r : Request) (block : List ℕ) (s' : Store) → is_blockless r ≡ true → Changes s task caller r [] s' → Changes s task caller r block s'
+changes-block : (s : Store) (task : ℕ) (caller : Uic) (r : Request) (block : List ℕ) (s' : Store) → is_blockless r ≡ true
+    → Changes s task caller r [] s' → Changes s task caller r block s'
 changes-block s task caller (request.ReadBlock lun vbn) block s' is h = absurd (cc)
 changes-block s task caller (request.WriteBlock lun vbn) block s' is h = absurd (cc)
 changes-block s task caller _ block s' is h = h
@@ -82,18 +93,26 @@ block-same s task (request.ReadBlock lun vbn) block is = absurd (cc)
 block-same s task (request.WriteBlock lun vbn) block is = absurd (cc)
 block-same s task _ block is = refl
 
-work-same : (s : Store) (task : ℕ) (caller : Uic) (r : Request) (block : List ℕ) → is_blockless r ≡ true → served_work s task caller r [] ≡ served_work s task caller r block
+work-same : (s : Store) (task : ℕ) (caller : Uic) (r : Request) (block : List ℕ) → is_blockless r ≡ true
+    → served_work s task caller r [] ≡ served_work s task caller r block
 work-same s task caller (request.ReadBlock lun vbn) block is = absurd (cc)
 work-same s task caller (request.WriteBlock lun vbn) block is = absurd (cc)
 work-same s task caller _ block is = refl
 
-step-block : (s : Store) (task : ℕ) (caller : Uic) (r : Request) (block : List ℕ) (result : Result Reply Refusal) (s' : Store) → is_blockless r ≡ true → Step s task caller r [] result s' []
+step-block : (s : Store) (task : ℕ) (caller : Uic) (r : Request) (block : List ℕ) (result : Result Reply Refusal) (s' : Store)
+    → is_blockless r ≡ true → Step s task caller r [] result s' []
     → Step s task caller r block result s' block
 step-block s task caller r block (Ok a) s' is h =
-    record { no_cause = h.no_cause; reply_is = h.reply_is; changes = changes-block s task caller r block s' is h.changes; block_is = block-same s task r block is }
+    record {
+      no_cause = h.no_cause;
+      reply_is = h.reply_is;
+      changes = changes-block s task caller r block s' is h.changes;
+      block_is = block-same s task r block is;
+    }
 step-block s task caller r block (Err e) s' is h = record { may_refuse = h.may_refuse; store_stays = h.store_stays; block_stays = refl }
 
-pub handles-block : (task : ℕ) (caller : Uic) (r : Request) (result : Result Reply Refusal) (old new : State) (block : List ℕ) → is_blockless r ≡ true → Handles task caller r result old [] new []
+pub handles-block : (task : ℕ) (caller : Uic) (r : Request) (result : Result Reply Refusal) (old new : State) (block : List ℕ)
+    → is_blockless r ≡ true → Handles task caller r result old [] new []
     → Handles task caller r result old block new block
 handles-block task caller r result old new block is h = record {
   step = λ honest clean. step-block (store_at old) task caller r block result (store_at new) is (h.step honest clean);
@@ -103,7 +122,8 @@ handles-block task caller r result old new block is h = record {
     went = went_weaker (Meanwhile task caller r [] old) (Meanwhile task caller r block old)
         (λ image stands honest. let u = stands honest in record {
           sound = u.sound;
-          lags = subst (λ (w : Work). LagsBy (work_if (first_refusal (store_at old) task caller r) w) (store_of image old.home) (store_at old)) (work-same (store_at old) task caller r block is) u.lags;
+          lags = subst (λ (w : Work). LagsBy (work_if (first_refusal (store_at old) task caller r) w) (store_of image old.home)
+              (store_at old)) (work-same (store_at old) task caller r block is) u.lags;
         }) h.writes.went;
     few = h.writes.few;
   };

@@ -1,5 +1,6 @@
 -- A task gives up what it holds, a lun after another.
-use Rattle.std.proofs.Common.{◌≡◌, ℕ, ◌+◌, ◌<◌, ◌≤◌, ◌==◌, true, false, IsTrue, [], Option, Some, None, Result, Ok, Err, refl, sym, ◌∙◌, ap, subst, arith, is_none, option_map}
+use Rattle.std.proofs.Common.{◌≡◌, ℕ, ◌+◌, ◌<◌, ◌≤◌, ◌==◌, true, false, IsTrue, [], Option, Some, None, Result, Ok, Err, refl, sym, ◌∙◌, ap}
+use Rattle.std.proofs.Common.{subst, arith, is_none, option_map}
 use Rattle.f11_dev.specs.Image.{Image}
 use Rattle.f11_dev.proofs.WentLemmas.{went_more, went_weaker}
 use Rattle.f11_home.specs.Home.{HomeFields}
@@ -51,7 +52,8 @@ module _ (task : ℕ) (caller : Uic) (old : State) where
     released-skips none = record {
       store = λ honest.
           so.store honest
-          ∙ sym (release_goes_on s task k ∙ ap (after_giving_up (released s task k) task k) (holds honest ∙ ap (λ (o : Option Entry). option_map access_of o) none));
+          ∙ sym (release_goes_on s task k ∙ ap (after_giving_up (released s task k) task k)
+          (holds honest ∙ ap (λ (o : Option Entry). option_map access_of o) none));
       writes = writes-within (let more = release_cost_goes_on s task k in omega (arith, more)) so.writes;
       home = so.home;
     }
@@ -70,37 +72,47 @@ module _ (task : ℕ) (caller : Uic) (old : State) where
             lags = release_lags t s task caller [] k low
                 (subst (λ (x : Store). LagsBy (deaccess_work x task k) t x) (so.store honest)
                 (subst (λ (w : Work). LagsBy w t (store_at now)) (ap (λ o. work_if o (deaccess_work (store_at now) task k)) none-held)
-                (subst (λ (h : HomeFields). LagsBy (work_if (first_refusal (store_at now) task caller (request.Deaccess k)) (deaccess_work (store_at now) task k)) (store_of image h) (store_at now)) so.home u.lags)));
+                (subst (λ (h : HomeFields).
+                LagsBy (work_if (first_refusal (store_at now) task caller (request.Deaccess k)) (deaccess_work (store_at now) task k))
+                (store_of image h) (store_at now)) so.home u.lags)));
           }
 
-      writes-more : (result : Result Reply Refusal) → Handles task caller (request.Deaccess k) result now [] next [] → WritesAtMost P (released_cost s task (k + 1)) old.disk next.disk (faults_in result)
+      writes-more : (result : Result Reply Refusal) → Handles task caller (request.Deaccess k) result now [] next []
+          → WritesAtMost P (released_cost s task (k + 1)) old.disk next.disk (faults_in result)
       writes-more result handles = record {
         transfers = so.writes.transfers + handles.writes.transfers;
         went = went_more P so.writes.went (went_weaker (Meanwhile task caller (request.Deaccess k) [] now) P under-way handles.writes.went);
         few = λ honest.
             let one = so.writes.few honest in
-            let two : handles.writes.transfers ≤ deaccess_cost (released s task k) task k = subst (λ (x : Store). handles.writes.transfers ≤ deaccess_cost x task k) (so.store honest) (handles.writes.few (so.writes.went.honest ∙ honest)) in
+            let two : handles.writes.transfers ≤ deaccess_cost (released s task k) task k =
+            subst (λ (x : Store). handles.writes.transfers ≤ deaccess_cost x task k) (so.store honest)
+            (handles.writes.few (so.writes.went.honest ∙ honest)) in
             let more = release_cost_goes_on s task k in
             omega (arith, one, two, more);
       }
 
       -- it was given up
-      pub released-more : (a : Reply) → Handles task caller (request.Deaccess k) (Ok a) now [] next [] → Released task caller old next (k + 1)
+      pub released-more : (a : Reply) → Handles task caller (request.Deaccess k) (Ok a) now [] next []
+          → Released task caller old next (k + 1)
       released-more a handles = record {
         store = λ honest.
-            (handles.step (so.writes.went.honest ∙ honest) refl).changes ∙ ap (λ (x : Store). after_deaccess x task k) (so.store honest) ∙ sym (release_goes_on s task k);
+            (handles.step (so.writes.went.honest ∙ honest) refl).changes ∙ ap (λ (x : Store). after_deaccess x task k) (so.store honest)
+            ∙ sym (release_goes_on s task k);
         writes = writes-more (Ok a) handles;
         home = handles.home ∙ so.home;
       }
 
       -- or the volume failed
-      pub released-fails : (er : Refusal) → is_fatal er ≡ true → Handles task caller (request.Deaccess k) (Err er) now [] next [] → Handles task caller request.Release (Err er) old [] next []
+      pub released-fails : (er : Refusal) → is_fatal er ≡ true → Handles task caller (request.Deaccess k) (Err er) now [] next []
+          → Handles task caller request.Release (Err er) old [] next []
       released-fails er fatal handles =
           handled-fatal task caller request.Release [] old er next [] fatal
-          (λ honest is. absurd (let no : true ≡ false = ap (λ (x : Refusal). refusal_number x == 20) (sym is) ∙ handles.undamaged (so.writes.went.honest ∙ honest) in cc))
+          (λ honest is. absurd (let no : true ≡ false = ap (λ (x : Refusal). refusal_number x == 20) (sym is)
+          ∙ handles.undamaged (so.writes.went.honest ∙ honest) in cc))
           (writes-within (release_fits s task (k + 1) (omega (arith, low))) (writes-more (Err er) handles)) (handles.home ∙ so.home)
 
   -- all were given up
   pub released-all : (now : State) → Released task caller old now 4 → Handles task caller request.Release (Ok reply.Done) old [] now []
   released-all now so =
-      handled-served task caller request.Release [] old reply.Done now [] (λ _. refl) (λ _. refl) so.store (λ _. refl) (writes-within (release_fits s task 4 (omega arith)) so.writes) so.home
+      handled-served task caller request.Release [] old reply.Done now [] (λ _. refl) (λ _. refl) so.store (λ _. refl)
+      (writes-within (release_fits s task 4 (omega arith)) so.writes) so.home

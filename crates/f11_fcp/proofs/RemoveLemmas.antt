@@ -1,5 +1,6 @@
 -- Remove, from what opening a directory, looking through it and clearing a record answered.
-use Rattle.std.proofs.Common.{◌≡◌, ℕ, ◌+◌, ◌<◌, ◌≤◌, Bool, true, false, not, IsTrue, List, [], ◌∷◌, ◌++◌, Option, None, Ok, Err, refl, sym, ◌∙◌, ap, subst, arith}
+use Rattle.std.proofs.Common.{◌≡◌, ℕ, ◌+◌, ◌<◌, ◌≤◌, Bool, true, false, not, IsTrue, List, [], ◌∷◌, ◌++◌, Option, None, Ok, Err, refl, sym}
+use Rattle.std.proofs.Common.{◌∙◌, ap, subst, arith}
 use Rattle.std.proofs.lemmas.Bool.{not_from_true, not_from_false}
 use Rattle.f11_dev.specs.Image.{Image}
 use Rattle.f11_home.specs.Home.{HomeFields}
@@ -12,7 +13,8 @@ use Rattle.f11_store.specs.declared.callers.Uic.{Uic}
 use Rattle.f11_store.specs.declared.files.FileId.{FileId}
 use Rattle.f11_store.specs.declared.files.Mode.TheVariants as mode
 use Rattle.f11_store.specs.declared.refusals.Refusal.{Refusal}
-use Rattle.f11_store.specs.declared.refusals.Refusal.TheVariants.{BadArgument, SystemFile, NoSuchFile, Marked, NoPrivilege, Conflict, NotDirectory, NoSuchEntry}
+use Rattle.f11_store.specs.declared.refusals.Refusal.TheVariants.{BadArgument, SystemFile, NoSuchFile, Marked, NoPrivilege, Conflict}
+use Rattle.f11_store.specs.declared.refusals.Refusal.TheVariants.{NotDirectory, NoSuchEntry}
 use Rattle.f11_store.specs.declared.requests.Reply.TheVariants as reply
 use Rattle.f11_store.specs.declared.requests.Request.{Request}
 use Rattle.f11_store.specs.declared.requests.Request.TheVariants as request
@@ -57,9 +59,12 @@ module _ (task : ℕ) (caller : Uic) (d : FileId) (name : List ℕ) (old : State
 
   module _ (good : is_bad d ≡ false) where
     judged : first_refusal s task caller r ≡ first_of (opening_causes purpose.Change old.table s0 caller d ++ rest)
-    judged = drop-false (is_bad d) _ _ good ∙ ap (λ (b : Bool). first_of (opening_barred b old.table s0 caller d ++ rest)) (sym (barred-same mode.Write old.table s0 d))
+    judged =
+        drop-false (is_bad d) _ _ good
+        ∙ ap (λ (b : Bool). first_of (opening_barred b old.table s0 caller d ++ rest)) (sym (barred-same mode.Write old.table s0 d))
 
-    remove-own : (e : Refusal) → is_among (opening_causes purpose.Change old.table s0 caller d) e ≡ true → is_among (own_causes s task caller r) e ≡ true
+    remove-own : (e : Refusal) → is_among (opening_causes purpose.Change old.table s0 caller d) e ≡ true
+        → is_among (own_causes s task caller r) e ≡ true
     remove-own SystemFile h = refl
     remove-own NoSuchFile h = refl
     remove-own Marked h = refl
@@ -71,15 +76,21 @@ module _ (task : ℕ) (caller : Uic) (d : FileId) (name : List ℕ) (old : State
     fits : look_cost (file_named s0 d) ≤ cost s task r
     fits = let all = remove_fits s task d name in omega (arith, all)
 
-    pub remove-refused : (e : Refusal) (mid : State) → FailsToRead false (opening_causes purpose.Change old.table s0 caller d) (look_cost (file_named s0 d)) e old.disk mid.disk
+    pub remove-refused : (e : Refusal) (mid : State)
+        → FailsToRead false (opening_causes purpose.Change old.table s0 caller d) (look_cost (file_named s0 d)) e old.disk mid.disk
         → mid.home ≡ old.home → mid.table ≡ old.table → mid.counts ≡ old.counts → Handles task caller r (Err e) old [] mid []
-    remove-refused e mid fails home table counts = search-refused task caller r old d purpose.Change rest judged e mid fails fits (remove-own e) home table counts
+    remove-refused e mid fails home table counts =
+        search-refused task caller r old d purpose.Change rest judged e mid fails fits (remove-own e) home table counts
 
-    module _ (found : Search) (mid : State) (searches : Searches purpose.Change old.table caller d name found old.home old.disk mid.disk) (home : mid.home ≡ old.home) where
-      pub remove-absent : (empty : Option Spot) → found.looked ≡ looked.Absent empty → mid.table ≡ old.table → mid.counts ≡ old.counts → Handles task caller r (Err NoSuchEntry) old [] mid []
+    module _ (found : Search) (mid : State) (searches : Searches purpose.Change old.table caller d name found old.home old.disk mid.disk)
+        (home : mid.home ≡ old.home) where
+      pub remove-absent : (empty : Option Spot) → found.looked ≡ looked.Absent empty → mid.table ≡ old.table → mid.counts ≡ old.counts
+          → Handles task caller r (Err NoSuchEntry) old [] mid []
       remove-absent empty is table counts =
           search-answered task caller r old d purpose.Change rest judged NoSuchEntry mid refl refl searches.reads fits searches.no_cause
-          (λ honest. take-true (not (is_entered name (file_named s0 d))) _ _ (not_from_false _ (subst (λ (l : Looked). Tells name (file_named s0 d) l) is (searches.tells honest)).0.entered)) home table counts
+          (λ honest. take-true (not (is_entered name (file_named s0 d))) _ _
+          (not_from_false _ (subst (λ (l : Looked). Tells name (file_named s0 d) l) is (searches.tells honest)).0.entered)) home table
+          counts
 
       module _ (spot : Spot) (id : FileId) (is : found.looked ≡ looked.Found spot id) where
         abbrev sm : Store
@@ -104,26 +115,40 @@ module _ (task : ℕ) (caller : Uic) (d : FileId) (name : List ℕ) (old : State
 
         none : IsTrue old.disk.honest → first_refusal s task caller r ≡ None
         none honest = let first = (tells honest).0 in
-            search-then task caller r old d purpose.Change rest judged (searches.no_cause honest) ∙ drop-false (not (is_entered name (file_named s0 d))) _ _ (not_from_true _ first.entered)
+            search-then task caller r old d purpose.Change rest judged (searches.no_cause honest)
+            ∙ drop-false (not (is_entered name (file_named s0 d))) _ _ (not_from_true _ first.entered)
 
         by : IsTrue old.disk.honest → spot.place < 32 → RemovingByWrite s task caller d name spot.number spot.place spot.block []
-        by honest below = removing_is_one_write s task caller d name spot.number spot.place spot.block [] (none honest) (there honest) below (tells honest).1 (tells honest).0.index
+        by honest below =
+            removing_is_one_write s task caller d name spot.number spot.place spot.block [] (none honest) (there honest) below
+            (tells honest).1 (tells honest).0.index
 
         module _ (below : spot.place < 32) where
           weaker : (image : Image) → Meanwhile (put_work d spot empty_record) mid.home mid.disk image → Standing task caller r [] old image
-          weaker = under-way-by task caller r [] old (put_work d spot empty_record) mid searches.reads.looked.image searches.reads.looked.honest home (λ honest t lags. (by honest below).putting t lags)
+          weaker =
+              under-way-by task caller r [] old (put_work d spot empty_record) mid searches.reads.looked.image searches.reads.looked.honest
+              home (λ honest t lags. (by honest below).putting t lags)
 
           enough : IsTrue old.disk.honest → look_cost (file_named s0 d) + (header_count (file_named sm d) + 1) ≤ cost s task r
-          enough honest = subst (λ (x : Store). look_cost (file_named s0 d) + (header_count (file_named x d) + 1) ≤ cost s task r) (sym same) (remove_fits s task d name)
+          enough honest =
+              subst (λ (x : Store). look_cost (file_named s0 d) + (header_count (file_named x d) + 1) ≤ cost s task r) (sym same)
+              (remove_fits s task d name)
 
-          pub removed : (new : State) → ReplacesEntry mid.home d spot empty_record mid.disk new.disk → new.home ≡ mid.home → new.table ≡ old.table → Handles task caller r (Ok reply.Done) old [] new []
+          pub removed : (new : State) → ReplacesEntry mid.home d spot empty_record mid.disk new.disk → new.home ≡ mid.home
+              → new.table ≡ old.table → Handles task caller r (Ok reply.Done) old [] new []
           removed new does home' table' =
               handled-served task caller r [] old reply.Done new [] none (λ _. refl)
-              (λ honest. ap (λ (h : HomeFields). held_in new.table (store_of new.disk.image h)) home' ∙ ap (λ (t : AccessTable). held_in t (store_of new.disk.image mid.home)) table'
-              ∙ ap (held_in old.table) (does.makes (sure honest) ∙ ap (λ (x : Store). with_change x d.number (put_at spot empty_record)) same) ∙ (by honest below).removes)
-              (λ _. refl) (behind-by task caller r [] old (Meanwhile (put_work d spot empty_record) mid.home mid.disk) mid new searches.reads weaker does.writes enough) (home' ∙ home)
+              (λ honest. ap (λ (h : HomeFields). held_in new.table (store_of new.disk.image h)) home'
+              ∙ ap (λ (t : AccessTable). held_in t (store_of new.disk.image mid.home)) table'
+              ∙ ap (held_in old.table)
+              (does.makes (sure honest) ∙ ap (λ (x : Store). with_change x d.number (put_at spot empty_record)) same)
+              ∙ (by honest below).removes)
+              (λ _. refl) (behind-by task caller r [] old (Meanwhile (put_work d spot empty_record) mid.home mid.disk) mid new
+              searches.reads weaker does.writes enough) (home' ∙ home)
 
-          pub not-removed : (e : Refusal) (new : State) → BreaksReplacing mid.home d spot empty_record e mid.disk new.disk → new.home ≡ mid.home → Handles task caller r (Err e) old [] new []
+          pub not-removed : (e : Refusal) (new : State) → BreaksReplacing mid.home d spot empty_record e mid.disk new.disk
+              → new.home ≡ mid.home → Handles task caller r (Err e) old [] new []
           not-removed e new breaks home' =
               handled-fatal task caller r [] old e new [] breaks.fatal (λ honest. breaks.undamaged (sure honest))
-              (behind-by task caller r [] old (Meanwhile (put_work d spot empty_record) mid.home mid.disk) mid new searches.reads weaker breaks.writes enough) (home' ∙ home)
+              (behind-by task caller r [] old (Meanwhile (put_work d spot empty_record) mid.home mid.disk) mid new searches.reads weaker
+              breaks.writes enough) (home' ∙ home)

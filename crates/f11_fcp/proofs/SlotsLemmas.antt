@@ -35,7 +35,8 @@ module _ (a : ℕ → ℕ → Option Access) where
   next-held s = ap (λ (n : ℕ). next_id (with_slots_added n (with_accesses a s))) (slots-held a s 1) ∙ next-after (slots_first s 1) s
 
   -- the work of a record that is entered
-  append-work-held : (b : Bool) (s : Store) (d : FileId) (i : ℕ) (r : List ℕ) → append_work b (with_accesses a s) d i r ≡ append_work b s d i r
+  append-work-held : (b : Bool) (s : Store) (d : FileId) (i : ℕ) (r : List ℕ)
+      → append_work b (with_accesses a s) d i r ≡ append_work b s d i r
   append-work-held true s d i r = ap (λ (w : Work). and_then w (end_work d.number i r)) (lengthen-work-held a s d 1)
   append-work-held false s d i r = refl
 

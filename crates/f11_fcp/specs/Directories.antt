@@ -54,7 +54,8 @@ opening_causes p t s caller d =
     ∷ (conflict_causes p t d ++ ((NotDirectory ⇐ not (is_directory (file_named s d))) ∷ []))
 
 -- A directory was opened: what its header says was read.
-pub record OpensDirectory (p : Purpose) (t : AccessTable) (caller : Uic) (d : FileId) (attr : Attr) (home : HomeFields) (old new : Disk) : Type 0 where
+pub record OpensDirectory (p : Purpose) (t : AccessTable) (caller : Uic) (d : FileId) (attr : Attr) (home : HomeFields) (old new : Disk) :
+    Type 0 where
   pub no_cause : IsTrue old.honest → first_of (opening_causes p t (store_of old.image home) caller d) ≡ None
   pub attr_is : IsTrue old.honest → attr ≡ attr_of (file_named (store_of old.image home) d)
   pub own : 4 ≤ d.number

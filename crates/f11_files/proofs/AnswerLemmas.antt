@@ -1,5 +1,6 @@
 -- What is right to answer.
-use Rattle.std.proofs.Common.{true, ◌≡◌, ◌≢◌, ◌≤◌, ◌+◌, ◌&&◌, ℕ, Bool, false, not, nat_lt, IsTrue, List, Some, Result, Ok, Err, sym, ap, subst, ◌∙◌, arith}
+use Rattle.std.proofs.Common.{true, ◌≡◌, ◌≢◌, ◌≤◌, ◌+◌, ◌&&◌, ℕ, Bool, false, not, nat_lt, IsTrue, List, Some, Result, Ok, Err, sym, ap}
+use Rattle.std.proofs.Common.{subst, ◌∙◌, arith}
 use Rattle.std.specs.Prelude.{IsErrAnd, IfErr, OnOk}
 use Rattle.f11_dev.specs.Disk.{Disk}
 use Rattle.f11_dev.specs.Looked.{Looked}
@@ -26,7 +27,8 @@ each-ok (Ok y) more is = more is
 each-ok (Err x) more is = is
 
 -- a refusal that fails the volume is not a clean one
-pub not-clean : {T P : Type 0} (r : Result T Refusal) (x : Refusal) → IsErrAnd r (λ y. y ≡ x) → is_fatal x ≡ true → is_refused is_clean r ≡ true → P
+pub not-clean : {T P : Type 0} (r : Result T Refusal) (x : Refusal) → IsErrAnd r (λ y. y ≡ x) → is_fatal x ≡ true
+    → is_refused is_clean r ≡ true → P
 not-clean (Ok y) x is fatal clean = absurd is
 not-clean (Err y) x is fatal clean =
     let no : true ≡ false = sym (subst (λ (z : Refusal). is_clean z ≡ true) is clean) ∙ ap not fatal in absurd cc
@@ -45,7 +47,8 @@ apart : (r s : Refusal) → refusal_number r ≢ refusal_number s → r ≢ s
 apart r s other same = other (ap refusal_number same)
 
 -- that of the first cause
-pub right-cause : (honest : Bool) (causes : List Cause) (r : Refusal) → refusal_number r ≢ 1 → refusal_number r ≢ 20 → is_among causes r ≡ true → (IsTrue honest → first_of causes ≡ Some r)
+pub right-cause : (honest : Bool) (causes : List Cause) (r : Refusal) → refusal_number r ≢ 1 → refusal_number r ≢ 20
+    → is_among causes r ≡ true → (IsTrue honest → first_of causes ≡ Some r)
     → IsRight false honest causes r
 right-cause honest causes r not_failed not_damaged among first = record {
   among = λ _. among;
@@ -86,12 +89,20 @@ reads-more {a = a} first then = record {
 
 -- fewer than may be
 pub reads-within : {old new : Disk} {m n faults : ℕ} → m ≤ n → ReadsAtMost m old new faults → ReadsAtMost n old new faults
-reads-within fewer reads = record { reads = reads.reads; looked = reads.looked; few = λ honest. let here = reads.few honest in omega (arith, here, fewer) }
+reads-within fewer reads =
+    record { reads = reads.reads; looked = reads.looked; few = λ honest. let here = reads.few honest in omega (arith, here, fewer) }
 
 -- what a refusal to read says where there are other causes behind
-pub fails-more : {causes others : List Cause} {most : ℕ} {r : Refusal} {old new : Disk} → (is_among causes r ≡ true → is_among others r ≡ true) → (first_of causes ≡ Some r → first_of others ≡ Some r)
+pub fails-more : {causes others : List Cause} {most : ℕ} {r : Refusal} {old new : Disk}
+    → (is_among causes r ≡ true → is_among others r ≡ true) → (first_of causes ≡ Some r → first_of others ≡ Some r)
     → FailsToRead false causes most r old new → FailsToRead false others most r old new
 fails-more among more fails = record {
-  right = record { volume = fails.right.volume; among = λ is. among (fails.right.among is); cause = λ sure is. more (fails.right.cause sure is); undamaged = fails.right.undamaged };
+  right = record {
+    volume = fails.right.volume;
+    among = λ is. among (fails.right.among is);
+    cause = λ sure is.
+        more (fails.right.cause sure is);
+    undamaged = fails.right.undamaged;
+  };
   reads = fails.reads;
 }

@@ -27,9 +27,11 @@ use Rattle.f11_files.proofs.WriteLemmas.{writes-within}
 
 -- fewer transfers than may be
 pub does-within :
-    {causes : List Cause} {work : Work} {m n : ℕ} {Makes : Store → Type 0} {Allots : Volume → Volume → Type 0} {home : HomeFields} {old new : Disk} →
+    {causes : List Cause} {work : Work} {m n : ℕ} {Makes : Store → Type 0} {Allots : Volume → Volume → Type 0} {home : HomeFields}
+    {old new : Disk} →
     m ≤ n → Does causes work m Makes Allots home old new → Does causes work n Makes Allots home old new
-does-within fewer does = record { no_cause = does.no_cause; makes = does.makes; allots = does.allots; writes = writes-within fewer does.writes }
+does-within fewer does =
+    record { no_cause = does.no_cause; makes = does.makes; allots = does.allots; writes = writes-within fewer does.writes }
 
 -- the identification that a new file gets is that of the ready store
 next-stays : (s t : Store) (headers : ℕ) → IsReady s (slots_first s headers) t → next_id t ≡ next_id (with_slots_first s headers)
@@ -42,15 +44,19 @@ creates-is home owner protection ident attr f old new creates =
     let s : Store = store_of old.image home in
     let ready : Store = store_of creates.ready.image home in
     record {
-      does = does-ready creates.readies (new_file_work (with_slots_first s 1) owner protection ident attr) (new_file_work ready owner protection ident attr)
+      does =
+          does-ready creates.readies (new_file_work (with_slots_first s 1) owner protection ident attr)
+          (new_file_work ready owner protection ident attr)
           (λ honest. new-file-stays s ready (slots_first s 1) owner protection ident attr (is-ready creates.readies honest)) (tt, tt)
-          _ 3 {Rel = λ x t. t ≡ after_create x owner protection ident attr} creates.readies.does.no_cause (λ _. omega arith) creates.enters.does;
+          _ 3 {Rel = λ x t. t ≡ after_create x owner protection ident attr} creates.readies.does.no_cause (λ _. omega arith)
+          creates.enters.does;
       id = λ honest. creates.enters.id (honest-ready creates.readies ∙ honest) ∙ next-stays s ready 1 (is-ready creates.readies honest);
     }
 
 -- what growing a file costs stays
 pub growth-stays : (s t : Store) (m : ℕ) (f : File) (n : ℕ) → IsReady s m t → growth_cost t f n ≡ growth_cost s f n
-growth-stays s t m f n ready = λ i. header_count f + ready.limits.bitmap_blocks i + 5 * n + (ready.limits.index_bitmap_blocks i + 8) * ((n + 101) / 102 + 1)
+growth-stays s t m f n ready =
+    λ i. header_count f + ready.limits.bitmap_blocks i + 5 * n + (ready.limits.index_bitmap_blocks i + 8) * ((n + 101) / 102 + 1)
 
 -- it is more than a look at each header
 pub growth-more : (s : Store) (f : File) (n : ℕ) → header_count f < growth_cost s f n
@@ -62,10 +68,14 @@ growth-more s f n = by_parts (header_count f) s.bitmap_blocks (s.index_bitmap_bl
 pub extends-is : ExtendsIs
 extends-is home f n old new other extends =
     does-within (omega (arith, growth-more s file n)) (does-read extends.reads home
-    (subst (λ (i : Image). Does (extend_causes s f n) (with_headers_first (store_of i home) headers work) (slots_cost (store_of i home) headers + few)
-    (λ t. AfterSlots (store_of i home) headers (λ (x : Store). Extends x f.number n t)) (AllotsAfter (slots_first (store_of i home) headers) (GainsBlocks f.number n)) home extends.read new) same
-    (does-ready extends.readies work (extend_work f.number (file_named ready f).room n) (λ honest. ap (λ (g : File). extend_work f.number g.room n) (named honest))
-    (extend_respectful f.number n) (extend_causes s f n) few {Rel = λ x t. Extends x f.number n t} (λ honest. extends.no_cause (sym extends.reads.looked.honest ∙ honest))
+    (subst (λ (i : Image). Does (extend_causes s f n) (with_headers_first (store_of i home) headers work)
+    (slots_cost (store_of i home) headers + few)
+    (λ t. AfterSlots (store_of i home) headers (λ (x : Store). Extends x f.number n t))
+    (AllotsAfter (slots_first (store_of i home) headers) (GainsBlocks f.number n)) home extends.read new) same
+    (does-ready extends.readies work (extend_work f.number (file_named ready f).room n)
+    (λ honest. ap (λ (g : File). extend_work f.number g.room n) (named honest))
+    (extend_respectful f.number n) (extend_causes s f n) few {Rel = λ x t. Extends x f.number n t}
+    (λ honest. extends.no_cause (sym extends.reads.looked.honest ∙ honest))
     (λ honest. omega (arith, left honest)) extends.extends)))
   where
     s : Store
@@ -90,7 +100,9 @@ extends-is home f n old new other extends =
     same = extends.reads.looked.image
 
     is : IsTrue extends.read.honest → IsReady s (slots_first (store_of extends.read.image home) headers) ready
-    is honest = subst (λ (i : Image). IsReady (store_of i home) (slots_first (store_of extends.read.image home) headers) ready) same (is-ready extends.readies honest)
+    is honest =
+        subst (λ (i : Image). IsReady (store_of i home) (slots_first (store_of extends.read.image home) headers) ready) same
+        (is-ready extends.readies honest)
 
     -- the file is the same
     named : IsTrue extends.read.honest → file_named ready f ≡ file

@@ -1,5 +1,6 @@
 -- What a call does that readies headers first, where it goes on, and where it breaks off.
-use Rattle.std.proofs.Common.{◌≡◌, ◌≢◌, ℕ, zero, suc, ◌+◌, ◌≤◌, ◌==◌, ◌||◌, Bool, true, false, IsTrue, List, ◌++◌, Option, Some, None, refl, sym, ap, subst, ◌∙◌, arith}
+use Rattle.std.proofs.Common.{◌≡◌, ◌≢◌, ℕ, zero, suc, ◌+◌, ◌≤◌, ◌==◌, ◌||◌, Bool, true, false, IsTrue, List, ◌++◌, Option, Some, None, refl}
+use Rattle.std.proofs.Common.{sym, ap, subst, ◌∙◌, arith}
 use Rattle.std.proofs.lemmas.Bool.{or_parts}
 use Rattle.std.proofs.lemmas.List.{append-nil}
 use Rattle.f11_dev.specs.Disk.{Disk}
@@ -29,19 +30,22 @@ use Rattle.f11_files.proofs.Extending.Cleared.{fatal-right}
 use Rattle.f11_files.proofs.WriteLemmas.{as-wanting, breaks-off, writes-within}
 
 -- while the slots that come first are added, the whole is under way
-pub first-lags : (s t : Store) (headers : ℕ) (work : Work) → LagsBy (with_headers_first s headers no_work) t s → LagsBy (with_headers_first s headers work) t s
+pub first-lags : (s t : Store) (headers : ℕ) (work : Work) → LagsBy (with_headers_first s headers no_work) t s
+    → LagsBy (with_headers_first s headers work) t s
 first-lags s t headers work = by_count (slots_first s headers)
   where
     by_count : (n : ℕ) → LagsBy (after_slots n s no_work) t s → LagsBy (after_slots n s work) t s
     by_count zero lags = more_work_lags t s no_work work work.parts refl (λ _ _. refl) (omega arith) (omega arith) lags
     by_count (suc n) lags =
         let first : Work = grow_work (index_file s).room (suc n) in
-        more_work_lags t s (and_then first no_work) (and_then first work) work.parts (ap (λ ps. ps ++ work.parts) (sym (append-nil first.parts)))
+        more_work_lags t s (and_then first no_work) (and_then first work) work.parts
+        (ap (λ ps. ps ++ work.parts) (sym (append-nil first.parts)))
         (λ m out. ap (λ (b : Bool). b || false) (or_parts (m == 1) (work.is_meant m) out).0) (omega arith) (omega arith) lags
 
 -- what broke off, or wanted memory, while they were added
 pub fails-first :
-    {takes failed : Bool} (causes : List Cause) {m k : ℕ} (headers : ℕ) (work : Work) {home : HomeFields} (r : Refusal) {a c : Disk} → m ≤ k →
+    {takes failed : Bool} (causes : List Cause) {m k : ℕ} (headers : ℕ) (work : Work) {home : HomeFields} (r : Refusal) {a c : Disk} → m ≤ k
+    →
     FailsOrWants takes failed causes m (ready_work (store_of a.image home) headers) home r a c →
     FailsOrWants takes failed causes k (with_headers_first (store_of a.image home) headers work) home r a c
 fails-first causes headers work {home} r {a} {c} fewer fails = record {
@@ -49,7 +53,9 @@ fails-first causes headers work {home} r {a} {c} fewer fails = record {
   wanting = fails.wanting;
   writes = writes-within fewer record {
     transfers = fails.writes.transfers;
-    went = went_weaker (Meanwhile (work_if (first_of causes) (ready_work s headers)) home a) (Meanwhile (work_if (first_of causes) (with_headers_first s headers work)) home a)
+    went =
+        went_weaker (Meanwhile (work_if (first_of causes) (ready_work s headers)) home a)
+        (Meanwhile (work_if (first_of causes) (with_headers_first s headers work)) home a)
         (λ image is honest. by_cause (first_of causes) image (is honest)) fails.writes.went;
     few = fails.writes.few;
   };
@@ -78,8 +84,10 @@ module _ {home : HomeFields} {headers n : ℕ} {a b : Disk} (readies : ReadiesHe
   pub is-ready : IsTrue a.honest → IsReady s (slots_first s headers) ready
   is-ready honest = gained-is-ready s ready headers (readies.does.makes honest)
 
-  moment-first : (work : Work) (image : Image) → Meanwhile (ready_work s headers) home a image → Meanwhile (with_headers_first s headers work) home a image
-  moment-first work image is honest = record { sound = (is honest).sound; lags = first-lags s (store_of image home) headers work (is honest).lags }
+  moment-first : (work : Work) (image : Image) → Meanwhile (ready_work s headers) home a image
+      → Meanwhile (with_headers_first s headers work) home a image
+  moment-first work image is honest =
+      record { sound = (is honest).sound; lags = first-lags s (store_of image home) headers work (is honest).lags }
 
   module _ (work rest : Work) (same : IsTrue a.honest → rest ≡ work) (respects : AreRespectful work.parts) where
     moment-then : (image : Image) → Meanwhile rest home b image → Meanwhile (with_headers_first s headers work) home a image
@@ -93,12 +101,15 @@ module _ {home : HomeFields} {headers n : ℕ} {a b : Disk} (readies : ReadiesHe
 
     -- what is written then is written after them
     pub writes-ready :
-        {k faults : ℕ} (few : ℕ) {Q : Image → Type 0} {c : Disk} → ((image : Image) → Q image → Meanwhile (with_headers_first s headers work) home a image) →
-        (IsTrue a.honest → k ≤ few) → WritesAtMost Q k b c faults → WritesAtMost (Meanwhile (with_headers_first s headers work) home a) (slots_cost s headers + few) a c faults
+        {k faults : ℕ} (few : ℕ) {Q : Image → Type 0} {c : Disk}
+        → ((image : Image) → Q image → Meanwhile (with_headers_first s headers work) home a image) →
+        (IsTrue a.honest → k ≤ few) → WritesAtMost Q k b c faults
+        → WritesAtMost (Meanwhile (with_headers_first s headers work) home a) (slots_cost s headers + few) a c faults
     writes-ready few {Q} moment within writes = record {
       transfers = readies.does.writes.transfers + writes.transfers;
       went = went_more (Meanwhile (with_headers_first s headers work) home a)
-          (went_weaker (Meanwhile (ready_work s headers) home a) (Meanwhile (with_headers_first s headers work) home a) (moment-first work) readies.does.writes.went)
+          (went_weaker (Meanwhile (ready_work s headers) home a) (Meanwhile (with_headers_first s headers work) home a) (moment-first work)
+          readies.does.writes.went)
           (went_weaker Q (Meanwhile (with_headers_first s headers work) home a) moment writes.went);
       few = λ honest.
           let one = readies.does.writes.few honest in
@@ -109,7 +120,8 @@ module _ {home : HomeFields} {headers n : ℕ} {a b : Disk} (readies : ReadiesHe
 
     -- what is done once they are there is done after them
     pub does-ready :
-        (causes : List Cause) {others : List Cause} {k : ℕ} (few : ℕ) {Rel : Store → Store → Type 0} {Allots : Volume → Volume → Type 0} {c : Disk} →
+        (causes : List Cause) {others : List Cause} {k : ℕ} (few : ℕ) {Rel : Store → Store → Type 0} {Allots : Volume → Volume → Type 0}
+        {c : Disk} →
         (IsTrue a.honest → first_of causes ≡ None) → (IsTrue a.honest → k ≤ few) → Does others rest k (Rel ready) Allots home b c →
         Does causes (with_headers_first s headers work) (slots_cost s headers + few) (λ t. AfterSlots s headers (λ (x : Store). Rel x t))
         (AllotsAfter (slots_first s headers) Allots) home a c
@@ -121,7 +133,11 @@ module _ {home : HomeFields} {headers n : ℕ} {a b : Disk} (readies : ReadiesHe
         enough = readies.enough honest;
         makes = does.makes (honest-ready ∙ honest);
       };
-      allots = λ honest. record { ready = volume_of b.image home; slots = readies.does.allots honest; rest = does.allots (honest-ready ∙ honest) };
+      allots = λ honest. record {
+        ready = volume_of b.image home;
+        slots = readies.does.allots honest;
+        rest = does.allots (honest-ready ∙ honest);
+      };
       writes = writes-ready few moment-then within does.writes;
     }
 
@@ -129,21 +145,26 @@ module _ {home : HomeFields} {headers n : ℕ} {a b : Disk} (readies : ReadiesHe
         (others : List Cause) → (IsTrue b.honest → first_of others ≡ None) → (image : Image) →
         Meanwhile (work_if (first_of others) rest) home b image → Meanwhile (with_headers_first s headers work) home a image
     moment-refused others no_other image is =
-        moment-then image (λ honest. subst (λ (o : Option Refusal). IsUnderWay (work_if o rest) home b.image image) (no_other honest) (is honest))
+        moment-then image (λ honest. subst (λ (o : Option Refusal). IsUnderWay (work_if o rest) home b.image image) (no_other honest)
+        (is honest))
 
     -- what broke off then broke off after them
     pub fails-ready :
-        (causes others : List Cause) {takes : Bool} {k : ℕ} (few : ℕ) (r : Refusal) {c : Disk} → (IsTrue a.honest → first_of causes ≡ None) →
+        (causes others : List Cause) {takes : Bool} {k : ℕ} (few : ℕ) (r : Refusal) {c : Disk} → (IsTrue a.honest → first_of causes ≡ None)
+        →
         (IsTrue b.honest → first_of others ≡ None) → (IsTrue a.honest → k ≤ few) → is_fatal r ≡ true → (IsTrue a.honest → r ≢ Damaged) →
         WritesAtMost (Meanwhile (work_if (first_of others) rest) home b) k b c (faults_of r) →
         FailsOrWants takes false causes (slots_cost s headers + few) (with_headers_first s headers work) home r a c
     fails-ready causes others few r none no_other within fatal undamaged writes =
         as-wanting (λ is. let no : false ≡ true = sym (ap (λ (k : ℕ). (k == 19) || (k == 20)) is) ∙ fatal in absurd cc)
-        (breaks-off none fatal (fatal-right causes r a.honest fatal undamaged) (writes-ready few (moment-refused others no_other) within writes))
+        (breaks-off none fatal (fatal-right causes r a.honest fatal undamaged)
+        (writes-ready few (moment-refused others no_other) within writes))
 
 -- where nothing was done nothing was changed
-pub unchanged-after : (headers : ℕ) (Rest : Disk → Disk → Type 0) (home : HomeFields) (disk : Disk) → Rest disk disk → WritesAfterSlots headers Rest home disk disk
-unchanged-after headers Rest home disk rest = record { ready = disk; slots = λ honest. by_count (slots_first (store_of disk.image home) headers); rest = rest }
+pub unchanged-after : (headers : ℕ) (Rest : Disk → Disk → Type 0) (home : HomeFields) (disk : Disk) → Rest disk disk
+    → WritesAfterSlots headers Rest home disk disk
+unchanged-after headers Rest home disk rest =
+    record { ready = disk; slots = λ honest. by_count (slots_first (store_of disk.image home) headers); rest = rest }
   where
     by_count : (n : ℕ) → ConfinesSlots n home disk disk
     by_count zero = λ _. confines-none _ _ _ _ disk

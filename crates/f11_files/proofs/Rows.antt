@@ -1,5 +1,6 @@
 -- Files that have the blocks that they had after a call that writes, by what it makes of the store and of what headers name.
-use Rattle.std.proofs.Common.{◌≡◌, ◌≢◌, ◌<◌, ◌==◌, ◌||◌, ℕ, zero, suc, Bool, true, false, cond, IsTrue, List, [], ◌∷◌, ◌++◌, Option, Some, None, option_map, length, slice_index, take, inl, inr, refl, sym, ap, subst, ◌∙◌, append_assoc, arith}
+use Rattle.std.proofs.Common.{◌≡◌, ◌≢◌, ◌<◌, ◌==◌, ◌||◌, ℕ, zero, suc, Bool, true, false, cond, IsTrue, List, [], ◌∷◌, ◌++◌, Option, Some}
+use Rattle.std.proofs.Common.{None, option_map, length, slice_index, take, inl, inr, refl, sym, ap, subst, ◌∙◌, append_assoc, arith}
 use Rattle.std.specs.Prelude.{Contains}
 use Rattle.std.proofs.lemmas.Bool.{cases_eq, eq-eqb, eqb-false, ne_eqb}
 use Rattle.std.proofs.lemmas.List.{append-nil}
@@ -27,12 +28,14 @@ use Rattle.f11_volume.specs.Sound.{HasSoundVolume}
 use Rattle.f11_volume.specs.Volume.{volume_of, IsLinked, Volume}
 use Rattle.f11_volume.proofs.FileLemmas.{image-files}
 use Rattle.f11_volume.proofs.MemberLemmas.{all-from}
-use Rattle.f11_image_store.specs.Allocation.{named_by, BeginsWith, GainsBlocksAs, GainsSlots, KeepsBlocks, LosesBlocks, LosesHeaders, NamesMore}
+use Rattle.f11_image_store.specs.Allocation.{named_by, BeginsWith, GainsBlocksAs, GainsSlots, KeepsBlocks, LosesBlocks, LosesHeaders}
+use Rattle.f11_image_store.specs.Allocation.{NamesMore}
 use Rattle.f11_image_store.specs.StoreOf.{store_of}
 use Rattle.f11_image_store.proofs.KeptBlocksLemmas.{file-keeps-blocks, held-stored, is-stored}
 use Rattle.f11_files.specs.Extending.Runs.{headers_for}
 use Rattle.f11_files.specs.GrowingIndex.Headroom.{AllotsSlots, ReadiesHeaders}
-use Rattle.f11_files.specs.Rows.{AlteredKeepsRows, CreatedKeepsRows, CutKeepsRows, DeletedKeepsRows, ExtendedKeepsRows, GrownKeepsRows, KeepsRows, LaidOutKeepsRows, ReplacedKeepsRows, StoredKeepsRows, no_number, this_number}
+use Rattle.f11_files.specs.Rows.{AlteredKeepsRows, CreatedKeepsRows, CutKeepsRows, DeletedKeepsRows, ExtendedKeepsRows, GrownKeepsRows}
+use Rattle.f11_files.specs.Rows.{KeepsRows, LaidOutKeepsRows, ReplacedKeepsRows, StoredKeepsRows, no_number, this_number}
 use Rattle.f11_files.proofs.Finding.Windows.{is-there}
 
 -- the headers of a file of the plain store, where there is one
@@ -200,13 +203,17 @@ kept-then home a b c one two = record {
   there = λ f out file. two.there f out (one.there f out file);
   rows = λ f out file.
       let first = one.rows f out file in
-      let more = two.rows f out (one.there f out file) in
-      (first.0 ++ more.0, more.1 ∙ ap (λ (l : List ℕ). l ++ more.0) first.1 ∙ append_assoc (file_blocks (table_of a home) f) first.0 more.0);
+      let more = two.rows f out (one.there f out file) in (
+        first.0 ++ more.0,
+        more.1 ∙ ap (λ (l : List ℕ). l ++ more.0) first.1 ∙ append_assoc (file_blocks (table_of a home) f) first.0
+            more.0,
+      );
 }
 
 -- where the index file has n slots more
 index-rows :
-    (home : HomeFields) (n : ℕ) (old new : Image) → HasSoundVolume old home → HasSoundVolume new home → GrowsIndex (store_of old home) n (store_of new home) →
+    (home : HomeFields) (n : ℕ) (old new : Image) → HasSoundVolume old home → HasSoundVolume new home
+    → GrowsIndex (store_of old home) n (store_of new home) →
     GainsSlots n (volume_of old home) (volume_of new home) → KeepsRows no_number home old new
 index-rows home n old new sound sound' grew gains =
     rows-gain home old new sound sound' 1 n _
@@ -215,7 +222,8 @@ index-rows home n old new sound sound' grew gains =
 
 -- which may be none
 slots-rows :
-    (home : HomeFields) (n : ℕ) (old new : Image) → HasSoundVolume old home → HasSoundVolume new home → GetsSlots n (store_of old home) (store_of new home) →
+    (home : HomeFields) (n : ℕ) (old new : Image) → HasSoundVolume old home → HasSoundVolume new home
+    → GetsSlots n (store_of old home) (store_of new home) →
     AllotsSlots n (volume_of old home) (volume_of new home) → KeepsRows no_number home old new
 slots-rows home zero old new sound sound' same stays =
     rows-same home old new sound sound' (λ g _. ap (λ (s : Store). held_of (s.file g)) same)
@@ -250,7 +258,8 @@ extended-rows home f n old new sound sound' honest extends =
     let does = extends.extends in
     kept-then home old.image extends.ready.image new.image
     (subst (λ (i : Image). KeepsRows no_number home i extends.ready.image) read
-    (readied-rows home (headers_for home f n old) n extends.read extends.ready (subst (λ (i : Image). HasSoundVolume i home) (sym read) sound) honest' extends.readies))
+    (readied-rows home (headers_for home f n old) n extends.read extends.ready
+    (subst (λ (i : Image). HasSoundVolume i home) (sym read) sound) honest' extends.readies))
     (rows-gain home extends.ready.image new.image (extends.readies.sound honest') sound' f.number n _
     (held-grown (store_of extends.ready.image home) (store_of new.image home) f.number n _ (does.makes honest'')) (does.allots honest''))
 
@@ -263,7 +272,8 @@ laid-rows home f n old new sound sound' honest does =
     (does.allots honest).names
 
 pub grown-rows : GrownKeepsRows
-grown-rows home n old new sound sound' honest does = index-rows home n old.image new.image sound sound' (does.makes honest) (does.allots honest)
+grown-rows home n old new sound sound' honest does =
+    index-rows home n old.image new.image sound sound' (does.makes honest) (does.allots honest)
 
 pub cut-rows : CutKeepsRows
 cut-rows home f to old new sound sound' honest does =

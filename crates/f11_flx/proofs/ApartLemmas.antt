@@ -21,7 +21,8 @@ use Rattle.f11_flx.proofs.PassedLemmas.{some-of}
 use Rattle.f11_flx.proofs.ReadingLemmas.{causes-none}
 
 -- a name is entered into a directory, which a file that is none isn't
-pub apart-from : (who : Who) (id d : FileId) (name : List ℕ) (f : File) (t v : Store) → t.file id.number ≡ Some f → is_directory f ≡ false → Grants plain who (asks (request.Enter d name id)) t v →
+pub apart-from : (who : Who) (id d : FileId) (name : List ℕ) (f : File) (t v : Store) → t.file id.number ≡ Some f → is_directory f ≡ false
+    → Grants plain who (asks (request.Enter d name id)) t v →
     (id.number == d.number) ≡ false
 apart-from who id d name f t v is none g = by (id.number == d.number) refl
   where
@@ -38,7 +39,8 @@ apart-from who id d name f t v is none g = by (id.number == d.number) refl
 -- a copy is no directory
 image-is-none : (blocks : ℕ) (f : File) → f.attr ≡ image_attributes blocks → is_directory f ≡ false
 unfolding is_directory with_end
-image-is-none blocks f is = ap (λ (a : List ℕ). (word f.ident 6 == 6778) && (slice_index a 0 == 1) && (word a 2 == 16)) is ∙ and_right _ false refl
+image-is-none blocks f is =
+    ap (λ (a : List ℕ). (word f.ident 6 == 6778) && (slice_index a 0 == 1) && (word a 2 == 16)) is ∙ and_right _ false refl
 
 text-is-none : (longest allocation end : ℕ) (f : File) → f.attr ≡ text_attributes longest allocation end → is_directory f ≡ false
 unfolding is_directory with_end
@@ -46,11 +48,13 @@ text-is-none longest allocation end f is =
     ap (λ (a : List ℕ). (word f.ident 6 == 6778) && (slice_index a 0 == 1) && (word a 2 == 16)) is
     ∙ ap (λ (b : Bool). b && (word (text_attributes longest allocation end) 2 == 16)) (and_right (word f.ident 6 == 6778) false refl)
 
-pub copy-is-none : (m : CopyMode) (blocks : List (List ℕ)) (copy : Copy) (f : File) → copied_from_rt m blocks ≡ Some copy → f.attr ≡ copy.attr → is_directory f ≡ false
+pub copy-is-none : (m : CopyMode) (blocks : List (List ℕ)) (copy : Copy) (f : File) → copied_from_rt m blocks ≡ Some copy
+    → f.attr ≡ copy.attr → is_directory f ≡ false
 copy-is-none Image blocks copy f is attr =
     let same : record { content = concat blocks; attr = image_attributes (length blocks) } ≡ copy = cc in
     image-is-none (length blocks) f (attr ∙ ap (λ (c : Copy). c.attr) (sym same))
 copy-is-none Text blocks copy f is attr =
     let lines = lines_of (without_zeros (concat blocks)) in
     let same = (some-of (has_long_line lines) (copied_lines lines) copy is).1 in
-    text-is-none (longest_of lines) (length (in_whole_blocks (variable_records lines)) / 512) (length (variable_records lines)) f (attr ∙ ap (λ (c : Copy). c.attr) (sym same))
+    text-is-none (longest_of lines) (length (in_whole_blocks (variable_records lines)) / 512) (length (variable_records lines)) f
+    (attr ∙ ap (λ (c : Copy). c.attr) (sym same))

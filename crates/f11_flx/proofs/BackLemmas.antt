@@ -18,15 +18,18 @@ use Rattle.f11_flx.proofs.PassedLemmas.{some-of}
 take-all : (n : ℕ) (blocks : List (List ℕ)) → n ≡ length blocks → take n blocks ≡ blocks
 take-all n blocks is = take_all n blocks (omega (arith, is))
 
-pub image_comes_back : (file : File) (copy : Copy) → copied_from_rt Image file.blocks ≡ Some copy → HoldsCopy file copy → copied_to_rt Image file ≡ Some (concat file.blocks)
+pub image_comes_back : (file : File) (copy : Copy) → copied_from_rt Image file.blocks ≡ Some copy → HoldsCopy file copy
+    → copied_to_rt Image file ≡ Some (concat file.blocks)
 image_comes_back file copy is holds =
     let same : record { content = concat file.blocks; attr = image_attributes (length file.blocks) } ≡ copy = cc in
-    let stated : stated_end file.attr ≡ 512 * length file.blocks = ap stated_end (holds.attr ∙ ap (λ (c : Copy). c.attr) (sym same)) ∙ image_ends_with_blocks (length file.blocks) in
+    let stated : stated_end file.attr ≡ 512 * length file.blocks = ap stated_end (holds.attr ∙ ap (λ (c : Copy). c.attr) (sym same))
+    ∙ image_ends_with_blocks (length file.blocks) in
     let all : (end_of file + 511) / 512 ≡ length file.blocks = omega (arith, stated) in
     ap (λ (b : List (List ℕ)). Some (concat b)) (take-all ((end_of file + 511) / 512) file.blocks all)
 
 -- the records of a text that was copied are its lines
-pub copied-has-lines : (blocks : List (List ℕ)) (file : File) (copy : Copy) → copied_from_rt Text blocks ≡ Some copy → HoldsCopy file copy → length (concat file.blocks) ≡ 512 * length_of file →
+pub copied-has-lines : (blocks : List (List ℕ)) (file : File) (copy : Copy) → copied_from_rt Text blocks ≡ Some copy → HoldsCopy file copy
+    → length (concat file.blocks) ≡ 512 * length_of file →
     records_of file ≡ Some (lines_of (without_zeros (concat blocks)))
 copied-has-lines blocks file copy is holds whole =
     let lines = lines_of (without_zeros (concat blocks)) in
@@ -34,11 +37,16 @@ copied-has-lines blocks file copy is holds whole =
     let bytes : concat file.blocks ≡ in_whole_blocks (variable_records lines) = holds.content ∙ ap (λ (c : Copy). c.content) (sym same) in
     let blocks_are : length (in_whole_blocks (variable_records lines)) / 512 ≡ length_of file = omega (arith, whole, ap length bytes) in
     let attr : file.attr ≡ text_attributes (longest_of lines) (length_of file) (length (variable_records lines)) =
-    holds.attr ∙ ap (λ (c : Copy). c.attr) (sym same) ∙ ap (λ (n : ℕ). text_attributes (longest_of lines) n (length (variable_records lines))) blocks_are in
+    holds.attr ∙ ap (λ (c : Copy). c.attr) (sym same)
+    ∙ ap (λ (n : ℕ). text_attributes (longest_of lines) n (length (variable_records lines))) blocks_are in
     copy_has_lines lines file (longest_of lines) attr bytes whole
 
-pub text_comes_back : (records blocks : List (List ℕ)) (file : File) (copy : Copy) → All IsOneLine records → concat blocks ≡ in_whole_blocks (text_of records)
-    → copied_from_rt Text blocks ≡ Some copy → HoldsCopy file copy → length (concat file.blocks) ≡ 512 * length_of file → copied_to_rt Text file ≡ Some (concat blocks)
+pub text_comes_back : (records blocks : List (List ℕ)) (file : File) (copy : Copy) → All IsOneLine records
+    → concat blocks ≡ in_whole_blocks (text_of records)
+    → copied_from_rt Text blocks ≡ Some copy → HoldsCopy file copy → length (concat file.blocks) ≡ 512 * length_of file
+    → copied_to_rt Text file ≡ Some (concat blocks)
 text_comes_back records blocks file copy plain content is holds whole =
-    let lines : lines_of (without_zeros (concat blocks)) ≡ records = ap (λ (b : List ℕ). lines_of (without_zeros b)) content ∙ lines_come_back records plain in
-    ap (option_map (λ (r : List (List ℕ)). in_whole_blocks (text_of r))) (copied-has-lines blocks file copy is holds whole ∙ ap Some lines) ∙ ap Some (sym content)
+    let lines : lines_of (without_zeros (concat blocks)) ≡ records = ap (λ (b : List ℕ). lines_of (without_zeros b)) content
+    ∙ lines_come_back records plain in
+    ap (option_map (λ (r : List (List ℕ)). in_whole_blocks (text_of r))) (copied-has-lines blocks file copy is holds whole ∙ ap Some lines)
+    ∙ ap Some (sym content)

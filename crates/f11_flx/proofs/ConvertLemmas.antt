@@ -1,21 +1,34 @@
 -- A conversion into a text, a step at a time.
-use Rattle.std.proofs.Common.{◌≡◌, ℕ, ◌+◌, ◌≤◌, List, ◌++◌, length, drop, Option, Some, None, refl, sym, ap, ◌∙◌, append_assoc, length-append, length-drop, arith}
+use Rattle.std.proofs.Common.{◌≡◌, ℕ, ◌+◌, ◌≤◌, List, ◌++◌, length, drop, Option, Some, None, refl, sym, ap, ◌∙◌, append_assoc}
+use Rattle.std.proofs.Common.{length-append, length-drop, arith}
 use Rattle.std.specs.Prelude.{slice_range, option_map, option_to_list}
 use Rattle.f11_flx.specs.ToText.{rest_of, text_left, Converts, IsTextStep}
 use Rattle.f11_flx.specs.declared.to_text.ToText.{ToText}
 
 -- two pieces of text before what is to come
-pub option_map-append : (a b : List ℕ) (o : Option (List ℕ)) → option_map (λ (text : List ℕ). a ++ text) (option_map (λ (text : List ℕ). b ++ text) o) ≡ option_map (λ (text : List ℕ). (a ++ b) ++ text) o
+pub option_map-append : (a b : List ℕ) (o : Option (List ℕ))
+    → option_map (λ (text : List ℕ). a ++ text) (option_map (λ (text : List ℕ). b ++ text) o) ≡ option_map
+    (λ (text : List ℕ). (a ++ b) ++ text) o
 option_map-append a b None = refl
 option_map-append a b (Some text) = ap Some (sym (append_assoc a b text))
 
 -- one step more
 pub Converts-more : (old now new : ToText) (source : List ℕ) (used next : ℕ) (target target' : List ℕ) (from to to' : ℕ) (given : Option ℕ)
-    → Converts old now source used target from to → IsTextStep now new source used next given → slice_range target' from to' ≡ slice_range target from to ++ option_to_list given → to' ≡ to + length (option_to_list given)
+    → Converts old now source used target from to → IsTextStep now new source used next given
+    → slice_range target' from to' ≡ slice_range target from to ++ option_to_list given → to' ≡ to + length (option_to_list given)
     → Converts old new source next target' from to'
 Converts-more old now new source used next target target' from to to' given held step put put_at = record {
   text = λ more long.
-      let enough : rest_of now ≤ length (drop used source ++ more) = omega (arith, held.read, held.within, long, length-append {A = ℕ} source more, length-append {A = ℕ} (drop used source) more, length-drop {A = ℕ} used source) in
+      let enough : rest_of now ≤ length (drop used source ++ more) =
+      omega (
+        arith,
+        held.read,
+        held.within,
+        long,
+        length-append {A = ℕ} source more,
+        length-append {A = ℕ} (drop used source) more,
+        length-drop {A = ℕ} used source,
+      ) in
       held.text more long
       ∙ ap (option_map (λ (text : List ℕ). slice_range target from to ++ text)) (step.text more enough)
       ∙ option_map-append (slice_range target from to) (option_to_list given) (text_left new (drop next source ++ more))

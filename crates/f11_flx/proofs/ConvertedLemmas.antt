@@ -19,7 +19,8 @@ use Rattle.f11_flx.specs.declared.to_text.ToText.{ToText}
 use Rattle.f11_flx.proofs.PourLemmas.{whole-length}
 
 module _ (f : File) where
-  pub image-is : (given : List (List ℕ)) → length given ≡ up_to_end f.attr (length_of f) → given ≡ take (length given) f.blocks → given ≡ image_of f
+  pub image-is : (given : List (List ℕ)) → length given ≡ up_to_end f.attr (length_of f) → given ≡ take (length given) f.blocks
+      → given ≡ image_of f
   image-is given size is = is ∙ ap (λ (n : ℕ). take n f.blocks) size
 
   copied-by : (r : Option (List (List ℕ))) (bytes : List ℕ) → option_map text_of r ≡ Some bytes →
@@ -38,21 +39,27 @@ module _ (f : File) where
   uncopied-text h = none-by (records_of f) h
 
   -- the file's bytes begin with those of its first blocks
-  bytes-are : (given : List (List ℕ)) → given ≡ take (length given) f.blocks → concat f.blocks ≡ concat given ++ concat (drop (length given) f.blocks)
+  bytes-are : (given : List (List ℕ)) → given ≡ take (length given) f.blocks
+      → concat f.blocks ≡ concat given ++ concat (drop (length given) f.blocks)
   bytes-are given is =
-      ap concat (sym (take-append-drop (length given) f.blocks)) ∙ concat-append (take (length given) f.blocks) (drop (length given) f.blocks)
+      ap concat (sym (take-append-drop (length given) f.blocks))
+      ∙ concat-append (take (length given) f.blocks) (drop (length given) f.blocks)
       ∙ ap (λ (l : List (List ℕ)). concat l ++ concat (drop (length given) f.blocks)) (sym is)
 
-  module _ (text : ToText) (starts : StartsText f.attr (length_of f) text) (given : List (List ℕ)) (is : given ≡ take (length given) f.blocks) where
+  module _ (text : ToText) (starts : StartsText f.attr (length_of f) text) (given : List (List ℕ))
+      (is : given ≡ take (length given) f.blocks) where
     -- its text is that of its first blocks, where its end is in them
-    pub left-same : length given ≡ up_to_end f.attr (length_of f) → All (λ b. length b ≡ 512) given → text_left text (concat f.blocks) ≡ text_left text (concat given)
+    pub left-same : length given ≡ up_to_end f.attr (length_of f) → All (λ b. length b ≡ 512) given
+        → text_left text (concat f.blocks) ≡ text_left text (concat given)
     left-same size whole =
         let enough : rest_of text ≤ length (concat given) = omega (arith, starts.rest_is, whole-length given whole, size) in
         let same : take (rest_of text) (concat f.blocks) ≡ take (rest_of text) (concat given) =
-        ap (take (rest_of text)) (bytes-are given is) ∙ take-append-le (rest_of text) (concat given) (concat (drop (length given) f.blocks)) enough in
+        ap (take (rest_of text)) (bytes-are given is)
+        ∙ take-append-le (rest_of text) (concat given) (concat (drop (length given) f.blocks)) enough in
         ap (text_from text.layout text.place) same
 
-    pub text-is : (bytes : List ℕ) → length given ≡ up_to_end f.attr (length_of f) → All (λ b. length b ≡ 512) given → text_left text (concat given) ≡ Some bytes →
+    pub text-is : (bytes : List ℕ) → length given ≡ up_to_end f.attr (length_of f) → All (λ b. length b ≡ 512) given
+        → text_left text (concat given) ≡ Some bytes →
         converted_text f ≡ Some bytes
     text-is bytes size whole some =
         sym (starts.starts f refl refl) ∙ left-same size whole ∙ some
@@ -63,7 +70,8 @@ module _ (f : File) where
         omega (arith, starts.rest_is, whole-length f.blocks whole, ap (λ (l : List ℕ). length l) (bytes-are given is)) in
         sym (starts.starts f refl refl) ∙ ap (text_left text) (bytes-are given is) ∙ none (concat (drop (length given) f.blocks)) enough
 
-  layout-none : (o : Option Layout) (bytes : Layout → Option (List (List ℕ))) → o ≡ None → option_map text_of (option_and_then bytes o) ≡ None
+  layout-none : (o : Option Layout) (bytes : Layout → Option (List (List ℕ))) → o ≡ None
+      → option_map text_of (option_and_then bytes o) ≡ None
   layout-none o bytes h = ap (λ (x : Option Layout). option_map text_of (option_and_then bytes x)) h
 
   pub no-layout : layout_of f.attr ≡ None → converted_text f ≡ None

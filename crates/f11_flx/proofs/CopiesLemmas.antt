@@ -1,5 +1,6 @@
 -- Blocks that are read one by one, and given to a target as they are or as a text.
-use Rattle.std.proofs.Common.{◌≡◌, inl, inr, ℕ, ◌+◌, ◌-◌, ◌*◌, ◌%◌, ◌<◌, ◌≤◌, false, List, [], ◌∷◌, ◌++◌, length, take, replicate, Option, Some, None, All, refl, sym, ap, ◌∙◌, subst, append_assoc, append-nil, length-append, arith}
+use Rattle.std.proofs.Common.{◌≡◌, inl, inr, ℕ, ◌+◌, ◌-◌, ◌*◌, ◌%◌, ◌<◌, ◌≤◌, false, List, [], ◌∷◌, ◌++◌, length, take, replicate, Option}
+use Rattle.std.proofs.Common.{Some, None, All, refl, sym, ap, ◌∙◌, subst, append_assoc, append-nil, length-append, arith}
 use Rattle.std.specs.Prelude.{option_map}
 use Rattle.std.specs.List.{concat}
 use Rattle.std.proofs.lemmas.List.{length-replicate, length-take-le}
@@ -8,7 +9,8 @@ use Rattle.std.proofs.lemmas.List.Folds.{concat-append}
 use Rattle.f11_store.specs.declared.refusals.Refusal.{Refusal}
 use Rattle.f11_flx.specs.Asking.{Denies, Granted, Grants, FilesService, Who, reads, reads_of}
 use Rattle.f11_flx.specs.Copies.{CopiesBlocks, CopiesText, FailsToCopyBlocks, FailsToCopyText}
-use Rattle.f11_flx.specs.Filling.{FailsToFinish, FailsToPour, FinishesBlocks, Out, Pours, Refusing, TakingBlocks, Took, out_text, padded, pending}
+use Rattle.f11_flx.specs.Filling.{FailsToFinish, FailsToPour, FinishesBlocks, Out, Pours, Refusing, TakingBlocks, Took, out_text, padded}
+use Rattle.f11_flx.specs.Filling.{pending}
 use Rattle.f11_flx.specs.Lines.{in_whole_blocks}
 use Rattle.f11_flx.specs.ToText.{ends_record, rest_of, text_left}
 use Rattle.f11_flx.specs.declared.refusal.FlxRefusal.{FlxRefusal}
@@ -27,7 +29,8 @@ whole-blocks bytes n size =
     ap (λ (k : ℕ). bytes ++ replicate k 0) none ∙ append-nil bytes
 
 -- the last one is filled with zeros
-padded-blocks : (bytes : List ℕ) (n to : ℕ) → length bytes ≡ 512 * n + to → 0 < to → to < 512 → in_whole_blocks bytes ≡ bytes ++ replicate (512 - to) 0
+padded-blocks : (bytes : List ℕ) (n to : ℕ) → length bytes ≡ 512 * n + to → 0 < to → to < 512
+    → in_whole_blocks bytes ≡ bytes ++ replicate (512 - to) 0
 padded-blocks bytes n to size some less =
     let rest : (512 - length bytes % 512) % 512 ≡ 512 - to = omega (arith, size, some, less) in
     ap (λ (k : ℕ). bytes ++ replicate k 0) rest
@@ -36,14 +39,16 @@ module _ {V W : Type 0} (S : FilesService V) (K : TakingBlocks W) (R : Refusing 
   pub blocks-start : (v : V) (w : W) → CopiesBlocks S K who lun name 0 v v w w
   blocks-start v w = record { given = []; count_is = refl; asked = refl; took = refl; whole = All-nil (λ b. length b ≡ 512) }
 
-  pub blocks-more : (k : ℕ) (b : List ℕ) (v now u : V) (w x y : W) → CopiesBlocks S K who lun name k v now w x → Grants S who (reads lun (k + 1) b) now u →
+  pub blocks-more : (k : ℕ) (b : List ℕ) (v now u : V) (w x y : W) → CopiesBlocks S K who lun name k v now w x
+      → Grants S who (reads lun (k + 1) b) now u →
       K name k b x y → length b ≡ 512 → CopiesBlocks S K who lun name (k + 1) v u w y
   blocks-more k b v now u w x y h g taken size = record {
     given = h.given ++ b ∷ [];
     count_is = omega (arith, length-append h.given (b ∷ []), h.count_is);
     asked = reads-more S who lun h.given b k v now u h.count_is h.asked g;
     took = took-one K name 0 h.given b w x y h.took (subst (λ n. K name n b x y) (omega (arith, h.count_is)) taken);
-    whole = All-append (λ b. length b ≡ 512) h.given (b ∷ []) h.whole (All-cons (λ b. length b ≡ 512) b [] size (All-nil (λ b. length b ≡ 512)));
+    whole = All-append (λ b. length b ≡ 512) h.given (b ∷ []) h.whole
+        (All-cons (λ b. length b ≡ 512) b [] size (All-nil (λ b. length b ≡ 512)));
   }
 
   pub blocks-denied : (k count : ℕ) (b : List ℕ) (e : Refusal) (v now u : V) (w x : W) → CopiesBlocks S K who lun name k v now w x →
@@ -73,7 +78,8 @@ module _ {V W : Type 0} (S : FilesService V) (K : TakingBlocks W) (R : Refusing 
   })
 
 -- The first k blocks of the file were read, and their text is converted so far.
-pub record TextSoFar {V W : Type 0} (S : FilesService V) (K : TakingBlocks W) (who : Who) (lun : ℕ) (name : List ℕ) (t0 t : ToText) (k : ℕ) (o : Out)
+pub record TextSoFar {V W : Type 0} (S : FilesService V) (K : TakingBlocks W) (who : Who) (lun : ℕ) (name : List ℕ) (t0 t : ToText) (k : ℕ)
+    (o : Out)
     (old now : V) (v w : W) : Type 0 where
   pub given : List (List ℕ)
   pub count_is : length given ≡ k
@@ -91,7 +97,8 @@ pub record TextSoFar {V W : Type 0} (S : FilesService V) (K : TakingBlocks W) (w
   pub room : o.to < 512
 
 module _ {V W : Type 0} (S : FilesService V) (K : TakingBlocks W) (R : Refusing W) (who : Who) (lun : ℕ) (name : List ℕ) (t0 : ToText) where
-  pub text-start : (o : Out) (v : V) (w : W) → o.place ≡ 0 → o.to ≡ 0 → ends_record t0 ≡ false → TextSoFar S K who lun name t0 t0 0 o v v w w
+  pub text-start : (o : Out) (v : V) (w : W) → o.place ≡ 0 → o.to ≡ 0 → ends_record t0 ≡ false
+      → TextSoFar S K who lun name t0 t0 0 o v v w w
   text-start o v w first empty ended = record {
     given = [];
     count_is = refl;
@@ -102,7 +109,8 @@ module _ {V W : Type 0} (S : FilesService V) (K : TakingBlocks W) (R : Refusing 
     place = first;
     whole = All-nil (λ b. length b ≡ 512);
     text = λ more long.
-        sym (option_map-nothing (out_text o t0 more) ∙ ap (λ (n : ℕ). option_map (λ (text : List ℕ). take n o.block ++ text) (text_left t0 more)) empty
+        sym (option_map-nothing (out_text o t0 more)
+        ∙ ap (λ (n : ℕ). option_map (λ (text : List ℕ). take n o.block ++ text) (text_left t0 more)) empty
         ∙ option_map-nothing (text_left t0 more));
     rest = omega arith;
     ended = ended;
@@ -113,7 +121,8 @@ module _ {V W : Type 0} (S : FilesService V) (K : TakingBlocks W) (R : Refusing 
   -- the bytes of one block more
   one-more : (given : List (List ℕ)) (b more : List ℕ) → concat (given ++ b ∷ []) ++ more ≡ concat given ++ (b ++ more)
   one-more given b more =
-      ap (λ (l : List ℕ). l ++ more) (concat-append given (b ∷ []) ∙ ap (λ (l : List ℕ). concat given ++ l) (append-nil b)) ∙ append_assoc (concat given) b more
+      ap (λ (l : List ℕ). l ++ more) (concat-append given (b ∷ []) ∙ ap (λ (l : List ℕ). concat given ++ l) (append-nil b))
+      ∙ append_assoc (concat given) b more
 
   module _ (t : ToText) (k : ℕ) (b : List ℕ) (o : Out) (v now u : V) (w x : W) (h : TextSoFar S K who lun name t0 t k o v now w x)
       (g : Grants S who (reads lun (k + 1) b) now u) (size : length b ≡ 512)
@@ -121,7 +130,15 @@ module _ {V W : Type 0} (S : FilesService V) (K : TakingBlocks W) (R : Refusing 
       -- what is to come behind a block that is read
       enough : (more : List ℕ) → rest_of t0 ≤ length (concat (h.given ++ b ∷ []) ++ more) → rest_of t ≤ length (b ++ more)
       enough more long =
-          omega (arith, h.rest, long, ap (λ (l : List ℕ). length l) (one-more h.given b more), length-append {A = ℕ} (concat h.given) (b ++ more), whole-length h.given h.sizes, h.count_is)
+          omega (
+            arith,
+            h.rest,
+            long,
+            ap (λ (l : List ℕ). length l) (one-more h.given b more),
+            length-append {A = ℕ} (concat h.given) (b ++ more),
+            whole-length h.given h.sizes,
+            h.count_is,
+          )
 
       behind : (more : List ℕ) → rest_of t0 ≤ length (concat (h.given ++ b ∷ []) ++ more) →
           text_left t0 (concat (h.given ++ b ∷ []) ++ more) ≡ option_map (λ text. concat h.pieces ++ text) (out_text o t (b ++ more))
@@ -135,9 +152,11 @@ module _ {V W : Type 0} (S : FilesService V) (K : TakingBlocks W) (R : Refusing 
         given = h.given ++ b ∷ [];
         count_is = omega (arith, length-append h.given (b ∷ []), h.count_is);
         asked = reads-more S who lun h.given b k v now u h.count_is h.asked g;
-        sizes = All-append (λ b. length b ≡ 512) h.given (b ∷ []) h.sizes (All-cons (λ b. length b ≡ 512) b [] size (All-nil (λ b. length b ≡ 512)));
+        sizes = All-append (λ b. length b ≡ 512) h.given (b ∷ []) h.sizes
+            (All-cons (λ b. length b ≡ 512) b [] size (All-nil (λ b. length b ≡ 512)));
         pieces = h.pieces ++ p.pieces;
-        took = took-append K name 0 h.pieces p.pieces w x y h.took (subst (λ n. Took K name n p.pieces x y) (omega (arith, h.place)) p.took);
+        took = took-append K name 0 h.pieces p.pieces w x y h.took
+            (subst (λ n. Took K name n p.pieces x y) (omega (arith, h.place)) p.took);
         place = omega (arith, p.place, h.place, length-append h.pieces p.pieces);
         whole = All-append (λ b. length b ≡ 512) h.pieces p.pieces h.whole p.whole;
         text = λ more long.
@@ -151,7 +170,8 @@ module _ {V W : Type 0} (S : FilesService V) (K : TakingBlocks W) (R : Refusing 
         room = room;
       }
 
-      pub text-fails : (count : ℕ) (e : FlxRefusal) (y : W) → k < count → FailsToPour K R name t b o e x y → FailsToCopyText S K R who lun name t0 count e v u w y
+      pub text-fails : (count : ℕ) (e : FlxRefusal) (y : W) → k < count → FailsToPour K R name t b o e x y
+          → FailsToCopyText S K R who lun name t0 count e v u w y
       text-fails count e y less (inl bad) = inr (inl (record {
         is = bad.bad;
         given = h.given ++ b ∷ [];
@@ -159,9 +179,11 @@ module _ {V W : Type 0} (S : FilesService V) (K : TakingBlocks W) (R : Refusing 
         asked = reads-more S who lun h.given b k v now u h.count_is h.asked g;
         none = λ more long.
             behind more long
-            ∙ ap (λ (r : Option (List ℕ)). option_map (λ (text : List ℕ). concat h.pieces ++ text) (option_map (λ (text : List ℕ). pending o ++ text) r)) (bad.none more (enough more long));
+            ∙ ap (λ (r : Option (List ℕ)). option_map (λ (text : List ℕ). concat h.pieces ++ text)
+            (option_map (λ (text : List ℕ). pending o ++ text) r)) (bad.none more (enough more long));
         pieces = h.pieces ++ bad.pieces;
-        took = took-append K name 0 h.pieces bad.pieces w x y h.took (subst (λ n. Took K name n bad.pieces x y) (omega (arith, h.place)) bad.took);
+        took = took-append K name 0 h.pieces bad.pieces w x y h.took
+            (subst (λ n. Took K name n bad.pieces x y) (omega (arith, h.place)) bad.took);
       }))
       text-fails count e y less (inr stop) = inr (inr (record {
         given = h.given ++ b ∷ [];
@@ -170,19 +192,31 @@ module _ {V W : Type 0} (S : FilesService V) (K : TakingBlocks W) (R : Refusing 
         pieces = h.pieces ++ stop.pieces;
         last = stop.last;
         between = stop.between;
-        took = took-append K name 0 h.pieces stop.pieces w x stop.between h.took (subst (λ n. Took K name n stop.pieces x stop.between) (omega (arith, h.place)) stop.took);
-        refused = subst (λ n. R name n stop.last e stop.between y) (omega (arith, h.place, length-append h.pieces stop.pieces)) stop.refused;
-        longer = λ more bytes long is. longer-by (out_text o t (b ++ more)) bytes (sym (behind more long) ∙ is) (λ text is. stop.longer more text (enough more long) is);
+        took = took-append K name 0 h.pieces stop.pieces w x stop.between h.took
+            (subst (λ n. Took K name n stop.pieces x stop.between) (omega (arith, h.place)) stop.took);
+        refused = subst (λ n. R name n stop.last e stop.between y) (omega (arith, h.place, length-append h.pieces stop.pieces))
+            stop.refused;
+        longer = λ more bytes long is. longer-by (out_text o t (b ++ more)) bytes (sym (behind more long) ∙ is)
+            (λ text is. stop.longer more text (enough more long) is);
       }))
         where
           longer-by : (r : Option (List ℕ)) (bytes : List ℕ) → option_map (λ (text : List ℕ). concat h.pieces ++ text) r ≡ Some bytes →
-              ((text : List ℕ) → r ≡ Some text → 512 * length stop.pieces < length text) → 512 * length (h.pieces ++ stop.pieces) < length bytes
+              ((text : List ℕ) → r ≡ Some text → 512 * length stop.pieces < length text)
+              → 512 * length (h.pieces ++ stop.pieces) < length bytes
           longer-by None bytes is long = absurd (cc)
           longer-by (Some text) bytes is long =
               let same : concat h.pieces ++ text ≡ bytes = cc in
-              omega (arith, ap (λ (l : List ℕ). length l) same, length-append {A = ℕ} (concat h.pieces) text, length-append h.pieces stop.pieces, whole-length h.pieces h.whole, long text refl)
+              omega (
+                arith,
+                ap (λ (l : List ℕ). length l) same,
+                length-append {A = ℕ} (concat h.pieces) text,
+                length-append h.pieces stop.pieces,
+                whole-length h.pieces h.whole,
+                long text refl,
+              )
 
-  pub text-denied : (t : ToText) (k count : ℕ) (b : List ℕ) (o : Out) (e : Refusal) (v now u : V) (w x : W) → TextSoFar S K who lun name t0 t k o v now w x →
+  pub text-denied : (t : ToText) (k count : ℕ) (b : List ℕ) (o : Out) (e : Refusal) (v now u : V) (w x : W)
+      → TextSoFar S K who lun name t0 t k o v now w x →
       Denies S who (reads lun (k + 1) b) e now u → k < count → FailsToCopyText S K R who lun name t0 count (Files e) v u w x
   text-denied t k count b o e v now u w x h d less = inl (record {
     refusal = e;
@@ -194,7 +228,8 @@ module _ {V W : Type 0} (S : FilesService V) (K : TakingBlocks W) (R : Refusing 
     took = h.took;
   })
 
-  module _ (t : ToText) (count : ℕ) (o : Out) (v now : V) (w x : W) (h : TextSoFar S K who lun name t0 t count o v now w x) (whole : rest_of t0 ≤ 512 * count) (size : length o.block ≡ 512)
+  module _ (t : ToText) (count : ℕ) (o : Out) (v now : V) (w x : W) (h : TextSoFar S K who lun name t0 t count o v now w x)
+      (whole : rest_of t0 ≤ 512 * count) (size : length o.block ≡ 512)
     where
       -- what was converted in all
       abbrev all-bytes : List ℕ
@@ -204,9 +239,11 @@ module _ {V W : Type 0} (S : FilesService V) (K : TakingBlocks W) (R : Refusing 
       all-of : (more : List ℕ) → text_left t0 (concat h.given ++ more) ≡ Some all-bytes
       all-of more =
           let none : rest_of t ≡ 0 = omega (arith, h.rest, whole) in
-          let enough : rest_of t0 ≤ length (concat h.given ++ more) = omega (arith, whole, length-append {A = ℕ} (concat h.given) more, whole-length h.given h.sizes, h.count_is) in
+          let enough : rest_of t0 ≤ length (concat h.given ++ more) =
+          omega (arith, whole, length-append {A = ℕ} (concat h.given) more, whole-length h.given h.sizes, h.count_is) in
           h.text more enough
-          ∙ ap (λ (r : Option (List ℕ)). option_map (λ (text : List ℕ). concat h.pieces ++ text) (option_map (λ (text : List ℕ). pending o ++ text) r)) (text_ends t more none h.ended)
+          ∙ ap (λ (r : Option (List ℕ)). option_map (λ (text : List ℕ). concat h.pieces ++ text)
+          (option_map (λ (text : List ℕ). pending o ++ text) r)) (text_ends t more none h.ended)
           ∙ ap (λ (l : List ℕ). Some (concat h.pieces ++ l)) (append-nil (pending o))
 
       filled : length (pending o) ≡ o.to
@@ -231,7 +268,8 @@ module _ {V W : Type 0} (S : FilesService V) (K : TakingBlocks W) (R : Refusing 
         bytes = all-bytes;
         converted = all-left;
         pieces_are =
-            let same : all-bytes ≡ concat h.pieces = ap (λ (n : ℕ). concat h.pieces ++ take n o.block) f.none ∙ append-nil (concat h.pieces) in
+            let same : all-bytes ≡ concat h.pieces = ap (λ (n : ℕ). concat h.pieces ++ take n o.block) f.none
+            ∙ append-nil (concat h.pieces) in
             sym same ∙ sym (whole-blocks all-bytes (length h.pieces) (omega (arith, all-length, f.none)));
       }
       text-finishes blocks y (inr f) = record {
@@ -243,7 +281,14 @@ module _ {V W : Type 0} (S : FilesService V) (K : TakingBlocks W) (R : Refusing 
         took = took-one K name 0 h.pieces (padded o) w x y h.took (subst (λ n. K name n (padded o) x y) (omega (arith, h.place)) f.took);
         blocks_are = omega (arith, f.blocks_are, h.place, length-append h.pieces (padded o ∷ []));
         whole = All-append (λ b. length b ≡ 512) h.pieces (padded o ∷ []) h.whole
-            (All-cons (λ b. length b ≡ 512) (padded o) [] (omega (arith, length-append {A = ℕ} (pending o) (replicate (512 - o.to) 0), filled, length-replicate {A = ℕ} (512 - o.to) 0, h.room)) (All-nil (λ b. length b ≡ 512)));
+            (All-cons (λ b. length b ≡ 512) (padded o) []
+            (omega (
+              arith,
+              length-append {A = ℕ} (pending o) (replicate (512 - o.to) 0),
+              filled,
+              length-replicate {A = ℕ} (512 - o.to) 0,
+              h.room,
+            )) (All-nil (λ b. length b ≡ 512)));
         bytes = all-bytes;
         converted = all-left;
         pieces_are =
@@ -252,7 +297,8 @@ module _ {V W : Type 0} (S : FilesService V) (K : TakingBlocks W) (R : Refusing 
             ∙ sym (padded-blocks all-bytes (length h.pieces) o.to all-length f.some h.room);
       }
 
-      pub text-unfinished : (e : FlxRefusal) (y : W) → FailsToFinish R name o e x y → FailsToCopyText S K R who lun name t0 count e v now w y
+      pub text-unfinished : (e : FlxRefusal) (y : W) → FailsToFinish R name o e x y
+          → FailsToCopyText S K R who lun name t0 count e v now w y
       text-unfinished e y f = inr (inr (record {
         given = h.given;
         few = omega (arith, h.count_is);

@@ -48,7 +48,8 @@ module _ {E : Type 0} {met : Ghosts E} (disk : E → Disk) (name : List ℕ) (ol
   fares-rt : (r : as-result ℕ) → Fares disk (of_rt is_fault r) old new → FaresRt disk r old new
   fares-rt r f = record { failures = f.failures; quiet = f.quiet; honest = f.honest; next = f.next }
 
-  target-made : (x : ℕ) → Fares disk false old new → (IsSoundDisk (rt_disk disk old) → IsSoundDisk (rt_disk disk new)) → KeepsFailed disk (let r : as-result ℕ = Ok x in r) old new → (has_failed old ≡ true → ⊥) →
+  target-made : (x : ℕ) → Fares disk false old new → (IsSoundDisk (rt_disk disk old) → IsSoundDisk (rt_disk disk new))
+      → KeepsFailed disk (let r : as-result ℕ = Ok x in r) old new → (has_failed old ≡ true → ⊥) →
       MakesRtFile disk (let r : as-result ℕ = Ok x in r) name old new
   target-made x f sound kept alive = record {
     fares = fares-rt (Ok x) f;
@@ -61,7 +62,8 @@ module _ {E : Type 0} {met : Ghosts E} (disk : E → Disk) (name : List ℕ) (ol
   }
 
   target-left : (e : FlxRefusal) → LeavesRt disk name e old new → KeepsFailed disk (let r : as-result ℕ = Err e in r) old new →
-      (has_failed old ≡ true → MayRefuseFailed (let r : as-result ℕ = Err e in r)) → ((let r : as-result ℕ = Err e in r) ≡ Err (Files VolumeFailed) → new ≡ old) →
+      (has_failed old ≡ true → MayRefuseFailed (let r : as-result ℕ = Err e in r))
+      → ((let r : as-result ℕ = Err e in r) ≡ Err (Files VolumeFailed) → new ≡ old) →
       MakesRtFile disk (let r : as-result ℕ = Err e in r) name old new
   target-left e l kept may unasked = record {
     fares = fares-rt (Err e) (subst (λ b. Fares disk b old new) (sym (fault-is e)) l.fares);
@@ -74,7 +76,8 @@ module _ {E : Type 0} {met : Ghosts E} (disk : E → Disk) (name : List ℕ) (ol
   }
 
 -- What the answers of a copy to an RT-11 volume tell.
-module _ {D E : Type 0} {met : Ghosts D} {met' : Ghosts E} (disk : E → Disk) (m : CopyMode) (who : Who) (lun : ℕ) (file : FileId) (name : List ℕ) (day : ℕ)
+module _ {D E : Type 0} {met : Ghosts D} {met' : Ghosts E} (disk : E → Disk) (m : CopyMode) (who : Who) (lun : ℕ) (file : FileId)
+    (name : List ℕ) (day : ℕ)
     (old new : Volume D met) (rt rt' : RtAccepted E met')
   where
     pub target : (r : as-result ℕ) → IfOk r (λ count. CopiesFileToRt m of_volume disk who lun file name count day old new rt rt') →
@@ -92,8 +95,11 @@ module _ {D E : Type 0} {met : Ghosts D} {met' : Ghosts E} (disk : E → Disk) (
         spent-unasked disk who lun name file day m old new rt rt' dead e failed)
 
     pub copies : (r : as-result ℕ) → IfOk r (λ count. CopiesFileToRt m of_volume disk who lun file name count day old new rt rt') →
-        IfOk r (λ count. WhereSound disk old rt (CopiesToRt m who lun file name day count (store_of_volume old) (store_of_volume new) (rt_store disk rt) (rt_store disk rt')))
-    copies (Ok count) made = λ sound sound'. copied of_volume store_of_volume is_sound volume-seen disk who lun file name count day old new rt rt' sound sound' m made
+        IfOk r (λ count. WhereSound disk old rt
+        (CopiesToRt m who lun file name day count (store_of_volume old) (store_of_volume new) (rt_store disk rt) (rt_store disk rt')))
+    copies (Ok count) made =
+        λ sound sound'. copied of_volume store_of_volume is_sound volume-seen disk who lun file name count day old new rt rt' sound sound' m
+        made
     copies (Err e) made = tt
 
     pub refuses : (r : as-result ℕ) → IfErr r (λ e. FailsToCopyFileToRt m of_volume disk who lun file name day e old new rt rt') →
@@ -103,16 +109,21 @@ module _ {D E : Type 0} {met : Ghosts D} {met' : Ghosts E} (disk : E → Disk) (
     refuses (Err e) failed = λ whole sound sound'.
         let clean = not-true (is_lethal e) whole in
         record {
-          why = refused of_volume store_of_volume is_sound volume-seen who lun file name (store_of_volume old) disk day rt (λ alive. sound') m e old new rt' refl sound clean failed;
-          unwritten = refused-same of_volume store_of_volume is_sound volume-seen who lun file name (store_of_volume old) disk day rt (λ alive. sound') m e old new rt' refl sound clean failed;
+          why = refused of_volume store_of_volume is_sound volume-seen who lun file name (store_of_volume old) disk day rt (λ alive. sound')
+              m e old new rt' refl sound clean failed;
+          unwritten = refused-same of_volume store_of_volume is_sound volume-seen who lun file name (store_of_volume old) disk day rt
+              (λ alive. sound') m e old new rt' refl sound clean failed;
         }
 
     -- an RT-11 volume that had failed isn't read, so what its image is doesn't count
-    pub refuses-failed : (r : as-result ℕ) → IfErr r (λ e. FailsToCopyFileToRt m of_volume disk who lun file name day e old new rt rt') → has_failed rt ≡ true →
-        IfErr r (λ e. is_whole r ≡ true → is_sound old ≡ true → FailsToCopyToRt e m who lun file name (store_of_volume old) (store_of_volume new) (rt_disk disk rt))
+    pub refuses-failed : (r : as-result ℕ) → IfErr r (λ e. FailsToCopyFileToRt m of_volume disk who lun file name day e old new rt rt')
+        → has_failed rt ≡ true →
+        IfErr r (λ e. is_whole r ≡ true → is_sound old ≡ true → FailsToCopyToRt e m who lun file name (store_of_volume old)
+        (store_of_volume new) (rt_disk disk rt))
     refuses-failed (Ok count) failed dead = tt
     refuses-failed (Err e) failed dead = λ whole sound.
-        refused of_volume store_of_volume is_sound volume-seen who lun file name (store_of_volume old) disk day rt (λ alive. absurd (true-false (sym dead ∙ alive)))
+        refused of_volume store_of_volume is_sound volume-seen who lun file name (store_of_volume old) disk day rt
+        (λ alive. absurd (true-false (sym dead ∙ alive)))
         m e old new rt' refl sound (not-true (is_lethal e) whole) failed
 
     pub ends : (r : as-result ℕ) → IfErr r (λ e. FailsToCopyFileToRt m of_volume disk who lun file name day e old new rt rt') →

@@ -1,5 +1,6 @@
 -- Conversions that are done.
-use Rattle.std.proofs.Common.{◌≡◌, inl, inr, ℕ, ◌≤◌, true, false, List, [], ◌∷◌, ◌++◌, length, take, drop, max, Option, Some, None, refl, sym, ap, ◌∙◌, arith}
+use Rattle.std.proofs.Common.{◌≡◌, inl, inr, ℕ, ◌≤◌, true, false, List, [], ◌∷◌, ◌++◌, length, take, drop, max, Option, Some, None, refl}
+use Rattle.std.proofs.Common.{sym, ap, ◌∙◌, arith}
 use Rattle.std.specs.Prelude.{slice_range, option_map}
 use Rattle.std.proofs.lemmas.List.{append-nil}
 use Rattle.f11_flx.specs.Laws.{HasNoMore}
@@ -36,16 +37,19 @@ text_from-none layout (place.LineFeed pad) few more = absurd (differ more)
 text_from-none layout place.Pad few more = text_in-none layout
 
 pub text_ends : (s : ToText) (bytes : List ℕ) → rest_of s ≡ 0 → ends_record s ≡ false → text_left s bytes ≡ Some []
-text_ends s bytes none more = ap (λ (n : ℕ). text_from s.layout s.place (take n bytes)) none ∙ text_from-none s.layout s.place (omega (arith, s.wanted)) more
+text_ends s bytes none more =
+    ap (λ (n : ℕ). text_from s.layout s.place (take n bytes)) none ∙ text_from-none s.layout s.place (omega (arith, s.wanted)) more
 
 -- a text that is to come has one before it
-no_text : (given : List ℕ) (before after : Option (List ℕ)) → before ≡ option_map (λ (text : List ℕ). given ++ text) after → before ≡ None → after ≡ Some [] → ⊥
+no_text : (given : List ℕ) (before after : Option (List ℕ)) → before ≡ option_map (λ (text : List ℕ). given ++ text) after → before ≡ None
+    → after ≡ Some [] → ⊥
 no_text given before after is none some = absurd (none_is (sym none ∙ is ∙ ap (option_map (λ (text : List ℕ). given ++ text)) some))
   where
     none_is : {x : List ℕ} → None ≡ Some x → ⊥
     none_is is = cc
 
-pub text_is_refused : (old new : ToText) (source target : List ℕ) (used from to : ℕ) → Converts old new source used target from to → StopsAt new source used to
+pub text_is_refused : (old new : ToText) (source target : List ℕ) (used from to : ℕ) → Converts old new source used target from to
+    → StopsAt new source used to
     → rest_of old ≤ length source → text_left old source ≡ None → to ≡ 512
 text_is_refused old new source target used from to (done) (inl full) enough none = full
 text_is_refused old new source target used from to done (inr stops) enough none =
@@ -54,7 +58,8 @@ text_is_refused old new source target used from to done (inr stops) enough none 
       | inr none ↦ none
     ] in
     let whole : source ++ [] ≡ source = append-nil source in
-    absurd (no_text (slice_range target from to) (text_left old (source ++ [])) (text_left new (drop used source ++ [])) (done.text [] (omega (arith, ap length whole)))
+    absurd (no_text (slice_range target from to) (text_left old (source ++ [])) (text_left new (drop used source ++ []))
+    (done.text [] (omega (arith, ap length whole)))
     (ap (text_left old) whole ∙ none) (text_ends new (drop used source ++ []) rest stops.0))
 
 -- no line is to come where none is open

@@ -1,5 +1,6 @@
 -- Nothing follows a device fault or Damaged in a copy from an RT-11 volume.
-use Rattle.std.proofs.Common.{◌≡◌, inl, inr, ℕ, suc, ◌==◌, Bool, true, false, if◌then◌else◌, List, [], ◌∷◌, ◌++◌, All, refl, sym, ◌∙◌, subst}
+use Rattle.std.proofs.Common.{◌≡◌, inl, inr, ℕ, suc, ◌==◌, Bool, true, false, if◌then◌else◌, List, [], ◌∷◌, ◌++◌, All, refl, sym, ◌∙◌}
+use Rattle.std.proofs.Common.{subst}
 use Rattle.std.proofs.lemmas.List.Elements.{All-append, All-cons, All-nil}
 use Rattle.f11_dev.specs.Disk.{Disk}
 use Rattle.f11_dev.specs.declared.device.Device.{Ghosts}
@@ -16,7 +17,8 @@ use Rattle.f11_flx.specs.Asking.{Asking, BreaksOffAsking, Denies, Fails, Granted
 use Rattle.f11_flx.specs.CopyFromRt.{Making, as_file, creation, entry, opening}
 use Rattle.f11_flx.specs.Ended.{Ends, EndsDenied, TriedCleanly, is_building}
 use Rattle.f11_flx.specs.FromRt.{FailsToCopyFrom}
-use Rattle.f11_flx.specs.Making.{FailsToFillFromRt, FailsToFillFile, FailsToMakeCopy, FillsFile, Undoing, UndoingIf, extension, filling_of, is_created}
+use Rattle.f11_flx.specs.Making.{FailsToFillFromRt, FailsToFillFile, FailsToMakeCopy, FillsFile, Undoing, UndoingIf, extension, filling_of}
+use Rattle.f11_flx.specs.Making.{is_created}
 use Rattle.f11_flx.specs.Planning.{FailsToPlan}
 use Rattle.f11_flx.specs.Refusal.{is_lethal}
 use Rattle.f11_flx.specs.declared.mode.CopyMode.{CopyMode}
@@ -59,7 +61,14 @@ module _ {V : Type 0} (S : FilesService V) (who : Who) where
   cleanly-all (x ∷ xs) v w h = cleanly-then v h.0 w (cleanly-one x v h.0 h.1) (cleanly-all xs h.0 w h.2)
 
   ends-then : (e : Refusal) (u v w : V) → Cleanly S who u v → EndsDenied S who e v w → EndsDenied S who e u w
-  ends-then e u v w h k = record { asked = h.asked ++ k.asked; at = k.at; tried = tried-then h.asked k.asked u v k.at h.tried k.tried; last = k.last; is_last = k.is_last }
+  ends-then e u v w h k =
+      record {
+        asked = h.asked ++ k.asked;
+        at = k.at;
+        tried = tried-then h.asked k.asked u v k.at h.tried k.tried;
+        last = k.last;
+        is_last = k.is_last;
+      }
 
   denied-so-far : (x : Asking) (e : Refusal) (v w : V) → Denies S who x e v w → SoFar S who (Files e) v w
   denied-so-far x e v w h = record {
@@ -68,18 +77,26 @@ module _ {V : Type 0} (S : FilesService V) (who : Who) where
   }
 
   -- behind what was granted and undoes nothing
-  built-then : (f : FlxRefusal) (xs : List Asking) (u v w : V) → All builds xs → Granted S who xs u v → SoFar S who f v w → SoFar S who f u w
-  built-then f xs u v w all g h = record { ended = λ lethal. by f (h.ended lethal); clean = λ clean. cleanly-then u v w (cleanly-all xs u v g) (h.clean clean) }
+  built-then : (f : FlxRefusal) (xs : List Asking) (u v w : V) → All builds xs → Granted S who xs u v → SoFar S who f v w
+      → SoFar S who f u w
+  built-then f xs u v w all g h =
+      record { ended = λ lethal. by f (h.ended lethal); clean = λ clean. cleanly-then u v w (cleanly-all xs u v g) (h.clean clean) }
     where
       by : (f : FlxRefusal) → Ends S who f v w → Ends S who f u w
       by (Files e) k = ends-then e u v w (cleanly-all xs u v g) k
-      by (Rt e) k = record { asked = xs ++ k.asked; granted = granted-append S who xs k.asked u v w g k.granted; building = All-append builds xs k.asked all k.building }
+      by (Rt e) k =
+          record {
+            asked = xs ++ k.asked;
+            granted = granted-append S who xs k.asked u v w g k.granted;
+            building = All-append builds xs k.asked all k.building;
+          }
       by BadRecord k = tt
       by LineTooLong k = tt
 
   -- behind whatever went on cleanly, where the volume itself refuses
   cleanly-so-far : (e : Refusal) (u v w : V) → Cleanly S who u v → SoFar S who (Files e) v w → SoFar S who (Files e) u w
-  cleanly-so-far e u v w h k = record { ended = λ lethal. ends-then e u v w h (k.ended lethal); clean = λ clean. cleanly-then u v w h (k.clean clean) }
+  cleanly-so-far e u v w h k =
+      record { ended = λ lethal. ends-then e u v w h (k.ended lethal); clean = λ clean. cleanly-then u v w h (k.clean clean) }
 
   breaks-so-far : (xs : List Asking) (e : Refusal) (v w : V) → BreaksOffAsking S who xs e v w → SoFar S who (Files e) v w
   breaks-so-far [] e v w h = absurd h
@@ -89,7 +106,8 @@ module _ {V : Type 0} (S : FilesService V) (who : Who) where
   undoing-so-far : (r : Request) (f f' : FlxRefusal) (u v w : V) → SoFar S who f u v → Undoing S who r f f' v w → SoFar S who f' u w
   undoing-so-far r f f' u v w h k = by (is_lethal f) refl k
     where
-      chosen : (e : Refusal) (b : Bool) → is_lethal f ≡ false → is_lethal (Files e) ≡ b → Denies S who (asks r) e v w → SoFar S who (if b then Files e else f) u w
+      chosen : (e : Refusal) (b : Bool) → is_lethal f ≡ false → is_lethal (Files e) ≡ b → Denies S who (asks r) e v w
+          → SoFar S who (if b then Files e else f) u w
       chosen e true is lethal d = cleanly-so-far e u v w (h.clean is) (denied-so-far (asks r) e v w d)
       chosen e false is lethal d = record {
         ended = λ l. absurd (true-false (sym l ∙ is));
@@ -104,19 +122,27 @@ module _ {V : Type 0} (S : FilesService V) (who : Who) where
       })
       by false is (inr k) = subst (λ x. SoFar S who x u w) (sym k.answer) (chosen k.e (is_lethal (Files k.e)) is refl k.denied)
 
-  uncreated-so-far : (making : Making) (e : Refusal) (v w : V) → Fails S who is_created (request.Create 0 (ident_with making.name) making.attr) e v w → SoFar S who (Files e) v w
+  uncreated-so-far : (making : Making) (e : Refusal) (v w : V)
+      → Fails S who is_created (request.Create 0 (ident_with making.name) making.attr) e v w → SoFar S who (Files e) v w
   uncreated-so-far making e v w (inl h) = denied-so-far (asks (request.Create 0 (ident_with making.name) making.attr)) e v w h
   uncreated-so-far making e v w (inr h) =
       let x : Asking = told (request.Create 0 (ident_with making.name) making.attr) h.0 in
       record {
-        ended = λ lethal. record { asked = []; at = v; tried = refl; last = x; is_last = inr (request.Create 0 (ident_with making.name) making.attr, h.0, refl, h.1, h.2, h.3) };
+        ended = λ lethal. record {
+          asked = [];
+          at = v;
+          tried = refl;
+          last = x;
+          is_last = inr (request.Create 0 (ident_with making.name) making.attr, h.0, refl, h.1, h.2, h.3);
+        };
         clean = λ clean. cleanly-one x v w h.3;
       }
 
 module _ (lun : ℕ) where
   build-writes : (place : ℕ) (pieces : List (List ℕ)) → All builds (writes_of lun place pieces)
   build-writes place [] = All-nil builds
-  build-writes place (b ∷ more) = All-cons builds (writes lun (suc place) b) (writes_of lun (suc place) more) refl (build-writes (suc place) more)
+  build-writes place (b ∷ more) =
+      All-cons builds (writes lun (suc place) b) (writes_of lun (suc place) more) refl (build-writes (suc place) more)
 
   build-extension : (n : ℕ) → All builds (extension lun n)
   build-extension n = by (n == 0)
@@ -129,10 +155,12 @@ module _ (lun : ℕ) where
   build-opening id = All-cons builds (asks (request.Access id access.Write lun)) [] refl (All-nil builds)
 
 build-creation : (making : Making) (id : FileId) → All builds (creation making id)
-build-creation making id = All-cons builds (told (request.Create 0 (ident_with making.name) making.attr) (reply.Created id)) [] refl (All-nil builds)
+build-creation making id =
+    All-cons builds (told (request.Create 0 (ident_with making.name) making.attr) (reply.Created id)) [] refl (All-nil builds)
 
 module _ {V E : Type 0} {met : Ghosts E} (S : FilesService V) (disk : E → Disk) (m : CopyMode) (who : Who) (lun : ℕ) (name : List ℕ) where
-  fill-so-far : (f : FlxRefusal) (many n : ℕ) (a b : RtAccepted E met) (v w : V) → FailsToFillFromRt S disk m who lun name many n f a b v w → SoFar S who f v w
+  fill-so-far : (f : FlxRefusal) (many n : ℕ) (a b : RtAccepted E met) (v w : V) → FailsToFillFromRt S disk m who lun name many n f a b v w
+      → SoFar S who f v w
   fill-so-far (Files e) many n a b v w h = breaks-so-far S who (filling_of lun n h.pieces) e v w h.breaks
   fill-so-far (Rt e) many n a b v w h = record {
     ended = λ lethal. record {
@@ -143,27 +171,36 @@ module _ {V E : Type 0} {met : Ghosts E} (S : FilesService V) (disk : E → Disk
     clean = λ clean. cleanly-all S who (extension lun n ++ writes_of lun 0 h.pieces) v w h.granted;
   }
   fill-so-far BadRecord many n a b v w h = absurd h
-  fill-so-far LineTooLong many n a b v w h = record { ended = λ lethal. tt; clean = λ clean. cleanly-all S who (extension lun n ++ writes_of lun 0 h.pieces) v w h.granted }
+  fill-so-far LineTooLong many n a b v w h =
+      record { ended = λ lethal. tt; clean = λ clean. cleanly-all S who (extension lun n ++ writes_of lun 0 h.pieces) v w h.granted }
 
-  fill-file-so-far : (f : FlxRefusal) (many n : ℕ) (id : FileId) (a b : RtAccepted E met) (v w : V) → FailsToFillFile S disk m who lun name many n id f a b v w → SoFar S who f v w
-  fill-file-so-far f many n id a b v w (inl h) = subst (λ x. SoFar S who x v w) (sym h.is) (denied-so-far S who (asks (request.Access id access.Write lun)) h.e v w h.denied)
+  fill-file-so-far : (f : FlxRefusal) (many n : ℕ) (id : FileId) (a b : RtAccepted E met) (v w : V)
+      → FailsToFillFile S disk m who lun name many n id f a b v w → SoFar S who f v w
+  fill-file-so-far f many n id a b v w (inl h) =
+      subst (λ x. SoFar S who x v w) (sym h.is) (denied-so-far S who (asks (request.Access id access.Write lun)) h.e v w h.denied)
   fill-file-so-far f many n id a b v w (inr h) =
       undoing-so-far S who (request.Deaccess lun) h.f f v h.left w
-      (built-then S who h.f (opening lun id) v h.between h.left (build-opening lun id) h.opened (fill-so-far h.f many n a b h.between h.left h.fails)) h.undoes
+      (built-then S who h.f (opening lun id) v h.between h.left (build-opening lun id) h.opened
+      (fill-so-far h.f many n a b h.between h.left h.fails)) h.undoes
 
-  filled-cleanly : (many n : ℕ) (id : FileId) (a b : RtAccepted E met) (v w : V) → FillsFile S disk m who lun name many n id a b v w → Cleanly S who v w
+  filled-cleanly : (many n : ℕ) (id : FileId) (a b : RtAccepted E met) (v w : V) → FillsFile S disk m who lun name many n id a b v w
+      → Cleanly S who v w
   filled-cleanly many n id a b v w h =
-      cleanly-then S who v h.between w (cleanly-all S who (opening lun id) v h.between h.opened) (cleanly-all S who (filling_of lun n h.fills.pieces) h.between w h.fills.granted)
+      cleanly-then S who v h.between w (cleanly-all S who (opening lun id) v h.between h.opened)
+      (cleanly-all S who (filling_of lun n h.fills.pieces) h.between w h.fills.granted)
 
-  make-so-far : (f : FlxRefusal) (many n : ℕ) (making : Making) (a b : RtAccepted E met) (v w : V) → FailsToMakeCopy S disk m who lun name many n making f a b v w → SoFar S who f v w
+  make-so-far : (f : FlxRefusal) (many n : ℕ) (making : Making) (a b : RtAccepted E met) (v w : V)
+      → FailsToMakeCopy S disk m who lun name many n making f a b v w → SoFar S who f v w
   make-so-far f many n making a b v w (inl h) = subst (λ x. SoFar S who x v w) (sym h.is) (uncreated-so-far S who making h.e v w h.fails)
   make-so-far f many n making a b v w (inr (inl h)) =
       undoing-so-far S who (request.Delete h.id) h.f f v h.left w
-      (built-then S who h.f (creation making h.id) v h.created h.left (build-creation making h.id) h.creates (fill-file-so-far h.f many n h.id a b h.created h.left h.fails)) h.undoes
+      (built-then S who h.f (creation making h.id) v h.created h.left (build-creation making h.id) h.creates
+      (fill-file-so-far h.f many n h.id a b h.created h.left h.fails)) h.undoes
   make-so-far f many n making a b v w (inr (inr h)) =
       undoing-so-far S who (request.Delete h.id) (Files h.e) f v h.left w
       (cleanly-so-far S who h.e v h.filled h.left
-      (cleanly-then S who v h.created h.filled (cleanly-all S who (creation making h.id) v h.created h.creates) (filled-cleanly many n h.id a b h.created h.filled h.fills))
+      (cleanly-then S who v h.created h.filled (cleanly-all S who (creation making h.id) v h.created h.creates)
+      (filled-cleanly many n h.id a b h.created h.filled h.fills))
       (breaks-so-far S who (entry making h.id) h.e h.filled h.left h.breaks)) h.undoes
 
   plan-ends : (f : FlxRefusal) (a b : RtAccepted E met) (v : V) → FailsToPlan disk m name f a b → Ends S who f v v
@@ -172,6 +209,8 @@ module _ {V E : Type 0} {met : Ghosts E} (S : FilesService V) (disk : E → Disk
   plan-ends BadRecord a b v h = tt
   plan-ends LineTooLong a b v h = tt
 
-  pub copy-ends : (f : FlxRefusal) (dir : FileId) (to : List ℕ) (protection : ℕ) (a b : RtAccepted E met) (v w : V) → FailsToCopyFrom S disk m who lun name dir to protection f a b v w → is_lethal f ≡ true → Ends S who f v w
+  pub copy-ends : (f : FlxRefusal) (dir : FileId) (to : List ℕ) (protection : ℕ) (a b : RtAccepted E met) (v w : V)
+      → FailsToCopyFrom S disk m who lun name dir to protection f a b v w → is_lethal f ≡ true → Ends S who f v w
   copy-ends f dir to protection a b v w (inl h) lethal = subst (λ x. Ends S who f v x) (sym h.unasked) (plan-ends f a b v h.fails)
-  copy-ends f dir to protection a b v w (inr h) lethal = (make-so-far f h.many h.blocks (as_file to dir protection h.attr []) h.between b v w (h.fails [])).ended lethal
+  copy-ends f dir to protection a b v w (inr h) lethal =
+      (make-so-far f h.many h.blocks (as_file to dir protection h.attr []) h.between b v w (h.fails [])).ended lethal

@@ -99,10 +99,12 @@ module _ {V : Type 0} (S : FilesService V) (who : Who) where
   broke-behind : (e : Refusal) (u v w : V) → HoldsAsked S who u v → Broke S who e v w → Broke S who e u w
   broke-behind e u v w h k = record { at = k.at; holds = held-then u v k.at h k.holds; last = k.last; is_last = k.is_last }
 
-  broke-reads : (lun k : ℕ) (xs : List (List ℕ)) (e : Refusal) (v w : V) → BreaksOffAsking S who (reads_of lun k xs) e v w → Broke S who e v w
+  broke-reads : (lun k : ℕ) (xs : List (List ℕ)) (e : Refusal) (v w : V) → BreaksOffAsking S who (reads_of lun k xs) e v w
+      → Broke S who e v w
   broke-reads lun k [] e v w h = absurd h
   broke-reads lun k (x ∷ xs) e v w (inl h) = broke-denied (reads lun (suc k) x) e v w h
-  broke-reads lun k (x ∷ xs) e v w (inr h) = broke-behind e v h.0 w (held-one (reads lun (suc k) x) v h.0 refl h.1) (broke-reads lun (suc k) xs e h.0 w h.2)
+  broke-reads lun k (x ∷ xs) e v w (inr h) =
+      broke-behind e v h.0 w (held-one (reads lun (suc k) x) v h.0 refl h.1) (broke-reads lun (suc k) xs e h.0 w h.2)
 
   ends-held : (v w : V) → HoldsAsked S who v w → EndsHeld S who v w
   ends-held v w h = record { at = w; holds = h; last = inl refl }
@@ -149,20 +151,27 @@ module _ {V : Type 0} (S : FilesService V) (who : Who) (lun : ℕ) (name : List 
   module _ {W : Type 0} (K : TakingBlocks W) (R : Refusing W)
       (rt : (e : FlxRefusal) (place : ℕ) (last : List ℕ) (a b : W) → R name place last e a b → (r : RtRefusal) × (e ≡ Rt r))
     where
-      taken-came : (e : FlxRefusal) (place : ℕ) (last : List ℕ) (a b : W) (v w : V) → R name place last e a b → HoldsAsked S who v w → Came S who e v w
+      taken-came : (e : FlxRefusal) (place : ℕ) (last : List ℕ) (a b : W) (v w : V) → R name place last e a b → HoldsAsked S who v w
+          → Came S who e v w
       taken-came e place last a b v w r h = let k = rt e place last a b r in came-as S who e (Rt k.0) v w k.1 (ends-held S who v w h)
 
-      text-came : (text : ToText) (count : ℕ) (e : FlxRefusal) (v w : V) (t t' : W) → FailsToCopyText S K R who lun name text count e v w t t' →
+      text-came : (text : ToText) (count : ℕ) (e : FlxRefusal) (v w : V) (t t' : W)
+          → FailsToCopyText S K R who lun name text count e v w t t' →
           Came S who e v w
-      text-came text count e v w t t' (inl d) = came-as S who e (Files d.refusal) v w d.is (broke-reads S who lun 0 d.given d.refusal v w d.breaks)
-      text-came text count e v w t t' (inr (inl d)) = came-as S who e BadRecord v w d.is (ends-held S who v w (held-reads S who lun 0 d.given v w d.asked))
+      text-came text count e v w t t' (inl d) =
+          came-as S who e (Files d.refusal) v w d.is (broke-reads S who lun 0 d.given d.refusal v w d.breaks)
+      text-came text count e v w t t' (inr (inl d)) =
+          came-as S who e BadRecord v w d.is (ends-held S who v w (held-reads S who lun 0 d.given v w d.asked))
       text-came text count e v w t t' (inr (inr d)) =
           taken-came e (length d.pieces) d.last d.between t' v w d.refused (held-reads S who lun 0 d.given v w d.asked)
 
-      fails-came : (m : CopyMode) (attr : List ℕ) (n : ℕ) (e : FlxRefusal) (v w : V) (t t' : W) → FailsAs m S K R who lun name attr n e v w t t' →
+      fails-came : (m : CopyMode) (attr : List ℕ) (n : ℕ) (e : FlxRefusal) (v w : V) (t t' : W)
+          → FailsAs m S K R who lun name attr n e v w t t' →
           Came S who e v w
-      fails-came Image attr n e v w t t' (inl d) = came-as S who e (Files d.refusal) v w d.is (broke-reads S who lun 0 d.given d.refusal v w d.breaks)
-      fails-came Image attr n e v w t t' (inr d) = taken-came e (length d.pieces) d.last d.between t' v w d.refused (held-reads S who lun 0 d.given v w d.asked)
+      fails-came Image attr n e v w t t' (inl d) =
+          came-as S who e (Files d.refusal) v w d.is (broke-reads S who lun 0 d.given d.refusal v w d.breaks)
+      fails-came Image attr n e v w t t' (inr d) =
+          taken-came e (length d.pieces) d.last d.between t' v w d.refused (held-reads S who lun 0 d.given v w d.asked)
       fails-came Text attr n e v w t t' (inl k) = came-as S who e BadRecord v w k.is (ends-held S who v w (held-none S who v w k.stays))
       fails-came Text attr n e v w t t' (inr k) = text-came k.0 (up_to_end attr n) e v w t t' k.2
 
@@ -175,16 +184,19 @@ module _ {V : Type 0} (S : FilesService V) (who : Who) (lun : ℕ) (name : List 
   count-held Image attr n count v w h = held-none S who v w h.1
   count-held Text attr n count v w h = copies-held nowhere_takes Text attr n count v w h.0 h.1 h.2
 
-  uncounted-came : (m : CopyMode) (attr : List ℕ) (n : ℕ) (e : FlxRefusal) (v w : V) → FailsToCountAs m S who lun name attr n e v w → Came S who e v w
+  uncounted-came : (m : CopyMode) (attr : List ℕ) (n : ℕ) (e : FlxRefusal) (v w : V) → FailsToCountAs m S who lun name attr n e v w
+      → Came S who e v w
   uncounted-came Image attr n e v w h = absurd h
-  uncounted-came Text attr n e v w h = fails-came nowhere_takes nowhere_refuses (λ x place last p q r. absurd r) Text attr n e v w h.0 h.1 h.2
+  uncounted-came Text attr n e v w h =
+      fails-came nowhere_takes nowhere_refuses (λ x place last p q r. absurd r) Text attr n e v w h.0 h.1 h.2
 
   module _ (file : FileId) where
     told-held : (attr : List ℕ) (n : ℕ) (v w : V) → TellsSource S who lun file attr n v w → HoldsAsked S who v w
     told-held attr n v w h = record {
       asked = told (request.ReadAttr file) (reply.Attr h.of) ∷ counts lun n ∷ [];
       granted = h.asked;
-      holding = All-cons held (told (request.ReadAttr file) (reply.Attr h.of)) (counts lun n ∷ []) refl (All-cons held (counts lun n) [] refl (All-nil held));
+      holding = All-cons held (told (request.ReadAttr file) (reply.Attr h.of)) (counts lun n ∷ []) refl
+          (All-cons held (counts lun n) [] refl (All-nil held));
     }
 
     untold-came : (e : Refusal) (v w : V) → TellsNothing S who lun file e v w → Broke S who e v w
@@ -214,12 +226,15 @@ module _ {V : Type 0} (S : FilesService V) (who : Who) (lun : ℕ) (name : List 
 
       fill-came : (m : CopyMode) (attr : List ℕ) (n count : ℕ) (e : FlxRefusal) (v w : V) (a b : RtAccepted E met) →
           FailsToFillToRt m S disk who lun name attr n count day e v w a b → Came S who e v w
-      fill-came m attr n count e v w a b (inl h) = came-as S who e (Rt h.refusal) v w h.is (ends-held S who v w (held-none S who v w h.stays))
+      fill-came m attr n count e v w a b (inl h) =
+          came-as S who e (Rt h.refusal) v w h.is (ends-held S who v w (held-none S who v w h.stays))
       fill-came m attr n count e v w a b (inr h) =
           undo-came h.refusal e v w h.stopped b h.undoes
-          (fails-came (rt_takes disk) (rt_refuses disk) (λ x place last p q r. (r.refusal, r.is)) m attr n h.refusal v w h.made h.stopped h.fails)
+          (fails-came (rt_takes disk) (rt_refuses disk) (λ x place last p q r. (r.refusal, r.is)) m attr n h.refusal v w h.made h.stopped
+          h.fails)
 
-      pub locked-came : (m : CopyMode) (e : FlxRefusal) (v w : V) (a b : RtAccepted E met) → FailsLocked m S disk who lun file name day e v w a b →
+      pub locked-came : (m : CopyMode) (e : FlxRefusal) (v w : V) (a b : RtAccepted E met)
+          → FailsLocked m S disk who lun file name day e v w a b →
           Came S who e v w
       locked-came m e v w a b (inl k) = came-as S who e (Files k.refusal) v w k.is (untold-came k.refusal v w k.tells)
       locked-came m e v w a b (inr (inl k)) =
@@ -229,13 +244,15 @@ module _ {V : Type 0} (S : FilesService V) (who : Who) (lun : ℕ) (name : List 
           (came-behind S who e k.seen k.walked w (count-held m k.attr k.blocks k.count k.seen k.walked k.counted)
           (fill-came m k.attr k.blocks k.count e k.walked w a b k.fails))
 
-      locked-held : (m : CopyMode) (count : ℕ) (v w : V) (a b : RtAccepted E met) → CopiesLocked m S disk who lun file name count day v w a b → HoldsAsked S who v w
+      locked-held : (m : CopyMode) (count : ℕ) (v w : V) (a b : RtAccepted E met)
+          → CopiesLocked m S disk who lun file name count day v w a b → HoldsAsked S who v w
       locked-held m count v w a b k =
           held-then S who v k.seen w (told-held k.attr k.blocks v k.seen k.told)
           (held-then S who k.seen k.walked w (count-held m k.attr k.blocks count k.seen k.walked k.counted)
           (copies-held (rt_takes disk) m k.attr k.blocks k.fills.taken k.walked w k.fills.made b k.fills.copies))
 
-      pub unclosed-came : (m : CopyMode) (e : FlxRefusal) (v w : V) (a b : RtAccepted E met) → IsNotClosed m S disk who lun file name day e v w a b →
+      pub unclosed-came : (m : CopyMode) (e : FlxRefusal) (v w : V) (a b : RtAccepted E met)
+          → IsNotClosed m S disk who lun file name day e v w a b →
           Came S who e v w
       unclosed-came m e v w a b k =
           undo-came (Files k.refusal) e v w k.filled b k.undoes
@@ -244,7 +261,8 @@ module _ {V : Type 0} (S : FilesService V) (who : Who) (lun : ℕ) (name : List 
           (broke-denied S who (asks (request.Deaccess lun)) k.refusal k.left w k.denied)))
 
       -- what stays on the RT-11 volume where the Files-11 one ended it
-      undo-left : (x e : FlxRefusal) (r : Refusal) (a b : RtAccepted E met) → e ≡ Files r → is_lethal e ≡ true → UndoesToRt disk name x e a b →
+      undo-left : (x e : FlxRefusal) (r : Refusal) (a b : RtAccepted E met) → e ≡ Files r → is_lethal e ≡ true
+          → UndoesToRt disk name x e a b →
           (x ≡ Files r) × (b ≡ a)
       undo-left x e r a b is lethal (inl h) = (sym h.same ∙ is, h.stays)
       undo-left x e r a b is lethal (inr (inl h)) = absurd (true-false (sym lethal ∙ ap is_lethal h.same ∙ h.clean))
@@ -268,14 +286,16 @@ module _ {V : Type 0} (S : FilesService V) (who : Who) (lun : ℕ) (name : List 
           by (inr (inl d)) = absurd (files-bad r d.is)
           by (inr (inr d)) = absurd (files-rt r d.refused.refusal d.refused.is)
 
-      fill-left : (m : CopyMode) (attr : List ℕ) (n count : ℕ) (r : Refusal) (v w : V) (a b : RtAccepted E met) → is_lethal (Files r) ≡ true →
+      fill-left : (m : CopyMode) (attr : List ℕ) (n count : ℕ) (r : Refusal) (v w : V) (a b : RtAccepted E met) → is_lethal (Files r) ≡ true
+          →
           FailsToFillToRt m S disk who lun name attr n count day (Files r) v w a b → IsMadeInPart disk name day a b
       fill-left m attr n count r v w a b lethal (inl h) = absurd (files-rt r h.refusal h.is)
       fill-left m attr n count r v w a b lethal (inr h) =
           let u = undo-left h.refusal (Files r) r h.stopped b refl lethal h.undoes in
           let fails = subst (λ x. FailsAs m S (rt_takes disk) (rt_refuses disk) who lun name attr n x v w h.made h.stopped) u.0 h.fails in
           let t = took-files m attr n r v w h.made h.stopped fails in
-          subst (λ x. IsMadeInPart disk name day a x) (sym u.1) (record { blocks = count; made = h.made; makes = h.makes; pieces = t.0; took = t.1 })
+          subst (λ x. IsMadeInPart disk name day a x) (sym u.1)
+          (record { blocks = count; made = h.made; makes = h.makes; pieces = t.0; took = t.1 })
 
       locked-left : (m : CopyMode) (r : Refusal) (v w : V) (a b : RtAccepted E met) → is_lethal (Files r) ≡ true →
           FailsLocked m S disk who lun file name day (Files r) v w a b → (b ≡ a) ⊎ (IsMadeInPart disk name day a b)
@@ -289,7 +309,8 @@ module _ {V : Type 0} (S : FilesService V) (who : Who) (lun : ℕ) (name : List 
           let u = undo-left (Files k.refusal) (Files r) r k.filled b refl lethal k.undoes in
           let f = k.copies.fills in
           let t = copies-some disk name S who lun m k.copies.attr k.copies.blocks f.taken k.copies.walked k.left f.made k.filled f.copies in
-          subst (λ x. IsMadeInPart disk name day a x) (sym u.1) (record { blocks = k.count; made = f.made; makes = f.makes; pieces = t.0; took = t.1 })
+          subst (λ x. IsMadeInPart disk name day a x) (sym u.1)
+          (record { blocks = k.count; made = f.made; makes = f.makes; pieces = t.0; took = t.1 })
 
       -- which on a sound disk is at most one file more
       none-more : (a b : RtAccepted E met) → b ≡ a → HasAtMostOneMore disk name day a b
@@ -305,7 +326,8 @@ module _ {V : Type 0} (S : FilesService V) (who : Who) (lun : ℕ) (name : List 
             sound = λ s. puts.sound (k.makes.sound s);
             files = λ s. inr (
               k.blocks,
-              has-made name k.blocks day k.pieces (rt_store disk a) (rt_store disk k.made) (rt_store disk b) (k.makes.made s) (puts.replaced (k.makes.sound s)),
+              has-made name k.blocks day k.pieces (rt_store disk a) (rt_store disk k.made) (rt_store disk b) (k.makes.made s)
+                  (puts.replaced (k.makes.sound s)),
             );
           }
 
@@ -317,12 +339,14 @@ module _ {V : Type 0} (S : FilesService V) (who : Who) (lun : ℕ) (name : List 
       came-ends : (m : CopyMode) (e : FlxRefusal) (v w : V) (a b : RtAccepted E met) → Came S who e v w →
           ((r : Refusal) → e ≡ Files r → (b ≡ a) ⊎ (IsMadeInPart disk name day a b)) →
           EndsToRt m S disk who lun file name day e v w a b
-      came-ends m (Files r) v w a b h left = record { files = broke-ends S who r v w h; target = inl (left r refl); left = most-one a b (left r refl) }
+      came-ends m (Files r) v w a b h left =
+          record { files = broke-ends S who r v w h; target = inl (left r refl); left = most-one a b (left r refl) }
       came-ends m (Rt r) v w a b h left = h
       came-ends m BadRecord v w a b h left = tt
       came-ends m LineTooLong v w a b h left = tt
 
-      pub copy-ends-to-rt : (m : CopyMode) (e : FlxRefusal) (v w : V) (a b : RtAccepted E met) → FailsToCopyFileToRt m S disk who lun file name day e v w a b →
+      pub copy-ends-to-rt : (m : CopyMode) (e : FlxRefusal) (v w : V) (a b : RtAccepted E met)
+          → FailsToCopyFileToRt m S disk who lun file name day e v w a b →
           is_lethal e ≡ true →
           EndsToRt m S disk who lun file name day e v w a b
       copy-ends-to-rt m e v w a b (inl k) lethal =
@@ -331,7 +355,9 @@ module _ {V : Type 0} (S : FilesService V) (who : Who) (lun : ℕ) (name : List 
       copy-ends-to-rt m e v w a b (inr (inl k)) lethal = by k.gives
         where
           came : Came S who k.refusal v k.stopped
-          came = came-behind S who k.refusal v k.opened k.stopped (open-held v k.opened k.opens) (locked-came m k.refusal k.opened k.stopped a b k.fails)
+          came =
+              came-behind S who k.refusal v k.opened k.stopped (open-held v k.opened k.opens)
+              (locked-came m k.refusal k.opened k.stopped a b k.fails)
 
           ended : e ≡ k.refusal → w ≡ k.stopped → EndsToRt m S disk who lun file name day e v w a b
           ended same stays =
@@ -363,10 +389,12 @@ module _ {V : Type 0} (S : FilesService V) (who : Who) (lun : ℕ) (name : List 
           by (inr (inl h)) = absurd (true-false (sym lethal ∙ ap is_lethal h.same ∙ h.clean))
           by (inr (inr h)) = ends h.answer_is
             where
-              ends : (((is_lethal (Files h.refusal) ≡ true) × (e ≡ Files h.refusal)) ⊎ ((is_lethal (Files h.refusal) ≡ false) × (e ≡ k.refusal))) →
+              ends : (((is_lethal (Files h.refusal) ≡ true) × (e ≡ Files h.refusal))
+                  ⊎ ((is_lethal (Files h.refusal) ≡ false) × (e ≡ k.refusal))) →
                   EndsToRt m S disk who lun file name day e v w a b
               ends (inl y) = subst (λ x. EndsToRt m S disk who lun file name day x v w a b) (sym y.1) (denied h.refusal h.clean h.denied)
               ends (inr y) = absurd (true-false (sym lethal ∙ ap is_lethal y.1 ∙ h.clean))
       copy-ends-to-rt m e v w a b (inr (inr k)) lethal =
           came-ends m e v w a b (unclosed-came m e v w a b k)
-          (λ r is. inr (unclosed-left m r v w a b (sym (ap is_lethal is) ∙ lethal) (subst (λ x. IsNotClosed m S disk who lun file name day x v w a b) is k)))
+          (λ r is. inr (unclosed-left m r v w a b (sym (ap is_lethal is) ∙ lethal)
+          (subst (λ x. IsNotClosed m S disk who lun file name day x v w a b) is k)))

@@ -1,5 +1,6 @@
 -- A file that is made is the same file when a name was entered.
-use Rattle.std.proofs.Common.{◌≡◌, inl, inr, ℕ, ◌≤◌, ◌==◌, ◌||◌, not, Bool, true, false, nat_lt, if◌then◌else◌, List, [], ◌∷◌, Option, Some, None, is_none, option_map, refl, sym, ap, ◌∙◌, subst, arith}
+use Rattle.std.proofs.Common.{◌≡◌, inl, inr, ℕ, ◌≤◌, ◌==◌, ◌||◌, not, Bool, true, false, nat_lt, if◌then◌else◌, List, [], ◌∷◌, Option, Some}
+use Rattle.std.proofs.Common.{None, is_none, option_map, refl, sym, ap, ◌∙◌, subst, arith}
 use Rattle.std.specs.Prelude.{unwrap_or}
 use Rattle.std.proofs.lemmas.Bool.{and_from, eq-eqb, eqb-true, le-ltb, ne_eqb, or_right}
 use Rattle.f11_store.specs.Causes.{Cause, ◌⇐◌, first_refusal, is_bad, is_missing, lacks_change}
@@ -33,19 +34,28 @@ record StaysOwn (f : File) (t : Store) (k : ℕ) : Type 0 where
   pub owner : now.owner ≡ f.owner
   pub mark : is_marked now ≡ is_marked f
 
-own-changed : (f : File) (t : Store) (k d : ℕ) (change : File → File) → ((g : File) → (change g).sequence ≡ g.sequence) → ((g : File) → (change g).owner ≡ g.owner) → ((g : File) → is_marked (change g) ≡ is_marked g) →
+own-changed : (f : File) (t : Store) (k d : ℕ) (change : File → File) → ((g : File) → (change g).sequence ≡ g.sequence)
+    → ((g : File) → (change g).owner ≡ g.owner) → ((g : File) → is_marked (change g) ≡ is_marked g) →
     StaysOwn f t k → StaysOwn f (with_change t d change) k
 own-changed f t k d change a b c h = by (k == d) refl
   where
     by : (x : Bool) → (k == d) ≡ x → StaysOwn f (with_change t d change) k
     by true is = record {
       now = change h.now;
-      there = ap (λ x. if x then option_map change (t.file d) else t.file k) is ∙ ap (option_map change) (ap t.file (sym (eqb-true k d is)) ∙ h.there);
+      there = ap (λ x. if x then option_map change (t.file d) else t.file k) is
+          ∙ ap (option_map change) (ap t.file (sym (eqb-true k d is)) ∙ h.there);
       sequence = a h.now ∙ h.sequence;
       owner = b h.now ∙ h.owner;
       mark = c h.now ∙ h.mark;
     }
-    by false is = record { now = h.now; there = ap (λ x. if x then option_map change (t.file d) else t.file k) is ∙ h.there; sequence = h.sequence; owner = h.owner; mark = h.mark }
+    by false is =
+        record {
+          now = h.now;
+          there = ap (λ x. if x then option_map change (t.file d) else t.file k) is ∙ h.there;
+          sequence = h.sequence;
+          owner = h.owner;
+          mark = h.mark;
+        }
 
 own-grown : (f : File) (t u : Store) (k d n : ℕ) (blocks : List (List ℕ)) → Grows t d n blocks u → StaysOwn f t k → StaysOwn f u k
 own-grown f t u k d n blocks g h = subst (λ x. StaysOwn f x k) (sym g.store_is) (by (k == d) refl)
@@ -64,45 +74,71 @@ own-grown f t u k d n blocks g h = subst (λ x. StaysOwn f x k) (sym g.store_is)
           owner = ap (λ (x : File). x.owner) same ∙ h.owner;
           mark = ap (λ b. b == 1) (mark-of-cleared g.before.characteristics) ∙ ap (λ (x : File). is_marked x) same ∙ h.mark;
         }
-    by false is = record { now = h.now; there = ap (λ x. if x then Some (grown_file t g.before blocks g.added g.pointers g.room) else t.file k) is ∙ h.there; sequence = h.sequence; owner = h.owner; mark = h.mark }
+    by false is =
+        record {
+          now = h.now;
+          there = ap (λ x. if x then Some (grown_file t g.before blocks g.added g.pointers g.room) else t.file k) is
+              ∙ h.there;
+          sequence = h.sequence;
+          owner = h.owner;
+          mark = h.mark;
+        }
 
-own-entered-at-end : (b : Bool) (f : File) (t u : Store) (k : ℕ) (d : FileId) (i : ℕ) (r : List ℕ) → (k == 1) ≡ false → EntersAtEnd b t d i r u → StaysOwn f t k → StaysOwn f u k
-own-entered-at-end false f t u k d i r late e h = subst (λ x. StaysOwn f x k) (sym e) (own-changed f t k d.number (λ g. with_end_after i (with_entry i r g)) (λ g. refl) (λ g. refl) (λ g. refl) h)
+own-entered-at-end : (b : Bool) (f : File) (t u : Store) (k : ℕ) (d : FileId) (i : ℕ) (r : List ℕ) → (k == 1) ≡ false
+    → EntersAtEnd b t d i r u → StaysOwn f t k → StaysOwn f u k
+own-entered-at-end false f t u k d i r late e h =
+    subst (λ x. StaysOwn f x k) (sym e)
+    (own-changed f t k d.number (λ g. with_end_after i (with_entry i r g)) (λ g. refl) (λ g. refl) (λ g. refl) h)
 own-entered-at-end true f t u k d i r late (v, longer, e) h =
     let ready = gained-is-ready t longer.ready (need (file_named t d).room 1) longer.gains in
-    let here : StaysOwn f longer.ready k = record { now = h.now; there = ready.others k late ∙ h.there; sequence = h.sequence; owner = h.owner; mark = h.mark } in
+    let here : StaysOwn f longer.ready k =
+    record { now = h.now; there = ready.others k late ∙ h.there; sequence = h.sequence; owner = h.owner; mark = h.mark } in
     subst (λ x. StaysOwn f x k) (sym e)
-    (own-changed f v k d.number (λ g. with_end_after i (with_entry i r g)) (λ g. refl) (λ g. refl) (λ g. refl) (own-grown f longer.ready v k d.number 1 (zero_blocks 1) longer.makes here))
+    (own-changed f v k d.number (λ g. with_end_after i (with_entry i r g)) (λ g. refl) (λ g. refl) (λ g. refl)
+    (own-grown f longer.ready v k d.number 1 (zero_blocks 1) longer.makes here))
 
-own-entered : (o : Option ℕ) (f : File) (t u : Store) (k : ℕ) (d : FileId) (r : List ℕ) → (k == 1) ≡ false → EntersAt o t d r u → StaysOwn f t k → StaysOwn f u k
-own-entered (Some i) f t u k d r late e h = subst (λ x. StaysOwn f x k) (sym e) (own-changed f t k d.number (with_entry i r) (λ g. refl) (λ g. refl) (λ g. refl) h)
-own-entered None f t u k d r late e h = own-entered-at-end (needs_block (file_named t d)) f t u k d (entry_count (file_named t d)) r late e h
+own-entered : (o : Option ℕ) (f : File) (t u : Store) (k : ℕ) (d : FileId) (r : List ℕ) → (k == 1) ≡ false → EntersAt o t d r u
+    → StaysOwn f t k → StaysOwn f u k
+own-entered (Some i) f t u k d r late e h =
+    subst (λ x. StaysOwn f x k) (sym e) (own-changed f t k d.number (with_entry i r) (λ g. refl) (λ g. refl) (λ g. refl) h)
+own-entered None f t u k d r late e h =
+    own-entered-at-end (needs_block (file_named t d)) f t u k d (entry_count (file_named t d)) r late e h
 
 -- so its owner may protect it
-protectable : (id : FileId) (f : File) (word : ℕ) (who : Who) (t : Store) → 6 ≤ id.number → id.volume ≡ 0 → f.sequence ≡ id.sequence → f.owner ≡ who.caller → is_marked f ≡ false → StaysOwn f t id.number →
+protectable : (id : FileId) (f : File) (word : ℕ) (who : Who) (t : Store) → 6 ≤ id.number → id.volume ≡ 0 → f.sequence ≡ id.sequence
+    → f.owner ≡ who.caller → is_marked f ≡ false → StaysOwn f t id.number →
     first_refusal t who.task who.caller (request.WriteAttr id (change.Protect word)) ≡ None
 protectable id f word who t low volume sequence owner unmarked h =
     let named : file_of t id ≡ Some h.now = there-file t id (record { file = h.now; is = h.there; sequence = h.sequence ∙ sequence }) in
     let file : file_named t id ≡ h.now = ap (λ o. unwrap_or o no_file) named in
-    let bad : is_bad id ≡ false = bad-not (id.number == 0) (id.volume == 0) (ne_eqb id.number 0 (λ is. omega (arith, is, low))) (eq-eqb id.volume 0 volume) in
+    let bad : is_bad id ≡ false = bad-not (id.number == 0) (id.volume == 0) (ne_eqb id.number 0 (λ is. omega (arith, is, low)))
+    (eq-eqb id.volume 0 volume) in
     let missing : is_missing t id ≡ false = ap (λ o. is_none o) named in
     let marked : is_marked (file_named t id) ≡ false = ap (λ x. is_marked x) file ∙ h.mark ∙ unmarked in
     let barred : lacks_change (change.Protect word) who.caller (file_named t id) ≡ false =
     ap (λ (x : File). not (is_of who.caller x.owner class.System || is_of who.caller x.owner class.Owner)) file
     ∙ ap (λ o. not (is_of who.caller o class.System || is_of who.caller o class.Owner)) (h.owner ∙ owner)
-    ∙ ap (λ b. not b) (or_right (is_of who.caller who.caller class.System) (is_of who.caller who.caller class.Owner) (and_from (who.caller.group == who.caller.group) (who.caller.member == who.caller.member) (same_number who.caller.group) (same_number who.caller.member))) in
+    ∙ ap (λ b. not b) (or_right (is_of who.caller who.caller class.System) (is_of who.caller who.caller class.Owner)
+    (and_from (who.caller.group == who.caller.group) (who.caller.member == who.caller.member) (same_number who.caller.group)
+    (same_number who.caller.member))) in
     let five : List Cause = (NoPrivilege ⇐ lacks_change (change.Protect word) who.caller (file_named t id)) ∷ [] in
     let four : List Cause = (Marked ⇐ is_marked (file_named t id)) ∷ five in
     let three : List Cause = (NoSuchFile ⇐ is_missing t id) ∷ four in
     let two : List Cause = (SystemFile ⇐ nat_lt id.number 4) ∷ three in
-    none-of (BadArgument ⇐ is_bad id) two bad (none-of (SystemFile ⇐ nat_lt id.number 4) three (le-ltb id.number 4 (omega (arith, low))) (none-of (NoSuchFile ⇐ is_missing t id) four missing
-    (none-of (Marked ⇐ is_marked (file_named t id)) five marked (none-of (NoPrivilege ⇐ lacks_change (change.Protect word) who.caller (file_named t id)) [] barred refl))))
+    none-of (BadArgument ⇐ is_bad id) two bad
+    (none-of (SystemFile ⇐ nat_lt id.number 4) three (le-ltb id.number 4 (omega (arith, low)))
+    (none-of (NoSuchFile ⇐ is_missing t id) four missing
+    (none-of (Marked ⇐ is_marked (file_named t id)) five marked
+    (none-of (NoPrivilege ⇐ lacks_change (change.Protect word) who.caller (file_named t id)) [] barred refl))))
 
 -- of entering and protecting a new file nothing is refused but the entry: then all is as it was
-pub entry-refused : (making : Making) (who : Who) (id : FileId) (e : Refusal) (s t u : Store) → IsNewIn who.caller id s.access s t → BreaksOffAsking plain who (entry making id) e t u → u ≡ t
+pub entry-refused : (making : Making) (who : Who) (id : FileId) (e : Refusal) (s t u : Store) → IsNewIn who.caller id s.access s t
+    → BreaksOffAsking plain who (entry making id) e t u → u ≡ t
 entry-refused making who id e s t u h (inl d) = d.2.store_stays
 entry-refused making who id e s t u h (inr (v, g, inl d)) =
     let own : StaysOwn h.file t id.number = record { now = h.file; there = h.there; sequence = refl; owner = refl; mark = refl } in
-    let here = own-entered (index_of_empty (file_named t making.directory)) h.file t v id.number making.directory (record_bytes id making.name) (not-index id.number 6 (omega arith) h.low) g.3.changes own in
-    absurd (subst (λ o. MayRefuse o false false e) (protectable id h.file making.protection who v h.low h.volume h.sequence h.owner h.unmarked here) d.2.may_refuse)
+    let here = own-entered (index_of_empty (file_named t making.directory)) h.file t v id.number making.directory
+    (record_bytes id making.name) (not-index id.number 6 (omega arith) h.low) g.3.changes own in
+    absurd (subst (λ o. MayRefuse o false false e)
+    (protectable id h.file making.protection who v h.low h.volume h.sequence h.owner h.unmarked here) d.2.may_refuse)
 entry-refused making who id e s t u h (inr (v, g, inr (w, k, none))) = absurd none

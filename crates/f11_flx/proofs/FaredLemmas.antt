@@ -1,5 +1,6 @@
 -- What a copy from RT-11 tells of the device that its file is made on.
-use Rattle.std.proofs.Common.{◌≡◌, inl, inr, ℕ, ◌+◌, ◌==◌, ◌||◌, Bool, true, false, IsTrue, if◌then◌else◌, List, [], ◌∷◌, ◌++◌, Result, Ok, Err, refl, sym, ap, ◌∙◌, subst, arith}
+use Rattle.std.proofs.Common.{◌≡◌, inl, inr, ℕ, ◌+◌, ◌==◌, ◌||◌, Bool, true, false, IsTrue, if◌then◌else◌, List, [], ◌∷◌, ◌++◌, Result, Ok}
+use Rattle.std.proofs.Common.{Err, refl, sym, ap, ◌∙◌, subst, arith}
 use Rattle.std.proofs.lemmas.Bool.{or_right}
 use Rattle.f11_dev.specs.Disk.{Disk}
 use Rattle.f11_dev.specs.declared.device.Device.{Ghosts}
@@ -22,7 +23,8 @@ use Rattle.f11_flx.specs.Asking.{Asking, BreaksOffAsking, Denies, Fails, Granted
 use Rattle.f11_flx.specs.Copying.{of_files, of_volume}
 use Rattle.f11_flx.specs.CopyFromRt.{Making, as_file, creation, entry, opening}
 use Rattle.f11_flx.specs.FromRt.{CopiesFrom, FailsToCopyFrom}
-use Rattle.f11_flx.specs.Making.{FailsToFillFromRt, FailsToFillFile, FailsToMakeCopy, FillsFile, Undoing, UndoingIf, extension, filling_of, is_created}
+use Rattle.f11_flx.specs.Making.{FailsToFillFromRt, FailsToFillFile, FailsToMakeCopy, FillsFile, Undoing, UndoingIf, extension, filling_of}
+use Rattle.f11_flx.specs.Making.{is_created}
 use Rattle.f11_flx.specs.Planning.{FailsToPlan}
 use Rattle.f11_flx.specs.Refusal.{is_lethal}
 use Rattle.f11_flx.specs.declared.mode.CopyMode.{CopyMode}
@@ -79,7 +81,8 @@ module _ {D : Type 0} {met : Ghosts D} where
   }
 
   -- what is told by an answer of which these hold is told by another of which they do
-  alike : (a b : Result Unit FlxRefusal) (v w : Volume D met) → of_files is_fault a ≡ of_files is_fault b → of_files is_fatal a ≡ of_files is_fatal b → IsFaring b v w → IsFaring a v w
+  alike : (a b : Result Unit FlxRefusal) (v w : Volume D met) → of_files is_fault a ≡ of_files is_fault b
+      → of_files is_fatal a ≡ of_files is_fatal b → IsFaring b v w → IsFaring a v w
   alike a b v w fault fatal h = record {
     failures = h.failures ∙ ap (λ x. failures_of v + (if x then 1 else 0)) (sym fault);
     quiet = λ is. h.quiet (sym fault ∙ is);
@@ -101,7 +104,8 @@ module _ {D : Type 0} {met : Ghosts D} where
     failures = k.failures ∙ ap (λ n. n + (if of_files is_fault r then 1 else 0)) (h.failures ∙ plus-none (failures_of u));
     quiet = k.quiet;
     honest = k.honest ∙ h.honest;
-    next = λ honest. k.next (subst IsTrue (sym h.honest) honest) ∙ ap (λ x. x || of_files is_fatal r) (h.next honest ∙ or-false (is_spent u));
+    next = λ honest. k.next (subst IsTrue (sym h.honest) honest)
+        ∙ ap (λ x. x || of_files is_fatal r) (h.next honest ∙ or-false (is_spent u));
     spent = λ is. still (is_spent v) (of_files is_fatal r) refl (k.spent is);
     accepted = k.accepted;
   }
@@ -117,36 +121,60 @@ module _ {D : Type 0} {met : Ghosts D} where
   fares-granted : (who : Who) (x : Asking) (v w : Volume D met) → Grants of_volume who x v w → IsFaring done v w
   fares-granted who x v w g =
       let h = granted-fared who x v w g in
-      record { failures = h.failures; quiet = h.quiet; honest = h.honest; next = λ honest. h.next; spent = λ is. sym h.next ∙ is; accepted = h.accepted }
+      record {
+        failures = h.failures;
+        quiet = h.quiet;
+        honest = h.honest;
+        next = λ honest. h.next;
+        spent = λ is. sym h.next ∙ is;
+        accepted = h.accepted;
+      }
 
-  fares-denied : (who : Who) (x : Asking) (e : Refusal) (v w : Volume D met) → Denies of_volume who x e v w → IsFaring (refused (Files e)) v w
+  fares-denied : (who : Who) (x : Asking) (e : Refusal) (v w : Volume D met) → Denies of_volume who x e v w
+      → IsFaring (refused (Files e)) v w
   fares-denied who x e v w d =
       let h = denied-fared who x e v w d in
-      record { failures = h.failures; quiet = h.quiet; honest = h.honest; next = λ honest. h.next; spent = λ is. sym h.next ∙ is; accepted = h.accepted }
+      record {
+        failures = h.failures;
+        quiet = h.quiet;
+        honest = h.honest;
+        next = λ honest. h.next;
+        spent = λ is. sym h.next ∙ is;
+        accepted = h.accepted;
+      }
 
   pub fares-all : (who : Who) (xs : List Asking) (v w : Volume D met) → Granted of_volume who xs v w → IsFaring done v w
   fares-all who [] v w h = subst (λ x. IsFaring done v x) (sym h) (calm-none v)
   fares-all who (x ∷ xs) v w h = calm-then done v h.0 w (fares-granted who x v h.0 h.1) (fares-all who xs h.0 w h.2)
 
-  pub fares-breaking : (who : Who) (xs : List Asking) (e : Refusal) (v w : Volume D met) → BreaksOffAsking of_volume who xs e v w → IsFaring (refused (Files e)) v w
+  pub fares-breaking : (who : Who) (xs : List Asking) (e : Refusal) (v w : Volume D met) → BreaksOffAsking of_volume who xs e v w
+      → IsFaring (refused (Files e)) v w
   fares-breaking who [] e v w h = absurd h
   fares-breaking who (x ∷ xs) e v w (inl h) = fares-denied who x e v w h
-  fares-breaking who (x ∷ xs) e v w (inr h) = calm-then (refused (Files e)) v h.0 w (fares-granted who x v h.0 h.1) (fares-breaking who xs e h.0 w h.2)
+  fares-breaking who (x ∷ xs) e v w (inr h) =
+      calm-then (refused (Files e)) v h.0 w (fares-granted who x v h.0 h.1) (fares-breaking who xs e h.0 w h.2)
 
-  fares-undoing : (who : Who) (r : Request) (f f' : FlxRefusal) (u v w : Volume D met) → IsFaring (refused f) u v → Undoing of_volume who r f f' v w → IsFaring (refused f') u w
+  fares-undoing : (who : Who) (r : Request) (f f' : FlxRefusal) (u v w : Volume D met) → IsFaring (refused f) u v
+      → Undoing of_volume who r f f' v w → IsFaring (refused f') u w
   fares-undoing who r f f' u v w h k = by (is_lethal f) refl k
     where
-      chosen : (e : Refusal) (b : Bool) → is_lethal f ≡ false → is_lethal (Files e) ≡ b → IsFaring (refused (Files e)) v w → IsFaring (refused (if b then Files e else f)) u w
+      chosen : (e : Refusal) (b : Bool) → is_lethal f ≡ false → is_lethal (Files e) ≡ b → IsFaring (refused (Files e)) v w
+          → IsFaring (refused (if b then Files e else f)) u w
       chosen e true is lethal d = calm-then (refused (Files e)) u v w (as-calm f u v is h) d
       chosen e false is lethal d = calm-then (refused f) u v w (as-calm f u v is h) (of-calm f v w is (as-calm (Files e) v w lethal d))
 
       by : (b : Bool) → is_lethal f ≡ b → UndoingIf b of_volume who r f f' v w → IsFaring (refused f') u w
       by true is k = subst (λ x. IsFaring (refused x) u w) (sym k.0) (subst (λ x. IsFaring (refused f) u x) (sym k.1) h)
-      by false is (inl k) = subst (λ x. IsFaring (refused x) u w) (sym k.same) (calm-then (refused f) u v w (as-calm f u v is h) (of-calm f v w is (fares-granted who (asks r) v w k.granted)))
-      by false is (inr k) = subst (λ x. IsFaring (refused x) u w) (sym k.answer) (chosen k.e (is_lethal (Files k.e)) is refl (fares-denied who (asks r) k.e v w k.denied))
+      by false is (inl k) =
+          subst (λ x. IsFaring (refused x) u w) (sym k.same)
+          (calm-then (refused f) u v w (as-calm f u v is h) (of-calm f v w is (fares-granted who (asks r) v w k.granted)))
+      by false is (inr k) =
+          subst (λ x. IsFaring (refused x) u w) (sym k.answer)
+          (chosen k.e (is_lethal (Files k.e)) is refl (fares-denied who (asks r) k.e v w k.denied))
 
   -- a reply of another kind, as no honest device gives
-  fares-wrong : (who : Who) (protection : ℕ) (ident attr : List ℕ) (a : Reply) (v w : Volume D met) → is_created a ≡ false → Grants of_volume who (told (request.Create protection ident attr) a) v w →
+  fares-wrong : (who : Who) (protection : ℕ) (ident attr : List ℕ) (a : Reply) (v w : Volume D met) → is_created a ≡ false
+      → Grants of_volume who (told (request.Create protection ident attr) a) v w →
       IsFaring (refused (Files Damaged)) v w
   fares-wrong who protection ident attr a v w wrong g =
       let h = granted-fared who (told (request.Create protection ident attr) a) v w g in
@@ -160,42 +188,57 @@ module _ {D : Type 0} {met : Ghosts D} where
       }
     where
       never : IsTrue (state_in v).disk.honest → (b : Bool) → is_spent v ≡ b → is_spent w ≡ (is_spent v || true)
-      never honest true is = (granted-fared who (told (request.Create protection ident attr) a) v w g).next ∙ ap (λ x. x || false) is ∙ sym (ap (λ x. x || true) is)
+      never honest true is =
+          (granted-fared who (told (request.Create protection ident attr) a) v w g).next ∙ ap (λ x. x || false) is
+          ∙ sym (ap (λ x. x || true) is)
       never honest false is =
           let sound : is_sound v ≡ true = parts-sound (state_in v).disk.honest (is_spent v) honest is in
           let step = (volume-seen.granted who (told (request.Create protection ident attr) a) v w g sound).0.2 in
           let right : is_created a ≡ true = ap is_created step.reply_is in
           absurd (true-false (sym right ∙ wrong))
 
-  fares-uncreated : (who : Who) (making : Making) (e : Refusal) (v w : Volume D met) → Fails of_volume who is_created (request.Create 0 (ident_with making.name) making.attr) e v w → IsFaring (refused (Files e)) v w
+  fares-uncreated : (who : Who) (making : Making) (e : Refusal) (v w : Volume D met)
+      → Fails of_volume who is_created (request.Create 0 (ident_with making.name) making.attr) e v w → IsFaring (refused (Files e)) v w
   fares-uncreated who making e v w (inl h) = fares-denied who (asks (request.Create 0 (ident_with making.name) making.attr)) e v w h
   fares-uncreated who making e v w (inr h) =
       subst (λ x. IsFaring (refused (Files x)) v w) (sym h.2) (fares-wrong who 0 (ident_with making.name) making.attr h.0 v w h.1 h.3)
 
 module _ {D E : Type 0} {met : Ghosts D} {met' : Ghosts E} (disk : E → Disk) (m : CopyMode) (who : Who) (lun : ℕ) (name : List ℕ) where
-  fill-fares : (f : FlxRefusal) (many n : ℕ) (a b : RtAccepted E met') (v w : Volume D met) → FailsToFillFromRt of_volume disk m who lun name many n f a b v w → IsFaring (refused f) v w
+  fill-fares : (f : FlxRefusal) (many n : ℕ) (a b : RtAccepted E met') (v w : Volume D met)
+      → FailsToFillFromRt of_volume disk m who lun name many n f a b v w → IsFaring (refused f) v w
   fill-fares (Files e) many n a b v w h = fares-breaking who (filling_of lun n h.pieces) e v w h.breaks
-  fill-fares (Rt e) many n a b v w h = alike (refused (Rt e)) done v w refl refl (fares-all who (extension lun n ++ writes_of lun 0 h.pieces) v w h.granted)
+  fill-fares (Rt e) many n a b v w h =
+      alike (refused (Rt e)) done v w refl refl (fares-all who (extension lun n ++ writes_of lun 0 h.pieces) v w h.granted)
   fill-fares BadRecord many n a b v w h = absurd h
-  fill-fares LineTooLong many n a b v w h = alike (refused LineTooLong) done v w refl refl (fares-all who (extension lun n ++ writes_of lun 0 h.pieces) v w h.granted)
+  fill-fares LineTooLong many n a b v w h =
+      alike (refused LineTooLong) done v w refl refl (fares-all who (extension lun n ++ writes_of lun 0 h.pieces) v w h.granted)
 
-  filled-fares : (many n : ℕ) (id : FileId) (a b : RtAccepted E met') (v w : Volume D met) → FillsFile of_volume disk m who lun name many n id a b v w → IsFaring done v w
-  filled-fares many n id a b v w h = calm-then done v h.between w (fares-all who (opening lun id) v h.between h.opened) (fares-all who (filling_of lun n h.fills.pieces) h.between w h.fills.granted)
+  filled-fares : (many n : ℕ) (id : FileId) (a b : RtAccepted E met') (v w : Volume D met)
+      → FillsFile of_volume disk m who lun name many n id a b v w → IsFaring done v w
+  filled-fares many n id a b v w h =
+      calm-then done v h.between w (fares-all who (opening lun id) v h.between h.opened)
+      (fares-all who (filling_of lun n h.fills.pieces) h.between w h.fills.granted)
 
-  fill-file-fares : (f : FlxRefusal) (many n : ℕ) (id : FileId) (a b : RtAccepted E met') (v w : Volume D met) → FailsToFillFile of_volume disk m who lun name many n id f a b v w → IsFaring (refused f) v w
-  fill-file-fares f many n id a b v w (inl h) = subst (λ x. IsFaring (refused x) v w) (sym h.is) (fares-denied who (asks (request.Access id access.Write lun)) h.e v w h.denied)
+  fill-file-fares : (f : FlxRefusal) (many n : ℕ) (id : FileId) (a b : RtAccepted E met') (v w : Volume D met)
+      → FailsToFillFile of_volume disk m who lun name many n id f a b v w → IsFaring (refused f) v w
+  fill-file-fares f many n id a b v w (inl h) =
+      subst (λ x. IsFaring (refused x) v w) (sym h.is) (fares-denied who (asks (request.Access id access.Write lun)) h.e v w h.denied)
   fill-file-fares f many n id a b v w (inr h) =
-      calm-then (refused f) v h.between w (fares-all who (opening lun id) v h.between h.opened) (fares-undoing who (request.Deaccess lun) h.f f h.between h.left w (fill-fares h.f many n a b h.between h.left h.fails) h.undoes)
+      calm-then (refused f) v h.between w (fares-all who (opening lun id) v h.between h.opened)
+      (fares-undoing who (request.Deaccess lun) h.f f h.between h.left w (fill-fares h.f many n a b h.between h.left h.fails) h.undoes)
 
-  make-fares : (f : FlxRefusal) (many n : ℕ) (making : Making) (a b : RtAccepted E met') (v w : Volume D met) → FailsToMakeCopy of_volume disk m who lun name many n making f a b v w → IsFaring (refused f) v w
+  make-fares : (f : FlxRefusal) (many n : ℕ) (making : Making) (a b : RtAccepted E met') (v w : Volume D met)
+      → FailsToMakeCopy of_volume disk m who lun name many n making f a b v w → IsFaring (refused f) v w
   make-fares f many n making a b v w (inl h) = subst (λ x. IsFaring (refused x) v w) (sym h.is) (fares-uncreated who making h.e v w h.fails)
   make-fares f many n making a b v w (inr (inl h)) =
       calm-then (refused f) v h.created w (fares-all who (creation making h.id) v h.created h.creates)
-      (fares-undoing who (request.Delete h.id) h.f f h.created h.left w (fill-file-fares h.f many n h.id a b h.created h.left h.fails) h.undoes)
+      (fares-undoing who (request.Delete h.id) h.f f h.created h.left w (fill-file-fares h.f many n h.id a b h.created h.left h.fails)
+      h.undoes)
   make-fares f many n making a b v w (inr (inr h)) =
       calm-then (refused f) v h.created w (fares-all who (creation making h.id) v h.created h.creates)
       (calm-then (refused f) h.created h.filled w (filled-fares many n h.id a b h.created h.filled h.fills)
-      (fares-undoing who (request.Delete h.id) (Files h.e) f h.filled h.left w (fares-breaking who (entry making h.id) h.e h.filled h.left h.breaks) h.undoes))
+      (fares-undoing who (request.Delete h.id) (Files h.e) f h.filled h.left w
+      (fares-breaking who (entry making h.id) h.e h.filled h.left h.breaks) h.undoes))
 
   plan-fares : (f : FlxRefusal) (a b : RtAccepted E met') (v : Volume D met) → FailsToPlan disk m name f a b → IsFaring (refused f) v v
   plan-fares (Files e) a b v h = absurd h
@@ -203,12 +246,16 @@ module _ {D E : Type 0} {met : Ghosts D} {met' : Ghosts E} (disk : E → Disk) (
   plan-fares BadRecord a b v h = absurd h
   plan-fares LineTooLong a b v h = alike (refused LineTooLong) done v v refl refl (calm-none v)
 
-  pub copies-fares : (dir : FileId) (to : List ℕ) (protection blocks : ℕ) (a b : RtAccepted E met') (v w : Volume D met) → CopiesFrom of_volume disk m who lun name dir to protection blocks a b v w → IsFaring done v w
+  pub copies-fares : (dir : FileId) (to : List ℕ) (protection blocks : ℕ) (a b : RtAccepted E met') (v w : Volume D met)
+      → CopiesFrom of_volume disk m who lun name dir to protection blocks a b v w → IsFaring done v w
   copies-fares dir to protection blocks a b v w h =
       let k = h.makes [] in
       calm-then done v k.created w (fares-all who (creation (as_file to dir protection h.attr []) k.id) v k.created k.creates)
-      (calm-then done k.created k.filled w (filled-fares h.many blocks k.id h.between b k.created k.filled k.fills) (fares-all who (entry (as_file to dir protection h.attr []) k.id) k.filled w k.enters))
+      (calm-then done k.created k.filled w (filled-fares h.many blocks k.id h.between b k.created k.filled k.fills)
+      (fares-all who (entry (as_file to dir protection h.attr []) k.id) k.filled w k.enters))
 
-  pub fails-fares : (f : FlxRefusal) (dir : FileId) (to : List ℕ) (protection : ℕ) (a b : RtAccepted E met') (v w : Volume D met) → FailsToCopyFrom of_volume disk m who lun name dir to protection f a b v w → IsFaring (refused f) v w
+  pub fails-fares : (f : FlxRefusal) (dir : FileId) (to : List ℕ) (protection : ℕ) (a b : RtAccepted E met') (v w : Volume D met)
+      → FailsToCopyFrom of_volume disk m who lun name dir to protection f a b v w → IsFaring (refused f) v w
   fails-fares f dir to protection a b v w (inl h) = subst (λ x. IsFaring (refused f) v x) (sym h.unasked) (plan-fares f a b v h.fails)
-  fails-fares f dir to protection a b v w (inr h) = make-fares f h.many h.blocks (as_file to dir protection h.attr []) h.between b v w (h.fails [])
+  fails-fares f dir to protection a b v w (inr h) =
+      make-fares f h.many h.blocks (as_file to dir protection h.attr []) h.between b v w (h.fails [])

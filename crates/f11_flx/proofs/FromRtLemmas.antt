@@ -30,7 +30,8 @@ created-next making id who s s' h =
     let is : reply.Created id ≡ reply.Created (new_id s) = h.1.2.reply_is in cc
 
 -- the file of a sound volume, and its plan
-pub record Planned (m : CopyMode) (name : List ℕ) (many blocks : ℕ) (attr : List ℕ) {E : Type 0} {met : Ghosts E} (disk : E → Disk) (rt between : RtAccepted E met) : Type 0 where
+pub record Planned (m : CopyMode) (name : List ℕ) (many blocks : ℕ) (attr : List ℕ) {E : Type 0} {met : Ghosts E} (disk : E → Disk)
+    (rt between : RtAccepted E met) : Type 0 where
   pub contents : List (List ℕ)
   pub has : HasContents name contents (rt_store disk rt)
   pub later : HasContents name contents (rt_store disk between)
@@ -38,7 +39,8 @@ pub record Planned (m : CopyMode) (name : List ℕ) (many blocks : ℕ) (attr : 
   pub plan : IsPlan m many blocks attr contents
 
 module _ {E : Type 0} {met : Ghosts E} (disk : E → Disk) (m : CopyMode) (name : List ℕ) where
-  pub planned : (many blocks : ℕ) (attr : List ℕ) (rt between : RtAccepted E met) → Plans disk m name many blocks attr rt between → IsSoundDisk (rt_disk disk rt) → Planned m name many blocks attr disk rt between
+  pub planned : (many blocks : ℕ) (attr : List ℕ) (rt between : RtAccepted E met) → Plans disk m name many blocks attr rt between
+      → IsSoundDisk (rt_disk disk rt) → Planned m name many blocks attr disk rt between
   planned many blocks attr rt between p s =
       let contents = (file_area (p.file s)).contents in
       let has : HasContents name contents (rt_store disk rt) = record { file = p.file s; contents = refl } in
@@ -51,12 +53,14 @@ module _ {E : Type 0} {met : Ghosts E} (disk : E → Disk) (m : CopyMode) (name 
       }
 
   -- what is made of it
-  pub has-making : (many blocks : ℕ) (attr : List ℕ) (rt between : RtAccepted E met) (dir : FileId) (to : List ℕ) (protection : ℕ) → (p : Planned m name many blocks attr disk rt between) →
+  pub has-making : (many blocks : ℕ) (attr : List ℕ) (rt between : RtAccepted E met) (dir : FileId) (to : List ℕ) (protection : ℕ)
+      → (p : Planned m name many blocks attr disk rt between) →
       HasMaking m name (rt_store disk rt) (as_file to dir protection attr p.plan.pieces)
   has-making many blocks attr rt between dir to protection p = record {
     file = p.has.file;
     copy = p.plan.copied.copy;
-    converted = subst (λ l. Rattle.f11_flx.specs.Conversion.copied_from_rt m l ≡ Some p.plan.copied.copy) (sym p.has.contents) p.plan.copied.converted;
+    converted = subst (λ l. Rattle.f11_flx.specs.Conversion.copied_from_rt m l ≡ Some p.plan.copied.copy) (sym p.has.contents)
+        p.plan.copied.converted;
     content_is = p.plan.copied.content_is;
     whole = p.plan.copied.whole;
     attr_is = p.plan.copied.attr_is;
@@ -64,32 +68,41 @@ module _ {E : Type 0} {met : Ghosts E} (disk : E → Disk) (m : CopyMode) (name 
 
   module _ {V : Type 0} (S : FilesService V) (who : Who) (lun : ℕ) where
     -- the blocks that are written are those of the plan
-    pub filled-as-planned : (many blocks : ℕ) (attr : List ℕ) (rt between rt' : RtAccepted E met) (v w : V) → (p : Planned m name many blocks attr disk rt between) → FillsFromRt S disk m who lun name many blocks between rt' v w →
+    pub filled-as-planned : (many blocks : ℕ) (attr : List ℕ) (rt between rt' : RtAccepted E met) (v w : V)
+        → (p : Planned m name many blocks attr disk rt between) → FillsFromRt S disk m who lun name many blocks between rt' v w →
         Granted S who (filling lun p.plan.pieces) v w
     filled-as-planned many blocks attr rt between rt' v w p h =
         let front = h.reads.are p.sound p.contents p.later in
         let same : p.contents ≡ h.source = all-of h.source p.contents many h.count front p.plan.count in
-        let pieces : h.pieces ≡ p.plan.pieces = pieces-are m p.contents p.plan.pieces h.pieces attr h.attr p.plan.copied (subst (λ l. IsCopied m l h.pieces h.attr) (sym same) h.copied) in
-        subst (λ n. Granted S who (filling_of lun n p.plan.pieces) v w) (sym p.plan.blocks_are) (subst (λ l. Granted S who (filling_of lun blocks l) v w) pieces h.granted)
+        let pieces : h.pieces ≡ p.plan.pieces = pieces-are m p.contents p.plan.pieces h.pieces attr h.attr p.plan.copied
+        (subst (λ l. IsCopied m l h.pieces h.attr) (sym same) h.copied) in
+        subst (λ n. Granted S who (filling_of lun n p.plan.pieces) v w) (sym p.plan.blocks_are)
+        (subst (λ l. Granted S who (filling_of lun blocks l) v w) pieces h.granted)
 
-    pub made-as-planned : (making : Making) (many blocks : ℕ) (attr : List ℕ) (rt between rt' : RtAccepted E met) (v w : V) → (p : Planned m name many blocks attr disk rt between) → making.blocks ≡ p.plan.pieces →
+    pub made-as-planned : (making : Making) (many blocks : ℕ) (attr : List ℕ) (rt between rt' : RtAccepted E met) (v w : V)
+        → (p : Planned m name many blocks attr disk rt between) → making.blocks ≡ p.plan.pieces →
         (h : MakesCopy S disk m who lun name many blocks making between rt' v w) → Granted S who (making_of making lun h.id) v w
     made-as-planned making many blocks attr rt between rt' v w p is h =
-        let fill = subst (λ l. Granted S who (filling lun l) h.fills.between h.filled) (sym is) (filled-as-planned many blocks attr rt between rt' h.fills.between h.filled p h.fills.fills) in
-        granted-append S who (creation making h.id) (opening lun h.id ++ (filling lun making.blocks ++ entry making h.id)) v h.created w h.creates
+        let fill = subst (λ l. Granted S who (filling lun l) h.fills.between h.filled) (sym is)
+        (filled-as-planned many blocks attr rt between rt' h.fills.between h.filled p h.fills.fills) in
+        granted-append S who (creation making h.id) (opening lun h.id ++ (filling lun making.blocks ++ entry making h.id)) v h.created w
+        h.creates
         (granted-append S who (opening lun h.id) (filling lun making.blocks ++ entry making h.id) h.created h.fills.between w h.fills.opened
         (granted-append S who (filling lun making.blocks) (entry making h.id) h.fills.between h.filled w fill h.enters))
 
     -- a copy over a sound volume is one over its plain store
-    pub copies-seen : (view : V → Store) (is_sound : V → Bool) → IsSeenPlain S view is_sound → (dir : FileId) (to : List ℕ) (protection blocks : ℕ) (rt rt' : RtAccepted E met) (v w : V) →
+    pub copies-seen : (view : V → Store) (is_sound : V → Bool) → IsSeenPlain S view is_sound
+        → (dir : FileId) (to : List ℕ) (protection blocks : ℕ) (rt rt' : RtAccepted E met) (v w : V) →
         CopiesFrom S disk m who lun name dir to protection blocks rt rt' v w → is_sound v ≡ true → IsSoundDisk (rt_disk disk rt) →
         CopiesFromRt m name who lun dir to protection blocks (rt_store disk rt) (view v) (view w)
     copies-seen view is_sound seen dir to protection blocks rt rt' v w h sound s =
         let p = planned h.many blocks h.attr rt h.between h.plans s in
         let making : Making = as_file to dir protection h.attr p.plan.pieces in
         let k = h.makes p.plan.pieces in
-        let id : k.id ≡ new_id (view v) = created-next making k.id who (view v) (view k.created) (granted-seen S view is_sound seen who (creation making k.id) v k.created k.creates sound).0 in
-        let all = (granted-seen S view is_sound seen who (making_of making lun k.id) v w (made-as-planned making h.many blocks h.attr rt h.between rt' v w p refl k) sound).0 in
+        let id : k.id ≡ new_id (view v) = created-next making k.id who (view v) (view k.created)
+        (granted-seen S view is_sound seen who (creation making k.id) v k.created k.creates sound).0 in
+        let all = (granted-seen S view is_sound seen who (making_of making lun k.id) v w
+        (made-as-planned making h.many blocks h.attr rt h.between rt' v w p refl k) sound).0 in
         record {
           attr = h.attr;
           pieces = p.plan.pieces;

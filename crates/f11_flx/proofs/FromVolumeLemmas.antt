@@ -56,7 +56,8 @@ fault-is BadRecord = refl
 fault-is LineTooLong = refl
 
 module _ {E : Type 0} {met : Ghosts E} (disk : E → Disk) where
-  reads-rt : (r : Result ℕ FlxRefusal) (b : Bool) (old new : RtAccepted E met) → of_rt is_rt_fault r ≡ b → Looks disk b old new → KeepsFailed disk r old new → (has_failed old ≡ true → r ≡ Err (Rt Failed)) → ReadsRt disk r old new
+  reads-rt : (r : Result ℕ FlxRefusal) (b : Bool) (old new : RtAccepted E met) → of_rt is_rt_fault r ≡ b → Looks disk b old new
+      → KeepsFailed disk r old new → (has_failed old ≡ true → r ≡ Err (Rt Failed)) → ReadsRt disk r old new
   reads-rt r b old new is h kept dead =
       let k = subst (λ x. Looks disk x old new) (sym is) h in
       record {
@@ -67,21 +68,27 @@ module _ {E : Type 0} {met : Ghosts E} (disk : E → Disk) where
         history = k.history;
       }
 
-module _ {D E : Type 0} {met : Ghosts D} {met' : Ghosts E} (disk : E → Disk) (m : CopyMode) (who : Who) (lun : ℕ) (name : List ℕ) (dir : FileId) (to : List ℕ) (protection : ℕ) (a b : RtAccepted E met') (v w : Volume D met) where
+module _ {D E : Type 0} {met : Ghosts D} {met' : Ghosts E} (disk : E → Disk) (m : CopyMode) (who : Who) (lun : ℕ) (name : List ℕ)
+    (dir : FileId) (to : List ℕ) (protection : ℕ) (a b : RtAccepted E met') (v w : Volume D met) where
   asks-only : Tries of_volume is_making who v w → AsksOnly is_making who v w
   asks-only h = record { asked = h.asked; tried = h.tried; only = h.only }
 
-  pub source-read : (blocks : ℕ) → CopiesFrom of_volume disk m who lun name dir to protection blocks a b v w → ReadsRt disk (given blocks) a b
-  source-read blocks h = reads-rt disk (given blocks) false a b refl (copies-looks of_volume disk m who lun name dir to protection blocks a b v w h)
+  pub source-read : (blocks : ℕ) → CopiesFrom of_volume disk m who lun name dir to protection blocks a b v w
+      → ReadsRt disk (given blocks) a b
+  source-read blocks h =
+      reads-rt disk (given blocks) false a b refl (copies-looks of_volume disk m who lun name dir to protection blocks a b v w h)
       (copies-unfailed of_volume disk m who lun name dir to protection blocks a b v w h)
       (λ dead. absurd (failed-made of_volume disk m who lun name dir to protection a b v w dead blocks h))
 
-  pub source-refused : (f : FlxRefusal) → FailsToCopyFrom of_volume disk m who lun name dir to protection f a b v w → ReadsRt disk (refused f) a b
-  source-refused f h = reads-rt disk (refused f) (is-rt-fault f) a b (fault-is f) (fails-looks of_volume disk m who lun name f dir to protection a b v w h)
+  pub source-refused : (f : FlxRefusal) → FailsToCopyFrom of_volume disk m who lun name dir to protection f a b v w
+      → ReadsRt disk (refused f) a b
+  source-refused f h =
+      reads-rt disk (refused f) (is-rt-fault f) a b (fault-is f) (fails-looks of_volume disk m who lun name f dir to protection a b v w h)
       (fails-unfailed of_volume disk m who lun name f dir to protection a b v w h)
       (λ dead. ap refused (failed-unmade of_volume disk m who lun name dir to protection a b v w dead f h))
 
-  pub file-made : (blocks : ℕ) → CopiesFrom of_volume disk m who lun name dir to protection blocks a b v w → MayMakeFile (given blocks) who v w
+  pub file-made : (blocks : ℕ) → CopiesFrom of_volume disk m who lun name dir to protection blocks a b v w
+      → MayMakeFile (given blocks) who v w
   file-made blocks h =
       let k = copies-fares disk m who lun name dir to protection blocks a b v w h in
       record {
@@ -95,7 +102,8 @@ module _ {D E : Type 0} {met : Ghosts D} {met' : Ghosts E} (disk : E → Disk) (
       differ : (e : FlxRefusal) → given blocks ≡ refused e → ⊥
       differ e is = cc
 
-  pub file-not-made : (f : FlxRefusal) → FailsToCopyFrom of_volume disk m who lun name dir to protection f a b v w → MayMakeFile (refused f) who v w
+  pub file-not-made : (f : FlxRefusal) → FailsToCopyFrom of_volume disk m who lun name dir to protection f a b v w
+      → MayMakeFile (refused f) who v w
   file-not-made f h = record {
     fares = fares f (fails-fares disk m who lun name f dir to protection a b v w h);
     keeps = fails-keep disk m who lun name f dir to protection a b v w h;
@@ -103,20 +111,29 @@ module _ {D E : Type 0} {met : Ghosts D} {met' : Ghosts E} (disk : E → Disk) (
         let dead = (fails-unfailed of_volume disk m who lun name f dir to protection a b v w h).only is in
         failed-unasked of_volume disk m who lun name dir to protection a b v w dead f h;
     asked = asks-only (fails-tries of_volume disk m who lun name is_making making-requests f dir to protection a b v w h);
-    undone = λ e is sound whole. copy-undone of_volume disk m who lun name store_of_volume is_sound volume-seen f dir to protection a b v w (not-true (is_lethal f) whole) sound (unused v) (standing v sound) h;
+    undone = λ e is sound whole. copy-undone of_volume disk m who lun name store_of_volume is_sound volume-seen f dir to protection a b v w
+        (not-true (is_lethal f) whole) sound (unused v) (standing v sound) h;
   }
     where
       fares : (f : FlxRefusal) → IsFaring {T = Unit} (Err f) v w → FaresFiles (refused f) v w
-      fares (Files e) k = record { failures = k.failures; quiet = k.quiet; honest = k.honest; next = k.next; spent = k.spent; accepted = k.accepted }
-      fares (Rt e) k = record { failures = k.failures; quiet = k.quiet; honest = k.honest; next = k.next; spent = k.spent; accepted = k.accepted }
-      fares BadRecord k = record { failures = k.failures; quiet = k.quiet; honest = k.honest; next = k.next; spent = k.spent; accepted = k.accepted }
-      fares LineTooLong k = record { failures = k.failures; quiet = k.quiet; honest = k.honest; next = k.next; spent = k.spent; accepted = k.accepted }
+      fares (Files e) k =
+          record { failures = k.failures; quiet = k.quiet; honest = k.honest; next = k.next; spent = k.spent; accepted = k.accepted }
+      fares (Rt e) k =
+          record { failures = k.failures; quiet = k.quiet; honest = k.honest; next = k.next; spent = k.spent; accepted = k.accepted }
+      fares BadRecord k =
+          record { failures = k.failures; quiet = k.quiet; honest = k.honest; next = k.next; spent = k.spent; accepted = k.accepted }
+      fares LineTooLong k =
+          record { failures = k.failures; quiet = k.quiet; honest = k.honest; next = k.next; spent = k.spent; accepted = k.accepted }
 
-  pub copy-made : (blocks : ℕ) → CopiesFrom of_volume disk m who lun name dir to protection blocks a b v w → is_sound v ≡ true → IsSoundDisk (rt_disk disk a) →
+  pub copy-made : (blocks : ℕ) → CopiesFrom of_volume disk m who lun name dir to protection blocks a b v w → is_sound v ≡ true
+      → IsSoundDisk (rt_disk disk a) →
       CopiesFromRt m name who lun dir to protection blocks (rt_store disk a) (store_of_volume v) (store_of_volume w)
-  copy-made blocks h sound s = copies-seen disk m name of_volume who lun store_of_volume is_sound volume-seen dir to protection blocks a b v w h sound s
+  copy-made blocks h sound s =
+      copies-seen disk m name of_volume who lun store_of_volume is_sound volume-seen dir to protection blocks a b v w h sound s
 
-  pub copy-not-made : (f : FlxRefusal) → FailsToCopyFrom of_volume disk m who lun name dir to protection f a b v w → is_whole (refused f) ≡ true → is_sound v ≡ true → IsSoundDisk (rt_disk disk a) →
+  pub copy-not-made : (f : FlxRefusal) → FailsToCopyFrom of_volume disk m who lun name dir to protection f a b v w
+      → is_whole (refused f) ≡ true → is_sound v ≡ true → IsSoundDisk (rt_disk disk a) →
       FailsToCopyFromRt f m name who lun dir to protection (rt_disk disk a) (store_of_volume v) (store_of_volume w)
   copy-not-made f h whole sound s =
-      copy-refused of_volume disk m who lun name store_of_volume is_sound volume-seen f dir to protection a b v w (not-true (is_lethal f) whole) sound (unused v) (standing v sound) s h
+      copy-refused of_volume disk m who lun name store_of_volume is_sound volume-seen f dir to protection a b v w
+      (not-true (is_lethal f) whole) sound (unused v) (standing v sound) s h

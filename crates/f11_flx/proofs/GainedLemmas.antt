@@ -1,8 +1,10 @@
 -- A store whose index file gets slots before headers are taken.
-use Rattle.std.proofs.Common.{◌≡◌, ℕ, zero, suc, ◌+◌, ◌-◌, ◌≤◌, ◌==◌, ◌&&◌, Bool, true, false, nat_le, if◌then◌else◌, List, [], ◌++◌, Option, Some, None, option_map, slice_index, take, unwrap_or, refl, sym, ◌∙◌, ap, subst, arith}
+use Rattle.std.proofs.Common.{◌≡◌, ℕ, zero, suc, ◌+◌, ◌-◌, ◌≤◌, ◌==◌, ◌&&◌, Bool, true, false, nat_le, if◌then◌else◌, List, [], ◌++◌}
+use Rattle.std.proofs.Common.{Option, Some, None, option_map, slice_index, take, unwrap_or, refl, sym, ◌∙◌, ap, subst, arith}
 use Rattle.std.proofs.lemmas.Bool.{le-ltb, ne_eqb}
 use Rattle.std.proofs.lemmas.List.{append-nil}
-use Rattle.f11_store.specs.Changes.{EntersAt, EntersAtEnd, GetsSlots, grown_file, next_sequence, with_end_after, with_entry, with_more_slots, with_slots_added}
+use Rattle.f11_store.specs.Changes.{EntersAt, EntersAtEnd, GetsSlots, grown_file, next_sequence, with_end_after, with_entry}
+use Rattle.f11_store.specs.Changes.{with_more_slots, with_slots_added}
 use Rattle.f11_store.specs.Directory.{entry_count, needs_block}
 use Rattle.f11_store.specs.File.{File, need, no_file, without_contiguous, zero_blocks}
 use Rattle.f11_store.specs.Headroom.{slots_first}
@@ -64,13 +66,15 @@ grown-then f g h a b one two = record {
 pub index-then : (s t u : Store) (a b : ℕ) → IndexAfter s t a → IndexAfter t u b → IndexAfter s u (a + b)
 index-then s t u a b (as_it_was none e) (as_it_was none' e') = as_it_was (omega (arith, none, none')) (e' ∙ e)
 index-then s t u a b (as_it_was none e) (grown some f g was now alike) =
-    grown (omega (arith, some)) f g (sym e ∙ was) now (subst (λ (n : ℕ). IsGrownIndex f g n) {x = b} {y = a + b} (omega (arith, none)) alike)
+    grown (omega (arith, some)) f g (sym e ∙ was) now
+    (subst (λ (n : ℕ). IsGrownIndex f g n) {x = b} {y = a + b} (omega (arith, none)) alike)
 index-then s t u a b (grown some f g was now alike) (as_it_was none e) =
     grown (omega (arith, some)) f g was (e ∙ now) (subst (λ (n : ℕ). IsGrownIndex f g n) {x = a} {y = a + b} (omega (arith, none)) alike)
 index-then s t u a b (grown some f g was now alike) (grown some' f' g' was' now' alike') =
     let o : Some g ≡ Some f' = sym now ∙ was' in
     let same : g ≡ f' = cc in
-    grown (omega (arith, some, some')) f g' was now' (grown-then f g g' a b alike (subst (λ (x : File). IsGrownIndex x g' b) (sym same) alike'))
+    grown (omega (arith, some, some')) f g' was now'
+    (grown-then f g g' a b alike (subst (λ (x : File). IsGrownIndex x g' b) (sym same) alike'))
 
 -- how many slots there are then
 pub ready-slots : (s t : Store) (n : ℕ) → IsReady s n t → t.slots ≡ s.slots + n
@@ -120,7 +124,8 @@ enters-from (Some i) t u d r e = record {
   added = 0;
   is-ready = nothing-gained t;
   index = as_it_was refl refl;
-  others = λ k apart. ap (λ (x : Store). x.file k) e ∙ ap (λ b. if b then option_map (with_entry i r) (t.file d.number) else t.file k) apart;
+  others = λ k apart. ap (λ (x : Store). x.file k) e
+      ∙ ap (λ b. if b then option_map (with_entry i r) (t.file d.number) else t.file k) apart;
   access = ap (λ (x : Store). x.access) e;
   slots = ap (λ (x : Store). x.slots) e;
 }
@@ -153,7 +158,8 @@ enters-from None t u d r e = by (needs_block (file_named t d)) e
           others = λ k apart.
               ap (λ (x : Store). x.file k) e ∙ ap (λ b. if b then option_map end (v.file d.number) else v.file k) apart
               ∙ ap (λ (x : Store). x.file k) grows.store_is
-              ∙ ap (λ b. if b then Some (grown_file h.ready grows.before (zero_blocks 1) grows.added grows.pointers grows.room) else h.ready.file k) apart;
+              ∙ ap (λ b. if b then Some (grown_file h.ready grows.before (zero_blocks 1) grows.added grows.pointers grows.room)
+              else h.ready.file k) apart;
           access = ap (λ (x : Store). x.access) e ∙ ap (λ (x : Store). x.access) grows.store_is;
           slots = ap (λ (x : Store). x.slots) e ∙ ap (λ (x : Store). x.slots) grows.store_is;
         }

@@ -1,5 +1,6 @@
 -- What a copy from RT-11 answers where one of the volumes had failed before.
-use Rattle.std.proofs.Common.{◌≡◌, ◌≢◌, inl, inr, ℕ, ◌||◌, Bool, true, false, if◌then◌else◌, List, [], ◌∷◌, ◌++◌, Result, Ok, Err, refl, sym, ap, ◌∙◌, subst}
+use Rattle.std.proofs.Common.{◌≡◌, ◌≢◌, inl, inr, ℕ, ◌||◌, Bool, true, false, if◌then◌else◌, List, [], ◌∷◌, ◌++◌, Result, Ok, Err, refl}
+use Rattle.std.proofs.Common.{sym, ap, ◌∙◌, subst}
 use Rattle.f11_dev.specs.Disk.{Disk}
 use Rattle.f11_dev.specs.declared.device.Device.{Ghosts}
 use Rattle.f11_store.specs.Ident.{ident_with}
@@ -23,11 +24,13 @@ use Rattle.rt11_volume.specs.Calls.{has_failed, volume_device}
 use Rattle.rt11_volume.specs.declared.refusal.RtRefusal.{RtRefusal}
 use Rattle.rt11_volume.specs.declared.refusal.RtRefusal.TheVariants.{Failed}
 use Rattle.rt11_volume.specs.declared.volume.RtAccepted.{RtAccepted}
-use Rattle.f11_flx.specs.Asking.{Asking, BreaksOffAsking, Denies, Fails, Granted, Grants, FilesService, Who, asks, counts, reads, told, writes, writes_of}
+use Rattle.f11_flx.specs.Asking.{Asking, BreaksOffAsking, Denies, Fails, Granted, Grants, FilesService, Who, asks, counts, reads, told}
+use Rattle.f11_flx.specs.Asking.{writes, writes_of}
 use Rattle.f11_flx.specs.Copying.{KeepsFailed, KeepsSpent, of_volume}
 use Rattle.f11_flx.specs.CopyFromRt.{Making, as_file, creation, entry, opening}
 use Rattle.f11_flx.specs.FromRt.{CopiesFrom, FailsToCopyFrom}
-use Rattle.f11_flx.specs.Making.{FailsToFillFromRt, FailsToFillFile, FailsToMakeCopy, FillsFile, Undoing, UndoingIf, extension, filling_of, is_created}
+use Rattle.f11_flx.specs.Making.{FailsToFillFromRt, FailsToFillFile, FailsToMakeCopy, FillsFile, Undoing, UndoingIf, extension, filling_of}
+use Rattle.f11_flx.specs.Making.{is_created}
 use Rattle.f11_flx.specs.Planning.{FailsToPlan}
 use Rattle.f11_flx.specs.Refusal.{is_lethal}
 use Rattle.f11_flx.specs.declared.mode.CopyMode.{CopyMode}
@@ -94,7 +97,8 @@ module _ {D : Type 0} {met : Ghosts D} where
       by true dead = refl
       by false alive = absurd (true-false (sym (ap (λ x. is_refused is_failed x) is) ∙ (h.serving.handled alive).unfailed))
 
-  serves-dead : (v w : Volume D met) (c : Call) (a : Answer) (e : Refusal) → a.result ≡ Err e → is_spent v ≡ true → ServesCall v c a w → (e ≡ VolumeFailed) × (state_in w ≡ state_in v)
+  serves-dead : (v w : Volume D met) (c : Call) (a : Answer) (e : Refusal) → a.result ≡ Err e → is_spent v ≡ true → ServesCall v c a w
+      → (e ≡ VolumeFailed) × (state_in w ≡ state_in v)
   serves-dead v w c a e is dead h = (err-is a.result e is (h.serving.refused dead), (h.serving.untouched dead).0)
 
   -- the length is refused so, too
@@ -121,7 +125,8 @@ module _ {D : Type 0} {met : Ghosts D} where
   denied-asks : (who : Who) (r : Request) (v w : Volume D met) → Denies of_volume who (asks r) VolumeFailed v w → is_spent v ≡ true
   denied-asks who r v w h = serves-spent v w _ _ refl h.2
 
-  pub dead-asks : (who : Who) (r : Request) (e : Refusal) (v w : Volume D met) → is_spent v ≡ true → Denies of_volume who (asks r) e v w → (e ≡ VolumeFailed) × (state_in w ≡ state_in v)
+  pub dead-asks : (who : Who) (r : Request) (e : Refusal) (v w : Volume D met) → is_spent v ≡ true → Denies of_volume who (asks r) e v w
+      → (e ≡ VolumeFailed) × (state_in w ≡ state_in v)
   dead-asks who r e v w dead h = serves-dead v w _ _ e refl dead h.2
 
   denied-spent : (who : Who) (x : Asking) (v w : Volume D met) → Denies of_volume who x VolumeFailed v w → is_spent v ≡ true
@@ -143,7 +148,8 @@ module _ {D : Type 0} {met : Ghosts D} where
     pub other : f ≡ Files VolumeFailed → ⊥
     pub alive : is_lethal f ≡ false → is_spent v ≡ false
 
-  pub denied-live : (who : Who) (x : Asking) (e : Refusal) (v w : Volume D met) → is_spent v ≡ false → Denies of_volume who x e v w → IsLive (Files e) w
+  pub denied-live : (who : Who) (x : Asking) (e : Refusal) (v w : Volume D met) → is_spent v ≡ false → Denies of_volume who x e v w
+      → IsLive (Files e) w
   denied-live who x e v w alive h = record {
     other = λ is. by e h (same is);
     alive = λ clean. (denied-fared who x e v w h).next ∙ ap (λ b. b || is_lethal (Files e)) alive ∙ clean;
@@ -155,26 +161,33 @@ module _ {D : Type 0} {met : Ghosts D} where
       by : (e : Refusal) → Denies of_volume who x e v w → e ≡ VolumeFailed → ⊥
       by e h is = true-false (sym (denied-spent who x v w (subst (λ d. Denies of_volume who x d v w) is h)) ∙ alive)
 
-  pub all-unspent : (who : Who) (xs : List Asking) (v w : Volume D met) → is_spent v ≡ false → Granted of_volume who xs v w → is_spent w ≡ false
+  pub all-unspent : (who : Who) (xs : List Asking) (v w : Volume D met) → is_spent v ≡ false → Granted of_volume who xs v w
+      → is_spent w ≡ false
   all-unspent who [] v w alive h = ap is_spent h ∙ alive
   all-unspent who (x ∷ xs) v w alive h = all-unspent who xs h.0 w (stays-unspent who x v h.0 h.1) h.2
 
-  breaks-live : (who : Who) (xs : List Asking) (e : Refusal) (v w : Volume D met) → is_spent v ≡ false → BreaksOffAsking of_volume who xs e v w → IsLive (Files e) w
+  breaks-live : (who : Who) (xs : List Asking) (e : Refusal) (v w : Volume D met) → is_spent v ≡ false
+      → BreaksOffAsking of_volume who xs e v w → IsLive (Files e) w
   breaks-live who [] e v w alive h = absurd h
   breaks-live who (x ∷ xs) e v w alive (inl h) = denied-live who x e v w alive h
   breaks-live who (x ∷ xs) e v w alive (inr h) = breaks-live who xs e h.0 w (stays-unspent who x v h.0 h.1) h.2
 
-  undoing-live : (who : Who) (r : Request) (f f' : FlxRefusal) (v w : Volume D met) → IsLive f v → Undoing of_volume who r f f' v w → IsLive f' w
+  undoing-live : (who : Who) (r : Request) (f f' : FlxRefusal) (v w : Volume D met) → IsLive f v → Undoing of_volume who r f f' v w
+      → IsLive f' w
   undoing-live who r f f' v w l h = by (is_lethal f) refl h
     where
-      chosen : (e : Refusal) (b : Bool) → is_lethal f ≡ false → is_lethal (Files e) ≡ b → IsLive (Files e) w → IsLive (if b then Files e else f) w
+      chosen : (e : Refusal) (b : Bool) → is_lethal f ≡ false → is_lethal (Files e) ≡ b → IsLive (Files e) w
+          → IsLive (if b then Files e else f) w
       chosen e true is lethal d = d
       chosen e false is lethal d = record { other = l.other; alive = λ clean. d.alive lethal }
 
       by : (b : Bool) → is_lethal f ≡ b → UndoingIf b of_volume who r f f' v w → IsLive f' w
       by true is h = subst (λ x. IsLive x w) (sym h.0) (subst (λ x. IsLive f x) (sym h.1) l)
-      by false is (inl h) = subst (λ x. IsLive x w) (sym h.same) (record { other = l.other; alive = λ clean. stays-unspent who (asks r) v w h.granted })
-      by false is (inr h) = subst (λ x. IsLive x w) (sym h.answer) (chosen h.e (is_lethal (Files h.e)) is refl (denied-live who (asks r) h.e v w (l.alive is) h.denied))
+      by false is (inl h) =
+          subst (λ x. IsLive x w) (sym h.same) (record { other = l.other; alive = λ clean. stays-unspent who (asks r) v w h.granted })
+      by false is (inr h) =
+          subst (λ x. IsLive x w) (sym h.answer)
+          (chosen h.e (is_lethal (Files h.e)) is refl (denied-live who (asks r) h.e v w (l.alive is) h.denied))
 
   -- of a making of which the file was created
   pub keeps-live : (f : FlxRefusal) (v w : Volume D met) → is_spent v ≡ false → (f ≡ Files VolumeFailed → ⊥) → KeepsSpent (refused f) v w
@@ -184,62 +197,93 @@ module _ {D : Type 0} {met : Ghosts D} where
   }
 
   -- of one that is refused before anything else is asked
-  pub first-keeps : (who : Who) (r : Request) (e : Refusal) (v w : Volume D met) → Denies of_volume who (asks r) e v w → KeepsSpent (refused (Files e)) v w
+  pub first-keeps : (who : Who) (r : Request) (e : Refusal) (v w : Volume D met) → Denies of_volume who (asks r) e v w
+      → KeepsSpent (refused (Files e)) v w
   first-keeps who r e v w h = record {
-    only = λ is. denied-asks who r v w (subst (λ d. Denies of_volume who (asks r) d v w) (same (same-refusal (Files e) (Files VolumeFailed) is)) h);
+    only = λ is. denied-asks who r v w
+        (subst (λ d. Denies of_volume who (asks r) d v w) (same (same-refusal (Files e) (Files VolumeFailed) is)) h);
     untouched = λ dead. (dead-asks who r e v w dead h).1;
   }
     where
       same : Files e ≡ Files VolumeFailed → e ≡ VolumeFailed
       same is = cc
 
-  uncreated-keeps : (who : Who) (making : Making) (e : Refusal) (v w : Volume D met) → Fails of_volume who is_created (request.Create 0 (ident_with making.name) making.attr) e v w → KeepsSpent (refused (Files e)) v w
+  uncreated-keeps : (who : Who) (making : Making) (e : Refusal) (v w : Volume D met)
+      → Fails of_volume who is_created (request.Create 0 (ident_with making.name) making.attr) e v w → KeepsSpent (refused (Files e)) v w
   uncreated-keeps who making e v w (inl h) = first-keeps who (request.Create 0 (ident_with making.name) making.attr) e v w h
-  uncreated-keeps who making e v w (inr h) = keeps-live (Files e) v w (granted-unspent who (told (request.Create 0 (ident_with making.name) making.attr) h.0) v w h.3) (λ is. differ (sym (ap Files h.2) ∙ is))
+  uncreated-keeps who making e v w (inr h) =
+      keeps-live (Files e) v w (granted-unspent who (told (request.Create 0 (ident_with making.name) making.attr) h.0) v w h.3)
+      (λ is. differ (sym (ap Files h.2) ∙ is))
     where
       differ : Files Damaged ≡ Files VolumeFailed → ⊥
       differ is = cc
 
-  pub created-alive : (who : Who) (making : Making) (id : FileId) (v w : Volume D met) → Granted of_volume who (creation making id) v w → is_spent v ≡ false
-  created-alive who making id v w h = granted-unspent who (told (request.Create 0 (ident_with making.name) making.attr) (reply.Created id)) v h.0 h.1
+  pub created-alive : (who : Who) (making : Making) (id : FileId) (v w : Volume D met) → Granted of_volume who (creation making id) v w
+      → is_spent v ≡ false
+  created-alive who making id v w h =
+      granted-unspent who (told (request.Create 0 (ident_with making.name) making.attr) (reply.Created id)) v h.0 h.1
 
 module _ {D E : Type 0} {met : Ghosts D} {met' : Ghosts E} (disk : E → Disk) (m : CopyMode) (who : Who) (lun : ℕ) (name : List ℕ) where
-  fill-live : (f : FlxRefusal) (many n : ℕ) (a b : RtAccepted E met') (v w : Volume D met) → is_spent v ≡ false → FailsToFillFromRt of_volume disk m who lun name many n f a b v w → IsLive f w
+  fill-live : (f : FlxRefusal) (many n : ℕ) (a b : RtAccepted E met') (v w : Volume D met) → is_spent v ≡ false
+      → FailsToFillFromRt of_volume disk m who lun name many n f a b v w → IsLive f w
   fill-live (Files e) many n a b v w alive h = breaks-live who (filling_of lun n h.pieces) e v w alive h.breaks
-  fill-live (Rt e) many n a b v w alive h = record { other = files-apart e VolumeFailed; alive = λ clean. all-unspent who (extension lun n ++ writes_of lun 0 h.pieces) v w alive h.granted }
+  fill-live (Rt e) many n a b v w alive h =
+      record {
+        other = files-apart e VolumeFailed;
+        alive = λ clean. all-unspent who (extension lun n ++ writes_of lun 0 h.pieces) v w alive
+            h.granted;
+      }
   fill-live BadRecord many n a b v w alive h = absurd h
-  fill-live LineTooLong many n a b v w alive h = record { other = λ is. absurd (cc); alive = λ clean. all-unspent who (extension lun n ++ writes_of lun 0 h.pieces) v w alive h.granted }
+  fill-live LineTooLong many n a b v w alive h =
+      record {
+        other = λ is. absurd (cc);
+        alive = λ clean. all-unspent who (extension lun n ++ writes_of lun 0 h.pieces) v w alive
+            h.granted;
+      }
 
-  filled-alive : (many n : ℕ) (id : FileId) (a b : RtAccepted E met') (v w : Volume D met) → is_spent v ≡ false → FillsFile of_volume disk m who lun name many n id a b v w → is_spent w ≡ false
-  filled-alive many n id a b v w alive h = all-unspent who (filling_of lun n h.fills.pieces) h.between w (all-unspent who (opening lun id) v h.between alive h.opened) h.fills.granted
+  filled-alive : (many n : ℕ) (id : FileId) (a b : RtAccepted E met') (v w : Volume D met) → is_spent v ≡ false
+      → FillsFile of_volume disk m who lun name many n id a b v w → is_spent w ≡ false
+  filled-alive many n id a b v w alive h =
+      all-unspent who (filling_of lun n h.fills.pieces) h.between w (all-unspent who (opening lun id) v h.between alive h.opened)
+      h.fills.granted
 
-  fill-file-live : (f : FlxRefusal) (many n : ℕ) (id : FileId) (a b : RtAccepted E met') (v w : Volume D met) → is_spent v ≡ false → FailsToFillFile of_volume disk m who lun name many n id f a b v w → IsLive f w
-  fill-file-live f many n id a b v w alive (inl h) = subst (λ x. IsLive x w) (sym h.is) (denied-live who (asks (request.Access id access.Write lun)) h.e v w alive h.denied)
+  fill-file-live : (f : FlxRefusal) (many n : ℕ) (id : FileId) (a b : RtAccepted E met') (v w : Volume D met) → is_spent v ≡ false
+      → FailsToFillFile of_volume disk m who lun name many n id f a b v w → IsLive f w
+  fill-file-live f many n id a b v w alive (inl h) =
+      subst (λ x. IsLive x w) (sym h.is) (denied-live who (asks (request.Access id access.Write lun)) h.e v w alive h.denied)
   fill-file-live f many n id a b v w alive (inr h) =
-      undoing-live who (request.Deaccess lun) h.f f h.left w (fill-live h.f many n a b h.between h.left (all-unspent who (opening lun id) v h.between alive h.opened) h.fails) h.undoes
+      undoing-live who (request.Deaccess lun) h.f f h.left w
+      (fill-live h.f many n a b h.between h.left (all-unspent who (opening lun id) v h.between alive h.opened) h.fails) h.undoes
 
-  make-keeps : (f : FlxRefusal) (many n : ℕ) (making : Making) (a b : RtAccepted E met') (v w : Volume D met) → FailsToMakeCopy of_volume disk m who lun name many n making f a b v w → KeepsSpent (refused f) v w
-  make-keeps f many n making a b v w (inl h) = subst (λ x. KeepsSpent (refused x) v w) (sym h.is) (uncreated-keeps who making h.e v w h.fails)
+  make-keeps : (f : FlxRefusal) (many n : ℕ) (making : Making) (a b : RtAccepted E met') (v w : Volume D met)
+      → FailsToMakeCopy of_volume disk m who lun name many n making f a b v w → KeepsSpent (refused f) v w
+  make-keeps f many n making a b v w (inl h) =
+      subst (λ x. KeepsSpent (refused x) v w) (sym h.is) (uncreated-keeps who making h.e v w h.fails)
   make-keeps f many n making a b v w (inr (inl h)) =
       let alive = created-alive who making h.id v h.created h.creates in
       let made = all-unspent who (creation making h.id) v h.created alive h.creates in
-      keeps-live f v w alive (undoing-live who (request.Delete h.id) h.f f h.left w (fill-file-live h.f many n h.id a b h.created h.left made h.fails) h.undoes).other
+      keeps-live f v w alive (undoing-live who (request.Delete h.id) h.f f h.left w
+      (fill-file-live h.f many n h.id a b h.created h.left made h.fails) h.undoes).other
   make-keeps f many n making a b v w (inr (inr h)) =
       let alive = created-alive who making h.id v h.created h.creates in
       let made = all-unspent who (creation making h.id) v h.created alive h.creates in
       let filled = filled-alive many n h.id a b h.created h.filled made h.fills in
-      keeps-live f v w alive (undoing-live who (request.Delete h.id) (Files h.e) f h.left w (breaks-live who (entry making h.id) h.e h.filled h.left filled h.breaks) h.undoes).other
+      keeps-live f v w alive (undoing-live who (request.Delete h.id) (Files h.e) f h.left w
+      (breaks-live who (entry making h.id) h.e h.filled h.left filled h.breaks) h.undoes).other
 
   plan-keeps : (f : FlxRefusal) (a b : RtAccepted E met') (v : Volume D met) → FailsToPlan disk m name f a b → KeepsSpent (refused f) v v
   plan-keeps (Files e) a b v h = absurd h
-  plan-keeps (Rt e) a b v h = record { only = λ is. absurd (files-apart e VolumeFailed (same-refusal (Rt e) (Files VolumeFailed) is)); untouched = λ dead. refl }
+  plan-keeps (Rt e) a b v h =
+      record { only = λ is. absurd (files-apart e VolumeFailed (same-refusal (Rt e) (Files VolumeFailed) is)); untouched = λ dead. refl }
   plan-keeps BadRecord a b v h = absurd h
-  plan-keeps LineTooLong a b v h = record { only = λ is. absurd (differ (same-refusal LineTooLong (Files VolumeFailed) is)); untouched = λ dead. refl }
+  plan-keeps LineTooLong a b v h =
+      record { only = λ is. absurd (differ (same-refusal LineTooLong (Files VolumeFailed) is)); untouched = λ dead. refl }
     where
       differ : LineTooLong ≡ Files VolumeFailed → ⊥
       differ is = cc
 
-  pub copies-keep : (dir : FileId) (to : List ℕ) (protection blocks : ℕ) (a b : RtAccepted E met') (v w : Volume D met) → CopiesFrom of_volume disk m who lun name dir to protection blocks a b v w → KeepsSpent (given blocks) v w
+  pub copies-keep : (dir : FileId) (to : List ℕ) (protection blocks : ℕ) (a b : RtAccepted E met') (v w : Volume D met)
+      → CopiesFrom of_volume disk m who lun name dir to protection blocks a b v w → KeepsSpent (given blocks) v w
   copies-keep dir to protection blocks a b v w h =
       let k = h.makes [] in
       let alive = created-alive who (as_file to dir protection h.attr []) k.id v k.created k.creates in
@@ -248,9 +292,11 @@ module _ {D E : Type 0} {met : Ghosts D} {met' : Ghosts E} (disk : E → Disk) (
         untouched = λ dead. absurd (true-false (sym dead ∙ alive));
       }
 
-  pub fails-keep : (f : FlxRefusal) (dir : FileId) (to : List ℕ) (protection : ℕ) (a b : RtAccepted E met') (v w : Volume D met) → FailsToCopyFrom of_volume disk m who lun name dir to protection f a b v w → KeepsSpent (refused f) v w
+  pub fails-keep : (f : FlxRefusal) (dir : FileId) (to : List ℕ) (protection : ℕ) (a b : RtAccepted E met') (v w : Volume D met)
+      → FailsToCopyFrom of_volume disk m who lun name dir to protection f a b v w → KeepsSpent (refused f) v w
   fails-keep f dir to protection a b v w (inl h) = subst (λ x. KeepsSpent (refused f) v x) (sym h.unasked) (plan-keeps f a b v h.fails)
-  fails-keep f dir to protection a b v w (inr h) = make-keeps f h.many h.blocks (as_file to dir protection h.attr []) h.between b v w (h.fails [])
+  fails-keep f dir to protection a b v w (inr h) =
+      make-keeps f h.many h.blocks (as_file to dir protection h.attr []) h.between b v w (h.fails [])
 
 module _ {V : Type 0} (S : FilesService V) (who : Who) where
   unfailed-undoing : (r : Request) (f f' : FlxRefusal) (v w : V) → (f ≡ Rt Failed → ⊥) → Undoing S who r f f' v w → f' ≡ Rt Failed → ⊥
@@ -267,7 +313,8 @@ module _ {V : Type 0} (S : FilesService V) (who : Who) where
 
 -- and what it tells of the RT-11 volume
 module _ {E : Type 0} {met : Ghosts E} (disk : E → Disk) where
-  pub alive-keeps : (r : Result ℕ FlxRefusal) (a b : RtAccepted E met) → has_failed a ≡ false → (r ≡ Err (Rt Failed) → ⊥) → KeepsFailed disk r a b
+  pub alive-keeps : (r : Result ℕ FlxRefusal) (a b : RtAccepted E met) → has_failed a ≡ false → (r ≡ Err (Rt Failed) → ⊥)
+      → KeepsFailed disk r a b
   alive-keeps r a b alive other = record {
     only = λ is. absurd (other is);
     untouched = λ dead. absurd (true-false (sym dead ∙ alive));
@@ -288,7 +335,8 @@ module _ {E : Type 0} {met : Ghosts E} (disk : E → Disk) where
       by false is failed = absurd (alive is failed)
 
 module _ {V E : Type 0} {met : Ghosts E} (S : FilesService V) (disk : E → Disk) (m : CopyMode) (who : Who) (lun : ℕ) (name : List ℕ) where
-  fill-unfailed : (f : FlxRefusal) (many n : ℕ) (a b : RtAccepted E met) (v w : V) → has_failed a ≡ false → FailsToFillFromRt S disk m who lun name many n f a b v w → f ≡ Rt Failed → ⊥
+  fill-unfailed : (f : FlxRefusal) (many n : ℕ) (a b : RtAccepted E met) (v w : V) → has_failed a ≡ false
+      → FailsToFillFromRt S disk m who lun name many n f a b v w → f ≡ Rt Failed → ⊥
   fill-unfailed (Files e) many n a b v w alive h is = rt-apart e Failed is
   fill-unfailed (Rt e) many n a b v w alive h is = h.stops.alive alive (same is)
     where
@@ -300,30 +348,39 @@ module _ {V E : Type 0} {met : Ghosts E} (S : FilesService V) (disk : E → Disk
       differ : LineTooLong ≡ Rt Failed → ⊥
       differ is = cc
 
-  make-unfailed : (f : FlxRefusal) (many n : ℕ) (making : Making) (a b : RtAccepted E met) (v w : V) → has_failed a ≡ false → FailsToMakeCopy S disk m who lun name many n making f a b v w → f ≡ Rt Failed → ⊥
+  make-unfailed : (f : FlxRefusal) (many n : ℕ) (making : Making) (a b : RtAccepted E met) (v w : V) → has_failed a ≡ false
+      → FailsToMakeCopy S disk m who lun name many n making f a b v w → f ≡ Rt Failed → ⊥
   make-unfailed f many n making a b v w alive (inl h) is = rt-apart h.e Failed (sym h.is ∙ is)
-  make-unfailed f many n making a b v w alive (inr (inl h)) is = unfailed-undoing S who (request.Delete h.id) h.f f h.left w (λ s. by h.fails s) h.undoes is
+  make-unfailed f many n making a b v w alive (inr (inl h)) is =
+      unfailed-undoing S who (request.Delete h.id) h.f f h.left w (λ s. by h.fails s) h.undoes is
     where
       by : FailsToFillFile S disk m who lun name many n h.id h.f a b h.created h.left → h.f ≡ Rt Failed → ⊥
       by (inl k) s = rt-apart k.e Failed (sym k.is ∙ s)
-      by (inr k) s = unfailed-undoing S who (request.Deaccess lun) k.f h.f k.left h.left (fill-unfailed k.f many n a b k.between k.left alive k.fails) k.undoes s
-  make-unfailed f many n making a b v w alive (inr (inr h)) is = unfailed-undoing S who (request.Delete h.id) (Files h.e) f h.left w (rt-apart h.e Failed) h.undoes is
+      by (inr k) s =
+          unfailed-undoing S who (request.Deaccess lun) k.f h.f k.left h.left (fill-unfailed k.f many n a b k.between k.left alive k.fails)
+          k.undoes s
+  make-unfailed f many n making a b v w alive (inr (inr h)) is =
+      unfailed-undoing S who (request.Delete h.id) (Files h.e) f h.left w (rt-apart h.e Failed) h.undoes is
 
   plan-unfailed : (f : FlxRefusal) (a b : RtAccepted E met) → FailsToPlan disk m name f a b → KeepsFailed disk (refused f) a b
   plan-unfailed (Files e) a b h = absurd h
   plan-unfailed (Rt e) a b h = refused-keeps disk e a b h.alive h.dead
   plan-unfailed BadRecord a b h = absurd h
-  plan-unfailed LineTooLong a b h = alive-keeps disk (refused LineTooLong) a b h.alive (λ is. differ (same-refusal LineTooLong (Rt Failed) is))
+  plan-unfailed LineTooLong a b h =
+      alive-keeps disk (refused LineTooLong) a b h.alive (λ is. differ (same-refusal LineTooLong (Rt Failed) is))
     where
       differ : LineTooLong ≡ Rt Failed → ⊥
       differ is = cc
 
-  pub copies-unfailed : (dir : FileId) (to : List ℕ) (protection blocks : ℕ) (a b : RtAccepted E met) (v w : V) → CopiesFrom S disk m who lun name dir to protection blocks a b v w → KeepsFailed disk (given blocks) a b
+  pub copies-unfailed : (dir : FileId) (to : List ℕ) (protection blocks : ℕ) (a b : RtAccepted E met) (v w : V)
+      → CopiesFrom S disk m who lun name dir to protection blocks a b v w → KeepsFailed disk (given blocks) a b
   copies-unfailed dir to protection blocks a b v w h = alive-keeps disk (given blocks) a b h.plans.alive (no-answer blocks (Rt Failed))
 
-  pub fails-unfailed : (f : FlxRefusal) (dir : FileId) (to : List ℕ) (protection : ℕ) (a b : RtAccepted E met) (v w : V) → FailsToCopyFrom S disk m who lun name dir to protection f a b v w → KeepsFailed disk (refused f) a b
+  pub fails-unfailed : (f : FlxRefusal) (dir : FileId) (to : List ℕ) (protection : ℕ) (a b : RtAccepted E met) (v w : V)
+      → FailsToCopyFrom S disk m who lun name dir to protection f a b v w → KeepsFailed disk (refused f) a b
   fails-unfailed f dir to protection a b v w (inl h) = plan-unfailed f a b h.fails
   fails-unfailed f dir to protection a b v w (inr h) =
       let making : Making = as_file to dir protection h.attr [] in
       alive-keeps disk (refused f) a b h.plans.alive
-      (λ is. make-unfailed f h.many h.blocks making h.between b v w (stays-alive disk a h.between h.plans.looks h.plans.alive) (h.fails []) (same-refusal f (Rt Failed) is))
+      (λ is. make-unfailed f h.many h.blocks making h.between b v w (stays-alive disk a h.between h.plans.looks h.plans.alive) (h.fails [])
+      (same-refusal f (Rt Failed) is))

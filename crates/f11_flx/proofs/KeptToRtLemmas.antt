@@ -73,11 +73,13 @@ module _ {D : Type 0} {met : Ghosts D} (who : Who) where
       before : is_spent h.at ≡ false
       before = all-unspent who h.holds.asked v h.at alive h.holds.granted
 
-      by : (w ≡ h.at) ⊎ ((x : Asking) × (e : Refusal) × (is_lethal (Files e) ≡ false) × Denies of_volume who x e h.at w) → is_spent w ≡ false
+      by : (w ≡ h.at) ⊎ ((x : Asking) × (e : Refusal) × (is_lethal (Files e) ≡ false) × Denies of_volume who x e h.at w)
+          → is_spent w ≡ false
       by (inl same) = ap is_spent same ∙ before
       by (inr d) = (denied-live who d.0 d.1 h.at w before d.3).alive d.2
 
-  held-live : (f : FlxRefusal) (v w : Volume D met) → (f ≡ Files VolumeFailed → ⊥) → is_spent v ≡ false → EndsHeld of_volume who v w → IsLive f w
+  held-live : (f : FlxRefusal) (v w : Volume D met) → (f ≡ Files VolumeFailed → ⊥) → is_spent v ≡ false → EndsHeld of_volume who v w
+      → IsLive f w
   held-live f v w other alive h = record { other = other; alive = λ clean. held-alive v w alive h }
 
   came-live : (f : FlxRefusal) (v w : Volume D met) → is_spent v ≡ false → Came of_volume who f v w → IsLive f w
@@ -96,7 +98,8 @@ module _ {D : Type 0} {met : Ghosts D} (who : Who) where
   came-live BadRecord v w alive h = held-live BadRecord v w (λ is. absurd (cc)) alive h
   came-live LineTooLong v w alive h = held-live LineTooLong v w (λ is. absurd (cc)) alive h
 
-  gave-other : (lun : ℕ) (f e : FlxRefusal) (v w : Volume D met) → IsLive f v → GaveUp of_volume who lun f e v w → e ≡ Files VolumeFailed → ⊥
+  gave-other : (lun : ℕ) (f e : FlxRefusal) (v w : Volume D met) → IsLive f v → GaveUp of_volume who lun f e v w → e ≡ Files VolumeFailed
+      → ⊥
   gave-other lun f e v w l (inl h) is = l.other (sym h.same ∙ is)
   gave-other lun f e v w l (inr (inl h)) is = l.other (sym h.same ∙ is)
   gave-other lun f e v w l (inr (inr h)) is = by h.answer_is
@@ -116,9 +119,11 @@ module _ {D : Type 0} {met : Ghosts D} (who : Who) where
             untouched = λ dead. absurd (true-false (sym dead ∙ alive));
           }
 
-      pub uncopied-keeps : (e : FlxRefusal) → FailsToCopyFileToRt m of_volume disk who lun file name day e v w a b → KeepsSpent (refused e) v w
+      pub uncopied-keeps : (e : FlxRefusal) → FailsToCopyFileToRt m of_volume disk who lun file name day e v w a b
+          → KeepsSpent (refused e) v w
       uncopied-keeps e (inl k) =
-          subst (λ x. KeepsSpent (refused x) v w) (sym k.is) (first-keeps who (request.Access file access.Locked lun) k.refusal v w k.denied)
+          subst (λ x. KeepsSpent (refused x) v w) (sym k.is)
+          (first-keeps who (request.Access file access.Locked lun) k.refusal v w k.denied)
       uncopied-keeps e (inr (inl k)) =
           let x = asks (request.Access file access.Locked lun) in
           let came = locked-came of_volume who lun name file disk day m k.refusal k.opened k.stopped a b k.fails in
@@ -144,7 +149,8 @@ module _ {E : Type 0} {met : Ghosts E} (disk : E → Disk) where
   unasked-bad e a b is left = subst (λ x. KeepsFailed disk (refused x) a b) (sym is) (unasked BadRecord a b bad-apart left)
 
   -- what is refused by a volume that hadn't failed
-  taken-other : (name : List ℕ) (e : FlxRefusal) (place : ℕ) (last : List ℕ) (pieces : List (List ℕ)) (a b c : RtAccepted E met) → has_failed a ≡ false →
+  taken-other : (name : List ℕ) (e : FlxRefusal) (place : ℕ) (last : List ℕ) (pieces : List (List ℕ)) (a b c : RtAccepted E met)
+      → has_failed a ≡ false →
       Took (rt_takes disk) name 0 pieces a b → rt_refuses disk name place last e b c → e ≡ Rt Failed → ⊥
   taken-other name e place last pieces a b c alive took r is =
       let before : has_failed b ≡ false = (took-puts disk name 0 pieces a b took).fares.next ∙ or-false (has_failed a) ∙ alive in
@@ -163,7 +169,8 @@ module _ {V E : Type 0} {met : Ghosts E} (S : FilesService V) (disk : E → Disk
   fails-other : (m : CopyMode) (attr : List ℕ) (n : ℕ) (e : FlxRefusal) (v w : V) (a b : RtAccepted E met) → has_failed a ≡ false →
       FailsAs m S (rt_takes disk) (rt_refuses disk) who lun name attr n e v w a b → e ≡ Rt Failed → ⊥
   fails-other Image attr n e v w a b alive (inl d) = files-other e d.refusal d.is
-  fails-other Image attr n e v w a b alive (inr d) = taken-other disk name e (length d.pieces) d.last d.pieces a d.between b alive d.took d.refused
+  fails-other Image attr n e v w a b alive (inr d) =
+      taken-other disk name e (length d.pieces) d.last d.pieces a d.between b alive d.took d.refused
   fails-other Text attr n e v w a b alive (inl k) = bad-other e k.is
   fails-other Text attr n e v w a b alive (inr k) = by k.2
     where
@@ -191,7 +198,8 @@ module _ {V E : Type 0} {met : Ghosts E} (S : FilesService V) (disk : E → Disk
         text t p q (inr (inl d)) = unasked-bad disk e a b d.is left
         text t p q (inr (inr d)) = absurd d.refused
 
-        fails : (p q : Nowhere) → FailsAs Text S nowhere_takes nowhere_refuses who lun name attr n e v w p q → KeepsFailed disk (refused e) a b
+        fails : (p q : Nowhere) → FailsAs Text S nowhere_takes nowhere_refuses who lun name attr n e v w p q
+            → KeepsFailed disk (refused e) a b
         fails p q (inl k) = unasked-bad disk e a b k.is left
         fails p q (inr k) = text k.0 p q k.2
 
@@ -205,7 +213,8 @@ module _ {V E : Type 0} {met : Ghosts E} (S : FilesService V) (disk : E → Disk
     fill-keeps count day (inr h) =
         let made : has_failed h.made ≡ false = h.makes.fares.next ∙ or-false (has_failed a) ∙ h.makes.alive in
         alive-keeps disk (refused e) a b h.makes.alive
-        (λ is. undo-other h.refusal e h.stopped b (fails-other m attr n h.refusal v w h.made h.stopped made h.fails) h.undoes (same-refusal e (Rt Failed) is))
+        (λ is. undo-other h.refusal e h.stopped b (fails-other m attr n h.refusal v w h.made h.stopped made h.fails) h.undoes
+        (same-refusal e (Rt Failed) is))
 
   gave-keeps : (f e : FlxRefusal) (v w : V) (a b : RtAccepted E met) → KeepsFailed disk (refused f) a b → GaveUp S who lun f e v w →
       KeepsFailed disk (refused e) a b
@@ -225,7 +234,8 @@ module _ {V E : Type 0} {met : Ghosts E} (S : FilesService V) (disk : E → Disk
       by (inr x) = subst (λ y. KeepsFailed disk (refused y) a b) (sym x.1) k
 
   module _ (file : FileId) (day : ℕ) (m : CopyMode) where
-    locked-keeps : (e : FlxRefusal) (v w : V) (a b : RtAccepted E met) → FailsLocked m S disk who lun file name day e v w a b → KeepsFailed disk (refused e) a b
+    locked-keeps : (e : FlxRefusal) (v w : V) (a b : RtAccepted E met) → FailsLocked m S disk who lun file name day e v w a b
+        → KeepsFailed disk (refused e) a b
     locked-keeps e v w a b (inl k) = unasked-files disk e k.refusal a b k.is k.left
     locked-keeps e v w a b (inr (inl k)) = count-keeps m k.attr k.blocks e k.seen w a b k.fails k.left
     locked-keeps e v w a b (inr (inr k)) = fill-keeps m k.attr k.blocks e k.walked w a b k.count day k.fails
@@ -237,7 +247,8 @@ module _ {V E : Type 0} {met : Ghosts E} (S : FilesService V) (disk : E → Disk
     pub unmade-keeps : (e : FlxRefusal) (v w : V) (a b : RtAccepted E met) → FailsToCopyFileToRt m S disk who lun file name day e v w a b →
         KeepsFailed disk (refused e) a b
     unmade-keeps e v w a b (inl k) = unasked-files disk e k.refusal a b k.is k.left
-    unmade-keeps e v w a b (inr (inl k)) = gave-keeps k.refusal e k.stopped w a b (locked-keeps k.refusal k.opened k.stopped a b k.fails) k.gives
+    unmade-keeps e v w a b (inr (inl k)) =
+        gave-keeps k.refusal e k.stopped w a b (locked-keeps k.refusal k.opened k.stopped a b k.fails) k.gives
     unmade-keeps e v w a b (inr (inr k)) =
         alive-keeps disk (refused e) a b k.copies.fills.makes.alive
         (λ is. undo-other (Files k.refusal) e k.filled b (rt-apart k.refusal Failed) k.undoes (same-refusal e (Rt Failed) is))

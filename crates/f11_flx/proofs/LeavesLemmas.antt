@@ -20,14 +20,20 @@ module _ (who : Who) (lun : ℕ) (s : Store) (tidy : FreeIsEmpty s) (stand : Acc
   gone id t u h g = subst (λ x. IsAsBefore s x) (sym g.2) (deleted who.caller id s who t g.0 tidy stand h g.1)
 
   -- it is given up, and deleted
-  given-up : (id : FileId) (t u : Store) → s.access who.task lun ≡ Rattle.std.specs.Prelude.None → IsOpenIn who.caller id s who lun t → Granted plain who (giving_up lun ++ deletion id) t u → IsAsBefore s u
+  given-up : (id : FileId) (t u : Store) → s.access who.task lun ≡ Rattle.std.specs.Prelude.None → IsOpenIn who.caller id s who lun t
+      → Granted plain who (giving_up lun ++ deletion id) t u → IsAsBefore s u
   given-up id t u free h g = gone id g.0 u (closed who.caller id s who lun t g.0 free h g.1) g.2
 
-  pub now-open : (id : FileId) (t u : Store) → IsNewIn who.caller id s.access s t → Granted plain who (opening lun id) t u → IsOpenIn who.caller id s who lun u × (s.access who.task lun ≡ Rattle.std.specs.Prelude.None)
-  now-open id t u h g = (subst (λ x. IsOpenIn who.caller id s who lun x) (sym g.2) (opened who.caller id s who lun t g.0 h g.1), lun-was-free who.caller id s who lun t g.0 h g.1)
+  pub now-open : (id : FileId) (t u : Store) → IsNewIn who.caller id s.access s t → Granted plain who (opening lun id) t u
+      → IsOpenIn who.caller id s who lun u × (s.access who.task lun ≡ Rattle.std.specs.Prelude.None)
+  now-open id t u h g = (
+    subst (λ x. IsOpenIn who.caller id s who lun x) (sym g.2) (opened who.caller id s who lun t g.0 h g.1),
+    lun-was-free who.caller id s who lun t g.0 h g.1,
+  )
 
 -- what was refused alone changed nothing
-one-refused : (who : Who) (making : Making) (id : FileId) (e : Refusal) (t u : Store) → BreaksOffAsking plain who (creation making id) e t u → u ≡ t
+one-refused : (who : Who) (making : Making) (id : FileId) (e : Refusal) (t u : Store) → BreaksOffAsking plain who (creation making id) e t u
+    → u ≡ t
 one-refused who making id e t u (inl d) = d.2.store_stays
 one-refused who making id e t u (inr b) = absurd b.2
 
@@ -40,7 +46,8 @@ refused-making-leaves making who lun e s s' tidy stand (inl h) =
     subst (λ x. IsAsBefore s x) (sym (h.undoes ∙ one-refused who making (new_id s) e h.reached h.left h.breaks ∙ h.granted)) (as-before s)
 refused-making-leaves making who lun e s s' tidy stand (inr (inl h)) =
     let made = new-made making (new_id s) who s h.reached h.granted in
-    let here = subst (λ x. IsNewIn who.caller (new_id s) s.access s x) (sym (access-refused who lun (new_id s) e h.reached h.left h.breaks)) made in
+    let here = subst (λ x. IsNewIn who.caller (new_id s) s.access s x) (sym (access-refused who lun (new_id s) e h.reached h.left h.breaks))
+    made in
     gone who lun s tidy stand (new_id s) h.left s' here h.undoes
 refused-making-leaves making who lun e s s' tidy stand (inr (inr (inl h))) =
     let parts = granted-parts plain who (creation making (new_id s)) (opening lun (new_id s)) s h.reached h.granted in
@@ -49,16 +56,20 @@ refused-making-leaves making who lun e s s' tidy stand (inr (inr (inl h))) =
     let at = filling-breaks who lun (new_id s) s (length making.blocks) making.blocks e h.reached h.left o.0 h.breaks in
     given-up who lun s tidy stand (new_id s) h.left s' o.1 at h.undoes
 refused-making-leaves making who lun e s s' tidy stand (inr (inr (inr h))) =
-    let parts = granted-parts plain who (creation making (new_id s)) (opening lun (new_id s) ++ filling lun making.blocks) s h.reached h.granted in
+    let parts = granted-parts plain who (creation making (new_id s)) (opening lun (new_id s) ++ filling lun making.blocks) s h.reached
+    h.granted in
     let rest = granted-parts plain who (opening lun (new_id s)) (filling lun making.blocks) parts.0 h.reached parts.2 in
     let made = new-made making (new_id s) who s parts.0 parts.1 in
     let o = now-open who lun s tidy stand (new_id s) parts.0 rest.0 made rest.1 in
     let c = filled-closed who lun (new_id s) s (length making.blocks) making.blocks rest.0 h.reached o.1 o.0 rest.2 in
-    let here = subst (λ x. IsNewIn who.caller (new_id s) s.access s x) (sym (entry-refused making who (new_id s) e s h.reached h.left c h.breaks)) c in
+    let here = subst (λ x. IsNewIn who.caller (new_id s) s.access s x)
+    (sym (entry-refused making who (new_id s) e s h.reached h.left c h.breaks)) c in
     gone who lun s tidy stand (new_id s) h.left s' here h.undoes
 
 pub refused-copy-leaves : RefusedCopyLeaves
-refused-copy-leaves (Files e) m name who lun dir to protection disk s s' tidy stand h = refused-making-leaves _ who lun e s s' tidy stand h.fails
+refused-copy-leaves (Files e) m name who lun dir to protection disk s s' tidy stand h =
+    refused-making-leaves _ who lun e s s' tidy stand h.fails
 refused-copy-leaves (Rt e) m name who lun dir to protection disk s s' tidy stand h = subst (λ x. IsAsBefore s x) (sym h.1) (as-before s)
 refused-copy-leaves BadRecord m name who lun dir to protection disk s s' tidy stand h = absurd h
-refused-copy-leaves LineTooLong m name who lun dir to protection disk s s' tidy stand h = subst (λ x. IsAsBefore s x) (sym h.1) (as-before s)
+refused-copy-leaves LineTooLong m name who lun dir to protection disk s s' tidy stand h =
+    subst (λ x. IsAsBefore s x) (sym h.1) (as-before s)

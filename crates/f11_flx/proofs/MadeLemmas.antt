@@ -1,5 +1,6 @@
 -- What a making that is granted makes.
-use Rattle.std.proofs.Common.{◌≡◌, ℕ, suc, ◌+◌, ◌-◌, ◌==◌, ◌||◌, Bool, true, false, nat_lt, if◌then◌else◌, List, [], ◌∷◌, ◌++◌, All, length, Some, None, option_map, refl, sym, ap, ◌∙◌, subst, append_assoc, length-append, arith}
+use Rattle.std.proofs.Common.{◌≡◌, ℕ, suc, ◌+◌, ◌-◌, ◌==◌, ◌||◌, Bool, true, false, nat_lt, if◌then◌else◌, List, [], ◌∷◌, ◌++◌, All, length}
+use Rattle.std.proofs.Common.{Some, None, option_map, refl, sym, ap, ◌∙◌, subst, append_assoc, length-append, arith}
 use Rattle.std.specs.Prelude.{slice_set}
 use Rattle.std.specs.List.{concat}
 use Rattle.std.proofs.Math.Seq.{set-append_seam}
@@ -43,10 +44,20 @@ record IsSuch (making : Making) (caller : Uic) (blocks : List (List ℕ)) (k : �
   pub ident_is : file.ident ≡ ident_with making.name
   pub owner_is : file.owner ≡ caller
 
-such-stays : (making : Making) (caller : Uic) (blocks : List (List ℕ)) (k : ℕ) (t u : Store) → u.file k ≡ t.file k → IsSuch making caller blocks k t → IsSuch making caller blocks k u
-such-stays making caller blocks k t u same h = record { file = h.file; there = same ∙ h.there; blocks_are = h.blocks_are; attr_is = h.attr_is; ident_is = h.ident_is; owner_is = h.owner_is }
+such-stays : (making : Making) (caller : Uic) (blocks : List (List ℕ)) (k : ℕ) (t u : Store) → u.file k ≡ t.file k
+    → IsSuch making caller blocks k t → IsSuch making caller blocks k u
+such-stays making caller blocks k t u same h =
+    record {
+      file = h.file;
+      there = same ∙ h.there;
+      blocks_are = h.blocks_are;
+      attr_is = h.attr_is;
+      ident_is = h.ident_is;
+      owner_is = h.owner_is;
+    }
 
-such-created : (making : Making) (who : Who) (s t : Store) → Granted plain who (creation making (new_id s)) s t → IsSuch making who.caller [] (new_id s).number t
+such-created : (making : Making) (who : Who) (s t : Store) → Granted plain who (creation making (new_id s)) s t
+    → IsSuch making who.caller [] (new_id s).number t
 such-created making who s t h =
     let made = h.1.2.changes in
     let r : Store = made.ready in
@@ -55,7 +66,8 @@ such-created making who s t h =
     subst (λ (i : FileId). IsSuch making who.caller [] i.number t) (sym is)
     (record {
       file = file;
-      there = ap (λ (x : Store). x.file (least_free r)) (h.2 ∙ made.makes) ∙ ap (λ b. if b then Some file else r.file (least_free r)) (same_number (least_free r));
+      there = ap (λ (x : Store). x.file (least_free r)) (h.2 ∙ made.makes)
+          ∙ ap (λ b. if b then Some file else r.file (least_free r)) (same_number (least_free r));
       blocks_are = refl;
       attr_is = refl;
       ident_is = refl;
@@ -64,7 +76,8 @@ such-created making who s t h =
 
 module _ (making : Making) (who : Who) (lun : ℕ) (id : FileId) (s : Store) where
   -- blocks are allocated
-  such-extended : (n : ℕ) (t u : Store) → IsOpenIn who.caller id s who lun t → IsSuch making who.caller [] id.number t → Granted plain who (extension lun n) t u → IsSuch making who.caller (zero_blocks n) id.number u
+  such-extended : (n : ℕ) (t u : Store) → IsOpenIn who.caller id s who lun t → IsSuch making who.caller [] id.number t
+      → Granted plain who (extension lun n) t u → IsSuch making who.caller (zero_blocks n) id.number u
   such-extended n t u o h = by (n == 0) refl
     where
       none : (k : ℕ) → k ≡ 0 → [] ≡ zero_blocks k
@@ -74,7 +87,8 @@ module _ (making : Making) (who : Who) (lun : ℕ) (id : FileId) (s : Store) whe
           no-blocks [] is = refl
           no-blocks (x ∷ xs) is = absurd (omega (arith, is))
 
-      by : (b : Bool) → (n == 0) ≡ b → Granted plain who (if b then [] else asks (request.Extend lun n) ∷ []) t u → IsSuch making who.caller (zero_blocks n) id.number u
+      by : (b : Bool) → (n == 0) ≡ b → Granted plain who (if b then [] else asks (request.Extend lun n) ∷ []) t u
+          → IsSuch making who.caller (zero_blocks n) id.number u
       by true is g =
           let k = such-stays making who.caller [] id.number t u (ap (λ (x : Store). x.file id.number) g) h in
           subst (λ l. IsSuch making who.caller l id.number u) (none n (eqb-true n 0 is)) k
@@ -90,7 +104,8 @@ module _ (making : Making) (who : Who) (lun : ℕ) (id : FileId) (s : Store) whe
           let grown : File = grown_file r grows.before (zero_blocks n) grows.added grows.pointers grows.room in
           record {
             file = grown;
-            there = ap (λ (x : Store). x.file id.number) (g.2 ∙ grows.store_is) ∙ ap (λ b. if b then Some grown else r.file id.number) (same_number id.number);
+            there = ap (λ (x : Store). x.file id.number) (g.2 ∙ grows.store_is)
+                ∙ ap (λ b. if b then Some grown else r.file id.number) (same_number id.number);
             blocks_are = ap (λ (f : File). f.blocks ++ zero_blocks n) same ∙ ap (λ l. l ++ zero_blocks n) h.blocks_are;
             attr_is = ap (λ (f : File). f.attr) same ∙ h.attr_is;
             ident_is = ap (λ (f : File). f.ident) same ∙ h.ident_is;
@@ -98,14 +113,18 @@ module _ (making : Making) (who : Who) (lun : ℕ) (id : FileId) (s : Store) whe
           }
 
   -- one is written
-  such-written : (vbn : ℕ) (block : List ℕ) (blocks : List (List ℕ)) (t u : Store) → IsOpenIn who.caller id s who lun t → IsSuch making who.caller blocks id.number t → Grants plain who (writes lun vbn block) t u →
+  such-written : (vbn : ℕ) (block : List ℕ) (blocks : List (List ℕ)) (t u : Store) → IsOpenIn who.caller id s who lun t
+      → IsSuch making who.caller blocks id.number t → Grants plain who (writes lun vbn block) t u →
       IsSuch making who.caller (slice_set blocks (vbn - 1) block) id.number u
   such-written vbn block blocks t u o h g =
       let at : id_held t who.task lun ≡ id = ap id_in (holds who.caller id s who lun t o) in
-      let changed : u ≡ with_change t id.number (with_block vbn block) = g.2.changes ∙ ap (λ (i : FileId). with_change t i.number (with_block vbn block)) at in
+      let changed : u ≡ with_change t id.number (with_block vbn block) = g.2.changes
+      ∙ ap (λ (i : FileId). with_change t i.number (with_block vbn block)) at in
       record {
         file = with_block vbn block h.file;
-        there = ap (λ (x : Store). x.file id.number) changed ∙ ap (λ b. if b then option_map (with_block vbn block) (t.file id.number) else t.file id.number) (same_number id.number) ∙ ap (option_map (with_block vbn block)) h.there;
+        there = ap (λ (x : Store). x.file id.number) changed
+            ∙ ap (λ b. if b then option_map (with_block vbn block) (t.file id.number) else t.file id.number) (same_number id.number)
+            ∙ ap (option_map (with_block vbn block)) h.there;
         blocks_are = ap (λ l. slice_set l (vbn - 1) block) h.blocks_are;
         attr_is = h.attr_is;
         ident_is = h.ident_is;
@@ -113,9 +132,11 @@ module _ (making : Making) (who : Who) (lun : ℕ) (id : FileId) (s : Store) whe
       }
 
   -- all are, one after another
-  such-filled : (front pieces zs : List (List ℕ)) (t u : Store) → length zs ≡ length pieces → IsOpenIn who.caller id s who lun t → IsSuch making who.caller (front ++ zs) id.number t →
+  such-filled : (front pieces zs : List (List ℕ)) (t u : Store) → length zs ≡ length pieces → IsOpenIn who.caller id s who lun t
+      → IsSuch making who.caller (front ++ zs) id.number t →
       Granted plain who (writes_of lun (length front) pieces) t u → IsSuch making who.caller (front ++ pieces) id.number u
-  such-filled front [] [] t u size o h g = such-stays making who.caller (front ++ []) id.number t u (ap (λ (x : Store). x.file id.number) g) h
+  such-filled front [] [] t u size o h g =
+      such-stays making who.caller (front ++ []) id.number t u (ap (λ (x : Store). x.file id.number) g) h
   such-filled front [] (z ∷ zs) t u size o h g = absurd (omega (arith, size))
   such-filled front (x ∷ more) [] t u size o h g = absurd (omega (arith, size))
   such-filled front (x ∷ more) (z ∷ zs) t u size o h g =
@@ -124,16 +145,21 @@ module _ (making : Making) (who : Who) (lun : ℕ) (id : FileId) (s : Store) whe
       let set : slice_set (front ++ z ∷ zs) (suc (length front) - 1) x ≡ (front ++ x ∷ []) ++ zs =
       ap (λ n. slice_set (front ++ z ∷ zs) n x) place ∙ set-append_seam front z zs x ∙ sym (append_assoc front (x ∷ []) zs) in
       let next : length (front ++ x ∷ []) ≡ suc (length front) = omega (arith, length-append front (x ∷ [])) in
-      let rest = such-filled (front ++ x ∷ []) more zs g.0 u (omega (arith, size)) (written who.caller id s who lun (suc (length front)) x t g.0 o g.1) (subst (λ l. IsSuch making who.caller l id.number g.0) set one)
+      let rest = such-filled (front ++ x ∷ []) more zs g.0 u (omega (arith, size))
+      (written who.caller id s who lun (suc (length front)) x t g.0 o g.1)
+      (subst (λ l. IsSuch making who.caller l id.number g.0) set one)
       (subst (λ n. Granted plain who (writes_of lun n more) g.0 u) (sym next) g.2) in
       subst (λ l. IsSuch making who.caller l id.number u) (append_assoc front (x ∷ []) more) rest
 
 -- a name isn't entered into the index file
-entered-own : (who : Who) (d : FileId) (name : List ℕ) (id : FileId) (t : Store) → first_refusal t who.task who.caller (request.Enter d name id) ≡ None → (d.number == 1) ≡ false
-entered-own who d name id t none = no_index d (none_first (nat_lt d.number 4) SystemFile _ (none_rest (is_bad d || is_bad id) BadArgument _ none))
+entered-own : (who : Who) (d : FileId) (name : List ℕ) (id : FileId) (t : Store)
+    → first_refusal t who.task who.caller (request.Enter d name id) ≡ None → (d.number == 1) ≡ false
+entered-own who d name id t none =
+    no_index d (none_first (nat_lt d.number 4) SystemFile _ (none_rest (is_bad d || is_bad id) BadArgument _ none))
 
 -- a file that is filled and closed, and then entered and protected
-made-of : (making : Making) (who : Who) (id : FileId) (s t s' : Store) → (id.number == making.directory.number) ≡ false → IsNewIn who.caller id s.access s t → IsSuch making who.caller making.blocks id.number t →
+made-of : (making : Making) (who : Who) (id : FileId) (s t s' : Store) → (id.number == making.directory.number) ≡ false
+    → IsNewIn who.caller id s.access s t → IsSuch making who.caller making.blocks id.number t →
     Granted plain who (entry making id) t s' → HasMadeFile making who.caller id s s'
 made-of making who id s t s' apart h k g =
     let v = g.0 in
@@ -149,12 +175,15 @@ made-of making who id s t s' apart h k g =
     let same : k.file ≡ h.file = cc in
     let here : v.file id.number ≡ Some k.file = from.others id.number apart ∙ from.is-ready.others id.number late ∙ k.there in
     let index-file : s'.file 1 ≡ r.file 1 =
-    ap (λ (x : Store). x.file 1) last ∙ ap (λ b. if b then option_map protect (v.file id.number) else v.file 1) (other-way id.number 1 late) ∙ from.others 1 (other-way d.number 1 own) in
+    ap (λ (x : Store). x.file 1) last ∙ ap (λ b. if b then option_map protect (v.file id.number) else v.file 1) (other-way id.number 1 late)
+    ∙ from.others 1 (other-way d.number 1 own) in
     record {
       file = protect k.file;
       sequence_is = ap (λ (f : File). f.sequence) same ∙ h.sequence;
       was_free = h.unused;
-      there = ap (λ (x : Store). x.file id.number) last ∙ ap (λ b. if b then option_map protect (v.file id.number) else v.file id.number) (same_number id.number) ∙ ap (option_map protect) here;
+      there = ap (λ (x : Store). x.file id.number) last
+          ∙ ap (λ b. if b then option_map protect (v.file id.number) else v.file id.number) (same_number id.number)
+          ∙ ap (option_map protect) here;
       blocks_are = k.blocks_are;
       attr_is = k.attr_is;
       ident_is = k.ident_is;
@@ -165,14 +194,17 @@ made-of making who id s t s' apart h k g =
         after = v;
         as_before = h.others d.number (other-way id.number d.number apart) own;
         enters = enters;
-        as_after = ap (λ (x : Store). x.file d.number) last ∙ ap (λ b. if b then option_map protect (v.file id.number) else v.file d.number) (other-way id.number d.number apart);
+        as_after = ap (λ (x : Store). x.file d.number) last
+            ∙ ap (λ b. if b then option_map protect (v.file id.number) else v.file d.number) (other-way id.number d.number apart);
       };
       others = λ n a b other.
-          ap (λ (x : Store). x.file n) last ∙ ap (λ c. if c then option_map protect (v.file id.number) else v.file n) a ∙ from.others n b ∙ from.is-ready.others n other ∙ h.others n a other;
+          ap (λ (x : Store). x.file n) last ∙ ap (λ c. if c then option_map protect (v.file id.number) else v.file n) a ∙ from.others n b
+          ∙ from.is-ready.others n other ∙ h.others n a other;
       added = h.added + from.added;
       index = index-stays s r s' (h.added + from.added) index-file (index-then s t r h.added from.added h.index from.index);
       slots = omega (arith, ap (λ (x : Store). x.slots) last, from.slots, ready-slots t r from.added from.is-ready, h.slots);
-      access = λ task lun. ap (λ (x : Store). x.access task lun) last ∙ ap (λ a. a task lun) (from.access ∙ from.is-ready.access) ∙ h.access task lun;
+      access = λ task lun. ap (λ (x : Store). x.access task lun) last ∙ ap (λ a. a task lun) (from.access ∙ from.is-ready.access)
+          ∙ h.access task lun;
     }
   where
     other-way : (a b : ℕ) → (a == b) ≡ false → (b == a) ≡ false
@@ -185,13 +217,15 @@ record IsFilled (making : Making) (who : Who) (s s' : Store) : Type 0 where
   pub such : IsSuch making who.caller making.blocks (new_id s).number before
   pub entered : Granted plain who (entry making (new_id s)) before s'
 
-granted-is-filled : (making : Making) (who : Who) (lun : ℕ) (s s' : Store) → Granted plain who (making_of making lun (new_id s)) s s' → IsFilled making who s s'
+granted-is-filled : (making : Making) (who : Who) (lun : ℕ) (s s' : Store) → Granted plain who (making_of making lun (new_id s)) s s'
+    → IsFilled making who s s'
 granted-is-filled making who lun s s' g =
     let id : FileId = new_id s in
     let one = granted-parts plain who (creation making id) (opening lun id ++ (filling lun making.blocks ++ entry making id)) s s' g in
     let two = granted-parts plain who (opening lun id) (filling lun making.blocks ++ entry making id) one.0 s' one.2 in
     let three = granted-parts plain who (filling lun making.blocks) (entry making id) two.0 s' two.2 in
-    let four = granted-parts plain who (extension lun (length making.blocks)) (writes_of lun 0 making.blocks ++ giving_up lun) two.0 three.0 three.1 in
+    let four = granted-parts plain who (extension lun (length making.blocks)) (writes_of lun 0 making.blocks ++ giving_up lun) two.0 three.0
+    three.1 in
     let five = granted-parts plain who (writes_of lun 0 making.blocks) (giving_up lun) four.0 three.0 four.2 in
     let made = new-made making id who s one.0 one.1 in
     let o = opened-at id one.0 two.0 made two.1 in
@@ -200,9 +234,11 @@ granted-is-filled making who lun s s' g =
     let open2 = extension-stays who lun id s (length making.blocks) two.0 four.0 o.0 four.1 in
     let zeros = such-extended making who lun id s (length making.blocks) two.0 four.0 o.0 begun four.1 in
     let open3 = writes-stay who lun id s 0 making.blocks four.0 five.0 open2 five.1 in
-    let full = such-filled making who lun id s [] making.blocks (zero_blocks (length making.blocks)) four.0 five.0 (length-zeros (length making.blocks)) open2 zeros five.1 in
+    let full = such-filled making who lun id s [] making.blocks (zero_blocks (length making.blocks)) four.0 five.0
+    (length-zeros (length making.blocks)) open2 zeros five.1 in
     let back : three.0 ≡ five.2.0 = five.2.2 in
-    let kept : three.0.file id.number ≡ five.0.file id.number = ap (λ (x : Store). x.file id.number) (back ∙ given-back who.caller id s who lun five.0 five.2.0 open3 five.2.1) in
+    let kept : three.0.file id.number ≡ five.0.file id.number =
+    ap (λ (x : Store). x.file id.number) (back ∙ given-back who.caller id s who lun five.0 five.2.0 open3 five.2.1) in
     record {
       before = three.0;
       new = subst (λ x. IsNewIn who.caller id s.access s x) (sym back) (closed who.caller id s who lun five.0 five.2.0 o.1 open3 five.2.1);
@@ -210,9 +246,11 @@ granted-is-filled making who lun s s' g =
       entered = three.2;
     }
   where
-    opened-at : (id : FileId) (t u : Store) → IsNewIn who.caller id s.access s t → Granted plain who (opening lun id) t u → IsOpenIn who.caller id s who lun u × (s.access who.task lun ≡ None)
+    opened-at : (id : FileId) (t u : Store) → IsNewIn who.caller id s.access s t → Granted plain who (opening lun id) t u
+        → IsOpenIn who.caller id s who lun u × (s.access who.task lun ≡ None)
     opened-at id t u h g = (
-      subst (λ x. IsOpenIn who.caller id s who lun x) (sym g.2) (Rattle.f11_flx.proofs.NewLemmas.opened who.caller id s who lun t g.0 h g.1),
+      subst (λ x. IsOpenIn who.caller id s who lun x) (sym g.2)
+          (Rattle.f11_flx.proofs.NewLemmas.opened who.caller id s who lun t g.0 h g.1),
       Rattle.f11_flx.proofs.NewLemmas.lun-was-free who.caller id s who lun t g.0 h g.1,
     )
 
@@ -222,7 +260,8 @@ granted-is-made making who lun s s' apart g =
     made-of making who (new_id s) s f.before s' apart f.new f.such f.entered
 
 -- a copy is never entered into itself, and what it makes holds it
-pub copy-of : (m : CopyMode) (name : List ℕ) (who : Who) (lun : ℕ) (dir : FileId) (to : List ℕ) (protection blocks : ℕ) (t : RtStore) (s s' : Store) → (h : CopiesFromRt m name who lun dir to protection blocks t s s') →
+pub copy-of : (m : CopyMode) (name : List ℕ) (who : Who) (lun : ℕ) (dir : FileId) (to : List ℕ) (protection blocks : ℕ) (t : RtStore)
+    (s s' : Store) → (h : CopiesFromRt m name who lun dir to protection blocks t s s') →
     HasCopyOf m name (as_file to dir protection h.attr h.pieces) who.caller (new_id s) blocks t s s'
 copy-of m name who lun dir to protection blocks t s s' h =
     let making = as_file to dir protection h.attr h.pieces in

@@ -1,5 +1,6 @@
 -- A copy that is refused over a sound volume, seen as the plain store.
-use Rattle.std.proofs.Common.{◌≡◌, inl, inr, ℕ, ◌<◌, Bool, true, false, List, [], ◌++◌, length, None, Some, refl, sym, ap, ◌∙◌, subst, arith}
+use Rattle.std.proofs.Common.{◌≡◌, inl, inr, ℕ, ◌<◌, Bool, true, false, List, [], ◌++◌, length, None, Some, refl, sym, ap, ◌∙◌, subst}
+use Rattle.std.proofs.Common.{arith}
 use Rattle.f11_dev.specs.Disk.{Disk}
 use Rattle.f11_dev.specs.declared.device.Device.{Ghosts}
 use Rattle.f11_store.specs.Accesses.{FreeIsEmpty}
@@ -16,9 +17,11 @@ use Rattle.rt11_volume.specs.Verifying.Verdict.{IsSoundDisk}
 use Rattle.rt11_volume.specs.declared.volume.RtAccepted.{RtAccepted}
 use Rattle.f11_flx.specs.Asking.{BreaksOffAsking, Denies, Fails, Granted, FilesService, Who, asks, plain, writes_of}
 use Rattle.f11_flx.specs.Conversion.{copied_from_rt}
-use Rattle.f11_flx.specs.CopyFromRt.{FailsToCopyFromRt, FailsToMakeFile, IsAsBefore, Making, as_file, creation, deletion, entry, filling, giving_up, new_id, opening}
+use Rattle.f11_flx.specs.CopyFromRt.{FailsToCopyFromRt, FailsToMakeFile, IsAsBefore, Making, as_file, creation, deletion, entry, filling}
+use Rattle.f11_flx.specs.CopyFromRt.{giving_up, new_id, opening}
 use Rattle.f11_flx.specs.FromRt.{FailsToCopyFrom}
-use Rattle.f11_flx.specs.Making.{BreaksFilling, FailsToFillFromRt, FailsToFillFile, FailsToMakeCopy, FillsFromRt, LacksBlock, LacksCopy, extension, filling_of, is_created}
+use Rattle.f11_flx.specs.Making.{BreaksFilling, FailsToFillFromRt, FailsToFillFile, FailsToMakeCopy, FillsFromRt, LacksBlock, LacksCopy}
+use Rattle.f11_flx.specs.Making.{extension, filling_of, is_created}
 use Rattle.f11_flx.specs.Refusal.{is_lethal}
 use Rattle.f11_flx.specs.Target.{rt_disk}
 use Rattle.f11_flx.specs.declared.mode.CopyMode.{CopyMode}
@@ -31,15 +34,19 @@ use Rattle.f11_flx.proofs.NewLemmas.{IsNewIn, IsOpenIn, lun-was-free, new-made, 
 use Rattle.f11_flx.proofs.PassLemmas.{stays-alive}
 use Rattle.f11_flx.specs.Seen.{IsSeenPlain}
 use Rattle.f11_flx.proofs.SeenLemmas.{granted-seen}
-use Rattle.f11_flx.proofs.UndoneLemmas.{as-before, breaks-sound, clean-undoing, filled-closed, filled-stays, filling-breaks, undone-access, undone-delete}
+use Rattle.f11_flx.proofs.UndoneLemmas.{as-before, breaks-sound, clean-undoing, filled-closed, filled-stays, filling-breaks, undone-access}
+use Rattle.f11_flx.proofs.UndoneLemmas.{undone-delete}
 
 calm : (f f' : FlxRefusal) → f' ≡ f → is_lethal f' ≡ false → is_lethal f ≡ false
 calm f f' is clean = ap is_lethal (sym is) ∙ clean
 
-module _ {V : Type 0} (S : FilesService V) (who : Who) (lun : ℕ) (view : V → Store) (is_sound : V → Bool) (seen : IsSeenPlain S view is_sound) where
+module _ {V : Type 0} (S : FilesService V) (who : Who) (lun : ℕ) (view : V → Store) (is_sound : V → Bool)
+    (seen : IsSeenPlain S view is_sound) where
   -- it was accessed
-  now-open : (id : FileId) (s : Store) (v w : V) → IsNewIn who.caller id s.access s (view v) → is_sound v ≡ true → Granted S who (opening lun id) v w →
-      IsOpenIn who.caller id s who lun (view w) × (s.access who.task lun ≡ None) × (is_sound w ≡ true) × Granted plain who (opening lun id) (view v) (view w)
+  now-open : (id : FileId) (s : Store) (v w : V) → IsNewIn who.caller id s.access s (view v) → is_sound v ≡ true
+      → Granted S who (opening lun id) v w →
+      IsOpenIn who.caller id s who lun (view w) × (s.access who.task lun ≡ None) × (is_sound w ≡ true)
+      × Granted plain who (opening lun id) (view v) (view w)
   now-open id s v w h sound g =
       let one = granted-seen S view is_sound seen who (opening lun id) v w g sound in
       let at : view w ≡ one.0.0 = one.0.2 in (
@@ -51,20 +58,25 @@ module _ {V : Type 0} (S : FilesService V) (who : Who) (lun : ℕ) (view : V →
 
   -- it was created
   now-new : (making : Making) (id : FileId) (v w : V) → is_sound v ≡ true → Granted S who (creation making id) v w →
-      IsNewIn who.caller id (view v).access (view v) (view w) × (is_sound w ≡ true) × Granted plain who (creation making id) (view v) (view w)
+      IsNewIn who.caller id (view v).access (view v) (view w) × (is_sound w ≡ true)
+      × Granted plain who (creation making id) (view v) (view w)
   now-new making id v w sound g =
       let one = granted-seen S view is_sound seen who (creation making id) v w g sound in
       (new-made making id who (view v) (view w) one.0, one.1, one.0)
 
   -- it was refused to create one
-  not-created : (making : Making) (e : Refusal) (v w : V) → is_lethal (Files e) ≡ false → is_sound v ≡ true → Fails S who is_created (request.Create 0 (ident_with making.name) making.attr) e v w →
+  not-created : (making : Making) (e : Refusal) (v w : V) → is_lethal (Files e) ≡ false → is_sound v ≡ true
+      → Fails S who is_created (request.Create 0 (ident_with making.name) making.attr) e v w →
       Denies plain who (asks (request.Create 0 (ident_with making.name) making.attr)) e (view v) (view w)
-  not-created making e v w clean sound (inl d) = (seen.denied who (asks (request.Create 0 (ident_with making.name) making.attr)) e v w d sound clean).0
+  not-created making e v w clean sound (inl d) =
+      (seen.denied who (asks (request.Create 0 (ident_with making.name) making.attr)) e v w d sound clean).0
   not-created making e v w clean sound (inr d) = absurd (true-false (ap (λ x. is_lethal (Files x)) (sym d.2) ∙ clean))
 
-module _ {V E : Type 0} {met : Ghosts E} (S : FilesService V) (disk : E → Disk) (m : CopyMode) (who : Who) (lun : ℕ) (name : List ℕ) (view : V → Store) (is_sound : V → Bool) (seen : IsSeenPlain S view is_sound) where
+module _ {V E : Type 0} {met : Ghosts E} (S : FilesService V) (disk : E → Disk) (m : CopyMode) (who : Who) (lun : ℕ) (name : List ℕ)
+    (view : V → Store) (is_sound : V → Bool) (seen : IsSeenPlain S view is_sound) where
   -- a file that isn't filled stays accessed
-  still-filling : (f : FlxRefusal) (id : FileId) (s : Store) (many n : ℕ) (a b : RtAccepted E met) (v w : V) → is_lethal f ≡ false → IsOpenIn who.caller id s who lun (view v) → is_sound v ≡ true →
+  still-filling : (f : FlxRefusal) (id : FileId) (s : Store) (many n : ℕ) (a b : RtAccepted E met) (v w : V) → is_lethal f ≡ false
+      → IsOpenIn who.caller id s who lun (view v) → is_sound v ≡ true →
       FailsToFillFromRt S disk m who lun name many n f a b v w → IsOpenIn who.caller id s who lun (view w) × (is_sound w ≡ true)
   still-filling (Files e) id s many n a b v w clean h sound k =
       let one = breaks-sound S view is_sound seen who (filling_of lun n k.pieces) e v w k.breaks sound clean in
@@ -78,21 +90,26 @@ module _ {V E : Type 0} {met : Ghosts E} (S : FilesService V) (disk : E → Disk
       (filled-stays who lun id s n k.pieces (view v) (view w) h one.0, one.1)
 
   -- a making that is refused, without a device fault or Damaged, leaves all as before
-  pub making-undone : (f' : FlxRefusal) (many n : ℕ) (making : Making) (a b : RtAccepted E met) (v w : V) → is_lethal f' ≡ false → is_sound v ≡ true → FreeIsEmpty (view v) → AccessesStand (view v) →
+  pub making-undone : (f' : FlxRefusal) (many n : ℕ) (making : Making) (a b : RtAccepted E met) (v w : V) → is_lethal f' ≡ false
+      → is_sound v ≡ true → FreeIsEmpty (view v) → AccessesStand (view v) →
       FailsToMakeCopy S disk m who lun name many n making f' a b v w → IsAsBefore (view v) (view w)
   making-undone f' many n making a b v w clean sound tidy stand (inl h) =
-      subst (λ x. IsAsBefore (view v) x) (sym (not-created S who lun view is_sound seen making h.e v w (calm (Files h.e) f' h.is clean) sound h.fails).2.store_stays) (as-before (view v))
+      subst (λ x. IsAsBefore (view v) x)
+      (sym (not-created S who lun view is_sound seen making h.e v w (calm (Files h.e) f' h.is clean) sound h.fails).2.store_stays)
+      (as-before (view v))
   making-undone f' many n making a b v w clean sound tidy stand (inr (inl h)) = by h.fails
     where
       u : Rattle.f11_flx.proofs.UndoneLemmas.IsCleanUndoing S who (request.Delete h.id) h.f f' h.left w
       u = clean-undoing S who (request.Delete h.id) h.f f' h.left w clean h.undoes
 
-      made : IsNewIn who.caller h.id (view v).access (view v) (view h.created) × (is_sound h.created ≡ true) × Granted plain who (creation making h.id) (view v) (view h.created)
+      made : IsNewIn who.caller h.id (view v).access (view v) (view h.created) × (is_sound h.created ≡ true)
+          × Granted plain who (creation making h.id) (view v) (view h.created)
       made = now-new S who lun view is_sound seen making h.id v h.created sound h.creates
 
       by : FailsToFillFile S disk m who lun name many n h.id h.f a b h.created h.left → IsAsBefore (view v) (view w)
       by (inl k) =
-          let d = seen.denied who (asks (request.Access h.id access.Write lun)) k.e h.created h.left k.denied made.1 (calm (Files k.e) h.f k.is u.clean) in
+          let d = seen.denied who (asks (request.Access h.id access.Write lun)) k.e h.created h.left k.denied made.1
+          (calm (Files k.e) h.f k.is u.clean) in
           let here = subst (λ x. IsNewIn who.caller h.id (view v).access (view v) x) (sym d.0.2.store_stays) made.0 in
           (undone-delete S view is_sound seen who lun (view v) tidy stand h.id h.f f' h.left w d.1 here u).1
       by (inr k) =
@@ -105,26 +122,34 @@ module _ {V E : Type 0} {met : Ghosts E} (S : FilesService V) (disk : E → Disk
       let u = clean-undoing S who (request.Delete h.id) (Files h.e) f' h.left w clean h.undoes in
       let made = now-new S who lun view is_sound seen making h.id v h.created sound h.creates in
       let o = now-open S who lun view is_sound seen h.id (view v) h.created h.fills.between made.0 made.1 h.fills.opened in
-      let g = granted-seen S view is_sound seen who (filling_of lun n h.fills.fills.pieces) h.fills.between h.filled h.fills.fills.granted o.2 in
+      let g = granted-seen S view is_sound seen who (filling_of lun n h.fills.fills.pieces) h.fills.between h.filled h.fills.fills.granted
+      o.2 in
       let c = filled-closed who lun h.id (view v) n h.fills.fills.pieces (view h.fills.between) (view h.filled) o.1 o.0 g.0 in
       let d = breaks-sound S view is_sound seen who (entry making h.id) h.e h.filled h.left h.breaks g.1 u.clean in
-      let here = subst (λ x. IsNewIn who.caller h.id (view v).access (view v) x) (sym (entry-refused making who h.id h.e (view v) (view h.filled) (view h.left) c d.0)) c in
+      let here = subst (λ x. IsNewIn who.caller h.id (view v).access (view v) x)
+      (sym (entry-refused making who h.id h.e (view v) (view h.filled) (view h.left) c d.0)) c in
       (undone-delete S view is_sound seen who lun (view v) tidy stand h.id (Files h.e) f' h.left w d.1 here u).1
 
   -- so does a copy
-  pub copy-undone : (f : FlxRefusal) (dir : FileId) (to : List ℕ) (protection : ℕ) (a b : RtAccepted E met) (v w : V) → is_lethal f ≡ false → is_sound v ≡ true → FreeIsEmpty (view v) → AccessesStand (view v) →
+  pub copy-undone : (f : FlxRefusal) (dir : FileId) (to : List ℕ) (protection : ℕ) (a b : RtAccepted E met) (v w : V) → is_lethal f ≡ false
+      → is_sound v ≡ true → FreeIsEmpty (view v) → AccessesStand (view v) →
       FailsToCopyFrom S disk m who lun name dir to protection f a b v w → IsAsBefore (view v) (view w)
-  copy-undone f dir to protection a b v w clean sound tidy stand (inl h) = subst (λ x. IsAsBefore (view v) (view x)) (sym h.unasked) (as-before (view v))
+  copy-undone f dir to protection a b v w clean sound tidy stand (inl h) =
+      subst (λ x. IsAsBefore (view v) (view x)) (sym h.unasked) (as-before (view v))
   copy-undone f dir to protection a b v w clean sound tidy stand (inr h) =
       making-undone f h.many h.blocks (as_file to dir protection h.attr []) h.between b v w clean sound tidy stand (h.fails [])
 
   -- a making that is refused is refused as the first request is, and undone, where the blocks that are written are the making's
-  pub making-refused : (f' : FlxRefusal) (many n : ℕ) (making : Making) (a b : RtAccepted E met) (v w : V) → is_lethal f' ≡ false → is_sound v ≡ true → FreeIsEmpty (view v) → AccessesStand (view v) →
+  pub making-refused : (f' : FlxRefusal) (many n : ℕ) (making : Making) (a b : RtAccepted E met) (v w : V) → is_lethal f' ≡ false
+      → is_sound v ≡ true → FreeIsEmpty (view v) → AccessesStand (view v) →
       ((x y : V) → FillsFromRt S disk m who lun name many n a b x y → Granted S who (filling lun making.blocks) x y) →
-      ((e : Refusal) (x y : V) → BreaksFilling S disk m who lun name many n e a b x y → BreaksOffAsking S who (filling lun making.blocks) e x y) →
-      ((e : Rattle.rt11_volume.specs.declared.refusal.RtRefusal.RtRefusal) (x y : V) → is_fault e ≡ false → LacksBlock S disk who lun name many n e a b x y → ⊥) →
+      ((e : Refusal) (x y : V) → BreaksFilling S disk m who lun name many n e a b x y → BreaksOffAsking S who (filling lun making.blocks) e
+      x y) →
+      ((e : Rattle.rt11_volume.specs.declared.refusal.RtRefusal.RtRefusal) (x y : V) → is_fault e ≡ false
+      → LacksBlock S disk who lun name many n e a b x y → ⊥) →
       ((x y : V) → LacksCopy S disk m who lun name many n a b x y → ⊥) →
-      FailsToMakeCopy S disk m who lun name many n making f' a b v w → (e : Refusal) × (f' ≡ Files e) × FailsToMakeFile making who lun (new_id (view v)) e (view v) (view w)
+      FailsToMakeCopy S disk m who lun name many n making f' a b v w
+      → (e : Refusal) × (f' ≡ Files e) × FailsToMakeFile making who lun (new_id (view v)) e (view v) (view w)
   making-refused f' many n making a b v w clean sound tidy stand filled broken unread uncopied (inl h) =
       let d = not-created S who lun view is_sound seen making h.e v w (calm (Files h.e) f' h.is clean) sound h.fails in
       (h.e, h.is, inl (record { reached = view v; left = view w; granted = refl; breaks = inl d; undoes = refl }))
@@ -133,33 +158,49 @@ module _ {V E : Type 0} {met : Ghosts E} (S : FilesService V) (disk : E → Disk
       u : Rattle.f11_flx.proofs.UndoneLemmas.IsCleanUndoing S who (request.Delete h.id) h.f f' h.left w
       u = clean-undoing S who (request.Delete h.id) h.f f' h.left w clean h.undoes
 
-      made : IsNewIn who.caller h.id (view v).access (view v) (view h.created) × (is_sound h.created ≡ true) × Granted plain who (creation making h.id) (view v) (view h.created)
+      made : IsNewIn who.caller h.id (view v).access (view v) (view h.created) × (is_sound h.created ≡ true)
+          × Granted plain who (creation making h.id) (view v) (view h.created)
       made = now-new S who lun view is_sound seen making h.id v h.created sound h.creates
 
       next : h.id ≡ new_id (view v)
       next = created-next making h.id who (view v) (view h.created) made.2
 
-      as-next : (e : Refusal) → f' ≡ Files e → FailsToMakeFile making who lun h.id e (view v) (view w) → (e : Refusal) × (f' ≡ Files e) × FailsToMakeFile making who lun (new_id (view v)) e (view v) (view w)
+      as-next : (e : Refusal) → f' ≡ Files e → FailsToMakeFile making who lun h.id e (view v) (view w)
+          → (e : Refusal) × (f' ≡ Files e) × FailsToMakeFile making who lun (new_id (view v)) e (view v) (view w)
       as-next e is k = (e, is, subst (λ i. FailsToMakeFile making who lun i e (view v) (view w)) next k)
 
       -- it was opened and being filled, and a request was refused
-      broke : (f0 : FlxRefusal) (between left : V) → is_lethal f0 ≡ false → h.f ≡ f0 → is_sound between ≡ true → Granted plain who (opening lun h.id) (view h.created) (view between) →
-          FailsToFillFromRt S disk m who lun name many n f0 a b between left → Granted plain who (giving_up lun ++ deletion h.id) (view left) (view w) →
+      broke : (f0 : FlxRefusal) (between left : V) → is_lethal f0 ≡ false → h.f ≡ f0 → is_sound between ≡ true
+          → Granted plain who (opening lun h.id) (view h.created) (view between) →
+          FailsToFillFromRt S disk m who lun name many n f0 a b between left
+          → Granted plain who (giving_up lun ++ deletion h.id) (view left) (view w) →
           (e : Refusal) × (f' ≡ Files e) × FailsToMakeFile making who lun (new_id (view v)) e (view v) (view w)
       broke (Files e) between left clean is calm-now opens fails undoes =
-          let d = (breaks-sound S view is_sound seen who (filling lun making.blocks) e between left (broken e between left fails) calm-now clean).0 in
-          let front = granted-append plain who (creation making h.id) (opening lun h.id) (view v) (view h.created) (view between) made.2 opens in
-          as-next e (u.same ∙ is) (inr (inr (inl (record { reached = view between; left = view left; granted = front; breaks = d; undoes = undoes }))))
+          let d = (breaks-sound S view is_sound seen who (filling lun making.blocks) e between left (broken e between left fails) calm-now
+          clean).0 in
+          let front = granted-append plain who (creation making h.id) (opening lun h.id) (view v) (view h.created) (view between) made.2
+          opens in
+          as-next e (u.same ∙ is) (inr
+          (inr (inl (record { reached = view between; left = view left; granted = front; breaks = d; undoes = undoes }))))
       broke (Rt e) between left clean is calm-now opens fails undoes = absurd (unread e between left clean fails)
       broke BadRecord between left clean is calm-now opens fails undoes = absurd fails
       broke LineTooLong between left clean is calm-now opens fails undoes = absurd (uncopied between left fails)
 
-      by : FailsToFillFile S disk m who lun name many n h.id h.f a b h.created h.left → (e : Refusal) × (f' ≡ Files e) × FailsToMakeFile making who lun (new_id (view v)) e (view v) (view w)
+      by : FailsToFillFile S disk m who lun name many n h.id h.f a b h.created h.left
+          → (e : Refusal) × (f' ≡ Files e) × FailsToMakeFile making who lun (new_id (view v)) e (view v) (view w)
       by (inl k) =
-          let d = seen.denied who (asks (request.Access h.id access.Write lun)) k.e h.created h.left k.denied made.1 (calm (Files k.e) h.f k.is u.clean) in
+          let d = seen.denied who (asks (request.Access h.id access.Write lun)) k.e h.created h.left k.denied made.1
+          (calm (Files k.e) h.f k.is u.clean) in
           let here = subst (λ y. IsNewIn who.caller h.id (view v).access (view v) y) (sym d.0.2.store_stays) made.0 in
           let g = (undone-delete S view is_sound seen who lun (view v) tidy stand h.id h.f f' h.left w d.1 here u).0 in
-          as-next k.e (u.same ∙ k.is) (inr (inl (record { reached = view h.created; left = view h.left; granted = made.2; breaks = inl d.0; undoes = (view w, g, refl) })))
+          as-next k.e (u.same ∙ k.is)
+          (inr (inl (record {
+            reached = view h.created;
+            left = view h.left;
+            granted = made.2;
+            breaks = inl d.0;
+            undoes = (view w, g, refl);
+          })))
       by (inr k) =
           let x = clean-undoing S who (request.Deaccess lun) k.f h.f k.left h.left u.clean k.undoes in
           let o = now-open S who lun view is_sound seen h.id (view v) h.created k.between made.0 made.1 k.opened in
@@ -171,26 +212,44 @@ module _ {V E : Type 0} {met : Ghosts E} (S : FilesService V) (disk : E → Disk
       let u = clean-undoing S who (request.Delete h.id) (Files h.e) f' h.left w clean h.undoes in
       let made = now-new S who lun view is_sound seen making h.id v h.created sound h.creates in
       let o = now-open S who lun view is_sound seen h.id (view v) h.created h.fills.between made.0 made.1 h.fills.opened in
-      let g = granted-seen S view is_sound seen who (filling_of lun n h.fills.fills.pieces) h.fills.between h.filled h.fills.fills.granted o.2 in
+      let g = granted-seen S view is_sound seen who (filling_of lun n h.fills.fills.pieces) h.fills.between h.filled h.fills.fills.granted
+      o.2 in
       let c = filled-closed who lun h.id (view v) n h.fills.fills.pieces (view h.fills.between) (view h.filled) o.1 o.0 g.0 in
       let d = breaks-sound S view is_sound seen who (entry making h.id) h.e h.filled h.left h.breaks g.1 u.clean in
-      let here = subst (λ x. IsNewIn who.caller h.id (view v).access (view v) x) (sym (entry-refused making who h.id h.e (view v) (view h.filled) (view h.left) c d.0)) c in
+      let here = subst (λ x. IsNewIn who.caller h.id (view v).access (view v) x)
+      (sym (entry-refused making who h.id h.e (view v) (view h.filled) (view h.left) c d.0)) c in
       let gone = (undone-delete S view is_sound seen who lun (view v) tidy stand h.id (Files h.e) f' h.left w d.1 here u).0 in
-      let fill = (granted-seen S view is_sound seen who (filling lun making.blocks) h.fills.between h.filled (filled h.fills.between h.filled h.fills.fills) o.2).0 in
-      let front = granted-append plain who (creation making h.id) (opening lun h.id ++ filling lun making.blocks) (view v) (view h.created) (view h.filled) made.2
-      (granted-append plain who (opening lun h.id) (filling lun making.blocks) (view h.created) (view h.fills.between) (view h.filled) o.3 fill) in
+      let fill = (granted-seen S view is_sound seen who (filling lun making.blocks) h.fills.between h.filled
+      (filled h.fills.between h.filled h.fills.fills) o.2).0 in
+      let front = granted-append plain who (creation making h.id) (opening lun h.id ++ filling lun making.blocks) (view v) (view h.created)
+      (view h.filled) made.2
+      (granted-append plain who (opening lun h.id) (filling lun making.blocks) (view h.created) (view h.fills.between) (view h.filled) o.3
+      fill) in
       let all : FailsToMakeFile making who lun h.id h.e (view v) (view w) =
-      inr (inr (inr (record { reached = view h.filled; left = view h.left; granted = front; breaks = d.0; undoes = (view w, gone, refl) }))) in
-      (h.e, u.same, subst (λ i. FailsToMakeFile making who lun i h.e (view v) (view w)) (created-next making h.id who (view v) (view h.created) made.2) all)
+      inr (inr (inr (record { reached = view h.filled; left = view h.left; granted = front; breaks = d.0; undoes = (view w, gone, refl) })))
+      in (
+        h.e,
+        u.same,
+        subst (λ i. FailsToMakeFile making who lun i h.e (view v) (view w))
+            (created-next making h.id who (view v) (view h.created) made.2) all,
+      )
 
   -- where the RT-11 volume is sound too, a copy is refused as the first step is
-  pub copy-refused : (f : FlxRefusal) (dir : FileId) (to : List ℕ) (protection : ℕ) (a b : RtAccepted E met) (v w : V) → is_lethal f ≡ false → is_sound v ≡ true → FreeIsEmpty (view v) → AccessesStand (view v) →
-      IsSoundDisk (rt_disk disk a) → FailsToCopyFrom S disk m who lun name dir to protection f a b v w → FailsToCopyFromRt f m name who lun dir to protection (rt_disk disk a) (view v) (view w)
+  pub copy-refused : (f : FlxRefusal) (dir : FileId) (to : List ℕ) (protection : ℕ) (a b : RtAccepted E met) (v w : V) → is_lethal f ≡ false
+      → is_sound v ≡ true → FreeIsEmpty (view v) → AccessesStand (view v) →
+      IsSoundDisk (rt_disk disk a) → FailsToCopyFrom S disk m who lun name dir to protection f a b v w
+      → FailsToCopyFromRt f m name who lun dir to protection (rt_disk disk a) (view v) (view w)
   copy-refused (Files e) dir to protection a b v w clean sound tidy stand s (inl h) = absurd h.fails
   copy-refused (Rt e) dir to protection a b v w clean sound tidy stand s (inl h) = (h.fails.why s, ap view h.unasked)
   copy-refused BadRecord dir to protection a b v w clean sound tidy stand s (inl h) = absurd h.fails
-  copy-refused LineTooLong dir to protection a b v w clean sound tidy stand s (inl h) =
-      (record { file = h.fails.file s; unconverted = h.fails.none s (file_area (h.fails.file s)).contents (record { file = h.fails.file s; contents = refl }) }, ap view h.unasked)
+  copy-refused LineTooLong dir to protection a b v w clean sound tidy stand s (inl h) = (
+    record {
+      file = h.fails.file s;
+      unconverted = h.fails.none s (file_area (h.fails.file s)).contents
+          (record { file = h.fails.file s; contents = refl });
+    },
+    ap view h.unasked,
+  )
   copy-refused f dir to protection a b v w clean sound tidy stand s (inr h) =
       let p = planned disk m name h.many h.blocks h.attr a h.between h.plans s in
       let making : Making = as_file to dir protection h.attr p.plan.pieces in
@@ -198,15 +257,24 @@ module _ {V E : Type 0} {met : Ghosts E} (S : FilesService V) (disk : E → Disk
       (λ x y k. filled-as-planned disk m name S who lun h.many h.blocks h.attr a h.between b x y p k)
       (λ e x y k.
       let front = k.reads.are p.sound p.contents p.later in
-      subst (λ n. BreaksOffAsking S who (filling_of lun n p.plan.pieces) e x y) (sym p.plan.blocks_are) (k.whole p.contents front p.plan.count p.plan.pieces h.attr p.plan.copied))
-      (λ e x y none k. less-no (length p.contents) h.many (k.stops.few (stays-alive disk a h.between h.plans.looks h.plans.alive) none p.sound p.contents p.later) p.plan.count)
-      (λ x y k. some-none (copied_from_rt m p.contents) p.plan.copied.copy (sym p.plan.copied.converted ∙ k.none p.contents (k.reads.are p.sound p.contents p.later) p.plan.count))
+      subst (λ n. BreaksOffAsking S who (filling_of lun n p.plan.pieces) e x y) (sym p.plan.blocks_are)
+      (k.whole p.contents front p.plan.count p.plan.pieces h.attr p.plan.copied))
+      (λ e x y none k. less-no (length p.contents) h.many
+      (k.stops.few (stays-alive disk a h.between h.plans.looks h.plans.alive) none p.sound p.contents p.later) p.plan.count)
+      (λ x y k. some-none (copied_from_rt m p.contents) p.plan.copied.copy
+      (sym p.plan.copied.converted ∙ k.none p.contents (k.reads.are p.sound p.contents p.later) p.plan.count))
       (h.fails p.plan.pieces) in
       subst (λ x. FailsToCopyFromRt x m name who lun dir to protection (rt_disk disk a) (view v) (view w)) (sym r.1)
-      (record { attr = h.attr; pieces = p.plan.pieces; has = has-making disk m name h.many h.blocks h.attr a h.between dir to protection p; fails = r.2 })
+      (record {
+        attr = h.attr;
+        pieces = p.plan.pieces;
+        has = has-making disk m name h.many h.blocks h.attr a h.between dir to protection p;
+        fails = r.2;
+      })
     where
       less-no : (k n : ℕ) → k < n → k ≡ n → ⊥
       less-no k n less is = absurd (omega (arith, less, is))
 
-      some-none : (o : Rattle.std.specs.Prelude.Option Rattle.f11_flx.specs.Conversion.Copy) (c : Rattle.f11_flx.specs.Conversion.Copy) → Some c ≡ None → ⊥
+      some-none : (o : Rattle.std.specs.Prelude.Option Rattle.f11_flx.specs.Conversion.Copy) (c : Rattle.f11_flx.specs.Conversion.Copy)
+          → Some c ≡ None → ⊥
       some-none o c is = cc

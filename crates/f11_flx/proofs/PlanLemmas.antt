@@ -37,7 +37,8 @@ fault-may rt.DirectoryFull name d is = absurd (cc)
 fault-may rt.NoMemory name d is = absurd (cc)
 
 -- what takes all refuses nothing
-pub dry-takes : {V : Type 0} (who : Who) (lun vbn : ℕ) (block : List ℕ) (e : Refusal) (v w : V) → Denies dry who (writes lun vbn block) e v w → ⊥
+pub dry-takes : {V : Type 0} (who : Who) (lun vbn : ℕ) (block : List ℕ) (e : Refusal) (v w : V)
+    → Denies dry who (writes lun vbn block) e v w → ⊥
 dry-takes who lun vbn block e v w d = differ d.1
   where
     done : Result Reply Refusal
@@ -47,7 +48,8 @@ dry-takes who lun vbn block e v w d = differ d.1
     differ is = cc
 
 module _ {E : Type 0} {met : Ghosts E} (disk : E → Disk) (name : List ℕ) where
-  pub image-plan : (many : ℕ) (attr : List ℕ) (a b : RtAccepted E met) → attr ≡ image_attributes many → FindsRtFile disk name many a b → Plans disk Image name many many attr a b
+  pub image-plan : (many : ℕ) (attr : List ℕ) (a b : RtAccepted E met) → attr ≡ image_attributes many → FindsRtFile disk name many a b
+      → Plans disk Image name many many attr a b
   image-plan many attr a b is f = record {
     looks = f.looks;
     alive = f.alive;
@@ -66,7 +68,8 @@ module _ {E : Type 0} {met : Ghosts E} (disk : E → Disk) (name : List ℕ) whe
     };
   }
 
-  pub text-plan : {V : Type 0} (who : Who) (lun many blocks : ℕ) (attr attr' : List ℕ) (a b c : RtAccepted E met) (v w : V) → attr ≡ attr' → FindsRtFile disk name many a b →
+  pub text-plan : {V : Type 0} (who : Who) (lun many blocks : ℕ) (attr attr' : List ℕ) (a b c : RtAccepted E met) (v w : V) → attr ≡ attr'
+      → FindsRtFile disk name many a b →
       CopiesFile dry disk Text who lun name many blocks attr' b c v w → Plans disk Text name many blocks attr a c
   text-plan who lun many blocks attr attr' a b c v w is f h = record {
     looks = looks-then disk false a b c f.looks h.reads.looks;
@@ -84,7 +87,8 @@ module _ {E : Type 0} {met : Ghosts E} (disk : E → Disk) (name : List ℕ) whe
         };
   }
 
-  pub text-unplanned : {V : Type 0} (f : FlxRefusal) (who : Who) (lun many : ℕ) (a b c : RtAccepted E met) (v w : V) → FindsRtFile disk name many a b →
+  pub text-unplanned : {V : Type 0} (f : FlxRefusal) (who : Who) (lun many : ℕ) (a b c : RtAccepted E met) (v w : V)
+      → FindsRtFile disk name many a b →
       FailsToCopyFile dry disk Text who lun name many f b c v w → FailsToPlan disk Text name f a c
   text-unplanned (Files e) who lun many a b c v w f h = dry-takes who lun (suc (length h.pieces)) h.last e h.between w h.denied
   text-unplanned (Rt e) who lun many a b c v w f h = record {
@@ -100,7 +104,8 @@ module _ {E : Type 0} {met : Ghosts E} (disk : E → Disk) (name : List ℕ) whe
           let file = f.file s in
           let contents = (file_area file).contents in
           let has : HasContents name contents (rt_store disk a) = record { file = file; contents = refl } in
-          let less = h.stops.few (stays-alive disk a b f.looks f.alive) is (stays-sound disk false a b f.looks s) contents (same-contents disk name contents false a b f.looks has) in
+          let less = h.stops.few (stays-alive disk a b f.looks f.alive) is (stays-sound disk false a b f.looks s) contents
+          (same-contents disk name contents false a b f.looks has) in
           absurd (omega (arith, less, f.length_is s contents has))
   text-unplanned BadRecord who lun many a b c v w f h = absurd h
   text-unplanned LineTooLong who lun many a b c v w f h = record {
@@ -108,5 +113,6 @@ module _ {E : Type 0} {met : Ghosts E} (disk : E → Disk) (name : List ℕ) whe
     alive = f.alive;
     file = f.file;
     none = λ s contents has.
-        h.none contents (h.reads.are (stays-sound disk false a b f.looks s) contents (same-contents disk name contents false a b f.looks has)) (f.length_is s contents has);
+        h.none contents (h.reads.are (stays-sound disk false a b f.looks s) contents
+        (same-contents disk name contents false a b f.looks has)) (f.length_is s contents has);
   }

@@ -1,5 +1,7 @@
 -- A text that is converted into blocks, a step at a time.
-use Rattle.std.proofs.Common.{◌≡◌, ◌⊎◌, inl, inr, ℕ, suc, ◌+◌, ◌-◌, ◌*◌, ◌<◌, ◌≤◌, ◌==◌, Bool, true, false, if◌then◌else◌, List, [], ◌∷◌, ◌++◌, length, take, drop, Option, Some, None, All, refl, sym, ap, ◌∙◌, subst, append-nil, length-append, length-drop, arith}
+use Rattle.std.proofs.Common.{◌≡◌, ◌⊎◌, inl, inr, ℕ, suc, ◌+◌, ◌-◌, ◌*◌, ◌<◌, ◌≤◌, ◌==◌, Bool, true, false, if◌then◌else◌, List, [], ◌∷◌}
+use Rattle.std.proofs.Common.{◌++◌, length, take, drop, Option, Some, None, All, refl, sym, ap, ◌∙◌, subst, append-nil, length-append}
+use Rattle.std.proofs.Common.{length-drop, arith}
 use Rattle.std.specs.Prelude.{slice_range, option_map}
 use Rattle.std.specs.List.{concat}
 use Rattle.std.proofs.Math.Seq.{drop-length, take-add, take-length}
@@ -20,7 +22,12 @@ use Rattle.f11_flx.proofs.ConvertLemmas.{option_map-append}
 pub whole-length : (pieces : List (List ℕ)) → All (λ b. length b ≡ 512) pieces → length (concat pieces) ≡ 512 * length pieces
 whole-length [] whole = refl
 whole-length (b ∷ more) whole =
-    omega (arith, All-head (λ x. length x ≡ 512) b more whole, whole-length more (All-tail (λ x. length x ≡ 512) b more whole), length-append {A = ℕ} b (concat more))
+    omega (
+      arith,
+      All-head (λ x. length x ≡ 512) b more whole,
+      whole-length more (All-tail (λ x. length x ≡ 512) b more whole),
+      length-append {A = ℕ} b (concat more),
+    )
 
 -- nothing before a text
 pub option_map-nothing : (o : Option (List ℕ)) → option_map (λ (text : List ℕ). [] ++ text) o ≡ o
@@ -28,7 +35,8 @@ option_map-nothing None = refl
 option_map-nothing (Some text) = refl
 
 -- what stands before a text is part of it
-pub option_map-longer : (a : List ℕ) (o : Option (List ℕ)) (text : List ℕ) → option_map (λ (t : List ℕ). a ++ t) o ≡ Some text → length a ≤ length text
+pub option_map-longer : (a : List ℕ) (o : Option (List ℕ)) (text : List ℕ) → option_map (λ (t : List ℕ). a ++ t) o ≡ Some text
+    → length a ≤ length text
 option_map-longer a None text is = absurd (cc)
 option_map-longer a (Some t) text is =
     let same : a ++ t ≡ text = cc in omega (arith, ap (λ (l : List ℕ). length l) same, length-append {A = ℕ} a t)
@@ -50,17 +58,21 @@ ending-small (place.LineFeed pad) = omega arith
 ending-small place.Pad = omega arith
 
 module _ {V : Type 0} (K : TakingBlocks V) (name : List ℕ) where
-  pub took-append : (place : ℕ) (xs ys : List (List ℕ)) (old now new : V) → Took K name place xs old now → Took K name (place + length xs) ys now new → Took K name place (xs ++ ys) old new
-  took-append place [] ys old now new h k = subst (λ v. Took K name place ys v new) h (subst (λ n. Took K name n ys now new) (omega arith) k)
+  pub took-append : (place : ℕ) (xs ys : List (List ℕ)) (old now new : V) → Took K name place xs old now
+      → Took K name (place + length xs) ys now new → Took K name place (xs ++ ys) old new
+  took-append place [] ys old now new h k =
+      subst (λ v. Took K name place ys v new) h (subst (λ n. Took K name n ys now new) (omega arith) k)
   took-append place (x ∷ xs) ys old now new h k =
       (h.0, h.1, took-append (suc place) xs ys h.0 now new h.2 (subst (λ n. Took K name n ys now new) (omega arith) k))
 
-  pub took-one : (place : ℕ) (xs : List (List ℕ)) (x : List ℕ) (old now new : V) → Took K name place xs old now → K name (place + length xs) x now new → Took K name place (xs ++ x ∷ []) old new
+  pub took-one : (place : ℕ) (xs : List (List ℕ)) (x : List ℕ) (old now new : V) → Took K name place xs old now
+      → K name (place + length xs) x now new → Took K name place (xs ++ x ∷ []) old new
   took-one place xs x old now new h k = took-append place xs (x ∷ []) old now new h (new, k, refl)
 
   -- bytes are read, and more of the block is filled
   pub pouring-read : (t0 t t' : ToText) (source : List ℕ) (used read next : ℕ) (o0 o o' : Out) (v w : V) →
-      Pouring K name t0 t source used o0 o v w → Converts t t' (drop used source) read o'.block o.to o'.to → PutsAt o.block o'.block o.to o'.to →
+      Pouring K name t0 t source used o0 o v w → Converts t t' (drop used source) read o'.block o.to o'.to
+      → PutsAt o.block o'.block o.to o'.to →
       o'.place ≡ o.place → next ≡ used + read → Pouring K name t0 t' source next o0 o' v w
   pouring-read t0 t t' source used read next o0 o o' v w h c p same is = record {
     pieces = h.pieces;
@@ -68,14 +80,28 @@ module _ {V : Type 0} (K : TakingBlocks V) (name : List ℕ) where
     place = same ∙ h.place;
     whole = h.whole;
     text = λ more long.
-        let enough : rest_of t ≤ length (drop used source ++ more) = omega (arith, h.read, h.within, long, length-append {A = ℕ} source more, length-append {A = ℕ} (drop used source) more, length-drop {A = ℕ} used source) in
+        let enough : rest_of t ≤ length (drop used source ++ more) =
+        omega (
+          arith,
+          h.read,
+          h.within,
+          long,
+          length-append {A = ℕ} source more,
+          length-append {A = ℕ} (drop used source) more,
+          length-drop {A = ℕ} used source,
+        ) in
         let filled : pending o ++ slice_range o'.block o.to o'.to ≡ pending o' =
-        ap (λ (b : List ℕ). b ++ slice_range o'.block o.to o'.to) (sym p.before) ∙ sym (take-add o.to (o'.to - o.to) o'.block) ∙ ap (λ (n : ℕ). take n o'.block) (omega (arith, c.order)) in
-        let behind : drop read (drop used source) ≡ drop next source = drop-drop read used source ∙ ap (λ (n : ℕ). drop n source) (sym is) in
+        ap (λ (b : List ℕ). b ++ slice_range o'.block o.to o'.to) (sym p.before) ∙ sym (take-add o.to (o'.to - o.to) o'.block)
+        ∙ ap (λ (n : ℕ). take n o'.block) (omega (arith, c.order)) in
+        let behind : drop read (drop used source) ≡ drop next source = drop-drop read used source
+        ∙ ap (λ (n : ℕ). drop n source) (sym is) in
         h.text more long
-        ∙ ap (λ (r : Option (List ℕ)). option_map (λ (text : List ℕ). concat h.pieces ++ text) (option_map (λ (text : List ℕ). pending o ++ text) r)) (c.text more enough)
-        ∙ ap (option_map (λ (text : List ℕ). concat h.pieces ++ text)) (option_map-append (pending o) (slice_range o'.block o.to o'.to) (text_left t' (drop read (drop used source) ++ more)))
-        ∙ ap (λ (b : List ℕ). option_map (λ (text : List ℕ). concat h.pieces ++ text) (option_map (λ (text : List ℕ). b ++ text) (text_left t' (drop read (drop used source) ++ more)))) filled
+        ∙ ap (λ (r : Option (List ℕ)). option_map (λ (text : List ℕ). concat h.pieces ++ text)
+        (option_map (λ (text : List ℕ). pending o ++ text) r)) (c.text more enough)
+        ∙ ap (option_map (λ (text : List ℕ). concat h.pieces ++ text))
+        (option_map-append (pending o) (slice_range o'.block o.to o'.to) (text_left t' (drop read (drop used source) ++ more)))
+        ∙ ap (λ (b : List ℕ). option_map (λ (text : List ℕ). concat h.pieces ++ text)
+        (option_map (λ (text : List ℕ). b ++ text) (text_left t' (drop read (drop used source) ++ more)))) filled
         ∙ ap (λ (b : List ℕ). option_map (λ (text : List ℕ). concat h.pieces ++ text) (out_text o' t' (b ++ more))) behind;
     read = omega (arith, h.read, c.read, is);
     within = omega (arith, h.within, c.within, length-drop {A = ℕ} used source, is);
@@ -95,13 +121,16 @@ module _ {V : Type 0} (K : TakingBlocks V) (name : List ℕ) where
         pieces = h.pieces ++ o.block ∷ [];
         took = took-one o0.place h.pieces o.block v w u h.took (subst (λ k. K name k o.block w u) h.place n.took);
         place = omega (arith, n.next, h.place, more-by-one);
-        whole = All-append (λ b. length b ≡ 512) h.pieces (o.block ∷ []) h.whole (All-cons (λ b. length b ≡ 512) o.block [] size (All-nil (λ b. length b ≡ 512)));
+        whole = All-append (λ b. length b ≡ 512) h.pieces (o.block ∷ []) h.whole
+            (All-cons (λ b. length b ≡ 512) o.block [] size (All-nil (λ b. length b ≡ 512)));
         text = λ more long.
             h.text more long
             ∙ option_map-append (concat h.pieces) (pending o) (text_left t (drop used source ++ more))
             ∙ ap (λ (b : List ℕ). option_map (λ (text : List ℕ). b ++ text) (text_left t (drop used source ++ more))) (sym all)
             ∙ ap (option_map (λ (text : List ℕ). concat (h.pieces ++ o.block ∷ []) ++ text))
-            (sym (option_map-nothing (text_left t (drop used source ++ more))) ∙ ap (λ (k : ℕ). option_map (λ (text : List ℕ). take k o'.block ++ text) (text_left t (drop used source ++ more))) (sym n.empty));
+            (sym (option_map-nothing (text_left t (drop used source ++ more)))
+            ∙ ap (λ (k : ℕ). option_map (λ (text : List ℕ). take k o'.block ++ text) (text_left t (drop used source ++ more)))
+            (sym n.empty));
         read = h.read;
         within = h.within;
         few = omega (arith, h.few, n.empty, more-by-one, full);
@@ -109,7 +138,8 @@ module _ {V : Type 0} (K : TakingBlocks V) (name : List ℕ) where
 
   -- nothing more comes for the source
   pub pouring-ends : (t0 t : ToText) (source : List ℕ) (used read : ℕ) (o0 o : Out) (v w : V) →
-      Pouring K name t0 t source (used + read) o0 o v w → Stops t (drop used source) read → used ≤ length source → length source ≤ 512 → o0.to < 512 →
+      Pouring K name t0 t source (used + read) o0 o v w → Stops t (drop used source) read → used ≤ length source → length source ≤ 512
+      → o0.to < 512 →
       Pours K name t0 t source o0 o v w
   pouring-ends t0 t source used read o0 o v w h stops low size room = record {
     pieces = h.pieces;
@@ -117,12 +147,15 @@ module _ {V : Type 0} (K : TakingBlocks V) (name : List ℕ) where
     place = h.place;
     few = omega (arith, h.few, h.within, ending-small t0.place, size, room);
     whole = h.whole;
-    text = λ more long. h.text more long ∙ ap (λ (r : Option (List ℕ)). option_map (λ (text : List ℕ). concat h.pieces ++ text) (option_map (λ (text : List ℕ). pending o ++ text) r)) (same stops.1 more);
+    text = λ more long. h.text more long
+        ∙ ap (λ (r : Option (List ℕ)). option_map (λ (text : List ℕ). concat h.pieces ++ text)
+        (option_map (λ (text : List ℕ). pending o ++ text) r)) (same stops.1 more);
     rest = rest stops.1;
     ended = stops.0;
   }
     where
-      same : ((read ≡ length (drop used source)) ⊎ (rest_of t ≡ 0)) → (more : List ℕ) → text_left t (drop (used + read) source ++ more) ≡ text_left t more
+      same : ((read ≡ length (drop used source)) ⊎ (rest_of t ≡ 0)) → (more : List ℕ)
+          → text_left t (drop (used + read) source ++ more) ≡ text_left t more
       same (inl all) more =
           let whole : used + read ≡ length source = omega (arith, all, low, length-drop {A = ℕ} used source) in
           ap (λ (n : ℕ). text_left t (drop n source ++ more)) whole ∙ ap (λ (b : List ℕ). text_left t (b ++ more)) (drop-length source)
@@ -134,7 +167,8 @@ module _ {V : Type 0} (K : TakingBlocks V) (name : List ℕ) where
 
   -- a block is refused
   pub pouring-refused : (R : Refusing V) (t0 t : ToText) (source : List ℕ) (used : ℕ) (o0 o : Out) (e : FlxRefusal) (v w u : V) →
-      Pouring K name t0 t source used o0 o v w → o.to ≡ 512 → length o.block ≡ 512 → R name o.place o.block e w u → FailsToPour K R name t0 source o0 e v u
+      Pouring K name t0 t source used o0 o v w → o.to ≡ 512 → length o.block ≡ 512 → R name o.place o.block e w u
+      → FailsToPour K R name t0 source o0 e v u
   pouring-refused R t0 t source used o0 o e v w u h full size r = inr (record {
     pieces = h.pieces;
     last = o.block;
@@ -142,7 +176,8 @@ module _ {V : Type 0} (K : TakingBlocks V) (name : List ℕ) where
     took = h.took;
     refused = subst (λ k. R name k o.block e w u) h.place r;
     longer = λ more text long is.
-        let last : length (pending o) ≡ 512 = ap (λ (k : ℕ). length (take k o.block)) (full ∙ sym size) ∙ ap (λ (l : List ℕ). length l) (take-length o.block) ∙ size in
+        let last : length (pending o) ≡ 512 = ap (λ (k : ℕ). length (take k o.block)) (full ∙ sym size)
+        ∙ ap (λ (l : List ℕ). length l) (take-length o.block) ∙ size in
         let all : option_map (λ (t : List ℕ). (concat h.pieces ++ pending o) ++ t) (text_left t (drop used source ++ more)) ≡ Some text =
         sym (option_map-append (concat h.pieces) (pending o) (text_left t (drop used source ++ more))) ∙ sym (h.text more long) ∙ is in
         omega (
@@ -156,10 +191,12 @@ module _ {V : Type 0} (K : TakingBlocks V) (name : List ℕ) where
 
   -- the block isn't full
   pub pouring-ends-at : (t0 t : ToText) (source : List ℕ) (used read : ℕ) (o0 o : Out) (v w : V) →
-      Pouring K name t0 t source (used + read) o0 o v w → StopsAt t (drop used source) read o.to → used ≤ length source → length source ≤ 512 → o0.to < 512 → o.to < 512 →
+      Pouring K name t0 t source (used + read) o0 o v w → StopsAt t (drop used source) read o.to → used ≤ length source
+      → length source ≤ 512 → o0.to < 512 → o.to < 512 →
       Pours K name t0 t source o0 o v w
   pouring-ends-at t0 t source used read o0 o v w h (inl full) low size room less = absurd (omega (arith, full, less))
-  pouring-ends-at t0 t source used read o0 o v w h (inr stops) low size room less = pouring-ends t0 t source used read o0 o v w h stops low size room
+  pouring-ends-at t0 t source used read o0 o v w h (inr stops) low size room less =
+      pouring-ends t0 t source used read o0 o v w h stops low size room
 
   -- few blocks are given meanwhile
   pub pouring-few : (t0 t : ToText) (source : List ℕ) (used : ℕ) (o0 o : Out) (v w : V) → Pouring K name t0 t source used o0 o v w →

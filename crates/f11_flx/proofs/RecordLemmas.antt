@@ -1,5 +1,6 @@
 -- The records of bytes.
-use Rattle.std.proofs.Common.{◌≡◌, inl, inr, ℕ, zero, suc, ◌+◌, ◌-◌, ◌%◌, ◌<◌, ◌≤◌, ltb, List, [], ◌∷◌, ◌++◌, length, take, drop, Option, Some, None, refl, sym, ap, ◌∙◌, arith, append_assoc, length-append, length-drop, lt-ltb, le-ltb}
+use Rattle.std.proofs.Common.{◌≡◌, inl, inr, ℕ, zero, suc, ◌+◌, ◌-◌, ◌%◌, ◌<◌, ◌≤◌, ltb, List, [], ◌∷◌, ◌++◌, length, take, drop, Option}
+use Rattle.std.proofs.Common.{Some, None, refl, sym, ap, ◌∙◌, arith, append_assoc, length-append, length-drop, lt-ltb, le-ltb}
 use Rattle.std.specs.Prelude.{slice_range, replicate, option_and_then, option_map}
 use Rattle.std.proofs.lemmas.Bool.{cases_lt, cond-true, cond-false}
 use Rattle.std.proofs.lemmas.List.{length-replicate}
@@ -11,14 +12,22 @@ use Rattle.f11_flx.specs.declared.layout.Layout.TheVariants.{Fixed, Variable}
 
 -- where it fits
 pub first_record-fits : (layout : Layout) (bytes : List ℕ) → head_of layout + size_of layout bytes ≤ length bytes
-    → first_record layout bytes ≡ Some (slice_range bytes (head_of layout) (head_of layout + size_of layout bytes), drop (head_of layout + size_of layout bytes + pad_of layout (size_of layout bytes)) bytes)
+    → first_record layout bytes ≡ Some (
+      slice_range bytes (head_of layout) (head_of layout + size_of layout bytes),
+      drop (head_of layout + size_of layout bytes + pad_of layout (size_of layout bytes)) bytes,
+    )
 unfolding first_record
-first_record-fits layout bytes fits = cond-false (ltb (length bytes) (head_of layout + size_of layout bytes)) None _ (le-ltb (length bytes) (head_of layout + size_of layout bytes) fits)
+first_record-fits layout bytes fits =
+    cond-false (ltb (length bytes) (head_of layout + size_of layout bytes)) None _
+    (le-ltb (length bytes) (head_of layout + size_of layout bytes) fits)
 
 -- where it doesn't
-pub first_record-past : (layout : Layout) (bytes : List ℕ) → length bytes < head_of layout + size_of layout bytes → first_record layout bytes ≡ None
+pub first_record-past : (layout : Layout) (bytes : List ℕ) → length bytes < head_of layout + size_of layout bytes
+    → first_record layout bytes ≡ None
 unfolding first_record
-first_record-past layout bytes past = cond-true (ltb (length bytes) (head_of layout + size_of layout bytes)) None _ (lt-ltb (length bytes) (head_of layout + size_of layout bytes) past)
+first_record-past layout bytes past =
+    cond-true (ltb (length bytes) (head_of layout + size_of layout bytes)) None _
+    (lt-ltb (length bytes) (head_of layout + size_of layout bytes) past)
 
 -- what it takes
 some_of-le : (layout : Layout) (bytes : List ℕ) → some_of layout ≤ head_of layout + size_of layout bytes
@@ -30,12 +39,14 @@ abbrev pub with_first : Option (List ℕ × List ℕ) → (List ℕ → Option (
 with_first first others = option_and_then (λ (f : List ℕ × List ℕ). option_map (λ (more : List (List ℕ)). f.0 ∷ more) (others f.1)) first
 
 -- two ways to make them that agree on those bytes
-with_first-same : (first : Option (List ℕ × List ℕ)) (f g : List ℕ → Option (List (List ℕ))) → ((record_bytes rest : List ℕ) → first ≡ Some (record_bytes, rest) → f rest ≡ g rest) → with_first first f ≡ with_first first g
+with_first-same : (first : Option (List ℕ × List ℕ)) (f g : List ℕ → Option (List (List ℕ)))
+    → ((record_bytes rest : List ℕ) → first ≡ Some (record_bytes, rest) → f rest ≡ g rest) → with_first first f ≡ with_first first g
 with_first-same None f g agree = refl
 with_first-same (Some first) f g agree = ap (option_map (λ (more : List (List ℕ)). first.0 ∷ more)) (agree first.0 first.1 refl)
 
 -- what is behind a record is shorter
-first_record-shorter : (layout : Layout) (bytes record_bytes rest : List ℕ) → 0 < some_of layout → 0 < length bytes → first_record layout bytes ≡ Some (record_bytes, rest) → length rest < length bytes
+first_record-shorter : (layout : Layout) (bytes record_bytes rest : List ℕ) → 0 < some_of layout → 0 < length bytes
+    → first_record layout bytes ≡ Some (record_bytes, rest) → length rest < length bytes
 first_record-shorter layout bytes record_bytes rest some long is = elim (cases_lt (length bytes) (head_of layout + size_of layout bytes)) [
   | inl past ↦ absurd (none_is (sym (first_record-past layout bytes past) ∙ is))
   | inr fits ↦
@@ -52,7 +63,8 @@ first_record-shorter layout bytes record_bytes rest some long is = elim (cases_l
     some_is {p} {q} is = let same : p ≡ q = cc in ap (λ (first : List ℕ × List ℕ). first.1) same
 
 -- any number that is no less than the bytes does
-records_upto-enough : (n m : ℕ) (layout : Layout) (bytes : List ℕ) → 0 < some_of layout → length bytes ≤ n → length bytes ≤ m → records_upto n layout bytes ≡ records_upto m layout bytes
+records_upto-enough : (n m : ℕ) (layout : Layout) (bytes : List ℕ) → 0 < some_of layout → length bytes ≤ n → length bytes ≤ m
+    → records_upto n layout bytes ≡ records_upto m layout bytes
 unfolding records_upto
 records_upto-enough n m layout [] some few enough = refl
 records_upto-enough zero m layout (byte ∷ bytes) some few enough = absurd (omega arith)
@@ -64,7 +76,8 @@ records_upto-enough (suc n) (suc m) layout (byte ∷ bytes) some few enough =
     records_upto-enough n m layout rest some (omega arith) (omega arith))
 
 -- the first record and the others
-pub records_in-first : (layout : Layout) (bytes : List ℕ) → 0 < some_of layout → 0 < length bytes → records_in layout bytes ≡ with_first (first_record layout bytes) (records_in layout)
+pub records_in-first : (layout : Layout) (bytes : List ℕ) → 0 < some_of layout → 0 < length bytes
+    → records_in layout bytes ≡ with_first (first_record layout bytes) (records_in layout)
 unfolding records_upto
 records_in-first layout [] some long = absurd (omega arith)
 records_in-first layout (byte ∷ bytes) some long =
@@ -81,7 +94,8 @@ records_in-none layout = refl
 -- how long a record is that is spelled
 pub length-variable_record : (line : List ℕ) → length (variable_record line) ≡ 2 + length line + length line % 2
 unfolding variable_record
-length-variable_record line = omega (arith, length-append {A = ℕ} line (replicate (length line % 2) 0), length-replicate {A = ℕ} (length line % 2) 0)
+length-variable_record line =
+    omega (arith, length-append {A = ℕ} line (replicate (length line % 2) 0), length-replicate {A = ℕ} (length line % 2) 0)
 
 -- its own bytes
 slice_range-variable_record : (line rest : List ℕ) → slice_range (variable_record line ++ rest) 2 (2 + length line) ≡ line
@@ -89,7 +103,8 @@ unfolding variable_record
 slice_range-variable_record line rest =
     let count : 2 + length line - 2 ≡ length line = omega arith in
     let pad = replicate (length line % 2) 0 in
-    ap (λ (n : ℕ). take n ((line ++ pad) ++ rest)) count ∙ ap (take (length line)) (append_assoc line pad rest) ∙ take-append_seam line (pad ++ rest)
+    ap (λ (n : ℕ). take n ((line ++ pad) ++ rest)) count ∙ ap (take (length line)) (append_assoc line pad rest)
+    ∙ take-append_seam line (pad ++ rest)
 
 -- its length word
 size_of-variable_record : (line rest : List ℕ) → size_of Variable (variable_record line ++ rest) ≡ length line
@@ -115,8 +130,10 @@ pub records_come_back : (lines : List (List ℕ)) → records_in Variable (varia
 records_come_back [] = records_in-none Variable
 records_come_back (line ∷ lines) =
     let bytes = variable_record line ++ variable_records lines in
-    let long : 0 < length bytes = omega (arith, length-append {A = ℕ} (variable_record line) (variable_records lines), length-variable_record line) in
+    let long : 0 < length bytes =
+    omega (arith, length-append {A = ℕ} (variable_record line) (variable_records lines), length-variable_record line) in
     let some : 0 < 2 = omega arith in
     records_in-first Variable bytes some long
-    ∙ ap (λ (first : Option (List ℕ × List ℕ)). with_first first (records_in Variable)) (first_record-variable line (variable_records lines))
+    ∙ ap (λ (first : Option (List ℕ × List ℕ)). with_first first (records_in Variable))
+    (first_record-variable line (variable_records lines))
     ∙ ap (option_map (λ (more : List (List ℕ)). line ∷ more)) (records_come_back lines)

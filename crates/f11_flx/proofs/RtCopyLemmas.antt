@@ -1,5 +1,6 @@
 -- Blocks of a file on an RT-11 volume, written one after another.
-use Rattle.std.proofs.Common.{◌≡◌, ℕ, suc, ◌+◌, ◌<◌, ◌||◌, if◌then◌else◌, Bool, false, List, [], ◌∷◌, ◌++◌, length, take, drop, slice_set, refl, sym, ap, ◌∙◌, subst, append_assoc, append-nil, length-set, arith}
+use Rattle.std.proofs.Common.{◌≡◌, ℕ, suc, ◌+◌, ◌<◌, ◌||◌, if◌then◌else◌, Bool, false, List, [], ◌∷◌, ◌++◌, length, take, drop, slice_set}
+use Rattle.std.proofs.Common.{refl, sym, ap, ◌∙◌, subst, append_assoc, append-nil, length-set, arith}
 use Rattle.std.specs.List.{concat}
 use Rattle.std.proofs.Math.Seq.{take-add}
 use Rattle.std.proofs.lemmas.List.{drop-set, take_all, take-set}
@@ -50,7 +51,8 @@ has-written name k (b ∷ pieces) file more t t' was h =
     let same-more : more ≡ one.more = cc in
     let next : Area = record file { contents = slice_set file.contents k b } in
     let now : files_named name h.0 ≡ next ∷ more =
-    one.is ∙ ap (λ (f : Area). record f { contents = slice_set f.contents k b } ∷ one.more) (sym same-file) ∙ ap (λ (l : List Area). next ∷ l) (sym same-more) in
+    one.is ∙ ap (λ (f : Area). record f { contents = slice_set f.contents k b } ∷ one.more) (sym same-file)
+    ∙ ap (λ (l : List Area). next ∷ l) (sym same-more) in
     let inside : k < length file.contents = subst (λ (f : Area). k < length f.contents) (sym same-file) one.inside in
     let rest = has-written name (suc k) pieces next more h.0 t' now h.2 in
     record {
@@ -58,7 +60,8 @@ has-written name k (b ∷ pieces) file more t t' was h =
       is = rest.is;
       size = rest.size ∙ length-set file.contents k b;
       begins =
-          ap (λ n. take n rest.contents) (omega arith) ∙ rest.begins ∙ ap (λ (l : List (List ℕ)). l ++ pieces) (take-one-more k b file.contents inside)
+          ap (λ n. take n rest.contents) (omega arith) ∙ rest.begins
+          ∙ ap (λ (l : List (List ℕ)). l ++ pieces) (take-one-more k b file.contents inside)
           ∙ append_assoc (take k file.contents) (b ∷ []) pieces;
       others = λ other apart. rest.others other apart ∙ one.others other apart;
     }
@@ -67,20 +70,24 @@ directory-then : (t u v : RtStore) → HasSameDirectory t u → HasSameDirectory
 directory-then t u v h k = k ∙ ap (λ (x : RtStore). record x { block = v.block }) h
 
 -- a file whose blocks are written lies where it lay
-pub still-lies : (name : List ℕ) (count day : ℕ) (t u v : RtStore) → LiesInFirstArea name count day t u → HasSameDirectory u v → LiesInFirstArea name count day t v
+pub still-lies : (name : List ℕ) (count day : ℕ) (t u v : RtStore) → LiesInFirstArea name count day t u → HasSameDirectory u v
+    → LiesInFirstArea name count day t v
 still-lies name count day t u v h k = record {
   area = h.area;
   directory = directory-then (with_new_file t h.area.place h.area.i h.area.segment name count day) u v h.directory k;
 }
 
-module _ (name : List ℕ) (count day : ℕ) (pieces : List (List ℕ)) (t t1 t2 : RtStore) (made : HasMade name count day t t1) (puts : ReplacesRtBlocks name 0 pieces t1 t2) where
+module _ (name : List ℕ) (count day : ℕ) (pieces : List (List ℕ)) (t t1 t2 : RtStore) (made : HasMade name count day t t1)
+    (puts : ReplacesRtBlocks name 0 pieces t1 t2) where
   written : HasWritten name 0 pieces made.file [] t1 t2
   written = has-written name 0 pieces made.file [] t1 t2 made.one puts
 
-  pub has-copy : LiesInFirstArea name count day t t1 → HasSameDirectory t1 t2 → length pieces ≡ count → HasCopy name (concat pieces) count day t t2
+  pub has-copy : LiesInFirstArea name count day t t1 → HasSameDirectory t1 t2 → length pieces ≡ count
+      → HasCopy name (concat pieces) count day t t2
   has-copy lies same size =
       let w = written in
-      let all : w.contents ≡ pieces = sym (take_all (0 + length pieces) w.contents (omega (arith, w.size, made.blocks_are, size))) ∙ w.begins in
+      let all : w.contents ≡ pieces = sym (take_all (0 + length pieces) w.contents (omega (arith, w.size, made.blocks_are, size)))
+      ∙ w.begins in
       record {
         file = record made.file { contents = w.contents };
         none = made.none;
@@ -107,7 +114,14 @@ module _ (name : List ℕ) (count day : ℕ) (pieces : List (List ℕ)) (t t1 t2
       }
 
   pub has-places : HasRtBlocks name count t2
-  has-places = let w = written in record { file = record made.file { contents = w.contents }; more = []; named = w.is; blocks_are = w.size ∙ made.blocks_are }
+  has-places =
+      let w = written in record {
+        file = record made.file { contents = w.contents };
+        more = [];
+        named = w.is;
+        blocks_are = w.size
+            ∙ made.blocks_are;
+      }
 
   pub has-gone : (t3 : RtStore) → HasGone name t2 t3 → (files_named name t3 ≡ files_named name t) × KeepsOtherNames name t t3
   has-gone t3 gone =
@@ -128,7 +142,8 @@ module _ {E : Type 0} {met : Ghosts E} (disk : E → Disk) where
     next = g.next ∙ ap (λ (x : Bool). x || b) (f.next ∙ or-false (has_failed u));
   }
 
-  pub took-puts : (name : List ℕ) (place : ℕ) (pieces : List (List ℕ)) (old new : RtAccepted E met) → Took (rt_takes disk) name place pieces old new → Puts disk name place pieces old new
+  pub took-puts : (name : List ℕ) (place : ℕ) (pieces : List (List ℕ)) (old new : RtAccepted E met)
+      → Took (rt_takes disk) name place pieces old new → Puts disk name place pieces old new
   took-puts name place [] old new h = record {
     fares = subst (λ v. Fares disk false old v) (sym h) (fares-none old);
     sound = λ s. subst (λ (v : RtAccepted E met). IsSoundDisk (rt_disk disk v)) (sym h) s;
@@ -142,7 +157,11 @@ module _ {E : Type 0} {met : Ghosts E} (disk : E → Disk) where
         fares = fares-then false old h.0 new one.fares rest.fares;
         sound = λ s. rest.sound (one.sound s);
         replaced = λ s.
-            let r = one.replaced s in
-            (rt_store disk h.0, subst (λ (t : RtStore). HasReplaced name place b (rt_store disk old) t) (sym r.2) r.1, rest.replaced (one.sound s));
-        directory = λ s. directory-then (rt_store disk old) (rt_store disk h.0) (rt_store disk new) (one.directory s) (rest.directory (one.sound s));
+            let r = one.replaced s in (
+              rt_store disk h.0,
+              subst (λ (t : RtStore). HasReplaced name place b (rt_store disk old) t) (sym r.2) r.1,
+              rest.replaced (one.sound s),
+            );
+        directory = λ s. directory-then (rt_store disk old) (rt_store disk h.0) (rt_store disk new) (one.directory s)
+            (rest.directory (one.sound s));
       }

@@ -1,5 +1,6 @@
 -- How many bytes the records of a text's lines take.
-use Rattle.std.proofs.Common.{◌≡◌, ◌⊎◌, inl, inr, ℕ, zero, suc, ◌+◌, ◌*◌, ◌≤◌, true, false, eqb, not, List, [], ◌∷◌, length, drop, refl, ap, ◌∙◌, arith, length-append, length-drop}
+use Rattle.std.proofs.Common.{◌≡◌, ◌⊎◌, inl, inr, ℕ, zero, suc, ◌+◌, ◌*◌, ◌≤◌, true, false, eqb, not, List, [], ◌∷◌, length, drop, refl, ap}
+use Rattle.std.proofs.Common.{◌∙◌, arith, length-append, length-drop}
 use Rattle.std.proofs.lemmas.Bool.{and_parts, cases_Bool, cond-true, cond-false}
 use Rattle.std.proofs.lemmas.List.Filters.{length-filter_both}
 use Rattle.f11_flx.specs.Lines.{without_zeros, goes_on_with_lf, before_crlf, behind_crlf, lines_of, lines_upto}
@@ -45,7 +46,13 @@ few_upto (suc n) (c ∷ text) =
     let both = length-append {A = ℕ} (variable_record first) (variable_records (lines_upto n rest)) in
     elim (parted (c ∷ text)) [
       | inl two ↦ omega (arith, two, both, length-variable_record first, few_upto n rest)
-      | inr last ↦ omega (arith, last.0, both, length-variable_record first, ap (λ (more : List ℕ). length (variable_records (lines_upto n more))) last.1)
+      | inr last ↦ omega (
+        arith,
+        last.0,
+        both,
+        length-variable_record first,
+        ap (λ (more : List ℕ). length (variable_records (lines_upto n more))) last.1,
+      )
     ]
 
 pub records_are_few : (bytes : List ℕ) → length (variable_records (lines_of (without_zeros bytes))) ≤ 2 * length bytes + 2

@@ -25,7 +25,8 @@ use Rattle.f11_flx.specs.Planning.{FailsToPlan}
 use Rattle.f11_flx.specs.Refusal.{is_lethal}
 use Rattle.f11_flx.specs.Source.{FailsAs, up_to_end}
 use Rattle.f11_flx.specs.Target.{rt_disk}
-use Rattle.f11_flx.specs.ToRt.{CopiesFileToRt, FailsLocked, FailsToCopyFileToRt, FailsToCountAs, FailsToFillToRt, GaveUp, nowhere_refuses, nowhere_takes}
+use Rattle.f11_flx.specs.ToRt.{CopiesFileToRt, FailsLocked, FailsToCopyFileToRt, FailsToCountAs, FailsToFillToRt, GaveUp, nowhere_refuses}
+use Rattle.f11_flx.specs.ToRt.{nowhere_takes}
 use Rattle.f11_flx.specs.declared.mode.CopyMode.{CopyMode}
 use Rattle.f11_flx.specs.declared.mode.CopyMode.TheVariants.{Image, Text}
 use Rattle.f11_flx.specs.declared.refusal.FlxRefusal.{FlxRefusal}
@@ -58,10 +59,12 @@ module _ {D E : Type 0} {met : Ghosts D} {met' : Ghosts E} (disk : E → Disk) (
         absurd (true-false (sym dead ∙ granted-unspent who (asks (request.Access file access.Locked lun)) v k.opened k.opens))
 
 -- one to such a volume at its first request there, behind what is read of the RT-11 volume
-module _ {D E : Type 0} {met : Ghosts D} {met' : Ghosts E} (disk : E → Disk) (m : CopyMode) (who : Who) (lun : ℕ) (name : List ℕ) (dir : FileId)
+module _ {D E : Type 0} {met : Ghosts D} {met' : Ghosts E} (disk : E → Disk) (m : CopyMode) (who : Who) (lun : ℕ) (name : List ℕ)
+    (dir : FileId)
     (to : List ℕ) (protection : ℕ) (a b : RtAccepted E met') (v w : Volume D met) (dead : is_spent v ≡ true)
   where
-    uncreated : (making : Making) (e : Refusal) → Fails of_volume who is_created (request.Create 0 (ident_with making.name) making.attr) e v w →
+    uncreated : (making : Making) (e : Refusal)
+        → Fails of_volume who is_created (request.Create 0 (ident_with making.name) making.attr) e v w →
         e ≡ VolumeFailed
     uncreated making e (inl h) = (dead-asks who (request.Create 0 (ident_with making.name) making.attr) e v w dead h).0
     uncreated making e (inr h) =
@@ -91,15 +94,20 @@ module _ {D E : Type 0} {met : Ghosts D} {met' : Ghosts E} (disk : E → Disk) (
         FailsToCopySpent f m name (rt_disk disk a)
     spent-unmade f (inl h) = unplanned f h.fails
     spent-unmade f (inr h) =
-        subst (λ x. FailsToCopySpent x m name (rt_disk disk a)) (sym (unmade f h.many h.blocks (as_file to dir protection h.attr []) h.between (h.fails []))) (
+        subst (λ x. FailsToCopySpent x m name (rt_disk disk a))
+        (sym (unmade f h.many h.blocks (as_file to dir protection h.attr []) h.between (h.fails []))) (
           refl,
           λ s.
-              let p = planned disk m name h.many h.blocks h.attr a h.between h.plans s in
-              (as_file to dir protection h.attr p.plan.pieces, has-making disk m name h.many h.blocks h.attr a h.between dir to protection p),
+              let p = planned disk m name h.many h.blocks h.attr a h.between h.plans s in (
+                as_file to dir protection h.attr p.plan.pieces,
+                has-making disk m name h.many h.blocks h.attr a h.between dir to protection
+                    p,
+              ),
         )
 
 -- a copy of an RT-11 volume that had failed is refused as its file is looked for
-module _ {V E : Type 0} {met : Ghosts E} (S : FilesService V) (disk : E → Disk) (m : CopyMode) (who : Who) (lun : ℕ) (name : List ℕ) (dir : FileId)
+module _ {V E : Type 0} {met : Ghosts E} (S : FilesService V) (disk : E → Disk) (m : CopyMode) (who : Who) (lun : ℕ) (name : List ℕ)
+    (dir : FileId)
     (to : List ℕ) (protection : ℕ) (a b : RtAccepted E met) (v w : V) (dead : has_failed a ≡ true)
   where
     unfound : (f : FlxRefusal) → FailsToPlan disk m name f a b → f ≡ Rt Failed
@@ -120,7 +128,8 @@ module _ {V E : Type 0} {met : Ghosts E} (S : FilesService V) (disk : E → Disk
     failed-unasked f (inr h) = absurd (true-false (sym dead ∙ h.plans.alive))
 
 -- one to such a volume as the source is, or where its file is made
-module _ {V E : Type 0} {met : Ghosts E} (S : FilesService V) (disk : E → Disk) (m : CopyMode) (who : Who) (lun : ℕ) (name : List ℕ) (file : FileId)
+module _ {V E : Type 0} {met : Ghosts E} (S : FilesService V) (disk : E → Disk) (m : CopyMode) (who : Who) (lun : ℕ) (name : List ℕ)
+    (file : FileId)
     (day : ℕ) (a b : RtAccepted E met) (dead : has_failed a ≡ true)
   where
     abbrev May : FlxRefusal → Type 0
@@ -133,7 +142,8 @@ module _ {V E : Type 0} {met : Ghosts E} (S : FilesService V) (disk : E → Disk
     uncounted Image attr k e v w h = absurd h
     uncounted Text attr k e v w h = by h.2
       where
-        text : (t : ToText) (p q : Nowhere) → FailsToCopyText S nowhere_takes nowhere_refuses who lun name t (up_to_end attr k) e v w p q → May e
+        text : (t : ToText) (p q : Nowhere) → FailsToCopyText S nowhere_takes nowhere_refuses who lun name t (up_to_end attr k) e v w p q
+            → May e
         text t p q (inl d) = same-may e (Files d.refusal) d.is tt
         text t p q (inr (inl d)) = same-may e BadRecord d.is tt
         text t p q (inr (inr d)) = absurd d.refused
@@ -142,7 +152,8 @@ module _ {V E : Type 0} {met : Ghosts E} (S : FilesService V) (disk : E → Disk
         by (inl x) = same-may e BadRecord x.is tt
         by (inr x) = text x.0 h.0 h.1 x.2
 
-    unfilled : (attr : List ℕ) (k count : ℕ) (e : FlxRefusal) (v w : V) → FailsToFillToRt m S disk who lun name attr k count day e v w a b → May e
+    unfilled : (attr : List ℕ) (k count : ℕ) (e : FlxRefusal) (v w : V) → FailsToFillToRt m S disk who lun name attr k count day e v w a b
+        → May e
     unfilled attr k count e v w (inl h) = same-may e (Rt h.refusal) h.is (h.fails.dead dead).0
     unfilled attr k count e v w (inr h) = absurd (true-false (sym dead ∙ h.makes.alive))
 
@@ -163,7 +174,8 @@ module _ {V E : Type 0} {met : Ghosts E} (S : FilesService V) (disk : E → Disk
     pub failed-uncopied : (count : ℕ) (v w : V) → CopiesFileToRt m S disk who lun file name count day v w a b → ⊥
     failed-uncopied count v w h = true-false (sym dead ∙ h.copies.fills.makes.alive)
 
-    pub failed-refused : (e : FlxRefusal) (v w : V) → FailsToCopyFileToRt m S disk who lun file name day e v w a b → MayRefuseFailed (refused e)
+    pub failed-refused : (e : FlxRefusal) (v w : V) → FailsToCopyFileToRt m S disk who lun file name day e v w a b
+        → MayRefuseFailed (refused e)
     failed-refused e v w (inl k) = same-may e (Files k.refusal) k.is tt
     failed-refused e v w (inr (inl k)) = gave k.refusal e k.stopped w (unlocked k.refusal k.opened k.stopped k.fails) k.gives
     failed-refused e v w (inr (inr k)) = absurd (true-false (sym dead ∙ k.copies.fills.makes.alive))

@@ -1,5 +1,6 @@
 -- What the calls on an RT-11 volume tell of a file that is made.
-use Rattle.std.proofs.Common.{◌≡◌, ◌≢◌, ℕ, ◌+◌, ◌<◌, ◌≤◌, Bool, true, false, if◌then◌else◌, List, [], ◌∷◌, length, slice_index_or, Result, Ok, Err, OnOk, OnErr, IfErr, refl, sym, ◌∙◌, ap, subst, arith}
+use Rattle.std.proofs.Common.{◌≡◌, ◌≢◌, ℕ, ◌+◌, ◌<◌, ◌≤◌, Bool, true, false, if◌then◌else◌, List, [], ◌∷◌, length, slice_index_or, Result}
+use Rattle.std.proofs.Common.{Ok, Err, OnOk, OnErr, IfErr, refl, sym, ◌∙◌, ap, subst, arith}
 use Rattle.std.proofs.lemmas.List.{length-map}
 use Rattle.std.proofs.lemmas.List.FromFn.{length-range_with_len}
 use Rattle.f11_dev.specs.Disk.{Disk}
@@ -8,7 +9,8 @@ use Rattle.f11_dev.specs.Looked.{Looked}
 use Rattle.f11_dev.specs.Went.{Went}
 use Rattle.f11_dev.specs.declared.device.Device.{Ghosts}
 use Rattle.rt11_volume.specs.Calls.{has_failed}
-use Rattle.rt11_volume.specs.Files.{AnswersRt, CreatesFile, DeletesFile, FailsToDelete, FailsToReach, HasBlockWritten, faults_in, file_area, is_device_fault, is_fault}
+use Rattle.rt11_volume.specs.Files.{AnswersRt, CreatesFile, DeletesFile, FailsToDelete, FailsToReach, HasBlockWritten, faults_in, file_area}
+use Rattle.rt11_volume.specs.Files.{is_device_fault, is_fault}
 use Rattle.rt11_volume.specs.Named.{files_named}
 use Rattle.rt11_volume.specs.Operations.{with_block, with_new_file}
 use Rattle.rt11_volume.specs.RtName.{IsRtName}
@@ -63,7 +65,8 @@ module _ {E : Type 0} {met : Ghosts E} (disk : E → Disk) (old new : RtAccepted
   unfailed-of {T = T} e a alive is = let h : has_failed old ≡ true = a.failed.0 (ap (as-err {T = T}) is) in absurd (cc)
 
   -- a volume that had failed answers so, and nothing is done
-  pub dead-of : {T : Type 0} (e : RtRefusal) → AnswersRt {T = T} disk (Err e) old new → has_failed old ≡ true → (e ≡ rt.Failed) × (rt_disk disk new ≡ rt_disk disk old)
+  pub dead-of : {T : Type 0} (e : RtRefusal) → AnswersRt {T = T} disk (Err e) old new → has_failed old ≡ true
+      → (e ≡ rt.Failed) × (rt_disk disk new ≡ rt_disk disk old)
   dead-of {T = T} e a failed = (same (a.failed.1 failed), a.untouched failed)
     where
       same : as-err {T = T} e ≡ as-err rt.Failed → e ≡ rt.Failed
@@ -90,7 +93,8 @@ module _ {E : Type 0} {met : Ghosts E} (disk : E → Disk) (old new : RtAccepted
     alive = unfailed-of e a;
   }
 
-  pub makes : (name : List ℕ) (blocks day : ℕ) (P : Image → Type 0) (most : ℕ) (result : Result Unit RtRefusal) → IsRtName name → blocks ≤ 65535 →
+  pub makes : (name : List ℕ) (blocks day : ℕ) (P : Image → Type 0) (most : ℕ) (result : Result Unit RtRefusal) → IsRtName name
+      → blocks ≤ 65535 →
       AnswersRt disk result old new → Went P (rt_disk disk old) (rt_disk disk new) most (faults_in result) →
       OnOk result (IsSoundDisk (rt_disk disk old) → CreatesFile name blocks day (rt_disk disk old).image (rt_disk disk new).image) →
       OnOk result (Makes disk name blocks day old new)
@@ -103,7 +107,8 @@ module _ {E : Type 0} {met : Ghosts E} (disk : E → Disk) (old new : RtAccepted
     lies = λ s. record {
       area = (made s).area;
       directory = same-directory
-          (with_new_file (rt_store disk old) (made s).area.place (made s).area.i (made s).area.segment name blocks day) (rt_store disk new) (made s).store_is;
+          (with_new_file (rt_store disk old) (made s).area.place (made s).area.i (made s).area.segment name blocks day) (rt_store disk new)
+          (made s).store_is;
     };
   }
   makes name blocks day P most (Err e) named few a w made = tt
@@ -126,7 +131,8 @@ module _ {E : Type 0} {met : Ghosts E} (disk : E → Disk) (old new : RtAccepted
   puts name place block P most (Err e) a w written = tt
 
   -- on a sound volume a block that is refused is none of the file's
-  past-of : (name : List ℕ) (place blocks : ℕ) (e : RtRefusal) → FailsToReach e name place (rt_disk disk old) → IsSoundDisk (rt_disk disk old) →
+  past-of : (name : List ℕ) (place blocks : ℕ) (e : RtRefusal) → FailsToReach e name place (rt_disk disk old)
+      → IsSoundDisk (rt_disk disk old) →
       e ≢ rt.Failed → is_fault e ≡ false → HasRtBlocks name blocks (rt_store disk old) → blocks ≤ place
   past-of name place blocks rt.Failed h s unfailed none has = absurd (unfailed refl)
   past-of name place blocks rt.NoSuchFile h s unfailed none has =
@@ -135,7 +141,8 @@ module _ {E : Type 0} {met : Ghosts E} (disk : E → Disk) (old new : RtAccepted
       let first = file-first name (rt_store disk old) (h s).file in
       let same : has.file ∷ has.more ≡ file_area (h s).file ∷ first.more = sym has.named ∙ first.named in
       let file : length has.file.contents ≡ (file_area (h s).file).length =
-      ap (λ (l : List Area). length (slice_index_or l 0 has.file).contents) same ∙ area-length (rt_store disk old) (h s).file.segment (h s).file.i in
+      ap (λ (l : List Area). length (slice_index_or l 0 has.file).contents) same
+      ∙ area-length (rt_store disk old) (h s).file.segment (h s).file.i in
       omega (arith, file, has.blocks_are, (h s).past)
   past-of name place blocks rt.DeviceFault h s unfailed none has = absurd (cc)
   past-of name place blocks rt.Protected h s unfailed none has = absurd h
@@ -156,7 +163,8 @@ module _ {E : Type 0} {met : Ghosts E} (disk : E → Disk) (old new : RtAccepted
   }
 
   -- on a sound volume a file that isn't deleted is protected
-  protected-of : (name : List ℕ) (e : RtRefusal) → FailsToDelete e name (rt_disk disk old) → IsSoundDisk (rt_disk disk old) → e ≢ rt.Failed → is_fault e ≡ false →
+  protected-of : (name : List ℕ) (e : RtRefusal) → FailsToDelete e name (rt_disk disk old) → IsSoundDisk (rt_disk disk old) → e ≢ rt.Failed
+      → is_fault e ≡ false →
       (file : Area) (more : List Area) → files_named name (rt_store disk old) ≡ file ∷ more → file.protected ≡ true
   protected-of name rt.Failed h s unfailed none file more is = absurd (unfailed refl)
   protected-of name rt.NoSuchFile h s unfailed none file more is =

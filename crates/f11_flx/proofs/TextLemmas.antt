@@ -1,5 +1,6 @@
 -- The text of a file's records, a byte read at a time.
-use Rattle.std.proofs.Common.{◌≡◌, ℕ, zero, suc, ◌+◌, ◌-◌, ◌*◌, ◌%◌, ◌<◌, ◌≤◌, Bool, true, false, eqb, IsTrue, List, [], ◌∷◌, ◌++◌, length, take, drop, Option, Some, None, refl, sym, ap, ◌∙◌, arith, append_assoc}
+use Rattle.std.proofs.Common.{◌≡◌, ℕ, zero, suc, ◌+◌, ◌-◌, ◌*◌, ◌%◌, ◌<◌, ◌≤◌, Bool, true, false, eqb, IsTrue, List, [], ◌∷◌, ◌++◌, length}
+use Rattle.std.proofs.Common.{take, drop, Option, Some, None, refl, sym, ap, ◌∙◌, arith, append_assoc}
 use Rattle.std.specs.Prelude.{slice_range, option_map, option_and_then}
 use Rattle.std.proofs.lemmas.Bool.{cond_both}
 use Rattle.std.proofs.lemmas.Bool.Decides.{nat_tests}
@@ -23,27 +24,34 @@ option_map-map f g None = refl
 option_map-map f g (Some x) = refl
 
 -- a record more in the text
-text_of-more : (own : List ℕ) (records : Option (List (List ℕ))) → option_map text_of (option_map (λ (more : List (List ℕ)). own ∷ more) records) ≡ option_map (λ (text : List ℕ). own ++ 13 ∷ 10 ∷ text) (option_map text_of records)
+text_of-more : (own : List ℕ) (records : Option (List (List ℕ)))
+    → option_map text_of (option_map (λ (more : List (List ℕ)). own ∷ more) records) ≡ option_map (λ (text : List ℕ). own ++ 13 ∷ 10 ∷ text)
+    (option_map text_of records)
 text_of-more own None = refl
 text_of-more own (Some records) = ap Some (append_assoc own (13 ∷ 10 ∷ []) (text_of records))
 
 -- the text of the first record, and that of the others
-pub text_in-first : (layout : Layout) (bytes own rest : List ℕ) → 0 < some_of layout → 0 < length bytes → head_of layout + size_of layout bytes ≤ length bytes
-    → slice_range bytes (head_of layout) (head_of layout + size_of layout bytes) ≡ own → drop (head_of layout + size_of layout bytes + pad_of layout (size_of layout bytes)) bytes ≡ rest
+pub text_in-first : (layout : Layout) (bytes own rest : List ℕ) → 0 < some_of layout → 0 < length bytes
+    → head_of layout + size_of layout bytes ≤ length bytes
+    → slice_range bytes (head_of layout) (head_of layout + size_of layout bytes) ≡ own
+    → drop (head_of layout + size_of layout bytes + pad_of layout (size_of layout bytes)) bytes ≡ rest
     → text_in layout bytes ≡ option_map (λ (text : List ℕ). own ++ 13 ∷ 10 ∷ text) (text_in layout rest)
 unfolding text_in
 text_in-first layout bytes own rest some long fits own_is rest_is =
     ap (option_map text_of) (records_in-first layout bytes some long
     ∙ ap (λ (f : Option (List ℕ × List ℕ)). with_first f (records_in layout)) (first_record-fits layout bytes fits)
-    ∙ ap (λ (b : List ℕ). option_map (λ (more : List (List ℕ)). b ∷ more) (records_in layout (drop (head_of layout + size_of layout bytes + pad_of layout (size_of layout bytes)) bytes))) own_is
+    ∙ ap (λ (b : List ℕ). option_map (λ (more : List (List ℕ)). b ∷ more)
+    (records_in layout (drop (head_of layout + size_of layout bytes + pad_of layout (size_of layout bytes)) bytes))) own_is
     ∙ ap (λ (b : List ℕ). option_map (λ (more : List (List ℕ)). own ∷ more) (records_in layout b)) rest_is)
     ∙ text_of-more own (records_in layout rest)
 
 -- where it goes past the end there is no text
-pub text_in-past : (layout : Layout) (bytes : List ℕ) → 0 < some_of layout → 0 < length bytes → length bytes < head_of layout + size_of layout bytes → text_in layout bytes ≡ None
+pub text_in-past : (layout : Layout) (bytes : List ℕ) → 0 < some_of layout → 0 < length bytes
+    → length bytes < head_of layout + size_of layout bytes → text_in layout bytes ≡ None
 unfolding text_in
 text_in-past layout bytes some long past =
-    ap (option_map text_of) (records_in-first layout bytes some long ∙ ap (λ (f : Option (List ℕ × List ℕ)). with_first f (records_in layout)) (first_record-past layout bytes past))
+    ap (option_map text_of) (records_in-first layout bytes some long
+    ∙ ap (λ (f : Option (List ℕ × List ℕ)). with_first f (records_in layout)) (first_record-past layout bytes past))
 
 -- CR LF has two bytes
 ending_at-few : (at : Place) → 1 + ending_at at ≤ 3
@@ -54,14 +62,16 @@ ending_at-few (place.LineFeed pad) = omega arith
 ending_at-few place.Pad = omega arith
 
 -- the first byte of a fixed record
-pub reads-fixed : (size byte rest : ℕ) → 0 < size → size - 1 ≤ rest → ReadsByte (Fixed size) place.Record (place.Within (size - 1) false) byte rest (Some byte)
+pub reads-fixed : (size byte rest : ℕ) → 0 < size → size - 1 ≤ rest
+    → ReadsByte (Fixed size) place.Record (place.Within (size - 1) false) byte rest (Some byte)
 reads-fixed size byte rest some fits = record {
   text = λ bytes is.
       let count : 0 + size - 0 ≡ suc (size - 1) = omega arith in
       let end : 0 + size + 0 ≡ suc (size - 1 + 0) = omega arith in
       text_in-first (Fixed size) (byte ∷ bytes) (byte ∷ take (size - 1) bytes) (drop (size - 1 + 0) bytes) some (omega arith) (omega arith)
       (ap (λ (n : ℕ). take n (byte ∷ bytes)) count) (ap (λ (n : ℕ). drop n (byte ∷ bytes)) end)
-      ∙ sym (option_map-map (λ (more : List ℕ). byte ∷ more) (λ (more : List ℕ). take (size - 1) bytes ++ 13 ∷ 10 ∷ more) (text_in (Fixed size) (drop (size - 1 + 0) bytes)));
+      ∙ sym (option_map-map (λ (more : List ℕ). byte ∷ more) (λ (more : List ℕ). take (size - 1) bytes ++ 13 ∷ 10 ∷ more)
+      (text_in (Fixed size) (drop (size - 1 + 0) bytes)));
   wanted = fits;
   placed = refl;
   few = ending_at-few (place.Within (size - 1) false);
@@ -81,25 +91,29 @@ reads-low byte rest more = record {
 }
 
 pub refuses-low : (byte rest : ℕ) → rest ≡ 0 → RefusesByte Variable place.Record byte rest
-refuses-low byte rest none bytes is = let some : 0 < 2 = omega arith in text_in-past Variable (byte ∷ bytes) some (omega arith) (omega arith)
+refuses-low byte rest none bytes is =
+    let some : 0 < 2 = omega arith in text_in-past Variable (byte ∷ bytes) some (omega arith) (omega arith)
 
 -- a pad byte where the length is odd
 pads-odd : (n : ℕ) → pads (eqb (n % 2) 1) ≡ n % 2
 pads-odd n = grind (arith, nat_tests)
 
 -- the high byte
-pub reads-high : (low byte size rest : ℕ) → size ≡ byte * 256 + low → size ≤ rest → ReadsByte Variable (place.High low) (place.Within size (eqb (size % 2) 1)) byte rest None
+pub reads-high : (low byte size rest : ℕ) → size ≡ byte * 256 + low → size ≤ rest
+    → ReadsByte Variable (place.High low) (place.Within size (eqb (size % 2) 1)) byte rest None
 reads-high low byte size rest size_is fits = record {
   text = λ bytes is.
       let whole = low ∷ byte ∷ bytes in
       let some : 0 < 2 = omega arith in
       let told : size_of Variable whole ≡ size = omega arith in
       let count : 2 + size_of Variable whole - 2 ≡ size = omega arith in
-      let end : 2 + size_of Variable whole + size_of Variable whole % 2 ≡ suc (suc (size + size % 2)) = omega (arith, ap (λ (n : ℕ). n % 2) told) in
+      let end : 2 + size_of Variable whole + size_of Variable whole % 2 ≡ suc (suc (size + size % 2)) =
+      omega (arith, ap (λ (n : ℕ). n % 2) told) in
       let pad : size + size % 2 ≡ size + pads (eqb (size % 2) 1) = omega (arith, pads-odd size) in
       text_in-first Variable whole (take size bytes) (drop (size + pads (eqb (size % 2) 1)) bytes) some (omega arith) (omega arith)
       (ap (λ (n : ℕ). take n bytes) count) (ap (λ (n : ℕ). drop n whole) end ∙ ap (λ (n : ℕ). drop n bytes) pad)
-      ∙ sym (option_map_id (option_map (λ (more : List ℕ). take size bytes ++ 13 ∷ 10 ∷ more) (text_in Variable (drop (size + pads (eqb (size % 2) 1)) bytes))));
+      ∙ sym (option_map_id (option_map (λ (more : List ℕ). take size bytes ++ 13 ∷ 10 ∷ more)
+      (text_in Variable (drop (size + pads (eqb (size % 2) 1)) bytes))));
   wanted = fits;
   placed = refl;
   few = omega (arith, ending_at-few (place.Within size (eqb (size % 2) 1)));
@@ -124,26 +138,35 @@ some-left zero none = absurd (differ none)
 some-left (suc n) none = omega arith
 
 -- a byte of a record
-pub reads-within : (layout : Layout) (left : ℕ) (pad : Bool) (byte rest : ℕ) → is_ending (place.Within left pad) ≡ false → left ≤ rest + 1 → ReadsByte layout (place.Within left pad) (place.Within (left - 1) pad) byte rest (Some byte)
+pub reads-within : (layout : Layout) (left : ℕ) (pad : Bool) (byte rest : ℕ) → is_ending (place.Within left pad) ≡ false → left ≤ rest + 1
+    → ReadsByte layout (place.Within left pad) (place.Within (left - 1) pad) byte rest (Some byte)
 reads-within layout left pad byte rest more fits = let some : 0 < left = some-left left more in record {
   text = λ bytes is.
       let count : left ≡ suc (left - 1) = omega arith in
       let end : left + pads pad ≡ suc (left - 1 + pads pad) = omega arith in
-      ap (λ (n : ℕ). option_map (λ (more : List ℕ). take n (byte ∷ bytes) ++ 13 ∷ 10 ∷ more) (text_in layout (drop (left + pads pad) (byte ∷ bytes)))) count
-      ∙ ap (λ (n : ℕ). option_map (λ (more : List ℕ). byte ∷ (take (left - 1) bytes ++ 13 ∷ 10 ∷ more)) (text_in layout (drop n (byte ∷ bytes)))) end
-      ∙ sym (option_map-map (λ (more : List ℕ). byte ∷ more) (λ (more : List ℕ). take (left - 1) bytes ++ 13 ∷ 10 ∷ more) (text_in layout (drop (left - 1 + pads pad) bytes)));
+      ap (λ (n : ℕ). option_map (λ (more : List ℕ). take n (byte ∷ bytes) ++ 13 ∷ 10 ∷ more)
+      (text_in layout (drop (left + pads pad) (byte ∷ bytes)))) count
+      ∙ ap (λ (n : ℕ). option_map (λ (more : List ℕ). byte ∷ (take (left - 1) bytes ++ 13 ∷ 10 ∷ more))
+      (text_in layout (drop n (byte ∷ bytes)))) end
+      ∙ sym (option_map-map (λ (more : List ℕ). byte ∷ more) (λ (more : List ℕ). take (left - 1) bytes ++ 13 ∷ 10 ∷ more)
+      (text_in layout (drop (left - 1 + pads pad) bytes)));
   wanted = omega arith;
   placed = placed-within layout (left - 1) pad;
   few = ending_at-few (place.Within (left - 1) pad);
 }
 
 -- a byte that is refused by how many are behind it is refused where as many follow
-pub refuses-on : (layout : Layout) (at : Place) (byte rest : ℕ) → 0 < rest → RefusesByte layout at byte (rest - 1) → (bytes : List ℕ) → rest ≤ length bytes + 1 → text_from layout at (take rest (byte ∷ bytes)) ≡ None
+pub refuses-on : (layout : Layout) (at : Place) (byte rest : ℕ) → 0 < rest → RefusesByte layout at byte (rest - 1) → (bytes : List ℕ)
+    → rest ≤ length bytes + 1 → text_from layout at (take rest (byte ∷ bytes)) ≡ None
 refuses-on layout at byte rest some refuses bytes long =
     let count : rest ≡ suc (rest - 1) = omega arith in
-    ap (λ (n : ℕ). text_from layout at (take n (byte ∷ bytes))) count ∙ refuses (take (rest - 1) bytes) (length-take-le (rest - 1) bytes (omega arith))
+    ap (λ (n : ℕ). text_from layout at (take n (byte ∷ bytes))) count
+    ∙ refuses (take (rest - 1) bytes) (length-take-le (rest - 1) bytes (omega arith))
 
 -- the text of a file whose records lie so
-pub converted_text-in : (file : File) (layout : Layout) → layout_of file.attr ≡ Some layout → text_in layout (take (end_of file) (concat file.blocks)) ≡ converted_text file
+pub converted_text-in : (file : File) (layout : Layout) → layout_of file.attr ≡ Some layout
+    → text_in layout (take (end_of file) (concat file.blocks)) ≡ converted_text file
 unfolding text_in
-converted_text-in file layout is = sym (ap (λ (l : Option Layout). option_map text_of (option_and_then (λ (how : Layout). records_in how (take (end_of file) (concat file.blocks))) l)) is)
+converted_text-in file layout is =
+    sym (ap (λ (l : Option Layout).
+    option_map text_of (option_and_then (λ (how : Layout). records_in how (take (end_of file) (concat file.blocks))) l)) is)

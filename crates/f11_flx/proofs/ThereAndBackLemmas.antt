@@ -1,5 +1,6 @@
 -- Two copies, one after the other.
-use Rattle.std.proofs.Common.{◌≡◌, ℕ, ◌*◌, ◌/◌, ◌+◌, ◌==◌, Bool, true, false, List, [], ◌∷◌, length, Option, Some, None, All, unwrap_or, refl, sym, ap, ◌∙◌, subst, arith}
+use Rattle.std.proofs.Common.{◌≡◌, ℕ, ◌*◌, ◌/◌, ◌+◌, ◌==◌, Bool, true, false, List, [], ◌∷◌, length, Option, Some, None, All, unwrap_or}
+use Rattle.std.proofs.Common.{refl, sym, ap, ◌∙◌, subst, arith}
 use Rattle.std.specs.Prelude.{option_map, slice_index_or}
 use Rattle.std.specs.List.{concat}
 use Rattle.std.specs.Option.{option_and_then}
@@ -21,7 +22,8 @@ use Rattle.f11_flx.specs.Lines.{has_long_line, in_whole_blocks, lines_of, text_o
 use Rattle.f11_flx.specs.MakingLaws.{HasCopyOf}
 use Rattle.f11_flx.specs.Records.{records_of}
 use Rattle.f11_flx.specs.Spelled.{image_attributes, image_of}
-use Rattle.f11_flx.specs.ThereAndBack.{FileComesBack, HasImageOf, HasLinesOf, HasTextOf, IsBack, IsRtBack, AreWhole, RtFileComesBack, SourceIsKept}
+use Rattle.f11_flx.specs.ThereAndBack.{FileComesBack, HasImageOf, HasLinesOf, HasTextOf, IsBack, IsRtBack, AreWhole, RtFileComesBack}
+use Rattle.f11_flx.specs.ThereAndBack.{SourceIsKept}
 use Rattle.f11_flx.specs.declared.mode.CopyMode.{CopyMode}
 use Rattle.f11_flx.specs.declared.mode.CopyMode.TheVariants.{Image, Text}
 use Rattle.f11_flx.proofs.BackLemmas.{copied-has-lines, image_comes_back}
@@ -34,7 +36,8 @@ use Rattle.f11_flx.proofs.ReadingLemmas.{accessed, source_stays}
 use Rattle.f11_flx.proofs.SmallLemmas.{some-one}
 
 -- the only file of a name is the one that is found by it
-only-found : (name : List ℕ) (t : RtStore) (file : Area) → files_named name t ≡ file ∷ [] → (found : HasFile name t) → file_area found ≡ file
+only-found : (name : List ℕ) (t : RtStore) (file : Area) → files_named name t ≡ file ∷ [] → (found : HasFile name t)
+    → file_area found ≡ file
 only-found name t file one found =
     let first = file-first name t found in
     let same : file_area found ∷ first.more ≡ file ∷ [] = sym first.named ∙ one in
@@ -49,16 +52,20 @@ record IsCopied (m : CopyMode) (name : List ℕ) (t : RtStore) (blocks : ℕ) (f
   pub blocks_are : length file.blocks ≡ blocks
   pub whole : All (λ block. length block ≡ 512) file.blocks
 
-is-copied : (m : CopyMode) (name : List ℕ) (who : Who) (lun : ℕ) (dir : FileId) (to : List ℕ) (protection blocks : ℕ) (t : RtStore) (s s' : Store) → CopiesFromRt m name who lun dir to protection blocks t s s' →
+is-copied : (m : CopyMode) (name : List ℕ) (who : Who) (lun : ℕ) (dir : FileId) (to : List ℕ) (protection blocks : ℕ) (t : RtStore)
+    (s s' : Store) → CopiesFromRt m name who lun dir to protection blocks t s s' →
     IsCopied m name t blocks (file_named s' (new_id s))
 is-copied m name who lun dir to protection blocks t s s' h =
     let c = copy-of m name who lun dir to protection blocks t s s' h in
-    let named = ap (λ (o : Option File). unwrap_or o no_file) (there-file s' (new_id s) (record { file = c.made.file; is = c.made.there; sequence = c.made.sequence_is })) in
-    subst (λ (f : File). IsCopied m name t blocks f) (sym named) (record { source = c.source; copy = c.copy; converted = c.converted; holds = c.holds; blocks_are = c.blocks_are; whole = c.whole })
+    let named = ap (λ (o : Option File). unwrap_or o no_file)
+    (there-file s' (new_id s) (record { file = c.made.file; is = c.made.there; sequence = c.made.sequence_is })) in
+    subst (λ (f : File). IsCopied m name t blocks f) (sym named)
+    (record { source = c.source; copy = c.copy; converted = c.converted; holds = c.holds; blocks_are = c.blocks_are; whole = c.whole })
 
 module _ (source file : File) (name : List ℕ) (t : RtStore) (content : List ℕ) (back : ℕ) where
   -- blocks as they are, there and back
-  image-back : (blocks : ℕ) → copied_to_rt Image source ≡ Some content → length content ≡ 512 * blocks → (h : IsCopied Image name t back file) → concat (file_area h.source).contents ≡ content →
+  image-back : (blocks : ℕ) → copied_to_rt Image source ≡ Some content → length content ≡ 512 * blocks
+      → (h : IsCopied Image name t back file) → concat (file_area h.source).contents ≡ content →
       length (file_area h.source).contents ≡ blocks → HasImageOf source file blocks back
   image-back blocks converted size h bytes count =
       let contents = (file_area h.source).contents in
@@ -71,20 +78,25 @@ module _ (source file : File) (name : List ℕ) (t : RtStore) (content : List �
         attr_is = h.holds.attr ∙ ap (λ (c : Copy). c.attr) (sym same) ∙ ap image_attributes count;
         blocks_are = h.blocks_are ∙ many;
         as_many = many;
-        each = λ whole. same-blocks (image_of source) file.blocks (All-take (λ b. length b ≡ 512) ((end_of source + 511) / 512) source.blocks whole) h.whole is;
+        each = λ whole. same-blocks (image_of source) file.blocks
+            (All-take (λ b. length b ≡ 512) ((end_of source + 511) / 512) source.blocks whole) h.whole is;
       }
 
   -- the lines of a text, there and back
-  text-back : copied_to_rt Text source ≡ Some content → (h : IsCopied Text name t back file) → concat (file_area h.source).contents ≡ content → HasLinesOf source file back
+  text-back : copied_to_rt Text source ≡ Some content → (h : IsCopied Text name t back file)
+      → concat (file_area h.source).contents ≡ content → HasLinesOf source file back
   text-back converted h bytes = by (records_of source) refl converted
     where
-      by : (o : Option (List (List ℕ))) → records_of source ≡ o → option_map (λ records. in_whole_blocks (text_of records)) o ≡ Some content → HasLinesOf source file back
+      by : (o : Option (List (List ℕ))) → records_of source ≡ o → option_map (λ records. in_whole_blocks (text_of records)) o ≡ Some content
+          → HasLinesOf source file back
       by None are is = absurd (cc)
       by (Some records) are is =
           let all : concat (file_area h.source).contents ≡ in_whole_blocks (text_of records) = bytes ∙ sym (some-one is) in
           let first = lines_of (without_zeros (concat (file_area h.source).contents)) in
-          let lines : first ≡ lines_of (without_zeros (in_whole_blocks (text_of records))) = ap (λ (b : List ℕ). lines_of (without_zeros b)) all in
-          let same : lines_of (without_zeros (in_whole_blocks (text_of records))) ≡ lines_of (without_zeros (text_of records)) = ap lines_of (without_zeros-in_whole_blocks (text_of records)) in
+          let lines : first ≡ lines_of (without_zeros (in_whole_blocks (text_of records))) = ap (λ (b : List ℕ). lines_of (without_zeros b))
+          all in
+          let same : lines_of (without_zeros (in_whole_blocks (text_of records))) ≡ lines_of (without_zeros (text_of records)) =
+          ap lines_of (without_zeros-in_whole_blocks (text_of records)) in
           let found = copied-has-lines (file_area h.source).contents file h.copy h.converted h.holds (whole-length file.blocks h.whole) in
           let made = some-of (has_long_line first) (copied_lines first) h.copy h.converted in
           record {
@@ -97,7 +109,8 @@ module _ (source file : File) (name : List ℕ) (t : RtStore) (content : List �
           }
 
 pub file-comes-back : FileComesBack
-file-comes-back m who who' lun lun' source dir name to day protection blocks back s s' u u' t t' there h = by m there.converted (is-copied m name who' lun' dir to protection back t' u u' h)
+file-comes-back m who who' lun lun' source dir name to day protection blocks back s s' u u' t t' there h =
+    by m there.converted (is-copied m name who' lun' dir to protection back t' u u' h)
   where
     area : (found : HasFile name t') → file_area found ≡ there.made.file
     area found = only-found name t' there.made.file there.made.one found
@@ -105,14 +118,17 @@ file-comes-back m who who' lun lun' source dir name to day protection blocks bac
     bytes : (found : HasFile name t') → concat (file_area found).contents ≡ there.content
     bytes found = ap (λ (a : Area). concat a.contents) (area found) ∙ there.made.content_is
 
-    by : (m : CopyMode) → copied_to_rt m (file_named s source) ≡ Some there.content → IsCopied m name t' back (file_named u' (new_id u)) → IsBack m (file_named s source) (file_named u' (new_id u)) blocks back
+    by : (m : CopyMode) → copied_to_rt m (file_named s source) ≡ Some there.content → IsCopied m name t' back (file_named u' (new_id u))
+        → IsBack m (file_named s source) (file_named u' (new_id u)) blocks back
     by Image converted k =
-        image-back (file_named s source) (file_named u' (new_id u)) name t' there.content back blocks converted there.blocks_are k (bytes k.source)
+        image-back (file_named s source) (file_named u' (new_id u)) name t' there.content back blocks converted there.blocks_are k
+        (bytes k.source)
         (ap (λ (a : Area). length a.contents) (area k.source) ∙ there.made.blocks_are)
     by Text converted k = text-back (file_named s source) (file_named u' (new_id u)) name t' there.content back converted k (bytes k.source)
 
 pub source-is-kept : SourceIsKept
-source-is-kept m who who' lun lun' source dir name to day protection blocks back s s' u t t' tidy apart there h = by (source.number == (new_id s).number) refl
+source-is-kept m who who' lun lun' source dir name to day protection blocks back s s' u t t' tidy apart there h =
+    by (source.number == (new_id s).number) refl
   where
     c : HasCopyOf m name (as_file to dir protection h.attr h.pieces) who'.caller (new_id s') back t' s' u
     c = copy-of m name who' lun' dir to protection back t' s' u h
@@ -129,17 +145,21 @@ source-is-kept m who who' lun lun' source dir name to day protection blocks back
         absurd (cc)
     by false same =
         let own : (source.number == 1) ≡ false = no_index source (accessed who lun source s there.asked.0 there.asked.1).0.own in
-        let other : (source.number == (new_id s').number) ≡ false = subst (λ (x : Store). (source.number == (new_id x).number) ≡ false) (sym stays) same in
-        let kept : u.file source.number ≡ s.file source.number = c.made.others source.number other apart own ∙ ap (λ (x : Store). x.file source.number) stays in
+        let other : (source.number == (new_id s').number) ≡ false = subst (λ (x : Store). (source.number == (new_id x).number) ≡ false)
+        (sym stays) same in
+        let kept : u.file source.number ≡ s.file source.number = c.made.others source.number other apart own
+        ∙ ap (λ (x : Store). x.file source.number) stays in
         ap (λ (o : Option File). unwrap_or (option_and_then (of_sequence source.sequence) o) no_file) kept
 
 module _ (file : File) (name : List ℕ) (t : RtStore) (content : List ℕ) (blocks : ℕ) where
   -- the lines of an RT-11 text, there and back
-  rt-text-back : (h : IsCopied Text name t blocks file) → copied_to_rt Text file ≡ Some content → HasTextOf (file_area h.source).contents content
+  rt-text-back : (h : IsCopied Text name t blocks file) → copied_to_rt Text file ≡ Some content
+      → HasTextOf (file_area h.source).contents content
   rt-text-back h converted =
       let lines = lines_of (without_zeros (concat (file_area h.source).contents)) in
       let text : copied_to_rt Text file ≡ Some (in_whole_blocks (text_of lines)) =
-      ap (option_map (λ (r : List (List ℕ)). in_whole_blocks (text_of r))) (copied-has-lines (file_area h.source).contents file h.copy h.converted h.holds (whole-length file.blocks h.whole)) in
+      ap (option_map (λ (r : List (List ℕ)). in_whole_blocks (text_of r)))
+      (copied-has-lines (file_area h.source).contents file h.copy h.converted h.holds (whole-length file.blocks h.whole)) in
       let is : content ≡ in_whole_blocks (text_of lines) = some-one (sym converted ∙ text) in
       record {
         lines_are = is;
@@ -149,12 +169,15 @@ module _ (file : File) (name : List ℕ) (t : RtStore) (content : List ℕ) (blo
       }
 
   -- its blocks as they are
-  rt-image-back : (h : IsCopied Image name t blocks file) → copied_to_rt Image file ≡ Some content → AreWhole (file_area h.source).contents → content ≡ concat (file_area h.source).contents
+  rt-image-back : (h : IsCopied Image name t blocks file) → copied_to_rt Image file ≡ Some content → AreWhole (file_area h.source).contents
+      → content ≡ concat (file_area h.source).contents
   rt-image-back h converted whole =
       let contents = (file_area h.source).contents in
       let copy : record { content = concat contents; attr = image_attributes (length contents) } ≡ h.copy = some-one h.converted in
-      let same : file.blocks ≡ contents = same-blocks contents file.blocks whole h.whole (h.holds.content ∙ ap (λ (c : Copy). c.content) (sym copy)) in
-      let back : copied_to_rt Image file ≡ Some (concat file.blocks) = image_comes_back file h.copy (ap (λ (l : List (List ℕ)). copied_from_rt Image l) same ∙ h.converted) h.holds in
+      let same : file.blocks ≡ contents = same-blocks contents file.blocks whole h.whole
+      (h.holds.content ∙ ap (λ (c : Copy). c.content) (sym copy)) in
+      let back : copied_to_rt Image file ≡ Some (concat file.blocks) =
+      image_comes_back file h.copy (ap (λ (l : List (List ℕ)). copied_from_rt Image l) same ∙ h.converted) h.holds in
       some-one (sym converted ∙ back) ∙ ap concat same
 
 pub rt-file-comes-back : RtFileComesBack
@@ -162,11 +185,18 @@ rt-file-comes-back m who who' lun lun' dir name name' to day protection blocks b
     let k = is-copied m name who lun dir to protection blocks t s s' h in
     record { source = k.source; file = there.made.file; one = there.made.one; back = by m k there.converted }
   where
-    by : (m : CopyMode) → (k : IsCopied m name t blocks (file_named s' (new_id s))) → copied_to_rt m (file_named s' (new_id s)) ≡ Some there.content →
+    by : (m : CopyMode) → (k : IsCopied m name t blocks (file_named s' (new_id s)))
+        → copied_to_rt m (file_named s' (new_id s)) ≡ Some there.content →
         IsRtBack m (file_area k.source).contents there.made.file.contents
     by Image k converted =
-        let content : AreWhole (file_area k.source).contents → concat there.made.file.contents ≡ concat (file_area k.source).contents = λ whole. there.made.content_is ∙ rt-image-back (file_named s' (new_id s)) name t there.content blocks k converted whole in
-        record { content_is = content; each = λ whole whole'. same-blocks (file_area k.source).contents there.made.file.contents whole whole' (content whole) }
+        let content : AreWhole (file_area k.source).contents
+        → concat there.made.file.contents ≡ concat (file_area k.source).contents = λ whole. there.made.content_is
+        ∙ rt-image-back (file_named s' (new_id s)) name t there.content blocks k converted whole in
+        record {
+          content_is = content;
+          each = λ whole whole'. same-blocks (file_area k.source).contents there.made.file.contents whole
+              whole' (content whole);
+        }
     by Text k converted =
         subst (λ (l : List ℕ). HasTextOf (file_area k.source).contents l) (sym there.made.content_is)
         (rt-text-back (file_named s' (new_id s)) name t there.content blocks k converted)

@@ -12,10 +12,12 @@ use Rattle.f11_store.specs.declared.requests.Reply.{Reply}
 use Rattle.f11_store.specs.declared.requests.Request.{Request}
 use Rattle.f11_store.specs.declared.requests.Request.TheVariants as request
 use Rattle.rt11_volume.specs.declared.volume.RtAccepted.{RtAccepted}
-use Rattle.f11_flx.specs.Asking.{Asking, BreaksOffAsking, Denies, Fails, Granted, Grants, FilesService, Tried, Who, asks, told, writes, writes_of}
+use Rattle.f11_flx.specs.Asking.{Asking, BreaksOffAsking, Denies, Fails, Granted, Grants, FilesService, Tried, Who, asks, told, writes}
+use Rattle.f11_flx.specs.Asking.{writes_of}
 use Rattle.f11_flx.specs.CopyFromRt.{Making, as_file, creation, entry, giving_up, opening}
 use Rattle.f11_flx.specs.FromRt.{CopiesFrom, FailsToCopyFrom}
-use Rattle.f11_flx.specs.Making.{FailsToFillFromRt, FailsToFillFile, FailsToMakeCopy, FillsFile, Undoing, UndoingIf, extension, filling_of, is_created}
+use Rattle.f11_flx.specs.Making.{FailsToFillFromRt, FailsToFillFile, FailsToMakeCopy, FillsFile, Undoing, UndoingIf, extension, filling_of}
+use Rattle.f11_flx.specs.Making.{is_created}
 use Rattle.f11_flx.specs.Refusal.{is_lethal}
 use Rattle.f11_flx.specs.declared.mode.CopyMode.{CopyMode}
 use Rattle.f11_flx.specs.declared.refusal.FlxRefusal.{FlxRefusal}
@@ -43,10 +45,16 @@ module _ {V : Type 0} (S : FilesService V) (is_one : Asking → Bool) (who : Who
   }
 
   pub tries-grant : (x : Asking) (v w : V) → is_one x ≡ true → Grants S who x v w → Tries S is_one who v w
-  tries-grant x v w is h = record { asked = x ∷ []; tried = (w, inl h, refl); only = All-cons (λ y. is_one y ≡ true) x [] is (All-nil (λ y. is_one y ≡ true)) }
+  tries-grant x v w is h =
+      record { asked = x ∷ []; tried = (w, inl h, refl); only = All-cons (λ y. is_one y ≡ true) x [] is (All-nil (λ y. is_one y ≡ true)) }
 
   pub tries-deny : (x : Asking) (e : Refusal) (v w : V) → is_one x ≡ true → Denies S who x e v w → Tries S is_one who v w
-  tries-deny x e v w is h = record { asked = x ∷ []; tried = (w, inr (e, h), refl); only = All-cons (λ y. is_one y ≡ true) x [] is (All-nil (λ y. is_one y ≡ true)) }
+  tries-deny x e v w is h =
+      record {
+        asked = x ∷ [];
+        tried = (w, inr (e, h), refl);
+        only = All-cons (λ y. is_one y ≡ true) x [] is (All-nil (λ y. is_one y ≡ true));
+      }
 
   -- each of a list is one of these
   abbrev pub Only : List Asking → Type 0
@@ -66,7 +74,8 @@ module _ {V : Type 0} (S : FilesService V) (is_one : Asking → Bool) (who : Who
   tries-breaks (x ∷ xs) e v w o (inl h) = tries-deny x e v w o.0 h
   tries-breaks (x ∷ xs) e v w o (inr h) = tries-then v h.0 w (tries-grant x v h.0 o.0 h.1) (tries-breaks xs e h.0 w o.1 h.2)
 
-  pub tries-undoing : (r : Request) (f f' : FlxRefusal) (v w : V) → is_one (asks r) ≡ true → Undoing S who r f f' v w → Tries S is_one who v w
+  pub tries-undoing : (r : Request) (f f' : FlxRefusal) (v w : V) → is_one (asks r) ≡ true → Undoing S who r f f' v w
+      → Tries S is_one who v w
   tries-undoing r f f' v w is h = by (is_lethal f) h
     where
       by : (b : Bool) → UndoingIf b S who r f f' v w → Tries S is_one who v w
@@ -103,49 +112,70 @@ module _ {V : Type 0} (S : FilesService V) (who : Who) (lun : ℕ) (is_one : Ask
 
   only-filling : (n : ℕ) (pieces : List (List ℕ)) → Only S is_one who (filling_of lun n pieces)
   only-filling n pieces =
-      only-both S is_one who (extension lun n) (writes_of lun 0 pieces ++ giving_up lun) (only-extension n) (only-both S is_one who (writes_of lun 0 pieces) (giving_up lun) (only-writes 0 pieces) (is.give-up lun, tt))
+      only-both S is_one who (extension lun n) (writes_of lun 0 pieces ++ giving_up lun) (only-extension n)
+      (only-both S is_one who (writes_of lun 0 pieces) (giving_up lun) (only-writes 0 pieces) (is.give-up lun, tt))
 
   create-tries : (making : Making) (id : FileId) (v w : V) → Granted S who (creation making id) v w → Tries S is_one who v w
-  create-tries making id v w h = tries-granted S is_one who (creation making id) v w (is.created 0 (ident_with making.name) making.attr (Rattle.f11_store.specs.declared.requests.Reply.TheVariants.Created id), tt) h
+  create-tries making id v w h =
+      tries-granted S is_one who (creation making id) v w
+      (is.created 0 (ident_with making.name) making.attr (Rattle.f11_store.specs.declared.requests.Reply.TheVariants.Created id), tt) h
 
-  not-created-tries : (making : Making) (e : Refusal) (v w : V) → Fails S who is_created (request.Create 0 (ident_with making.name) making.attr) e v w → Tries S is_one who v w
-  not-created-tries making e v w (inl h) = tries-deny S is_one who (asks (request.Create 0 (ident_with making.name) making.attr)) e v w (is.create 0 (ident_with making.name) making.attr) h
+  not-created-tries : (making : Making) (e : Refusal) (v w : V)
+      → Fails S who is_created (request.Create 0 (ident_with making.name) making.attr) e v w → Tries S is_one who v w
+  not-created-tries making e v w (inl h) =
+      tries-deny S is_one who (asks (request.Create 0 (ident_with making.name) making.attr)) e v w
+      (is.create 0 (ident_with making.name) making.attr) h
   not-created-tries making e v w (inr h) =
-      tries-grant S is_one who (told (request.Create 0 (ident_with making.name) making.attr) h.0) v w (is.created 0 (ident_with making.name) making.attr h.0) h.3
+      tries-grant S is_one who (told (request.Create 0 (ident_with making.name) making.attr) h.0) v w
+      (is.created 0 (ident_with making.name) making.attr h.0) h.3
 
   only-entry : (making : Making) (id : FileId) → Only S is_one who (entry making id)
   only-entry making id = (is.enter making.directory making.name id, (is.protect id making.protection, tt))
 
-module _ {V E : Type 0} {met : Ghosts E} (S : FilesService V) (disk : E → Disk) (m : CopyMode) (who : Who) (lun : ℕ) (name : List ℕ) (is_one : Asking → Bool) (is : IsMaking is_one) where
-  fill-tries : (f : FlxRefusal) (many n : ℕ) (a b : RtAccepted E met) (v w : V) → FailsToFillFromRt S disk m who lun name many n f a b v w → Tries S is_one who v w
-  fill-tries (Files e) many n a b v w h = tries-breaks S is_one who (filling_of lun n h.pieces) e v w (only-filling S who lun is_one is n h.pieces) h.breaks
-  fill-tries (Rt e) many n a b v w h = tries-granted S is_one who (extension lun n ++ writes_of lun 0 h.pieces) v w (only-front S who lun is_one is n h.pieces) h.granted
+module _ {V E : Type 0} {met : Ghosts E} (S : FilesService V) (disk : E → Disk) (m : CopyMode) (who : Who) (lun : ℕ) (name : List ℕ)
+    (is_one : Asking → Bool) (is : IsMaking is_one) where
+  fill-tries : (f : FlxRefusal) (many n : ℕ) (a b : RtAccepted E met) (v w : V) → FailsToFillFromRt S disk m who lun name many n f a b v w
+      → Tries S is_one who v w
+  fill-tries (Files e) many n a b v w h =
+      tries-breaks S is_one who (filling_of lun n h.pieces) e v w (only-filling S who lun is_one is n h.pieces) h.breaks
+  fill-tries (Rt e) many n a b v w h =
+      tries-granted S is_one who (extension lun n ++ writes_of lun 0 h.pieces) v w (only-front S who lun is_one is n h.pieces) h.granted
   fill-tries BadRecord many n a b v w h = absurd h
-  fill-tries LineTooLong many n a b v w h = tries-granted S is_one who (extension lun n ++ writes_of lun 0 h.pieces) v w (only-front S who lun is_one is n h.pieces) h.granted
+  fill-tries LineTooLong many n a b v w h =
+      tries-granted S is_one who (extension lun n ++ writes_of lun 0 h.pieces) v w (only-front S who lun is_one is n h.pieces) h.granted
 
-  filled-tries : (many n : ℕ) (id : FileId) (a b : RtAccepted E met) (v w : V) → FillsFile S disk m who lun name many n id a b v w → Tries S is_one who v w
+  filled-tries : (many n : ℕ) (id : FileId) (a b : RtAccepted E met) (v w : V) → FillsFile S disk m who lun name many n id a b v w
+      → Tries S is_one who v w
   filled-tries many n id a b v w h =
       tries-then S is_one who v h.between w (tries-granted S is_one who (opening lun id) v h.between (is.access-to id lun, tt) h.opened)
-      (tries-granted S is_one who (filling_of lun n h.fills.pieces) h.between w (only-filling S who lun is_one is n h.fills.pieces) h.fills.granted)
+      (tries-granted S is_one who (filling_of lun n h.fills.pieces) h.between w (only-filling S who lun is_one is n h.fills.pieces)
+      h.fills.granted)
 
-  fill-file-tries : (f : FlxRefusal) (many n : ℕ) (id : FileId) (a b : RtAccepted E met) (v w : V) → FailsToFillFile S disk m who lun name many n id f a b v w → Tries S is_one who v w
-  fill-file-tries f many n id a b v w (inl h) = tries-deny S is_one who (asks (request.Access id access.Write lun)) h.e v w (is.access-to id lun) h.denied
+  fill-file-tries : (f : FlxRefusal) (many n : ℕ) (id : FileId) (a b : RtAccepted E met) (v w : V)
+      → FailsToFillFile S disk m who lun name many n id f a b v w → Tries S is_one who v w
+  fill-file-tries f many n id a b v w (inl h) =
+      tries-deny S is_one who (asks (request.Access id access.Write lun)) h.e v w (is.access-to id lun) h.denied
   fill-file-tries f many n id a b v w (inr h) =
       tries-then S is_one who v h.between w (tries-granted S is_one who (opening lun id) v h.between (is.access-to id lun, tt) h.opened)
-      (tries-then S is_one who h.between h.left w (fill-tries h.f many n a b h.between h.left h.fails) (tries-undoing S is_one who (request.Deaccess lun) h.f f h.left w (is.give-up lun) h.undoes))
+      (tries-then S is_one who h.between h.left w (fill-tries h.f many n a b h.between h.left h.fails)
+      (tries-undoing S is_one who (request.Deaccess lun) h.f f h.left w (is.give-up lun) h.undoes))
 
-  make-tries : (f : FlxRefusal) (many n : ℕ) (making : Making) (a b : RtAccepted E met) (v w : V) → FailsToMakeCopy S disk m who lun name many n making f a b v w → Tries S is_one who v w
+  make-tries : (f : FlxRefusal) (many n : ℕ) (making : Making) (a b : RtAccepted E met) (v w : V)
+      → FailsToMakeCopy S disk m who lun name many n making f a b v w → Tries S is_one who v w
   make-tries f many n making a b v w (inl h) = not-created-tries S who lun is_one is making h.e v w h.fails
   make-tries f many n making a b v w (inr (inl h)) =
       tries-then S is_one who v h.created w (create-tries S who lun is_one is making h.id v h.created h.creates)
-      (tries-then S is_one who h.created h.left w (fill-file-tries h.f many n h.id a b h.created h.left h.fails) (tries-undoing S is_one who (request.Delete h.id) h.f f h.left w (is.delete h.id) h.undoes))
+      (tries-then S is_one who h.created h.left w (fill-file-tries h.f many n h.id a b h.created h.left h.fails)
+      (tries-undoing S is_one who (request.Delete h.id) h.f f h.left w (is.delete h.id) h.undoes))
   make-tries f many n making a b v w (inr (inr h)) =
       tries-then S is_one who v h.created w (create-tries S who lun is_one is making h.id v h.created h.creates)
       (tries-then S is_one who h.created h.filled w (filled-tries many n h.id a b h.created h.filled h.fills)
-      (tries-then S is_one who h.filled h.left w (tries-breaks S is_one who (entry making h.id) h.e h.filled h.left (only-entry S who lun is_one is making h.id) h.breaks)
+      (tries-then S is_one who h.filled h.left w
+      (tries-breaks S is_one who (entry making h.id) h.e h.filled h.left (only-entry S who lun is_one is making h.id) h.breaks)
       (tries-undoing S is_one who (request.Delete h.id) (Files h.e) f h.left w (is.delete h.id) h.undoes)))
 
-  pub copies-tries : (dir : FileId) (to : List ℕ) (protection blocks : ℕ) (a b : RtAccepted E met) (v w : V) → CopiesFrom S disk m who lun name dir to protection blocks a b v w → Tries S is_one who v w
+  pub copies-tries : (dir : FileId) (to : List ℕ) (protection blocks : ℕ) (a b : RtAccepted E met) (v w : V)
+      → CopiesFrom S disk m who lun name dir to protection blocks a b v w → Tries S is_one who v w
   copies-tries dir to protection blocks a b v w h =
       let making : Making = as_file to dir protection h.attr [] in
       let k = h.makes [] in
@@ -153,6 +183,8 @@ module _ {V E : Type 0} {met : Ghosts E} (S : FilesService V) (disk : E → Disk
       (tries-then S is_one who k.created k.filled w (filled-tries h.many blocks k.id h.between b k.created k.filled k.fills)
       (tries-granted S is_one who (entry making k.id) k.filled w (only-entry S who lun is_one is making k.id) k.enters))
 
-  pub fails-tries : (f : FlxRefusal) (dir : FileId) (to : List ℕ) (protection : ℕ) (a b : RtAccepted E met) (v w : V) → FailsToCopyFrom S disk m who lun name dir to protection f a b v w → Tries S is_one who v w
+  pub fails-tries : (f : FlxRefusal) (dir : FileId) (to : List ℕ) (protection : ℕ) (a b : RtAccepted E met) (v w : V)
+      → FailsToCopyFrom S disk m who lun name dir to protection f a b v w → Tries S is_one who v w
   fails-tries f dir to protection a b v w (inl h) = subst (λ x. Tries S is_one who v x) (sym h.unasked) (tries-none S is_one who v)
-  fails-tries f dir to protection a b v w (inr h) = make-tries f h.many h.blocks (as_file to dir protection h.attr []) h.between b v w (h.fails [])
+  fails-tries f dir to protection a b v w (inr h) =
+      make-tries f h.many h.blocks (as_file to dir protection h.attr []) h.between b v w (h.fails [])

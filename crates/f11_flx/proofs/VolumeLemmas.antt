@@ -1,5 +1,6 @@
 -- A volume that is asked, seen as the plain store, and what its answers tell of its device.
-use Rattle.std.proofs.Common.{◌≡◌, ℕ, ◌+◌, ◌<◌, ◌&&◌, ◌||◌, not, Bool, true, false, IsTrue, if◌then◌else◌, [], ◌∷◌, Option, Some, None, Result, Ok, Err, is_none, option_map, refl, sym, ap, ◌∙◌, subst, arith}
+use Rattle.std.proofs.Common.{◌≡◌, ℕ, ◌+◌, ◌<◌, ◌&&◌, ◌||◌, not, Bool, true, false, IsTrue, if◌then◌else◌, [], ◌∷◌, Option, Some, None}
+use Rattle.std.proofs.Common.{Result, Ok, Err, is_none, option_map, refl, sym, ap, ◌∙◌, subst, arith}
 use Rattle.f11_dev.specs.declared.device.Device.{Ghosts}
 use Rattle.f11_store.specs.Accesses.{FreeIsEmpty, mark_of}
 use Rattle.f11_store.specs.Causes.{◌⇐◌, first_of, holds_none, is_missing}
@@ -96,7 +97,8 @@ module _ {D : Type 0} {met : Ghosts D} where
     pub accepted : StaysAccepted (state_in new)
 
   -- a request of it, whatever it answers
-  serves-fared : (v w : Volume D met) (c : Call) (a : Answer) → ServesCall v c a w → IsFared (is_refused is_fault a.result) (is_refused is_fatal a.result) v w
+  serves-fared : (v w : Volume D met) (c : Call) (a : Answer) → ServesCall v c a w
+      → IsFared (is_refused is_fault a.result) (is_refused is_fatal a.result) v w
   serves-fared v w c a h = by_spent (is_spent v) refl
     where
       by_spent : (b : Bool) → is_spent v ≡ b → IsFared (is_refused is_fault a.result) (is_refused is_fatal a.result) v w
@@ -114,16 +116,19 @@ module _ {D : Type 0} {met : Ghosts D} where
           let k = h.serving.handled is in
           record {
             failures = k.writes.went.failures ∙ ap (λ n. failures_of v + n) (faults-are a.result);
-            quiet = λ fault. k.writes.went.quiet (some-fault (is_refused is_fault a.result) (faults_in a.result) fault (faults-are a.result));
+            quiet = λ fault. k.writes.went.quiet
+                (some-fault (is_refused is_fault a.result) (faults_in a.result) fault (faults-are a.result));
             honest = k.writes.went.honest;
             next = h.serving.next;
             accepted = h.accepted;
           }
 
-  measures-fared : (v w : Volume D met) (task lun : ℕ) (result : Result ℕ Refusal) → AnswersLength task lun result v w → StaysAccepted (state_in w) → IsFared (is_refused is_fault result) (is_refused is_fatal result) v w
+  measures-fared : (v w : Volume D met) (task lun : ℕ) (result : Result ℕ Refusal) → AnswersLength task lun result v w
+      → StaysAccepted (state_in w) → IsFared (is_refused is_fault result) (is_refused is_fatal result) v w
   measures-fared v w task lun result h accepted = by_spent (is_spent v) refl
     where
-      by_result : (r : Result ℕ Refusal) → Measures task lun r (state_in v) (state_in w) → is_spent w ≡ (is_spent v || is_refused is_fatal r) → IsFared (is_refused is_fault r) (is_refused is_fatal r) v w
+      by_result : (r : Result ℕ Refusal) → Measures task lun r (state_in v) (state_in w)
+          → is_spent w ≡ (is_spent v || is_refused is_fatal r) → IsFared (is_refused is_fault r) (is_refused is_fatal r) v w
       by_result (Ok blocks) k next = record {
         failures = k.outcome.reads.looked.failures;
         quiet = λ fault. absurd (cc);
@@ -160,7 +165,8 @@ module _ {D : Type 0} {met : Ghosts D} where
   granted-fared who (writes lun vbn block) v w h = serves-fared v w _ _ h.2
   granted-fared who (counts lun blocks) v w h = measures-fared v w who.task lun (Ok blocks) h.0 h.1
 
-  pub denied-fared : (who : Who) (x : Asking) (e : Refusal) (v w : Volume D met) → Denies of_volume who x e v w → IsFared (is_fault e) (is_fatal e) v w
+  pub denied-fared : (who : Who) (x : Asking) (e : Refusal) (v w : Volume D met) → Denies of_volume who x e v w
+      → IsFared (is_fault e) (is_fatal e) v w
   denied-fared who (asks r) e v w h = serves-fared v w _ _ h.2
   denied-fared who (told r a) e v w h = serves-fared v w _ _ h.2
   denied-fared who (reads lun vbn block) e v w h = serves-fared v w _ _ h.2
@@ -173,16 +179,19 @@ module _ {D : Type 0} {met : Ghosts D} where
       let parts = sound-parts (state_in v).disk.honest (is_spent v) sound in
       parts-sound (state_in w).disk.honest (is_spent w) (h.honest ∙ parts.0) (h.next ∙ ap (λ b. b || false) parts.1)
 
-  step : (v w : Volume D met) (c : Call) (a : Answer) → is_sound v ≡ true → is_refused is_fatal a.result ≡ false → ServesCall v c a w → Steps (store_of_volume v) c a (store_of_volume w)
+  step : (v w : Volume D met) (c : Call) (a : Answer) → is_sound v ≡ true → is_refused is_fatal a.result ≡ false → ServesCall v c a w
+      → Steps (store_of_volume v) c a (store_of_volume w)
   step v w c a sound clean h =
       let parts = sound-parts (state_in v).disk.honest (is_spent v) sound in
       (h.serving.handled parts.1).step parts.0 clean
 
   -- what is asked of its length alone
-  same-store : (v w : Volume D met) → (state_in w).table ≡ (state_in v).table → (state_in w).disk.image ≡ (state_in v).disk.image → (state_in w).home ≡ (state_in v).home → store_of_volume w ≡ store_of_volume v
+  same-store : (v w : Volume D met) → (state_in w).table ≡ (state_in v).table → (state_in w).disk.image ≡ (state_in v).disk.image
+      → (state_in w).home ≡ (state_in v).home → store_of_volume w ≡ store_of_volume v
   same-store v w a b c = λ i. held_in (a i) (store_of (b i) (c i))
 
-  measured : (v w : Volume D met) (task lun : ℕ) (result : Result ℕ Refusal) → is_sound v ≡ true → is_refused is_fatal result ≡ false → AnswersLength task lun result v w → IsMeasured task lun result (store_of_volume v) (store_of_volume w)
+  measured : (v w : Volume D met) (task lun : ℕ) (result : Result ℕ Refusal) → is_sound v ≡ true → is_refused is_fatal result ≡ false
+      → AnswersLength task lun result v w → IsMeasured task lun result (store_of_volume v) (store_of_volume w)
   measured v w task lun (Ok blocks) sound clean h =
       let parts = sound-parts (state_in v).disk.honest (is_spent v) sound in
       let k = h.measures parts.1 in
@@ -197,19 +206,31 @@ module _ {D : Type 0} {met : Ghosts D} where
   pub volume-seen : IsSeenPlain (of_volume {met = met}) store_of_volume is_sound
   volume-seen = record { granted = granted; denied = denied }
     where
-      granted : (who : Who) (x : Asking) (v w : Volume D met) → Grants of_volume who x v w → is_sound v ≡ true → Grants plain who x (store_of_volume v) (store_of_volume w) × (is_sound w ≡ true)
-      granted who (asks r) v w h sound = ((h.0, h.1, h.2, step v w _ _ sound refl h.3), stays false v w (granted-fared who (asks r) v w h) sound)
-      granted who (told r a) v w h sound = ((h.0, h.1, step v w _ _ sound refl h.2), stays false v w (granted-fared who (told r a) v w h) sound)
-      granted who (reads lun vbn block) v w h sound = ((h.0, h.1, step v w _ _ sound refl h.2), stays false v w (granted-fared who (reads lun vbn block) v w h) sound)
-      granted who (writes lun vbn block) v w h sound = ((h.0, h.1, step v w _ _ sound refl h.2), stays false v w (granted-fared who (writes lun vbn block) v w h) sound)
-      granted who (counts lun blocks) v w h sound = (measured v w who.task lun (Ok blocks) sound refl h.0, stays false v w (granted-fared who (counts lun blocks) v w h) sound)
+      granted : (who : Who) (x : Asking) (v w : Volume D met) → Grants of_volume who x v w → is_sound v ≡ true
+          → Grants plain who x (store_of_volume v) (store_of_volume w) × (is_sound w ≡ true)
+      granted who (asks r) v w h sound =
+          ((h.0, h.1, h.2, step v w _ _ sound refl h.3), stays false v w (granted-fared who (asks r) v w h) sound)
+      granted who (told r a) v w h sound =
+          ((h.0, h.1, step v w _ _ sound refl h.2), stays false v w (granted-fared who (told r a) v w h) sound)
+      granted who (reads lun vbn block) v w h sound =
+          ((h.0, h.1, step v w _ _ sound refl h.2), stays false v w (granted-fared who (reads lun vbn block) v w h) sound)
+      granted who (writes lun vbn block) v w h sound =
+          ((h.0, h.1, step v w _ _ sound refl h.2), stays false v w (granted-fared who (writes lun vbn block) v w h) sound)
+      granted who (counts lun blocks) v w h sound =
+          (measured v w who.task lun (Ok blocks) sound refl h.0, stays false v w (granted-fared who (counts lun blocks) v w h) sound)
 
-      clean-stays : (who : Who) (x : Asking) (e : Refusal) (v w : Volume D met) → Denies of_volume who x e v w → is_lethal (Files e) ≡ false → is_sound v ≡ true → is_sound w ≡ true
-      clean-stays who x e v w h clean sound = stays (is_fault e) v w (subst (λ b. IsFared (is_fault e) b v w) clean (denied-fared who x e v w h)) sound
+      clean-stays : (who : Who) (x : Asking) (e : Refusal) (v w : Volume D met) → Denies of_volume who x e v w → is_lethal (Files e) ≡ false
+          → is_sound v ≡ true → is_sound w ≡ true
+      clean-stays who x e v w h clean sound =
+          stays (is_fault e) v w (subst (λ b. IsFared (is_fault e) b v w) clean (denied-fared who x e v w h)) sound
 
-      denied : (who : Who) (x : Asking) (e : Refusal) (v w : Volume D met) → Denies of_volume who x e v w → is_sound v ≡ true → is_lethal (Files e) ≡ false → Denies plain who x e (store_of_volume v) (store_of_volume w) × (is_sound w ≡ true)
+      denied : (who : Who) (x : Asking) (e : Refusal) (v w : Volume D met) → Denies of_volume who x e v w → is_sound v ≡ true
+          → is_lethal (Files e) ≡ false → Denies plain who x e (store_of_volume v) (store_of_volume w) × (is_sound w ≡ true)
       denied who (asks r) e v w h sound clean = ((h.0, h.1, step v w _ _ sound clean h.2), clean-stays who (asks r) e v w h clean sound)
       denied who (told r a) e v w h sound clean = ((h.0, h.1, step v w _ _ sound clean h.2), clean-stays who (told r a) e v w h clean sound)
-      denied who (reads lun vbn block) e v w h sound clean = ((h.0, h.1, step v w _ _ sound clean h.2), clean-stays who (reads lun vbn block) e v w h clean sound)
-      denied who (writes lun vbn block) e v w h sound clean = ((h.0, step v w _ _ sound clean h.1), clean-stays who (writes lun vbn block) e v w h clean sound)
-      denied who (counts lun blocks) e v w h sound clean = (measured v w who.task lun (Err e) sound clean h.0, clean-stays who (counts lun blocks) e v w h clean sound)
+      denied who (reads lun vbn block) e v w h sound clean =
+          ((h.0, h.1, step v w _ _ sound clean h.2), clean-stays who (reads lun vbn block) e v w h clean sound)
+      denied who (writes lun vbn block) e v w h sound clean =
+          ((h.0, step v w _ _ sound clean h.1), clean-stays who (writes lun vbn block) e v w h clean sound)
+      denied who (counts lun blocks) e v w h sound clean =
+          (measured v w who.task lun (Err e) sound clean h.0, clean-stays who (counts lun blocks) e v w h clean sound)

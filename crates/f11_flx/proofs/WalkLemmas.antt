@@ -1,5 +1,6 @@
 -- A walk over the records of a file.
-use Rattle.std.proofs.Common.{◌≡◌, inl, inr, ℕ, ◌+◌, ◌-◌, ◌<◌, ◌≤◌, ltb, List, [], ◌∷◌, length, take, drop, get_or, Option, Some, None, refl, sym, ap, ◌∙◌, arith, length-drop, lt-ltb}
+use Rattle.std.proofs.Common.{◌≡◌, inl, inr, ℕ, ◌+◌, ◌-◌, ◌<◌, ◌≤◌, ltb, List, [], ◌∷◌, length, take, drop, get_or, Option, Some, None}
+use Rattle.std.proofs.Common.{refl, sym, ap, ◌∙◌, arith, length-drop, lt-ltb}
 use Rattle.std.specs.Prelude.{slice_range, option_and_then, option_map}
 use Rattle.std.specs.List.{concat}
 use Rattle.std.proofs.lemmas.Bool.{cases_lt, cond-true}
@@ -14,17 +15,21 @@ use Rattle.f11_flx.proofs.RecordLemmas.{first_record-fits, first_record-past, re
 
 -- how many bytes are before a walk
 pub length-bytes_left : (w : Walk) (content : List ℕ) → w.end ≤ length content → length (bytes_left w content) ≡ w.end - w.next
-length-bytes_left w content within = omega (arith, length-drop {A = ℕ} w.next (take w.end content), length-take-le {A = ℕ} w.end content within)
+length-bytes_left w content within =
+    omega (arith, length-drop {A = ℕ} w.next (take w.end content), length-take-le {A = ℕ} w.end content within)
 
 -- a byte before it
-get_or-bytes_left : (w : Walk) (content : List ℕ) (i : ℕ) → w.next + i < w.end → get_or (bytes_left w content) i 0 ≡ get_or content (w.next + i) 0
+get_or-bytes_left : (w : Walk) (content : List ℕ) (i : ℕ) → w.next + i < w.end
+    → get_or (bytes_left w content) i 0 ≡ get_or content (w.next + i) 0
 get_or-bytes_left w content i below = get_or-drop w.next (take w.end content) i 0 ∙ get_or-take w.end content (w.next + i) 0 below
 
 -- what the next record's size is told by
-pub size_of-bytes_left : (w : Walk) (content : List ℕ) → w.next + head_of w.layout ≤ w.end → size_of w.layout (bytes_left w content) ≡ size_by w.layout (word content w.next)
+pub size_of-bytes_left : (w : Walk) (content : List ℕ) → w.next + head_of w.layout ≤ w.end
+    → size_of w.layout (bytes_left w content) ≡ size_by w.layout (word content w.next)
 size_of-bytes_left w content within = of_layout w.layout within
   where
-    of_layout : (layout : Layout) → w.next + head_of layout ≤ w.end → size_of layout (bytes_left w content) ≡ size_by layout (word content w.next)
+    of_layout : (layout : Layout) → w.next + head_of layout ≤ w.end
+        → size_of layout (bytes_left w content) ≡ size_by layout (word content w.next)
     of_layout (Fixed size) within = refl
     of_layout Variable within =
         let low = get_or-bytes_left w content 0 (omega arith) in
@@ -33,7 +38,8 @@ size_of-bytes_left w content within = of_layout w.layout within
         omega (arith, low, high, ap (λ (i : ℕ). get_or content i 0) here)
 
 -- bytes of those before it
-slice_range-bytes_left : (w : Walk) (content : List ℕ) (from to : ℕ) → from ≤ to → w.next + to ≤ w.end → slice_range (bytes_left w content) from to ≡ slice_range content (w.next + from) (w.next + to)
+slice_range-bytes_left : (w : Walk) (content : List ℕ) (from to : ℕ) → from ≤ to → w.next + to ≤ w.end
+    → slice_range (bytes_left w content) from to ≡ slice_range content (w.next + from) (w.next + to)
 slice_range-bytes_left w content from to order within =
     let whole : w.end ≡ w.next + from + (w.end - (w.next + from)) = omega arith in
     let count : to - from ≡ w.next + to - (w.next + from) = omega arith in
@@ -43,15 +49,18 @@ slice_range-bytes_left w content from to order within =
     ∙ take-take (to - from) (w.end - (w.next + from)) (drop (w.next + from) content) (omega arith)
     ∙ ap (λ (n : ℕ). take n (drop (w.next + from) content)) count
 
-pub taken_is_first : (old new : Walk) (content : List ℕ) (first size : ℕ) → 0 < some_of old.layout → old.end ≤ length content → old.next < old.end
+pub taken_is_first : (old new : Walk) (content : List ℕ) (first size : ℕ) → 0 < some_of old.layout → old.end ≤ length content
+    → old.next < old.end
     → TakesRecord old new (word content old.next) first size
-    → records_in old.layout (bytes_left old content) ≡ option_map (λ (more : List (List ℕ)). slice_range content first (first + size) ∷ more) (records_in new.layout (bytes_left new content))
+    → records_in old.layout (bytes_left old content) ≡ option_map
+    (λ (more : List (List ℕ)). slice_range content first (first + size) ∷ more) (records_in new.layout (bytes_left new content))
 taken_is_first old new content first size some long more taken =
     let layout = old.layout in
     let bytes = bytes_left old content in
     let head = head_of layout in
     let length_is = length-bytes_left old content long in
-    let size_is : size_of layout bytes ≡ size = size_of-bytes_left old content (omega (arith, taken.first_is, taken.within)) ∙ sym taken.size_is in
+    let size_is : size_of layout bytes ≡ size = size_of-bytes_left old content (omega (arith, taken.first_is, taken.within))
+    ∙ sym taken.size_is in
     let fits : head + size_of layout bytes ≤ length bytes = omega (arith, length_is, size_is, taken.first_is, taken.within) in
     let own = slice_range-bytes_left old content head (head + size) (omega arith) (omega (arith, taken.first_is, taken.within)) in
     let first_at : old.next + head ≡ first = sym taken.first_is in
@@ -61,9 +70,13 @@ taken_is_first old new content first size some long more taken =
     ∙ ap (λ (f : Option (List ℕ × List ℕ)). with_first f (records_in layout))
     (first_record-fits layout bytes fits
     ∙ ap (λ (n : ℕ). Some (slice_range bytes head (head + n), drop (head + n + pad_of layout n) bytes)) size_is
-    ∙ ap (λ (b : List ℕ). Some (b, drop (head + size + pad_of layout size) bytes)) (own ∙ ap (λ (n : ℕ). slice_range content n (old.next + (head + size))) first_at ∙ ap (slice_range content first) end_at)
-    ∙ ap (λ (b : List ℕ). Some (slice_range content first (first + size), b)) (drop-drop (head + size + pad_of layout size) old.next (take old.end content) ∙ ap (λ (n : ℕ). drop n (take old.end content)) next_at))
-    ∙ ap (λ (w : Walk). option_map (λ (m : List (List ℕ)). slice_range content first (first + size) ∷ m) (records_in w.layout (bytes_left w content))) (sym taken.goes_on)
+    ∙ ap (λ (b : List ℕ). Some (b, drop (head + size + pad_of layout size) bytes))
+    (own ∙ ap (λ (n : ℕ). slice_range content n (old.next + (head + size))) first_at ∙ ap (slice_range content first) end_at)
+    ∙ ap (λ (b : List ℕ). Some (slice_range content first (first + size), b))
+    (drop-drop (head + size + pad_of layout size) old.next (take old.end content) ∙ ap (λ (n : ℕ). drop n (take old.end content))
+    next_at))
+    ∙ ap (λ (w : Walk). option_map (λ (m : List (List ℕ)). slice_range content first (first + size) ∷ m)
+    (records_in w.layout (bytes_left w content))) (sym taken.goes_on)
 
 pub refused_is_bad : (old : Walk) (content : List ℕ) → 0 < some_of old.layout → old.end ≤ length content → old.next < old.end
     → old.end < end_by old (word content old.next) → records_in old.layout (bytes_left old content) ≡ None
@@ -81,7 +94,8 @@ refused_is_bad old content some long more past =
 pub end_has_none : (w : Walk) (content : List ℕ) → place_of w ≡ None → records_in w.layout (bytes_left w content) ≡ Some []
 end_has_none w content ended = elim (cases_lt w.next w.end) [
   | inl below ↦ absurd (none_is (sym ended ∙ cond-true (ltb w.next w.end) (Some w.next) None (lt-ltb w.next w.end below)))
-  | inr past ↦ ap (records_in w.layout) (drop_all w.next (take w.end content) (omega (arith, length-take {A = ℕ} w.end content))) ∙ records_in-none w.layout
+  | inr past ↦ ap (records_in w.layout) (drop_all w.next (take w.end content) (omega (arith, length-take {A = ℕ} w.end content)))
+      ∙ records_in-none w.layout
 ]
   where
     none_is : {x : ℕ} → None ≡ Some x → ⊥
@@ -89,4 +103,6 @@ end_has_none w content ended = elim (cases_lt w.next w.end) [
 
 pub start_has_all : (file : File) (layout : Layout) → layout_of file.attr ≡ Some layout
     → records_of file ≡ records_in layout (bytes_left (walk_from_start layout file.attr (length_of file)) (concat file.blocks))
-start_has_all file layout is = ap (option_and_then (λ (l : Layout). records_in l (bytes_left (walk_from_start layout file.attr (length_of file)) (concat file.blocks)))) is
+start_has_all file layout is =
+    ap (option_and_then (λ (l : Layout).
+    records_in l (bytes_left (walk_from_start layout file.attr (length_of file)) (concat file.blocks)))) is

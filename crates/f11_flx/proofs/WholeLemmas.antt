@@ -1,5 +1,6 @@
 -- Each block of a volume's files has 512 bytes, as each of an image has.
-use Rattle.std.proofs.Common.{◌≡◌, inl, inr, ℕ, ◌==◌, nat_le, Bool, true, false, [], length, Option, Some, None, if◌then◌else◌, unwrap_or, refl, ap, subst, ◌∙◌, arith}
+use Rattle.std.proofs.Common.{◌≡◌, inl, inr, ℕ, ◌==◌, nat_le, Bool, true, false, [], length, Option, Some, None, if◌then◌else◌, unwrap_or}
+use Rattle.std.proofs.Common.{refl, ap, subst, ◌∙◌, arith}
 use Rattle.std.specs.Option.{option_and_then}
 use Rattle.std.proofs.lemmas.Bool.{cases_lt}
 use Rattle.std.proofs.lemmas.List.{get_or_past}
@@ -37,7 +38,8 @@ module _ (image : Image) (is_image : IsImage image) where
   seen true f whole = λ k d below. absurd (omega (arith, below))
   seen false f whole = whole
 
-  found : (b : Bool) (f : File) → HasWholeBlocks f → (o : Option File) → (if b then Some f else None) ≡ o → HasWholeBlocks (unwrap_or o no_file)
+  found : (b : Bool) (f : File) → HasWholeBlocks f → (o : Option File) → (if b then Some f else None) ≡ o
+      → HasWholeBlocks (unwrap_or o no_file)
   found true f whole o is = subst (λ x. HasWholeBlocks (unwrap_or x no_file)) is whole
   found false f whole o is = subst (λ x. HasWholeBlocks (unwrap_or x no_file)) is (λ k d below. absurd (omega (arith, below)))
 
@@ -45,7 +47,8 @@ module _ (image : Image) (is_image : IsImage image) where
   unfolding file_at
   of-number t n o is = found (is_first t n) (as_seen n (file_of image t n)) (seen (nat_le n 3) (file_of image t n) (whole-file t n)) o is
 
-  of-sequence : (sequence : ℕ) (o : Option File) → HasWholeBlocks (unwrap_or o no_file) → HasWholeBlocks (unwrap_or (option_and_then (of_sequence sequence) o) no_file)
+  of-sequence : (sequence : ℕ) (o : Option File) → HasWholeBlocks (unwrap_or o no_file)
+      → HasWholeBlocks (unwrap_or (option_and_then (of_sequence sequence) o) no_file)
   of-sequence sequence None whole = whole
   of-sequence sequence (Some f) whole = by_same (f.sequence == sequence)
     where
@@ -54,9 +57,11 @@ module _ (image : Image) (is_image : IsImage image) where
       by_same false = λ k d below. absurd (omega (arith, below))
 
 -- those of the file that an identification names
-pub whole-blocks : {D : Type 0} {met : Ghosts D} (v : Volume D met) → IsImage (state_in v).disk.image → (id : FileId) → HasWholeBlocks (file_named (store_of_volume v) id)
+pub whole-blocks : {D : Type 0} {met : Ghosts D} (v : Volume D met) → IsImage (state_in v).disk.image → (id : FileId)
+    → HasWholeBlocks (file_named (store_of_volume v) id)
 unfolding store_of
 whole-blocks v is_image id =
     let image = (state_in v).disk.image in
     let t = table_of image (state_in v).home in
-    of-sequence image is_image id.sequence (file_at image t id.number) (of-number image is_image t id.number (file_at image t id.number) refl)
+    of-sequence image is_image id.sequence (file_at image t id.number)
+    (of-number image is_image t id.number (file_at image t id.number) refl)

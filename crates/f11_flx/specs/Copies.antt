@@ -35,7 +35,8 @@ pub record CopiesText {V W : Type 0} (S : FilesService V) (K : TakingBlocks W) (
   pub pieces_are : concat pieces ≡ in_whole_blocks bytes
 
 -- A block of the file was refused.
-pub record IsDenied {V W : Type 0} (S : FilesService V) (K : TakingBlocks W) (who : Who) (lun : ℕ) (name : List ℕ) (count : ℕ) (e : FlxRefusal)
+pub record IsDenied {V W : Type 0} (S : FilesService V) (K : TakingBlocks W) (who : Who) (lun : ℕ) (name : List ℕ) (count : ℕ)
+    (e : FlxRefusal)
     (old new : V) (t t' : W) : Type 0 where
   pub refusal : Refusal
   pub is : e ≡ Files refusal
@@ -46,7 +47,8 @@ pub record IsDenied {V W : Type 0} (S : FilesService V) (K : TakingBlocks W) (wh
   pub took : Took K name 0 pieces t t'
 
 -- Blocks of the file were read, by which it has no text.
-pub record IsNoText {V W : Type 0} (S : FilesService V) (K : TakingBlocks W) (who : Who) (lun : ℕ) (name : List ℕ) (text : ToText) (count : ℕ)
+pub record IsNoText {V W : Type 0} (S : FilesService V) (K : TakingBlocks W) (who : Who) (lun : ℕ) (name : List ℕ) (text : ToText)
+    (count : ℕ)
     (e : FlxRefusal) (old new : V) (t t' : W) : Type 0 where
   pub is : e ≡ BadRecord
   pub given : List (List ℕ)
@@ -57,7 +59,8 @@ pub record IsNoText {V W : Type 0} (S : FilesService V) (K : TakingBlocks W) (wh
   pub took : Took K name 0 pieces t t'
 
 -- Blocks of the file were read, and the target refused one: what was read is longer than those that it took.
-pub record IsNotTaken {V W : Type 0} (S : FilesService V) (K : TakingBlocks W) (R : Refusing W) (who : Who) (lun : ℕ) (name : List ℕ) (count : ℕ)
+pub record IsNotTaken {V W : Type 0} (S : FilesService V) (K : TakingBlocks W) (R : Refusing W) (who : Who) (lun : ℕ) (name : List ℕ)
+    (count : ℕ)
     (IsLonger : List (List ℕ) → ℕ → Type 0) (e : FlxRefusal) (old new : V) (t t' : W) : Type 0 where
   pub given : List (List ℕ)
   pub few : length given ≤ count
@@ -75,12 +78,14 @@ HasLongerText t given blocks =
     (more bytes : List ℕ) → rest_of t ≤ length (concat given ++ more) → text_left t (concat given ++ more) ≡ Some bytes →
     512 * blocks < length bytes
 
-abbrev pub FailsToCopyBlocks : {V W : Type 0} → FilesService V → TakingBlocks W → Refusing W → Who → ℕ → List ℕ → ℕ → FlxRefusal → V → V → W →
+abbrev pub FailsToCopyBlocks : {V W : Type 0} → FilesService V → TakingBlocks W → Refusing W → Who → ℕ → List ℕ → ℕ → FlxRefusal → V → V → W
+    →
     W → Type 0
 FailsToCopyBlocks S K R who lun name count e old new t t' =
     (IsDenied S K who lun name count e old new t t') ⊎ (IsNotTaken S K R who lun name count (λ given blocks. blocks < count) e old new t t')
 
-abbrev pub FailsToCopyText : {V W : Type 0} → FilesService V → TakingBlocks W → Refusing W → Who → ℕ → List ℕ → ToText → ℕ → FlxRefusal → V →
+abbrev pub FailsToCopyText : {V W : Type 0} → FilesService V → TakingBlocks W → Refusing W → Who → ℕ → List ℕ → ToText → ℕ → FlxRefusal → V
+    →
     V → W → W → Type 0
 FailsToCopyText S K R who lun name text count e old new t t' =
     (IsDenied S K who lun name count e old new t t')

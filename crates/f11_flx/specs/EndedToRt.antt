@@ -85,7 +85,8 @@ pub record EndsOnFiles {V E : Type 0} {met : Ghosts E} (m : CopyMode) (S : Files
   pub left : HasAtMostOneMore disk name day rt rt'
 
 -- how a copy to an RT-11 volume ends by a refusal that is a device fault or Damaged
-abbrev pub EndsToRt : {V E : Type 0} {met : Ghosts E} → CopyMode → FilesService V → (E → Disk) → Who → ℕ → FileId → List ℕ → ℕ → FlxRefusal →
+abbrev pub EndsToRt : {V E : Type 0} {met : Ghosts E} → CopyMode → FilesService V → (E → Disk) → Who → ℕ → FileId → List ℕ → ℕ → FlxRefusal
+    →
     V → V → RtAccepted E met → RtAccepted E met → Type 0
 EndsToRt m S disk who lun file name day (refusal.Files e) old new rt rt' = EndsOnFiles m S disk who lun file name day e old new rt rt'
 EndsToRt m S disk who lun file name day (refusal.Rt e) old new rt rt' = EndsHeld S who old new

@@ -80,16 +80,17 @@ pub record Pouring {V : Type 0} (K : TakingBlocks V) (name : List ℕ) (t t' : T
   pub few : 512 * length pieces + (o'.to + ending_of t') ≤ o.to + ending_of t + 3 * used
 
 -- All of the source was read, or as much as the file has.
-pub record Pours {V : Type 0} (K : TakingBlocks V) (name : List ℕ) (t t' : ToText) (source : List ℕ) (o o' : Out) (old new : V) : Type 0 where
-  pub pieces : List (List ℕ)
-  pub took : Took K name o.place pieces old new
-  pub place : o'.place ≡ o.place + length pieces
-  pub few : length pieces ≤ 5
-  pub whole : All (λ b. length b ≡ 512) pieces
-  pub text : (more : List ℕ) → rest_of t ≤ length (source ++ more) →
-      out_text o t (source ++ more) ≡ option_map (λ text. concat pieces ++ text) (out_text o' t' more)
-  pub rest : rest_of t' ≡ rest_of t - length source
-  pub ended : ends_record t' ≡ false
+pub record Pours {V : Type 0} (K : TakingBlocks V) (name : List ℕ) (t t' : ToText) (source : List ℕ) (o o' : Out) (old new : V) : Type 0
+  where
+    pub pieces : List (List ℕ)
+    pub took : Took K name o.place pieces old new
+    pub place : o'.place ≡ o.place + length pieces
+    pub few : length pieces ≤ 5
+    pub whole : All (λ b. length b ≡ 512) pieces
+    pub text : (more : List ℕ) → rest_of t ≤ length (source ++ more) →
+        out_text o t (source ++ more) ≡ option_map (λ text. concat pieces ++ text) (out_text o' t' more)
+    pub rest : rest_of t' ≡ rest_of t - length source
+    pub ended : ends_record t' ≡ false
 
 -- Blocks were taken, and one was refused: the text is longer than those.
 pub record StopsTaking {V : Type 0} (K : TakingBlocks V) (R : Refusing V) (name : List ℕ) (t : ToText) (source : List ℕ) (o : Out)

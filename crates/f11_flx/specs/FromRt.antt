@@ -12,7 +12,8 @@ use Rattle.f11_flx.specs.declared.mode.CopyMode.{CopyMode}
 use Rattle.f11_flx.specs.declared.refusal.FlxRefusal.{FlxRefusal}
 
 -- The file was found and its copy judged, of so many blocks, and then it was made.
-pub record CopiesFrom {V E : Type 0} {met : Ghosts E} (S : FilesService V) (disk : E → Disk) (m : CopyMode) (who : Who) (lun : ℕ) (name : List ℕ)
+pub record CopiesFrom {V E : Type 0} {met : Ghosts E} (S : FilesService V) (disk : E → Disk) (m : CopyMode) (who : Who) (lun : ℕ)
+    (name : List ℕ)
     (dir : FileId) (to : List ℕ) (protection blocks : ℕ) (rt rt' : RtAccepted E met) (old new : V) : Type 0 where
   pub many : ℕ
   pub attr : List ℕ
@@ -38,7 +39,8 @@ pub record HasPlanAlone {V E : Type 0} {met : Ghosts E} (S : FilesService V) (di
   pub fails : (pieces : List (List ℕ)) →
       FailsToMakeCopy S disk m who lun name many blocks (as_file to dir protection attr pieces) f between rt' old new
 
-abbrev pub FailsToCopyFrom : {V E : Type 0} {met : Ghosts E} → FilesService V → (E → Disk) → CopyMode → Who → ℕ → List ℕ → FileId → List ℕ → ℕ →
+abbrev pub FailsToCopyFrom : {V E : Type 0} {met : Ghosts E} → FilesService V → (E → Disk) → CopyMode → Who → ℕ → List ℕ → FileId → List ℕ
+    → ℕ →
     FlxRefusal → RtAccepted E met → RtAccepted E met → V → V → Type 0
 FailsToCopyFrom S disk m who lun name dir to protection f rt rt' old new =
     (HasNoPlan disk m name f rt rt' old new) ⊎ (HasPlanAlone S disk m who lun name dir to protection f rt rt' old new)

@@ -50,7 +50,8 @@ abbrev pub filling_of : ℕ → ℕ → List (List ℕ) → List Asking
 filling_of lun n pieces = extension lun n ++ (writes_of lun 0 pieces ++ giving_up lun)
 
 -- The file was read, and the blocks of its copy were written to the file that is accessed, which was given up.
-pub record FillsFromRt {V E : Type 0} {met : Ghosts E} (S : FilesService V) (disk : E → Disk) (m : CopyMode) (who : Who) (lun : ℕ) (name : List ℕ)
+pub record FillsFromRt {V E : Type 0} {met : Ghosts E} (S : FilesService V) (disk : E → Disk) (m : CopyMode) (who : Who) (lun : ℕ)
+    (name : List ℕ)
     (many n : ℕ) (rt rt' : RtAccepted E met) (old new : V) : Type 0 where
   pub source : List (List ℕ)
   pub reads : ReadsRtBlocks disk name source rt rt'
@@ -78,7 +79,8 @@ pub record LacksBlock {V E : Type 0} {met : Ghosts E} (S : FilesService V) (disk
   pub stops : StopsReadingRt disk name many e rt rt'
 
 -- It has no copy.
-pub record LacksCopy {V E : Type 0} {met : Ghosts E} (S : FilesService V) (disk : E → Disk) (m : CopyMode) (who : Who) (lun : ℕ) (name : List ℕ)
+pub record LacksCopy {V E : Type 0} {met : Ghosts E} (S : FilesService V) (disk : E → Disk) (m : CopyMode) (who : Who) (lun : ℕ)
+    (name : List ℕ)
     (many n : ℕ) (rt rt' : RtAccepted E met) (old new : V) : Type 0 where
   pub source : List (List ℕ)
   pub reads : ReadsRtBlocks disk name source rt rt'
@@ -86,15 +88,18 @@ pub record LacksCopy {V E : Type 0} {met : Ghosts E} (S : FilesService V) (disk 
   pub granted : Granted S who (extension lun n ++ writes_of lun 0 pieces) old new
   pub none : OfEach m many source (λ contents. copied_from_rt m contents ≡ None)
 
-abbrev pub FailsToFillFromRt : {V E : Type 0} {met : Ghosts E} → FilesService V → (E → Disk) → CopyMode → Who → ℕ → List ℕ → ℕ → ℕ → FlxRefusal →
+abbrev pub FailsToFillFromRt : {V E : Type 0} {met : Ghosts E} → FilesService V → (E → Disk) → CopyMode → Who → ℕ → List ℕ → ℕ → ℕ
+    → FlxRefusal →
     RtAccepted E met → RtAccepted E met → V → V → Type 0
-FailsToFillFromRt S disk m who lun name many n (refusal.Files e) rt rt' old new = BreaksFilling S disk m who lun name many n e rt rt' old new
+FailsToFillFromRt S disk m who lun name many n (refusal.Files e) rt rt' old new =
+    BreaksFilling S disk m who lun name many n e rt rt' old new
 FailsToFillFromRt S disk m who lun name many n (refusal.Rt e) rt rt' old new = LacksBlock S disk who lun name many n e rt rt' old new
 FailsToFillFromRt S disk m who lun name many n refusal.BadRecord rt rt' old new = ⊥
 FailsToFillFromRt S disk m who lun name many n refusal.LineTooLong rt rt' old new = LacksCopy S disk m who lun name many n rt rt' old new
 
 -- The file was accessed to be written, and filled.
-pub record FillsFile {V E : Type 0} {met : Ghosts E} (S : FilesService V) (disk : E → Disk) (m : CopyMode) (who : Who) (lun : ℕ) (name : List ℕ)
+pub record FillsFile {V E : Type 0} {met : Ghosts E} (S : FilesService V) (disk : E → Disk) (m : CopyMode) (who : Who) (lun : ℕ)
+    (name : List ℕ)
     (many n : ℕ) (id : FileId) (rt rt' : RtAccepted E met) (old new : V) : Type 0 where
   pub between : V
   pub opened : Granted S who (opening lun id) old between
@@ -129,7 +134,8 @@ is_created (reply.Created id) = true
 is_created _ = false
 
 -- The file was made: created, filled, entered and protected.
-pub record MakesCopy {V E : Type 0} {met : Ghosts E} (S : FilesService V) (disk : E → Disk) (m : CopyMode) (who : Who) (lun : ℕ) (name : List ℕ)
+pub record MakesCopy {V E : Type 0} {met : Ghosts E} (S : FilesService V) (disk : E → Disk) (m : CopyMode) (who : Who) (lun : ℕ)
+    (name : List ℕ)
     (many n : ℕ) (making : Making) (rt rt' : RtAccepted E met) (old new : V) : Type 0 where
   pub id : FileId
   pub created : V
@@ -147,7 +153,8 @@ pub record IsNotCreated {V E : Type 0} {met : Ghosts E} (S : FilesService V) (wh
   pub unread : rt' ≡ rt
 
 -- It was, and wasn't filled; it was deleted.
-pub record IsUnfilled {V E : Type 0} {met : Ghosts E} (S : FilesService V) (disk : E → Disk) (m : CopyMode) (who : Who) (lun : ℕ) (name : List ℕ)
+pub record IsUnfilled {V E : Type 0} {met : Ghosts E} (S : FilesService V) (disk : E → Disk) (m : CopyMode) (who : Who) (lun : ℕ)
+    (name : List ℕ)
     (many n : ℕ) (making : Making) (f' : FlxRefusal) (rt rt' : RtAccepted E met) (old new : V) : Type 0 where
   pub id : FileId
   pub f : FlxRefusal

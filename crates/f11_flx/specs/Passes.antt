@@ -26,7 +26,8 @@ pub record BeginsLines (s : ToRecords) : Type 0 where
   pub long : (text : List ℕ) → is_too_long s text ≡ has_long_line (lines_of (without_zeros text))
 
 -- So many blocks of the file were read, and the blocks of their lines that are full were written.
-pub record ReadsLines {V E : Type 0} {met : Ghosts E} (S : FilesService V) (disk : E → Disk) (who : Who) (lun : ℕ) (name : List ℕ) (many : ℕ)
+pub record ReadsLines {V E : Type 0} {met : Ghosts E} (S : FilesService V) (disk : E → Disk) (who : Who) (lun : ℕ) (name : List ℕ)
+    (many : ℕ)
     (s s' : ToRecords) (o o' : Out) (rt rt' : RtAccepted E met) (old new : V) : Type 0 where
   pub blocks : List (List ℕ)
   pub reads : ReadsRtBlocks disk name blocks rt rt'
@@ -34,7 +35,8 @@ pub record ReadsLines {V E : Type 0} {met : Ghosts E} (S : FilesService V) (disk
   pub writes : WritesPieces S who lun s s' (concat blocks) [] o o' old new
 
 -- They were read, and a block was refused.
-pub record StopsAtBlock {V E : Type 0} {met : Ghosts E} (S : FilesService V) (disk : E → Disk) (who : Who) (lun : ℕ) (name : List ℕ) (many : ℕ)
+pub record StopsAtBlock {V E : Type 0} {met : Ghosts E} (S : FilesService V) (disk : E → Disk) (who : Who) (lun : ℕ) (name : List ℕ)
+    (many : ℕ)
     (s : ToRecords) (o : Out) (e : Refusal) (rt rt' : RtAccepted E met) (old new : V) : Type 0 where
   pub blocks : List (List ℕ)
   pub reads : ReadsRtBlocks disk name blocks rt rt'
@@ -42,14 +44,16 @@ pub record StopsAtBlock {V E : Type 0} {met : Ghosts E} (S : FilesService V) (di
   pub stops : StopsAtPiece S who lun s (concat blocks) o e old new
 
 -- Some were read, and one wasn't.
-pub record StopsAtPlace {V E : Type 0} {met : Ghosts E} (S : FilesService V) (disk : E → Disk) (who : Who) (lun : ℕ) (name : List ℕ) (many : ℕ)
+pub record StopsAtPlace {V E : Type 0} {met : Ghosts E} (S : FilesService V) (disk : E → Disk) (who : Who) (lun : ℕ) (name : List ℕ)
+    (many : ℕ)
     (e : RtRefusal) (rt rt' : RtAccepted E met) (old new : V) : Type 0 where
   pub pieces : List (List ℕ)
   pub granted : Granted S who (writes_of lun 0 pieces) old new
   pub stops : StopsReadingRt disk name many e rt rt'
 
 -- They were read, and a line is too long.
-pub record StopsAtLine {V E : Type 0} {met : Ghosts E} (S : FilesService V) (disk : E → Disk) (who : Who) (lun : ℕ) (name : List ℕ) (many : ℕ)
+pub record StopsAtLine {V E : Type 0} {met : Ghosts E} (S : FilesService V) (disk : E → Disk) (who : Who) (lun : ℕ) (name : List ℕ)
+    (many : ℕ)
     (s : ToRecords) (o : Out) (rt rt' : RtAccepted E met) (old new : V) : Type 0 where
   pub blocks : List (List ℕ)
   pub reads : ReadsRtBlocks disk name blocks rt rt'
@@ -80,7 +84,8 @@ pub record FailsToFlush {V : Type 0} (S : FilesService V) (who : Who) (lun : ℕ
   pub content : last ≡ in_whole_blocks (pending o)
 
 -- The text ended, and the rest of its blocks was written, zeros behind the bytes in the last.
-pub record EndsLines {V : Type 0} (S : FilesService V) (who : Who) (lun : ℕ) (s : ToRecords) (o : Out) (blocks end longest : ℕ) (old new : V) :
+pub record EndsLines {V : Type 0} (S : FilesService V) (who : Who) (lun : ℕ) (s : ToRecords) (o : Out) (blocks end longest : ℕ)
+    (old new : V) :
     Type 0
   where
     pub pieces : List (List ℕ)
@@ -125,7 +130,8 @@ pub record IsCopied (m : CopyMode) (blocks pieces : List (List ℕ)) (attr : Lis
   pub attr_is : attr ≡ copy.attr
 
 -- The file was read, and its copy was written.
-pub record CopiesFile {V E : Type 0} {met : Ghosts E} (S : FilesService V) (disk : E → Disk) (m : CopyMode) (who : Who) (lun : ℕ) (name : List ℕ)
+pub record CopiesFile {V E : Type 0} {met : Ghosts E} (S : FilesService V) (disk : E → Disk) (m : CopyMode) (who : Who) (lun : ℕ)
+    (name : List ℕ)
     (many blocks : ℕ) (attr : List ℕ) (rt rt' : RtAccepted E met) (old new : V) : Type 0 where
   pub source : List (List ℕ)
   pub reads : ReadsRtBlocks disk name source rt rt'
@@ -169,7 +175,8 @@ FailsToCopyFile S disk m who lun name many refusal.BadRecord rt rt' old new = �
 FailsToCopyFile S disk m who lun name many refusal.LineTooLong rt rt' old new = HasNoCopy S disk m who lun name many rt rt' old new
 
 -- So many blocks were read, and each was written as it is.
-pub record CopiesImage {V E : Type 0} {met : Ghosts E} (S : FilesService V) (disk : E → Disk) (who : Who) (lun : ℕ) (name : List ℕ) (many : ℕ)
+pub record CopiesImage {V E : Type 0} {met : Ghosts E} (S : FilesService V) (disk : E → Disk) (who : Who) (lun : ℕ) (name : List ℕ)
+    (many : ℕ)
     (rt rt' : RtAccepted E met) (old new : V) : Type 0 where
   pub blocks : List (List ℕ)
   pub reads : ReadsRtBlocks disk name blocks rt rt'

@@ -34,7 +34,8 @@ pub record StartsText (attr : List ℕ) (blocks : ℕ) (text : ToText) : Type 0 
   pub rest_is : rest_of text ≡ min (stated_end attr) (512 * blocks)
 
 -- The file was copied, as blocks or as a text: so many blocks were taken.
-abbrev pub CopiesAs : {V W : Type 0} → CopyMode → FilesService V → TakingBlocks W → Who → ℕ → List ℕ → List ℕ → ℕ → ℕ → V → V → W → W → Type 0
+abbrev pub CopiesAs : {V W : Type 0} → CopyMode → FilesService V → TakingBlocks W → Who → ℕ → List ℕ → List ℕ → ℕ → ℕ → V → V → W → W
+    → Type 0
 CopiesAs Image S K who lun name attr blocks count old new t t' =
     (count ≡ up_to_end attr blocks) × (CopiesBlocks S K who lun name (up_to_end attr blocks) old new t t')
 CopiesAs Text S K who lun name attr blocks count old new t t' =

@@ -86,7 +86,8 @@ GaveUp S who lun e answer old new =
     (LeavesIt e answer old new) ⊎ ((GivesItUp S who lun e answer old new) ⊎ (FailsToGiveItUp S who lun e answer old new))
 
 -- A file was made, and the source copied into it.
-pub record FillsToRt {V E : Type 0} {met : Ghosts E} (m : CopyMode) (S : FilesService V) (disk : E → Disk) (who : Who) (lun : ℕ) (name attr : List ℕ)
+pub record FillsToRt {V E : Type 0} {met : Ghosts E} (m : CopyMode) (S : FilesService V) (disk : E → Disk) (who : Who) (lun : ℕ)
+    (name attr : List ℕ)
     (blocks count day : ℕ) (old new : V) (rt rt' : RtAccepted E met) : Type 0 where
   pub made : RtAccepted E met
   pub makes : Makes disk name count day rt made
@@ -110,7 +111,8 @@ pub record IsUndone {V E : Type 0} {met : Ghosts E} (m : CopyMode) (S : FilesSer
   pub fails : FailsAs m S (rt_takes disk) (rt_refuses disk) who lun name attr blocks refusal old new made stopped
   pub undoes : UndoesToRt disk name refusal e stopped rt'
 
-abbrev pub FailsToFillToRt : {V E : Type 0} {met : Ghosts E} → CopyMode → FilesService V → (E → Disk) → Who → ℕ → List ℕ → List ℕ → ℕ → ℕ → ℕ →
+abbrev pub FailsToFillToRt : {V E : Type 0} {met : Ghosts E} → CopyMode → FilesService V → (E → Disk) → Who → ℕ → List ℕ → List ℕ → ℕ → ℕ
+    → ℕ →
     FlxRefusal → V → V → RtAccepted E met → RtAccepted E met → Type 0
 FailsToFillToRt m S disk who lun name attr blocks count day e old new rt rt' =
     (IsNotMadeToRt disk name count e old new rt rt') ⊎ (IsUndone m S disk who lun name attr blocks count day e old new rt rt')
@@ -133,7 +135,8 @@ pub record IsNotTold {V E : Type 0} (S : FilesService V) (who : Who) (lun : ℕ)
   pub tells : TellsNothing S who lun file refusal old new
   pub left : rt' ≡ rt
 
-pub record IsNotCounted {V E : Type 0} (m : CopyMode) (S : FilesService V) (who : Who) (lun : ℕ) (file : FileId) (name : List ℕ) (e : FlxRefusal)
+pub record IsNotCounted {V E : Type 0} (m : CopyMode) (S : FilesService V) (who : Who) (lun : ℕ) (file : FileId) (name : List ℕ)
+    (e : FlxRefusal)
     (old new : V) (rt rt' : E) : Type 0 where
   pub attr : List ℕ
   pub blocks : ℕ
@@ -153,14 +156,16 @@ pub record IsNotFilledToRt {V E : Type 0} {met : Ghosts E} (m : CopyMode) (S : F
   pub counted : CountsAs m S who lun name attr blocks count seen walked
   pub fails : FailsToFillToRt m S disk who lun name attr blocks count day e walked new rt rt'
 
-abbrev pub FailsLocked : {V E : Type 0} {met : Ghosts E} → CopyMode → FilesService V → (E → Disk) → Who → ℕ → FileId → List ℕ → ℕ → FlxRefusal →
+abbrev pub FailsLocked : {V E : Type 0} {met : Ghosts E} → CopyMode → FilesService V → (E → Disk) → Who → ℕ → FileId → List ℕ → ℕ
+    → FlxRefusal →
     V → V → RtAccepted E met → RtAccepted E met → Type 0
 FailsLocked m S disk who lun file name day e old new rt rt' =
     (IsNotTold S who lun file e old new rt rt')
     ⊎ ((IsNotCounted m S who lun file name e old new rt rt') ⊎ (IsNotFilledToRt m S disk who lun file name day e old new rt rt'))
 
 -- The file was accessed, copied, and given up.
-pub record CopiesFileToRt {V E : Type 0} {met : Ghosts E} (m : CopyMode) (S : FilesService V) (disk : E → Disk) (who : Who) (lun : ℕ) (file : FileId)
+pub record CopiesFileToRt {V E : Type 0} {met : Ghosts E} (m : CopyMode) (S : FilesService V) (disk : E → Disk) (who : Who) (lun : ℕ)
+    (file : FileId)
     (name : List ℕ) (count day : ℕ) (old new : V) (rt rt' : RtAccepted E met) : Type 0 where
   pub opened : V
   pub opens : Grants S who (asks (request.Access file mode.Locked lun)) old opened

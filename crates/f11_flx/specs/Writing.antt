@@ -20,7 +20,8 @@ pub record Onward (s s' : ToRecords) (before after : List ℕ) (o o' : Out) (pie
   pub long : is_too_long s' after ≡ is_too_long s before
 
 -- The source was read but for the rest, and blocks of the file accessed by the lun were written.
-pub record WritesPieces {V : Type 0} (S : FilesService V) (who : Who) (lun : ℕ) (s s' : ToRecords) (source rest : List ℕ) (o o' : Out) (old new : V) :
+pub record WritesPieces {V : Type 0} (S : FilesService V) (who : Who) (lun : ℕ) (s s' : ToRecords) (source rest : List ℕ) (o o' : Out)
+    (old new : V) :
     Type 0
   where
     pub pieces : List (List ℕ)

@@ -4,7 +4,8 @@ use Rattle.std.specs.Prelude.{slice_index, slice_range}
 use Rattle.f11_bytes.specs.Part.{with_bytes}
 use Rattle.f11_bytes.specs.Words.{word, with_word}
 use Rattle.f11_bytes.proofs.WordLemmas.{length-with_word, slice_index-with_word}
-use Rattle.f11_bytes.proofs.PartLemmas.{length-with_bytes, slice_index-with_bytes_before, slice_index-with_bytes_behind, slice_index-slice_range, length-slice_range, slice_range-same, with_bytes-slice_range}
+use Rattle.f11_bytes.proofs.PartLemmas.{length-with_bytes, slice_index-with_bytes_before, slice_index-with_bytes_behind}
+use Rattle.f11_bytes.proofs.PartLemmas.{slice_index-slice_range, length-slice_range, slice_range-same, with_bytes-slice_range}
 use Rattle.f11_header.specs.Fields.{ident_offset, map_offset, ident_area, ident_end, ident_words, map_area}
 use Rattle.f11_header.specs.MapFields.{segment}
 use Rattle.f11_header.specs.Writing.{with_map}
@@ -14,11 +15,13 @@ pub length-map_area : (b : List ℕ) → length b ≡ 512 → length (map_area b
 length-map_area b long = length-slice_range b (2 * map_offset b) 510 (omega arith)
 
 -- a byte of the map area
-pub slice_index-map_area : (b : List ℕ) (i : ℕ) → 2 * map_offset b + i < 510 → slice_index (map_area b) i ≡ slice_index b (2 * map_offset b + i)
+pub slice_index-map_area : (b : List ℕ) (i : ℕ) → 2 * map_offset b + i < 510
+    → slice_index (map_area b) i ≡ slice_index b (2 * map_offset b + i)
 slice_index-map_area b i within = slice_index-slice_range b (2 * map_offset b) 510 i within
 
 -- the block keeps its size with another map area
-pub length-with_map : (b map : List ℕ) → length b ≡ 512 → map_offset b ≤ 250 → length map ≡ 510 - 2 * map_offset b → length (with_map b map) ≡ 512
+pub length-with_map : (b map : List ℕ) → length b ≡ 512 → map_offset b ≤ 250 → length map ≡ 510 - 2 * map_offset b
+    → length (with_map b map) ≡ 512
 length-with_map b map long within size = length-with_bytes b (2 * map_offset b) map (omega arith) ∙ long
 
 -- the map area put where it stood
@@ -34,10 +37,12 @@ pub record ChangesFrom (from to : ℕ) (old new : List ℕ) : Type 0 where
 pub changes-with_word : (b : List ℕ) (at w : ℕ) → ChangesFrom at (at + 2) b (with_word b at w)
 changes-with_word b at w = record {
   size = length-with_word b at w;
-  others = λ i apart. slice_index-with_word b at w i (λ is. ⊎_elim (λ before. omega arith) (λ behind. omega arith) apart) (λ is. ⊎_elim (λ before. omega arith) (λ behind. omega arith) apart);
+  others = λ i apart. slice_index-with_word b at w i (λ is. ⊎_elim (λ before. omega arith) (λ behind. omega arith) apart)
+      (λ is. ⊎_elim (λ before. omega arith) (λ behind. omega arith) apart);
 }
 
-pub changes-with_bytes : (b : List ℕ) (at to : ℕ) (bytes : List ℕ) → to ≡ at + length bytes → to ≤ length b → ChangesFrom at to b (with_bytes b at bytes)
+pub changes-with_bytes : (b : List ℕ) (at to : ℕ) (bytes : List ℕ) → to ≡ at + length bytes → to ≤ length b
+    → ChangesFrom at to b (with_bytes b at bytes)
 changes-with_bytes b at to bytes end within = record {
   size = length-with_bytes b at bytes (omega arith);
   others = λ i apart. ⊎_elim (λ before. slice_index-with_bytes_before b at bytes i (omega arith) before)
@@ -45,14 +50,17 @@ changes-with_bytes b at to bytes end within = record {
 }
 
 -- two changes, one after the other
-pub changes-more : {from to further : ℕ} {a b c : List ℕ} → from ≤ to → to ≤ further → ChangesFrom from to a b → ChangesFrom to further b c → ChangesFrom from further a c
+pub changes-more : {from to further : ℕ} {a b c : List ℕ} → from ≤ to → to ≤ further → ChangesFrom from to a b → ChangesFrom to further b c
+    → ChangesFrom from further a c
 changes-more ordered more first then = record {
   size = then.size ∙ first.size;
-  others = λ i apart. ⊎_elim (λ before. then.others i (inl (omega arith)) ∙ first.others i (inl before)) (λ behind. then.others i (inr behind) ∙ first.others i (inr (omega arith))) apart;
+  others = λ i apart. ⊎_elim (λ before. then.others i (inl (omega arith)) ∙ first.others i (inl before))
+      (λ behind. then.others i (inr behind) ∙ first.others i (inr (omega arith))) apart;
 }
 
 -- a word outside of them stays
-pub word-kept : {from to : ℕ} {old new : List ℕ} → ChangesFrom from to old new → (i : ℕ) → (i + 2 ≤ from) ⊎ (to ≤ i) → word new i ≡ word old i
+pub word-kept : {from to : ℕ} {old new : List ℕ} → ChangesFrom from to old new → (i : ℕ) → (i + 2 ≤ from) ⊎ (to ≤ i)
+    → word new i ≡ word old i
 word-kept changes i apart =
     let low = changes.others i (⊎_elim (λ before. inl (omega arith)) inr apart) in
     let high = changes.others (i + 1) (⊎_elim (λ before. inl (omega arith)) (λ behind. inr (omega arith)) apart) in
@@ -67,14 +75,16 @@ pub record KeepsAreas (old new : List ℕ) : Type 0 where
   pub map : map_area new ≡ map_area old
 
 -- they stay where the offsets and the bytes of the areas stay
-pub keeps_areas : (old new : List ℕ) → length new ≡ length old → slice_index new 0 ≡ slice_index old 0 → slice_index new 1 ≡ slice_index old 1
+pub keeps_areas : (old new : List ℕ) → length new ≡ length old → slice_index new 0 ≡ slice_index old 0
+    → slice_index new 1 ≡ slice_index old 1
     → ((i : ℕ) → 2 * ident_offset old ≤ i → i < 2 * ident_end old → slice_index new i ≡ slice_index old i)
     → ((i : ℕ) → 2 * map_offset old ≤ i → i < 510 → slice_index new i ≡ slice_index old i) → KeepsAreas old new
 keeps_areas old new size ident_at map_at ident_bytes map_bytes =
     let map : map_area new ≡ map_area old =
     ap (λ (o : ℕ). slice_range new (2 * o) 510) map_at ∙ slice_range-same new old (2 * map_offset old) 510 size map_bytes in
     let end_at : ident_end new ≡ ident_end old = λ k. ident_at k + ident_words (segment (map k)) in
-    let moved : ident_area new ≡ slice_range new (2 * ident_offset old) (2 * ident_end old) = λ k. slice_range new (2 * ident_at k) (2 * end_at k) in
+    let moved : ident_area new ≡ slice_range new (2 * ident_offset old) (2 * ident_end old) = λ k.
+    slice_range new (2 * ident_at k) (2 * end_at k) in
     record {
       ident_at = ident_at;
       map_at = map_at;

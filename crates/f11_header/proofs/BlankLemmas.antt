@@ -16,14 +16,17 @@ ident_words-le : (segment : ℕ) → ident_words segment ≤ 23
 ident_words-le segment = grind (arith, nat_tests)
 
 -- an empty header is one where its number and its sequence number aren't 0
-pub holds-blank_header : (id : FileId) (owner : Uic) (protection number : ℕ) → holds_header (blank_header id owner protection number) ≡ (nat_lt 0 id.number && nat_lt 0 id.sequence)
+pub holds-blank_header : (id : FileId) (owner : Uic) (protection number : ℕ)
+    → holds_header (blank_header id owner protection number) ≡ (nat_lt 0 id.number && nat_lt 0 id.sequence)
 unfolding zero_block
 holds-blank_header id owner protection number =
     let b : List ℕ = blank_header id owner protection number in
     let n : file_number b ≡ id.number = (let is : file_number b ≡ id.number % 256 + 256 * (id.number / 256) = refl in omega (arith, is)) in
-    let s : file_sequence b ≡ id.sequence = (let is : file_sequence b ≡ id.sequence % 256 + 256 * (id.sequence / 256) = refl in omega (arith, is)) in
+    let s : file_sequence b ≡ id.sequence =
+    (let is : file_sequence b ≡ id.sequence % 256 + 256 * (id.sequence / 256) = refl in omega (arith, is)) in
     both_ways (holds_header b) (nat_lt 0 id.number && nat_lt 0 id.sequence)
-    (λ held. let facts : HeaderFacts b = header_facts b held in and_from _ _ (lt-ltb 0 id.number (omega (arith, n, facts.some_number))) (lt-ltb 0 id.sequence (omega (arith, s, facts.some_sequence))))
+    (λ held. let facts : HeaderFacts b = header_facts b held in and_from _ _ (lt-ltb 0 id.number (omega (arith, n, facts.some_number)))
+    (lt-ltb 0 id.sequence (omega (arith, s, facts.some_sequence))))
     (λ some.
     let parts = and_parts (nat_lt 0 id.number) (nat_lt 0 id.sequence) some in
     holds_header-from b (record {
@@ -41,15 +44,18 @@ pub IsEmptyHeader-blank_header : (id : FileId) (owner : Uic) (protects number : 
     → IsEmptyHeader (blank_header id owner protects number) id owner protects number
 unfolding zero_block
 IsEmptyHeader-blank_header id owner protects number group member few = record {
-  number_is = let is : file_number (blank_header id owner protects number) ≡ id.number % 256 + 256 * (id.number / 256) = refl in omega (arith, is);
-  sequence_is = let is : file_sequence (blank_header id owner protects number) ≡ id.sequence % 256 + 256 * (id.sequence / 256) = refl in omega (arith, is);
+  number_is = let is : file_number (blank_header id owner protects number) ≡ id.number % 256 + 256 * (id.number / 256) = refl in
+      omega (arith, is);
+  sequence_is = let is : file_sequence (blank_header id owner protects number) ≡ id.sequence % 256 + 256 * (id.sequence / 256) = refl in
+      omega (arith, is);
   owner_is =
       let high : owner_group (blank_header id owner protects number) ≡ owner_word owner / 256 = refl in
       let low : owner_member (blank_header id owner protects number) ≡ owner_word owner % 256 = refl in
       let group_is : owner_group (blank_header id owner protects number) ≡ owner.group = omega (arith, high) in
       let member_is : owner_member (blank_header id owner protects number) ≡ owner.member = omega (arith, low) in
       λ k. record { group = group_is k; member = member_is k };
-  protection_is = let is : protection (blank_header id owner protects number) ≡ protects % 256 + 256 * (protects / 256) = refl in omega (arith, is);
+  protection_is = let is : protection (blank_header id owner protects number) ≡ protects % 256 + 256 * (protects / 256) = refl in
+      omega (arith, is);
   no_characteristics = refl;
   no_attributes = refl;
   no_ident = refl;

@@ -1,5 +1,6 @@
 -- What a header says once a field of it or an area is written.
-use Rattle.std.proofs.Common.{◌≡◌, ◌≢◌, ◌⊎◌, inl, inr, ⊎_elim, ℕ, ◌+◌, ◌-◌, ◌*◌, ◌/◌, ◌%◌, ◌<◌, ◌≤◌, List, Option, Some, None, length, refl, sym, ap, ◌∙◌, subst, arith}
+use Rattle.std.proofs.Common.{◌≡◌, ◌≢◌, ◌⊎◌, inl, inr, ⊎_elim, ℕ, ◌+◌, ◌-◌, ◌*◌, ◌/◌, ◌%◌, ◌<◌, ◌≤◌, List, Option, Some, None, length, refl}
+use Rattle.std.proofs.Common.{sym, ap, ◌∙◌, subst, arith}
 use Rattle.std.specs.Prelude.{slice_index, slice_range, IsTrue, option_map}
 use Rattle.std.specs.Cmp.{both_ways}
 use Rattle.std.proofs.Math.ListN.{set}
@@ -7,11 +8,14 @@ use Rattle.std.proofs.lemmas.List.{length-set, get_or-set_same, get_or-set_other
 use Rattle.f11_bytes.specs.Words.{word, with_word, word_sum}
 use Rattle.f11_bytes.proofs.WordLemmas.{length-with_word, word-with_word, word-with_word_apart, word_sum-with_word}
 use Rattle.f11_bytes.proofs.PartLemmas.{slice_range-same, slice_range-with_bytes}
-use Rattle.f11_header.specs.Fields.{ident_offset, map_offset, file_number, file_sequence, level, owner, protection, characteristics, attributes, ident_area, ident_end, ident_room, ident_words, map_area, HeaderFields, header_fields}
+use Rattle.f11_header.specs.Fields.{ident_offset, map_offset, file_number, file_sequence, level, owner, protection, characteristics}
+use Rattle.f11_header.specs.Fields.{attributes, ident_area, ident_end, ident_room, ident_words, map_area, HeaderFields, header_fields}
 use Rattle.f11_header.specs.MapFields.{segment, holds_pointers, IsMapArea}
 use Rattle.f11_header.specs.Header.{holds_header, header_in, header_with, IsHeader}
-use Rattle.f11_header.specs.Writing.{ChangesFields, KeepsHeader, owner_word, with_id, with_owner, with_protection, with_characteristics, with_attributes, with_ident, with_map, with_check_word, dead_header}
-use Rattle.f11_header.proofs.AreaLemmas.{ChangesFrom, KeepsAreas, keeps_areas, changes-with_word, changes-with_bytes, changes-more, word-kept, length-map_area}
+use Rattle.f11_header.specs.Writing.{ChangesFields, KeepsHeader, owner_word, with_id, with_owner, with_protection, with_characteristics}
+use Rattle.f11_header.specs.Writing.{with_attributes, with_ident, with_map, with_check_word, dead_header}
+use Rattle.f11_header.proofs.AreaLemmas.{ChangesFrom, KeepsAreas, keeps_areas, changes-with_word, changes-with_bytes, changes-more}
+use Rattle.f11_header.proofs.AreaLemmas.{word-kept, length-map_area}
 use Rattle.f11_header.proofs.HeaderFacts.{HeaderFacts, header_facts, holds_header-from, header_in-held, header_in-written}
 use Rattle.f11_store.specs.declared.callers.Uic.{Uic}
 use Rattle.f11_store.specs.declared.files.FileId.{FileId}
@@ -27,7 +31,9 @@ stays-back stays = record { size = sym stays.size; others = λ i apart before. s
 stays-changes : {from to : ℕ} {old new : List ℕ} → ChangesFrom from to old new → ((8 ≤ from) × (to ≤ 46)) ⊎ (510 ≤ from) → Stays old new
 stays-changes changes where_to = record {
   size = changes.size;
-  others = λ i apart before. changes.others i (⊎_elim (λ fields. ⊎_elim (λ front. inl (omega (arith, fields.0))) (λ behind. inr (omega (arith, fields.1))) apart) (λ past. inl (omega arith)) where_to);
+  others = λ i apart before.
+      changes.others i (⊎_elim (λ fields. ⊎_elim (λ front. inl (omega (arith, fields.0))) (λ behind. inr (omega (arith, fields.1))) apart)
+      (λ past. inl (omega arith)) where_to);
 }
 
 -- A header keeps its areas where they stay, and the facts that make it one.
@@ -37,7 +43,8 @@ stays_areas old new stays was =
     (λ i above below. stays.others i (inr (omega (arith, was.ident_placed))) (omega (arith, was.map_placed, was.map_within)))
     (λ i above below. stays.others i (inr (omega (arith, was.ident_placed, was.map_placed))) below)
 
-facts-kept : (old new : List ℕ) → KeepsAreas old new → 0 < file_number new → 0 < file_sequence new → level new ≡ level old → HeaderFacts old → HeaderFacts new
+facts-kept : (old new : List ℕ) → KeepsAreas old new → 0 < file_number new → 0 < file_sequence new → level new ≡ level old → HeaderFacts old
+    → HeaderFacts new
 facts-kept old new areas some_number some_sequence level_is was = record {
   some_number = some_number;
   some_sequence = some_sequence;
@@ -59,7 +66,8 @@ stays_facts old new stays holds =
     let was : HeaderFacts old = header_facts old holds in
     let number : file_number new ≡ file_number old = word-stays stays 2 (omega arith) in
     let sequence : file_sequence new ≡ file_sequence old = word-stays stays 4 (omega arith) in
-    holds_header-from new (facts-kept old new (stays_areas old new stays was) (omega (arith, number, was.some_number)) (omega (arith, sequence, was.some_sequence))
+    holds_header-from new (facts-kept old new (stays_areas old new stays was) (omega (arith, number, was.some_number))
+    (omega (arith, sequence, was.some_sequence))
     (word-stays stays 6 (omega arith)) was)
 
 stays_keep : (old new : List ℕ) → Stays old new → KeepsHeader old new
@@ -77,10 +85,12 @@ owner-kept changes apart =
 
 attributes-kept : {from to : ℕ} {old new : List ℕ} → ChangesFrom from to old new → (46 ≤ from) ⊎ (to ≤ 14) → attributes new ≡ attributes old
 attributes-kept {old = old} {new = new} changes apart =
-    slice_range-same new old 14 46 changes.size (λ i above below. changes.others i (⊎_elim (λ behind. inl (omega arith)) (λ before. inr (omega arith)) apart))
+    slice_range-same new old 14 46 changes.size
+    (λ i above below. changes.others i (⊎_elim (λ behind. inl (omega arith)) (λ before. inr (omega arith)) apart))
 
 -- What a header says whose number and areas stay, where its other fields are these.
-says : (old new : List ℕ) → Stays old new → IsTrue (holds_header old) → (owned : Uic) (protects marks : ℕ) (put : List ℕ) → owner new ≡ owned → protection new ≡ protects
+says : (old new : List ℕ) → Stays old new → IsTrue (holds_header old) → (owned : Uic) (protects marks : ℕ) (put : List ℕ)
+    → owner new ≡ owned → protection new ≡ protects
     → characteristics new ≡ marks → attributes new ≡ put
     → header_fields new ≡ record (header_fields old) { owner = owned; protection = protects; characteristics = marks; attributes = put }
 says old new stays holds owned protects marks put owner_is protection_is characteristics_is attributes_is =
@@ -102,8 +112,10 @@ says old new stays holds owned protects marks put owner_is protection_is charact
 owner_is-with_owner : (b : List ℕ) (owned : Uic) → length b ≡ 512 → owned.member < 256 → owner (with_owner b owned) ≡ owned
 owner_is-with_owner b owned long small =
     let w : ℕ = owner_word owned in
-    let low : slice_index (with_owner b owned) 8 ≡ w % 256 = get_or-set_other (set b 8 (w % 256)) 9 8 (w / 256) 0 (omega arith) ∙ get_or-set_same b 8 (w % 256) 0 (omega arith) in
-    let high : slice_index (with_owner b owned) 9 ≡ w / 256 = get_or-set_same (set b 8 (w % 256)) 9 (w / 256) 0 (omega (arith, length-set b 8 (w % 256))) in
+    let low : slice_index (with_owner b owned) 8 ≡ w % 256 = get_or-set_other (set b 8 (w % 256)) 9 8 (w / 256) 0 (omega arith)
+    ∙ get_or-set_same b 8 (w % 256) 0 (omega arith) in
+    let high : slice_index (with_owner b owned) 9 ≡ w / 256 = get_or-set_same (set b 8 (w % 256)) 9 (w / 256) 0
+    (omega (arith, length-set b 8 (w % 256))) in
     let member : slice_index (with_owner b owned) 8 ≡ owned.member = omega (arith, low) in
     let group : slice_index (with_owner b owned) 9 ≡ owned.group = omega (arith, high) in
     λ k. record { group = group k; member = member k }
@@ -112,46 +124,56 @@ owner_is-with_owner b owned long small =
 pub keeps-with_owner : (b : List ℕ) (owned : Uic) → KeepsHeader b (with_owner b owned)
 keeps-with_owner b owned = stays_keep b _ (stays-changes (changes-with_word b 8 (owner_word owned)) (inl (omega arith, omega arith)))
 
-pub header_in-with_owner : (b : List ℕ) (owned : Uic) → length b ≡ 512 → owned.member < 256 → header_in (with_owner b owned) ≡ header_with (λ h. record h { owner = owned }) b
+pub header_in-with_owner : (b : List ℕ) (owned : Uic) → length b ≡ 512 → owned.member < 256
+    → header_in (with_owner b owned) ≡ header_with (λ h. record h { owner = owned }) b
 header_in-with_owner b owned long small =
     let new : List ℕ = with_owner b owned in
     let changes : ChangesFrom 8 10 b new = changes-with_word b 8 (owner_word owned) in
     let stays : Stays b new = stays-changes changes (inl (omega arith, omega arith)) in
     header_in-written b new (λ h. record h { owner = owned }) (stays_keep b new stays).holds
-    (λ holds. says b new stays holds owned _ _ _ (owner_is-with_owner b owned long small) (word-kept changes 10 (inr (omega arith))) (word-kept changes 12 (inr (omega arith))) (attributes-kept changes (inr (omega arith))))
+    (λ holds. says b new stays holds owned _ _ _ (owner_is-with_owner b owned long small) (word-kept changes 10 (inr (omega arith)))
+    (word-kept changes 12 (inr (omega arith))) (attributes-kept changes (inr (omega arith))))
 
 pub keeps-with_protection : (b : List ℕ) (protects : ℕ) → KeepsHeader b (with_protection b protects)
 keeps-with_protection b protects = stays_keep b _ (stays-changes (changes-with_word b 10 protects) (inl (omega arith, omega arith)))
 
-pub header_in-with_protection : (b : List ℕ) (protects : ℕ) → length b ≡ 512 → header_in (with_protection b protects) ≡ header_with (λ h. record h { protection = protects }) b
+pub header_in-with_protection : (b : List ℕ) (protects : ℕ) → length b ≡ 512
+    → header_in (with_protection b protects) ≡ header_with (λ h. record h { protection = protects }) b
 header_in-with_protection b protects long =
     let new : List ℕ = with_protection b protects in
     let changes : ChangesFrom 10 12 b new = changes-with_word b 10 protects in
     let stays : Stays b new = stays-changes changes (inl (omega arith, omega arith)) in
     header_in-written b new (λ h. record h { protection = protects }) (stays_keep b new stays).holds
-    (λ holds. says b new stays holds _ protects _ _ (owner-kept changes (inl (omega arith))) (word-with_word b 10 protects (omega (arith, long))) (word-kept changes 12 (inr (omega arith))) (attributes-kept changes (inr (omega arith))))
+    (λ holds. says b new stays holds _ protects _ _ (owner-kept changes (inl (omega arith)))
+    (word-with_word b 10 protects (omega (arith, long))) (word-kept changes 12 (inr (omega arith)))
+    (attributes-kept changes (inr (omega arith))))
 
 pub keeps-with_characteristics : (b : List ℕ) (marks : ℕ) → KeepsHeader b (with_characteristics b marks)
 keeps-with_characteristics b marks = stays_keep b _ (stays-changes (changes-with_word b 12 marks) (inl (omega arith, omega arith)))
 
-pub header_in-with_characteristics : (b : List ℕ) (marks : ℕ) → length b ≡ 512 → header_in (with_characteristics b marks) ≡ header_with (λ h. record h { characteristics = marks }) b
+pub header_in-with_characteristics : (b : List ℕ) (marks : ℕ) → length b ≡ 512
+    → header_in (with_characteristics b marks) ≡ header_with (λ h. record h { characteristics = marks }) b
 header_in-with_characteristics b marks long =
     let new : List ℕ = with_characteristics b marks in
     let changes : ChangesFrom 12 14 b new = changes-with_word b 12 marks in
     let stays : Stays b new = stays-changes changes (inl (omega arith, omega arith)) in
     header_in-written b new (λ h. record h { characteristics = marks }) (stays_keep b new stays).holds
-    (λ holds. says b new stays holds _ _ marks _ (owner-kept changes (inl (omega arith))) (word-kept changes 10 (inl (omega arith))) (word-with_word b 12 marks (omega (arith, long))) (attributes-kept changes (inr (omega arith))))
+    (λ holds. says b new stays holds _ _ marks _ (owner-kept changes (inl (omega arith))) (word-kept changes 10 (inl (omega arith)))
+    (word-with_word b 12 marks (omega (arith, long))) (attributes-kept changes (inr (omega arith))))
 
 pub keeps-with_attributes : (b put : List ℕ) → length b ≡ 512 → length put ≡ 32 → KeepsHeader b (with_attributes b put)
-keeps-with_attributes b put long size = stays_keep b _ (stays-changes (changes-with_bytes b 14 46 put (omega arith) (omega arith)) (inl (omega arith, omega arith)))
+keeps-with_attributes b put long size =
+    stays_keep b _ (stays-changes (changes-with_bytes b 14 46 put (omega arith) (omega arith)) (inl (omega arith, omega arith)))
 
-pub header_in-with_attributes : (b put : List ℕ) → length b ≡ 512 → length put ≡ 32 → header_in (with_attributes b put) ≡ header_with (λ h. record h { attributes = put }) b
+pub header_in-with_attributes : (b put : List ℕ) → length b ≡ 512 → length put ≡ 32
+    → header_in (with_attributes b put) ≡ header_with (λ h. record h { attributes = put }) b
 header_in-with_attributes b put long size =
     let new : List ℕ = with_attributes b put in
     let changes : ChangesFrom 14 46 b new = changes-with_bytes b 14 46 put (omega arith) (omega arith) in
     let stays : Stays b new = stays-changes changes (inl (omega arith, omega arith)) in
     header_in-written b new (λ h. record h { attributes = put }) (stays_keep b new stays).holds
-    (λ holds. says b new stays holds _ _ _ put (owner-kept changes (inl (omega arith))) (word-kept changes 10 (inl (omega arith))) (word-kept changes 12 (inl (omega arith)))
+    (λ holds. says b new stays holds _ _ _ put (owner-kept changes (inl (omega arith))) (word-kept changes 10 (inl (omega arith)))
+    (word-kept changes 12 (inl (omega arith)))
     (slice_range-with_bytes b 14 46 put (omega (arith, long)) (omega (arith, size))))
 
 -- with the check word right
@@ -168,29 +190,35 @@ header_in-with_check_word b =
     let changes : ChangesFrom 510 512 b new = changes-with_word b 510 (word_sum b 255) in
     let stays : Stays b new = stays-changes changes (inr (omega arith)) in
     header_in-written b new (λ h. h) (stays_keep b new stays).holds
-    (λ holds. says b new stays holds _ _ _ _ (owner-kept changes (inl (omega arith))) (word-kept changes 10 (inl (omega arith))) (word-kept changes 12 (inl (omega arith))) (attributes-kept changes (inl (omega arith))))
+    (λ holds. says b new stays holds _ _ _ _ (owner-kept changes (inl (omega arith))) (word-kept changes 10 (inl (omega arith)))
+    (word-kept changes 12 (inl (omega arith))) (attributes-kept changes (inl (omega arith))))
     ∙ option_map-id (header_in b)
 
 -- the check word is what it says
 pub sum-with_check_word : (b : List ℕ) → length b ≡ 512 → word (with_check_word b) 510 ≡ word_sum (with_check_word b) 255
-sum-with_check_word b long = word-with_word b 510 (word_sum b 255) (omega (arith, long)) ∙ sym (word_sum-with_word b 510 (word_sum b 255) 255 (omega arith))
+sum-with_check_word b long =
+    word-with_word b 510 (word_sum b 255) (omega (arith, long)) ∙ sym (word_sum-with_word b 510 (word_sum b 255) 255 (omega arith))
 
 -- the law of the check word
-pub valid-with_check_word : (b : List ℕ) → length b ≡ 512 → IsTrue (holds_header b) → IsHeader (with_check_word b) (file_number b) × (header_in (with_check_word b) ≡ header_in b)
+pub valid-with_check_word : (b : List ℕ) → length b ≡ 512 → IsTrue (holds_header b)
+    → IsHeader (with_check_word b) (file_number b) × (header_in (with_check_word b) ≡ header_in b)
 valid-with_check_word b long holds =
     let keeps : KeepsHeader b (with_check_word b) = keeps-with_check_word b in
     (record { number = keeps.number; holds = keeps.holds ∙ holds; sum = sum-with_check_word b long }, header_in-with_check_word b)
 
 -- the law of the fields from the owner on and of the ident area
 pub holds-changed : (old new : List ℕ) → ChangesFields old new → IsTrue (holds_header old)
-    → IsTrue (holds_header new) × (file_number new ≡ file_number old) × (file_sequence new ≡ file_sequence old) × (map_area new ≡ map_area old)
+    → IsTrue (holds_header new) × (file_number new ≡ file_number old) × (file_sequence new ≡ file_sequence old)
+    × (map_area new ≡ map_area old)
 holds-changed old new changes held =
     let was : HeaderFacts old = header_facts old held in
-    let byte : (i : ℕ) → i < 8 → slice_index new i ≡ slice_index old i = λ i few. changes.others i (inl few) (inl (omega (arith, was.ident_placed))) in
+    let byte : (i : ℕ) → i < 8
+    → slice_index new i ≡ slice_index old i = λ i few. changes.others i (inl few) (inl (omega (arith, was.ident_placed))) in
     let area : (i : ℕ) → 2 * map_offset old ≤ i → i < 510 → slice_index new i ≡ slice_index old i =
     λ i from to. changes.others i (inr (omega (arith, was.ident_placed, was.map_placed))) (inr (omega (arith, was.map_placed))) in
     let map_at : map_offset new ≡ map_offset old = byte 1 (omega arith) in
-    let map : map_area new ≡ map_area old = ap (λ (o : ℕ). slice_range new (2 * o) 510) map_at ∙ slice_range-same new old (2 * map_offset old) 510 changes.size area in
+    let map : map_area new ≡ map_area old = ap (λ (o : ℕ). slice_range new (2 * o) 510) map_at
+    ∙ slice_range-same new old (2 * map_offset old) 510 changes.size area in
     let ident_at : ident_offset new ≡ ident_offset old = byte 0 (omega arith) in
     let end_at : ident_end new ≡ ident_end old = λ k. ident_at k + ident_words (segment (map k)) in
     let number : file_number new ≡ file_number old = omega (arith, byte 2 (omega arith), byte 3 (omega arith)) in
@@ -213,10 +241,14 @@ header_in-with_id b id long held some_number some_sequence =
     let was : HeaderFacts b = header_facts b held in
     let once : List ℕ = with_word b 2 id.number in
     let new : List ℕ = with_id b id in
-    let changes : ChangesFrom 2 6 b new = changes-more (omega arith) (omega arith) (changes-with_word b 2 id.number) (changes-with_word once 4 id.sequence) in
-    let areas : KeepsAreas b new = keeps_areas b new changes.size (changes.others 0 (inl (omega arith))) (changes.others 1 (inl (omega arith)))
-    (λ i above below. changes.others i (inr (omega (arith, was.ident_placed)))) (λ i above below. changes.others i (inr (omega (arith, was.ident_placed, was.map_placed)))) in
-    let number : file_number new ≡ id.number = word-with_word_apart once 4 id.sequence 2 (inl (omega arith)) ∙ word-with_word b 2 id.number (omega arith) in
+    let changes : ChangesFrom 2 6 b new = changes-more (omega arith) (omega arith) (changes-with_word b 2 id.number)
+    (changes-with_word once 4 id.sequence) in
+    let areas : KeepsAreas b new = keeps_areas b new changes.size (changes.others 0 (inl (omega arith)))
+    (changes.others 1 (inl (omega arith)))
+    (λ i above below. changes.others i (inr (omega (arith, was.ident_placed))))
+    (λ i above below. changes.others i (inr (omega (arith, was.ident_placed, was.map_placed)))) in
+    let number : file_number new ≡ id.number = word-with_word_apart once 4 id.sequence 2 (inl (omega arith))
+    ∙ word-with_word b 2 id.number (omega arith) in
     let sequence : file_sequence new ≡ id.sequence = word-with_word once 4 id.sequence (omega (arith, length-with_word b 2 id.number)) in
     let facts : HeaderFacts new = facts-kept b new areas (omega arith) (omega arith) (word-kept changes 6 (inr (omega arith))) was in
     let fields : header_fields new ≡ record (header_fields b) { number = id.number; sequence = id.sequence } = λ k. record {
@@ -236,7 +268,8 @@ pub ident_end-first : (b : List ℕ) → segment (map_area b) ≡ 0 → ident_en
 ident_end-first b first = ap (λ (s : ℕ). ident_offset b + ident_words s) first
 
 -- with another ident area, in a first header
-pub keeps-with_ident : (b put : List ℕ) → 2 * ident_offset b + 46 ≤ length b → segment (map_area b) ≡ 0 → length put ≡ 46 → IsTrue (holds_header b)
+pub keeps-with_ident : (b put : List ℕ) → 2 * ident_offset b + 46 ≤ length b → segment (map_area b) ≡ 0 → length put ≡ 46
+    → IsTrue (holds_header b)
     → KeepsHeader b (with_ident b put) × (header_in (with_ident b put) ≡ header_with (λ h. record h { ident = put }) b)
 keeps-with_ident b put within first size held =
     let was : HeaderFacts b = header_facts b held in
@@ -273,7 +306,8 @@ pub IsMapArea-in_header : (b : List ℕ) → length b ≡ 512 → IsTrue (holds_
 IsMapArea-in_header b long holds = IsMapArea-map_area b (length-map_area b long) holds
 
 -- the law of the map area
-pub keeps-with_map : (b put : List ℕ) → length b ≡ 512 → IsTrue (holds_header b) → length put ≡ length (map_area b) → segment put ≡ segment (map_area b) → IsMapArea put
+pub keeps-with_map : (b put : List ℕ) → length b ≡ 512 → IsTrue (holds_header b) → length put ≡ length (map_area b)
+    → segment put ≡ segment (map_area b) → IsMapArea put
     → KeepsHeader b (with_map b put) × (header_in (with_map b put) ≡ header_with (λ h. record h { map = put }) b)
 keeps-with_map b put long held size same_segment valid =
     let was : HeaderFacts b = header_facts b held in
@@ -285,11 +319,15 @@ keeps-with_map b put long held size same_segment valid =
     let behind : 46 ≤ from = omega (arith, was.ident_placed, was.map_placed) in
     let map_at : map_offset new ≡ map_offset b = changes.others 1 (inl (omega arith)) in
     let ident_at : ident_offset new ≡ ident_offset b = changes.others 0 (inl (omega arith)) in
-    let map : map_area new ≡ put = ap (λ (o : ℕ). slice_range new (2 * o) 510) map_at ∙ slice_range-with_bytes b from 510 put (omega arith) end in
-    let end_at : ident_end new ≡ ident_end b = (λ k. ident_at k + ident_words (segment (map k))) ∙ ap (λ (s : ℕ). ident_offset b + ident_words s) same_segment in
-    let moved : ident_area new ≡ slice_range new (2 * ident_offset b) (2 * ident_end b) = λ k. slice_range new (2 * ident_at k) (2 * end_at k) in
+    let map : map_area new ≡ put = ap (λ (o : ℕ). slice_range new (2 * o) 510) map_at
+    ∙ slice_range-with_bytes b from 510 put (omega arith) end in
+    let end_at : ident_end new ≡ ident_end b = (λ k. ident_at k + ident_words (segment (map k)))
+    ∙ ap (λ (s : ℕ). ident_offset b + ident_words s) same_segment in
+    let moved : ident_area new ≡ slice_range new (2 * ident_offset b) (2 * ident_end b) = λ k.
+    slice_range new (2 * ident_at k) (2 * end_at k) in
     let ident : ident_area new ≡ ident_area b =
-    moved ∙ slice_range-same new b (2 * ident_offset b) (2 * ident_end b) changes.size (λ i above below. changes.others i (inl (omega (arith, was.map_placed)))) in
+    moved ∙ slice_range-same new b (2 * ident_offset b) (2 * ident_end b) changes.size
+    (λ i above below. changes.others i (inl (omega (arith, was.map_placed)))) in
     let number : file_number new ≡ file_number b = word-kept changes 2 (inl (omega arith)) in
     let sequence : file_sequence new ≡ file_sequence b = word-kept changes 4 (inl (omega arith)) in
     let facts : HeaderFacts new = record {

@@ -3,7 +3,8 @@ use Rattle.std.proofs.Common.{◌≡◌, ◌≢◌, ℕ, ◌+◌, ◌*◌, ◌%�
 use Rattle.std.specs.Prelude.{IsTrue, option_map}
 use Rattle.std.proofs.lemmas.Bool.{cases_Bool, and_parts, and_from, leb-true, le-leb, ltb-true, lt-ltb, cond-true, cond-false}
 use Rattle.f11_bytes.specs.Words.{word_sum}
-use Rattle.f11_header.specs.Fields.{ident_offset, map_offset, file_number, file_sequence, level, check_word, map_area, ident_end, ident_words, HeaderFields, header_fields}
+use Rattle.f11_header.specs.Fields.{ident_offset, map_offset, file_number, file_sequence, level, check_word, map_area, ident_end}
+use Rattle.f11_header.specs.Fields.{ident_words, HeaderFields, header_fields}
 use Rattle.f11_header.specs.MapFields.{segment, count_size, lbn_size, words_in_use, places, holds_pointers}
 use Rattle.f11_header.specs.Header.{holds_header, header_in, header_with, IsHeader, IsDead}
 
@@ -24,7 +25,9 @@ pointer_facts m holds =
 
 pub holds_pointers-from : (m : List ℕ) → PointerFacts m → IsTrue (holds_pointers m)
 unfolding holds_pointers
-holds_pointers-from m facts = and_from _ _ (eq-eqb _ _ facts.count_is) (and_from _ _ (eq-eqb _ _ facts.lbn_is) (and_from _ _ (eq-eqb _ _ facts.even) (le-leb _ _ facts.within)))
+holds_pointers-from m facts =
+    and_from _ _ (eq-eqb _ _ facts.count_is)
+    (and_from _ _ (eq-eqb _ _ facts.lbn_is) (and_from _ _ (eq-eqb _ _ facts.even) (le-leb _ _ facts.within)))
 
 -- a header that is valid but for its check word
 pub record HeaderFacts (b : List ℕ) : Type 0 where
@@ -59,7 +62,8 @@ pub holds_header-from : (b : List ℕ) → HeaderFacts b → IsTrue (holds_heade
 unfolding holds_header
 holds_header-from b facts =
     and_from _ _ (lt-ltb _ _ facts.some_number) (and_from _ _ (lt-ltb _ _ facts.some_sequence) (and_from _ _ (eq-eqb _ _ facts.level_is)
-    (and_from _ _ (le-leb _ _ facts.ident_placed) (and_from _ _ (le-leb _ _ facts.map_placed) (and_from _ _ (le-leb _ _ facts.map_within) facts.pointers)))))
+    (and_from _ _ (le-leb _ _ facts.ident_placed)
+    (and_from _ _ (le-leb _ _ facts.map_placed) (and_from _ _ (le-leb _ _ facts.map_within) facts.pointers)))))
 
 -- where its areas may be read
 pub map_within : (b : List ℕ) → IsTrue (holds_header b) → map_offset b ≤ 250
@@ -81,7 +85,8 @@ pub header_in-written : (old new : List ℕ) (f : HeaderFields → HeaderFields)
     → (IsTrue (holds_header old) → header_fields new ≡ f (header_fields old)) → header_in new ≡ header_with f old
 unfolding header_in
 header_in-written old new f same says = elim (cases_Bool (holds_header old)) [
-  | inl held ↦ cond-true (holds_header new) _ _ (same ∙ held) ∙ ap Some (says held) ∙ sym (ap (option_map f) (cond-true (holds_header old) _ _ held))
+  | inl held ↦ cond-true (holds_header new) _ _ (same ∙ held) ∙ ap Some (says held)
+      ∙ sym (ap (option_map f) (cond-true (holds_header old) _ _ held))
   | inr none ↦ cond-false (holds_header new) _ _ (same ∙ none) ∙ sym (ap (option_map f) (cond-false (holds_header old) _ _ none))
 ]
 
@@ -105,7 +110,8 @@ IsHeader-from b n some numbered placed pointers = record {
     ident_placed = placed.0;
     map_placed = placed.1;
     map_within = placed.2;
-    pointers = holds_pointers-from (map_area b) (record { count_is = pointers.0; lbn_is = pointers.1; even = pointers.2; within = pointers.3 });
+    pointers = holds_pointers-from (map_area b)
+        (record { count_is = pointers.0; lbn_is = pointers.1; even = pointers.2; within = pointers.3 });
   });
   sum = numbered.3;
 }

@@ -27,34 +27,42 @@ candidate-number zero = refl
 candidate-number (suc k) = omega arith
 
 -- one candidate more that isn't valid
-pub NoneBelow-more : (image : Image) (k : ℕ) (block : List ℕ) → NoneBelow image k → slice_get image (candidate k) ≡ Some block → ¬ IsHomeBlock block (length image)
+pub NoneBelow-more : (image : Image) (k : ℕ) (block : List ℕ) → NoneBelow image k → slice_get image (candidate k) ≡ Some block
+    → ¬ IsHomeBlock block (length image)
     → NoneBelow image (k + 1)
 NoneBelow-more image k block none reads bad j below is =
     elim (cases_lt j k) [
       | inl before ↦ none j before is
       | inr after ↦
           let same : j ≡ k = omega arith in
-          let here : image_block image (candidate j) ≡ block = ap (λ (i : ℕ). image_block image (candidate i)) same ∙ image_block-read image (candidate k) block reads in
+          let here : image_block image (candidate j) ≡ block = ap (λ (i : ℕ). image_block image (candidate i)) same
+          ∙ image_block-read image (candidate k) block reads in
           bad (subst (λ b. IsHomeBlock b (length image)) here is.valid)
     ]
 
 -- the first candidate that is valid is the home block
-pub IsHomeOf-first : (image : Image) (k : ℕ) (block : List ℕ) (home : HomeFields) → NoneBelow image k → slice_get image (candidate k) ≡ Some block → IsHomeBlock block (length image)
+pub IsHomeOf-first : (image : Image) (k : ℕ) (block : List ℕ) (home : HomeFields) → NoneBelow image k
+    → slice_get image (candidate k) ≡ Some block → IsHomeBlock block (length image)
     → home ≡ fields_of (candidate k) block → IsHomeOf image home
 IsHomeOf-first image k block home none reads valid fields =
     let here : image_block image (candidate k) ≡ block = image_block-read image (candidate k) block reads in
     record {
       place = k;
-      found = record { within = slice_get_within image (candidate k) block reads; valid = subst (λ b. IsHomeBlock b (length image)) (sym here) valid };
+      found = record {
+        within = slice_get_within image (candidate k) block reads;
+        valid = subst (λ b. IsHomeBlock b (length image)) (sym here) valid;
+      };
       first = none;
       fields = fields ∙ ap (fields_of (candidate k)) (sym here);
     }
 
 -- what an honest device gave for a candidate is the block that the image has had there from the start
-pub candidate_read : (old now : Disk) (k lbn most : ℕ) (block : List ℕ) → Looked old now most 0 → lbn ≡ candidate k → (IsTrue now.honest → slice_get now.image lbn ≡ Some block)
+pub candidate_read : (old now : Disk) (k lbn most : ℕ) (block : List ℕ) → Looked old now most 0 → lbn ≡ candidate k
+    → (IsTrue now.honest → slice_get now.image lbn ≡ Some block)
     → IsTrue old.honest → slice_get old.image (candidate k) ≡ Some block
 candidate_read old now k lbn most block looked is gives honest =
-    sym (ap (λ (image : Image). slice_get image (candidate k)) looked.image) ∙ ap (slice_get now.image) (sym is) ∙ gives (looked.honest ∙ honest)
+    sym (ap (λ (image : Image). slice_get image (candidate k)) looked.image) ∙ ap (slice_get now.image) (sym is)
+    ∙ gives (looked.honest ∙ honest)
 
 -- no candidate that is counted is valid, so none is
 pub HasNoHome-all : (image : Image) → NoneBelow image (candidates (length image)) → HasNoHome image

@@ -16,16 +16,20 @@ slice_range-set b from to i v order (inr behind) =
     ∙ ap (take (to - from)) (drop-set-add from b (i - from) v) ∙ take-set-le (to - from) (drop from b) (i - from) v (omega arith)
 
 -- and a word
-slice_range-with_word : (b : List ℕ) (from to at w : ℕ) → from ≤ to → at + 2 ≤ from ⊎ to ≤ at → slice_range (with_word b at w) from to ≡ slice_range b from to
+slice_range-with_word : (b : List ℕ) (from to at w : ℕ) → from ≤ to → at + 2 ≤ from ⊎ to ≤ at
+    → slice_range (with_word b at w) from to ≡ slice_range b from to
 slice_range-with_word b from to at w order (inl before) =
-    slice_range-set (set b at (w % 256)) from to (at + 1) (w / 256) order (inl (omega arith)) ∙ slice_range-set b from to at (w % 256) order (inl (omega arith))
+    slice_range-set (set b at (w % 256)) from to (at + 1) (w / 256) order (inl (omega arith))
+    ∙ slice_range-set b from to at (w % 256) order (inl (omega arith))
 slice_range-with_word b from to at w order (inr behind) =
-    slice_range-set (set b at (w % 256)) from to (at + 1) (w / 256) order (inr (omega arith)) ∙ slice_range-set b from to at (w % 256) order (inr behind)
+    slice_range-set (set b at (w % 256)) from to (at + 1) (w / 256) order (inr (omega arith))
+    ∙ slice_range-set b from to at (w % 256) order (inr behind)
 
 -- a word before both check words stays
 word-with_sums : (b : List ℕ) (i : ℕ) → i + 2 ≤ 58 → word (with_sums b) i ≡ word b i
 word-with_sums b i before =
-    word-with_word_apart (with_first_sum b) 510 (word_sum (with_first_sum b) 255) i (inl (omega arith)) ∙ word-with_word_apart b 58 (word_sum b 29) i (inl before)
+    word-with_word_apart (with_first_sum b) 510 (word_sum (with_first_sum b) 255) i (inl (omega arith))
+    ∙ word-with_word_apart b 58 (word_sum b 29) i (inl before)
 
 -- so do the fields
 pub HasHomeFields-with_sums : (b : List ℕ) (blocks : ℕ) → HasHomeFields b blocks → HasHomeFields (with_sums b) blocks
@@ -50,7 +54,8 @@ pub HasHomeSums-with_sums : (b : List ℕ) → length b ≡ 512 → HasHomeSums 
 HasHomeSums-with_sums b size =
     let once = with_first_sum b in
     let second = word_sum once 255 in
-    let length_is : length once ≡ 512 = length-set (set b 58 (word_sum b 29 % 256)) 59 (word_sum b 29 / 256) ∙ length-set b 58 (word_sum b 29 % 256) ∙ size in
+    let length_is : length once ≡ 512 = length-set (set b 58 (word_sum b 29 % 256)) 59 (word_sum b 29 / 256)
+    ∙ length-set b 58 (word_sum b 29 % 256) ∙ size in
     record {
       first = word-with_word_apart once 510 second 58 (inl (omega arith)) ∙ word-with_word b 58 (word_sum b 29) (omega arith)
           ∙ sym (word_sum-with_word once 510 second 29 (omega arith) ∙ word_sum-with_word b 58 (word_sum b 29) 29 (omega arith));

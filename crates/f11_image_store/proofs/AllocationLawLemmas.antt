@@ -1,5 +1,6 @@
 -- What the words of allocation mean beside those of the verifier and of the store.
-use Rattle.std.proofs.Common.{◌≡◌, ◌+◌, ℕ, zero, suc, Bool, true, false, cond, List, [], ◌∷◌, ◌++◌, length, length-append, Some, inl, inr, refl, sym, ap, subst, ◌∙◌, arith}
+use Rattle.std.proofs.Common.{◌≡◌, ◌+◌, ℕ, zero, suc, Bool, true, false, cond, List, [], ◌∷◌, ◌++◌, length, length-append, Some, inl, inr}
+use Rattle.std.proofs.Common.{refl, sym, ap, subst, ◌∙◌, arith}
 use Rattle.std.specs.List.{filter, flat_map, range_with_len, slice_get}
 use Rattle.std.proofs.lemmas.Bool.{cases_Bool}
 use Rattle.std.proofs.lemmas.List.Elements.{filter-append}
@@ -44,7 +45,8 @@ cells-named t n place lbn = (
 blocks-named : (t : Table) (hs : List ℕ) → ((i n : ℕ) → slice_get hs i ≡ Some n → IsLive t n) → blocks_by t hs ≡ flat_map (named_by t) hs
 blocks-named t [] live = refl
 blocks-named t (h ∷ hs) live =
-    (λ i. sym (named-live t h (live 0 h refl)) i ++ blocks_by t hs) ∙ ap (λ (l : List ℕ). named_by t h ++ l) (blocks-named t hs (λ i n at. live (suc i) n at))
+    (λ i. sym (named-live t h (live 0 h refl)) i ++ blocks_by t hs)
+    ∙ ap (λ (l : List ℕ). named_by t h ++ l) (blocks-named t hs (λ i n at. live (suc i) n at))
 
 pub files-named : FileBlocksAreNamed
 unfolding file_blocks
@@ -66,7 +68,8 @@ counted p (suc n) =
     let more = range_with_len-more 0 n in
     let here : 0 + n ≡ n = omega arith in
     let next : suc n ≡ n + 1 = omega arith in
-    let split = ap (λ (m : ℕ). filter p (range_with_len 0 m)) next ∙ ap (filter p) more ∙ filter-append p (range_with_len 0 n) ((0 + n) ∷ []) in
+    let split = ap (λ (m : ℕ). filter p (range_with_len 0 m)) next ∙ ap (filter p) more
+    ∙ filter-append p (range_with_len 0 n) ((0 + n) ∷ []) in
     let sum = ap length split ∙ length-append (filter p (range_with_len 0 n)) (filter p ((0 + n) ∷ [])) in
     let one = ap (λ (k : ℕ). length (filter p (k ∷ []))) here ∙ one-passes p n (p n) refl in
     let rest = counted p n in

@@ -1,5 +1,6 @@
 -- Which blocks headers name where headers change, and which are free.
-use Rattle.std.proofs.Common.{◌≡◌, ◌≢◌, ◌⊎◌, ◌+◌, ◌-◌, ◌<◌, ◌≤◌, ℕ, zero, suc, Bool, true, false, cond, List, [], ◌∷◌, ◌++◌, inl, inr, length, take, drop, refl, sym, ap, subst, ◌∙◌, ◌&&◌, append_assoc, arith, eqb}
+use Rattle.std.proofs.Common.{◌≡◌, ◌≢◌, ◌⊎◌, ◌+◌, ◌-◌, ◌<◌, ◌≤◌, ℕ, zero, suc, Bool, true, false, cond, List, [], ◌∷◌, ◌++◌, inl, inr}
+use Rattle.std.proofs.Common.{length, take, drop, refl, sym, ap, subst, ◌∙◌, ◌&&◌, append_assoc, arith, eqb}
 use Rattle.std.specs.List.{filter, range_with_len}
 use Rattle.std.proofs.Math.Seq.{drop-append_seam, take-add, take-append_seam}
 use Rattle.std.proofs.lemmas.Bool.{both_ways, cases_Bool, cases_eq}
@@ -26,7 +27,8 @@ use Rattle.f11_volume.specs.Volume.{Volume}
 use Rattle.f11_writes.specs.Kept.{KeepsButSlot}
 use Rattle.f11_writes.specs.OtherSlots.{KeepsOtherSlots}
 use Rattle.f11_writes.proofs.OtherSlotLemmas.{file-was, live-was, next-was, nowhere, turned}
-use Rattle.f11_image_store.specs.Allocation.{named_by, free_list, ownership_in, AddsHeaders, AddsFileless, BeginsWith, GainsBlocksAs, KeepsBlocks, KeepsSaying, LinksFileless, NamesMore, SaysOnly}
+use Rattle.f11_image_store.specs.Allocation.{named_by, free_list, ownership_in, AddsHeaders, AddsFileless, BeginsWith, GainsBlocksAs}
+use Rattle.f11_image_store.specs.Allocation.{KeepsBlocks, KeepsSaying, LinksFileless, NamesMore, SaysOnly}
 use Rattle.f11_image_store.specs.ExtensionLaws.{EntersExtension}
 use Rattle.f11_image_store.specs.FileLaws.{LinksOnTo, NamesMoreOf, SaysAlike}
 use Rattle.f11_image_store.proofs.FileLemmas.{HasWritten, linked, longer, m-stays, of-now, last-linked}
@@ -54,7 +56,8 @@ named-as : (t : Table) (n : ℕ) → named_by t n ≡ named-in n (t.in_use n) (t
 unfolding named_by is_live
 named-as t n = refl
 
-pub named-same : (t u : Table) (n : ℕ) → u.in_use n ≡ t.in_use n → (t.in_use n ≡ true → u.header n ≡ t.header n) → named_by u n ≡ named_by t n
+pub named-same : (t u : Table) (n : ℕ) → u.in_use n ≡ t.in_use n → (t.in_use n ≡ true → u.header n ≡ t.header n)
+    → named_by u n ≡ named_by t n
 named-same t u n used same = elim (cases_Bool (t.in_use n)) [
   | inl is ↦ named-as u n ∙ (λ i. named-in n (used i) (same is i)) ∙ sym (named-as t n)
   | inr not ↦ named-unused u n (used ∙ not) ∙ sym (named-unused t n not)
@@ -65,10 +68,16 @@ named-others t u n m others away = named-same t u m (others.in_use m away) (othe
 
 -- a volume whose headers and free blocks are the same
 pub keeps-same : (v w : Volume) → w ≡ v → KeepsBlocks v w
-keeps-same v w same = record { size = ap (λ (x : Volume). x.size) same; names = λ n. ap (λ (x : Volume). named_by x.table n) same; free = ap (λ (x : Volume). x.free) same }
+keeps-same v w same =
+    record {
+      size = ap (λ (x : Volume). x.size) same;
+      names = λ n. ap (λ (x : Volume). named_by x.table n) same;
+      free = ap (λ (x : Volume). x.free) same;
+    }
 
 -- one whose header n names what it named, and all others, too
-pub keeps-slot : (n : ℕ) (old new : Image) (home : HomeFields) → KeepsButSlot n home old new → named_by (table_of new home) n ≡ named_by (table_of old home) n
+pub keeps-slot : (n : ℕ) (old new : Image) (home : HomeFields) → KeepsButSlot n home old new
+    → named_by (table_of new home) n ≡ named_by (table_of old home) n
     → (m : ℕ) → named_by (table_of new home) m ≡ named_by (table_of old home) m
 keeps-slot n old new home kept same m = elim (cases_eq m n) [
   | inl here ↦ subst (λ (k : ℕ). named_by (table_of new home) k ≡ named_by (table_of old home) k) (sym here) same
@@ -108,7 +117,8 @@ only-still says alike = record {
 }
 
 -- one slot was written, and its header says what it said
-saying-kept : (t u : Table) (n : ℕ) → KeepsOtherSlots n t u → IsLive u n → (IsLive t n → SaysAlike (t.header n) (u.header n)) → KeepsSaying t u
+saying-kept : (t u : Table) (n : ℕ) → KeepsOtherSlots n t u → IsLive u n → (IsLive t n → SaysAlike (t.header n) (u.header n))
+    → KeepsSaying t u
 saying-kept t u n others live says = record {
   live = λ m was. elim (cases_eq m n) [
     | inl here ↦ subst (IsLive u) (sym here) live
@@ -121,7 +131,8 @@ saying-kept t u n others live says = record {
 }
 
 -- a file with headers more, where those that there were say what they said
-adds-saying : (f : ℕ) (ownership : Uic × ℕ) (t u : Table) → IsFile t f → ((n : ℕ) → IsHeaderOf u f n → IsHeaderOf t f n ⊎ SaysOnly ownership (u.header n))
+adds-saying : (f : ℕ) (ownership : Uic × ℕ) (t u : Table) → IsFile t f
+    → ((n : ℕ) → IsHeaderOf u f n → IsHeaderOf t f n ⊎ SaysOnly ownership (u.header n))
     → KeepsSaying t u → AddsHeaders f ownership t u
 adds-saying f ownership t u file added stay = record {
   file = file;
@@ -141,7 +152,8 @@ module _ (t u : Table) (f n : ℕ) (others : KeepsOtherSlots n t u) (last : IsLa
   headers-stay (next {n = a} {m = b} of goes) = elim (cases_eq b n) [
     | inl same ↦ subst (IsHeaderOf u f) (sym same) of_now
     | inr away ↦
-        next (headers-stay of) (next-was u t n (turned t u n others) a b (λ same. nowhere (ap (link_number t) same ∙ last.no_link) goes) away goes)
+        next (headers-stay of) (next-was u t n (turned t u n others) a b (λ same. nowhere (ap (link_number t) same ∙ last.no_link) goes)
+        away goes)
   ]
 
 -- it names more blocks
@@ -185,7 +197,8 @@ module _ (old new : Image) (home : HomeFields) (f n : ℕ) (block : List ℕ) (m
   }
 
 -- it links to another
-module _ (old new : Image) (home : HomeFields) (f n m : ℕ) (block : List ℕ) (wrote : HasWritten n block home old new) (may : LinksOnTo (table_of old home) f n m block) where
+module _ (old new : Image) (home : HomeFields) (f n m : ℕ) (block : List ℕ) (wrote : HasWritten n block home old new)
+    (may : LinksOnTo (table_of old home) f n m block) where
   abbrev v : Table
   v = table_of old home
 
@@ -196,7 +209,9 @@ module _ (old new : Image) (home : HomeFields) (f n m : ℕ) (block : List ℕ) 
   of-linking = of-now old new home f n block wrote may.stands
 
   own-same : named_by w n ≡ named_by v n
-  own-same = named-live w n (live_of-header of-linking) ∙ ap blocks_named wrote.header ∙ may.blocks ∙ sym (named-live v n (live_of-header may.stands.of))
+  own-same =
+      named-live w n (live_of-header of-linking) ∙ ap blocks_named wrote.header ∙ may.blocks
+      ∙ sym (named-live v n (live_of-header may.stands.of))
 
   -- and the file has that one more
   one-next : (a b : ℕ) → IsHeaderOf v f a ⊎ (a ≡ m) → IsNext w a b → (b ≡ n) ⊎ (b ≢ n) → (a ≡ n) ⊎ (a ≢ n) → IsHeaderOf v f b ⊎ (b ≡ m)
@@ -205,7 +220,8 @@ module _ (old new : Image) (home : HomeFields) (f n m : ℕ) (block : List ℕ) 
       inr (sym goes.number ∙ ap (link_number w) here ∙ ap (λ (h : List ℕ). (link_of h).number) wrote.header ∙ may.number)
   one-next a b (inl of) goes (inr away) (inr apart) = inl (next of (next-was v w n wrote.slot.others a b apart away goes))
   one-next a b (inr same) goes _ _ =
-      let last = ap (link_number w) same ∙ ap (λ (h : List ℕ). (link_of h).number) (m-stays old new home f n m block wrote may) ∙ may.no_link in
+      let last = ap (link_number w) same ∙ ap (λ (h : List ℕ). (link_of h).number) (m-stays old new home f n m block wrote may)
+      ∙ may.no_link in
       absurd (nowhere last goes)
 
   one-more : {k : ℕ} → IsHeaderOf w f k → IsHeaderOf v f k ⊎ (k ≡ m)
@@ -214,12 +230,14 @@ module _ (old new : Image) (home : HomeFields) (f n m : ℕ) (block : List ℕ) 
 
   pub links-fileless : LinksFileless f m v w
   links-fileless = record {
-    blocks = (linked old new home f n m block wrote may).blocks ∙ ap (λ (b : List ℕ). file_blocks v f ++ blocks_named b) (m-stays old new home f n m block wrote may);
+    blocks = (linked old new home f n m block wrote may).blocks
+        ∙ ap (λ (b : List ℕ). file_blocks v f ++ blocks_named b) (m-stays old new home f n m block wrote may);
     headers = λ k of. headers-stay v w f n wrote.slot.others (record { of = may.stands.of; no_link = may.last }) of-linking of;
     linked = (last-linked old new home f n m block wrote may).of;
     names = keeps-slot n old new home wrote.slot own-same;
     one_more = λ k of. one-more of;
-    stay = saying-kept v w n wrote.slot.others (live_of-header of-linking) (λ _. subst (SaysAlike (v.header n)) (sym wrote.header) may.stands.alike);
+    stay = saying-kept v w n wrote.slot.others (live_of-header of-linking)
+        (λ _. subst (SaysAlike (v.header n)) (sym wrote.header) may.stands.alike);
   }
 
 -- a slot that wasn't in use holds a header that none links to: a file has the headers that it had
@@ -234,7 +252,8 @@ module _ (t u : Table) (f n : ℕ) (others : KeepsOtherSlots n t u) (file : IsFi
       next before (next-was t u n others a b from to goes)
 
 -- a header was written and entered, which is no file's yet
-pub adds-fileless : (f n m : ℕ) (ownership : Uic × ℕ) (block : List ℕ) (after : Index) (home : HomeFields) (old mid new : Image) → IsLastOf (table_of old home) f n
+pub adds-fileless : (f n m : ℕ) (ownership : Uic × ℕ) (block : List ℕ) (after : Index) (home : HomeFields) (old mid new : Image)
+    → IsLastOf (table_of old home) f n
     → (table_of old home).in_use m ≡ false → SaysOnly ownership block → EntersExtension m block after home old mid new
     → AddsFileless f m ownership (table_of old home) (table_of new home)
 adds-fileless f n m ownership block after home old mid new last unused says enters =
@@ -254,11 +273,13 @@ adds-fileless f n m ownership block after home old mid new last unused says ente
       headers = enters.files f;
       none = named-unused t m unused;
       others = λ k away.
-          named-others (table_of mid home) u m k enters.bit.slot.others away ∙ named-others t (table_of mid home) m k enters.header.slot.others away;
+          named-others (table_of mid home) u m k enters.bit.slot.others away
+          ∙ named-others t (table_of mid home) m k enters.header.slot.others away;
     }
 
 -- and then the file has it
-adds-header : (f m : ℕ) (ownership : Uic × ℕ) (t u w : Table) → IsLive u m → AddsFileless f m ownership t u → LinksFileless f m u w → AddsHeaders f ownership t w
+adds-header : (f m : ℕ) (ownership : Uic × ℕ) (t u w : Table) → IsLive u m → AddsFileless f m ownership t u → LinksFileless f m u w
+    → AddsHeaders f ownership t w
 adds-header f m ownership t u w live adds links = adds-saying f ownership t w adds.file (λ n of. has n (links.one_more n of)) (record {
   live = λ n was. links.stay.live n (adds.stay.live n was);
   alike = λ n was. said-then (adds.stay.alike n was) (links.stay.alike n (adds.stay.live n was));
@@ -274,7 +295,8 @@ adds-linked f m ownership t u w live adds links = record {
   blocks = links.blocks ∙ ap (λ (l : List ℕ). l ++ blocks_named (u.header m)) adds.blocks;
   headers = λ k of. links.headers k (adds.headers k of);
   own = λ k. elim (cases_eq k m) [
-    | inl same ↦ subst (λ (j : ℕ). BeginsWith (named_by w j) (named_by t j)) (sym same) (named_by w m, ap (λ (l : List ℕ). l ++ named_by w m) (sym adds.none))
+    | inl same ↦ subst (λ (j : ℕ). BeginsWith (named_by w j) (named_by t j)) (sym same)
+        (named_by w m, ap (λ (l : List ℕ). l ++ named_by w m) (sym adds.none))
     | inr away ↦ ([], links.names k ∙ adds.others k away ∙ sym (append-nil (named_by t k)))
   ];
   others = λ k none. links.names k ∙ adds.others k (λ same. none (subst (IsHeaderOf w f) (sym same) links.linked));
@@ -285,32 +307,38 @@ adds-linked f m ownership t u w live adds links = record {
 none-pass : (p : ℕ → Bool) (a n : ℕ) → ((k : ℕ) → a ≤ k → k < a + n → p k ≡ false) → filter p (range_with_len a n) ≡ []
 none-pass p a zero none = refl
 none-pass p a (suc n) none =
-    ap (λ (b : Bool). cond b (a ∷ filter p (range_with_len (a + 1) n)) (filter p (range_with_len (a + 1) n))) (none a (omega arith) (omega arith))
+    ap (λ (b : Bool). cond b (a ∷ filter p (range_with_len (a + 1) n)) (filter p (range_with_len (a + 1) n)))
+    (none a (omega arith) (omega arith))
     ∙ none-pass p (a + 1) n (λ k low high. none k (omega (arith, low)) (omega (arith, high)))
 
 all-pass : (p : ℕ → Bool) (a n : ℕ) → ((k : ℕ) → a ≤ k → k < a + n → p k ≡ true) → filter p (range_with_len a n) ≡ range_with_len a n
 all-pass p a zero all = refl
 all-pass p a (suc n) all =
-    ap (λ (b : Bool). cond b (a ∷ filter p (range_with_len (a + 1) n)) (filter p (range_with_len (a + 1) n))) (all a (omega arith) (omega arith))
+    ap (λ (b : Bool). cond b (a ∷ filter p (range_with_len (a + 1) n)) (filter p (range_with_len (a + 1) n)))
+    (all a (omega arith) (omega arith))
     ∙ ap (λ (l : List ℕ). a ∷ l) (all-pass p (a + 1) n (λ k low high. all k (omega (arith, low)) (omega (arith, high))))
 
-same-pass : (p q : ℕ → Bool) (a n : ℕ) → ((k : ℕ) → a ≤ k → k < a + n → q k ≡ p k) → filter q (range_with_len a n) ≡ filter p (range_with_len a n)
+same-pass : (p q : ℕ → Bool) (a n : ℕ) → ((k : ℕ) → a ≤ k → k < a + n → q k ≡ p k)
+    → filter q (range_with_len a n) ≡ filter p (range_with_len a n)
 same-pass p q a zero same = refl
 same-pass p q a (suc n) same =
     let rest = same-pass p q (a + 1) n (λ k low high. same k (omega (arith, low)) (omega (arith, high))) in
     λ i. cond (same a (omega arith) (omega arith) i) (a ∷ rest i) (rest i)
 
 from-zero : (a b : ℕ) → range_with_len 0 (a + b) ≡ range_with_len 0 a ++ range_with_len a b
-from-zero a b = let same : 0 + a ≡ a = omega arith in range_with_len-append 0 a b ∙ ap (λ (k : ℕ). range_with_len 0 a ++ range_with_len k b) same
+from-zero a b =
+    let same : 0 + a ≡ a = omega arith in range_with_len-append 0 a b ∙ ap (λ (k : ℕ). range_with_len 0 a ++ range_with_len k b) same
 
 -- those before a run don't pass, and those of it do, but not then: the others pass as they did
-pub lowest-taken : (p q : ℕ → Bool) (size lbn count : ℕ) → lbn + count ≤ size → ((k : ℕ) → k < lbn → p k ≡ false) → ((k : ℕ) → lbn ≤ k → k < lbn + count → p k ≡ true)
+pub lowest-taken : (p q : ℕ → Bool) (size lbn count : ℕ) → lbn + count ≤ size → ((k : ℕ) → k < lbn → p k ≡ false)
+    → ((k : ℕ) → lbn ≤ k → k < lbn + count → p k ≡ true)
     → ((k : ℕ) → k < lbn + count → q k ≡ false) → ((k : ℕ) → lbn + count ≤ k → q k ≡ p k)
     → filter p (range_with_len 0 size) ≡ range_with_len lbn count ++ filter q (range_with_len 0 size)
 lowest-taken p q size lbn count within below run gone after =
     let rest : ℕ = size - (lbn + count) in
     let whole : size ≡ lbn + count + rest = omega (arith, within) in
-    let parts : (r : ℕ → Bool) → filter r (range_with_len 0 size) ≡ filter r (range_with_len 0 (lbn + count)) ++ filter r (range_with_len (lbn + count) rest) =
+    let parts : (r : ℕ → Bool)
+    → filter r (range_with_len 0 size) ≡ filter r (range_with_len 0 (lbn + count)) ++ filter r (range_with_len (lbn + count) rest) =
     λ r. ap (λ (n : ℕ). filter r (range_with_len 0 n)) whole ∙ ap (filter r) (from-zero (lbn + count) rest)
     ∙ filter-append r (range_with_len 0 (lbn + count)) (range_with_len (lbn + count) rest) in
     let front : filter p (range_with_len 0 (lbn + count)) ≡ range_with_len lbn count =
@@ -319,7 +347,8 @@ lowest-taken p q size lbn count within below run gone after =
     parts p ∙ ap (λ (l : List ℕ). l ++ filter p (range_with_len (lbn + count) rest)) front
     ∙ ap (λ (l : List ℕ). range_with_len lbn count ++ l)
     (sym (same-pass p q (lbn + count) rest (λ k low _. after k low))
-    ∙ sym (parts q ∙ ap (λ (l : List ℕ). l ++ filter q (range_with_len (lbn + count) rest)) (none-pass q 0 (lbn + count) (λ k _ high. gone k (omega (arith, high))))))
+    ∙ sym (parts q ∙ ap (λ (l : List ℕ). l ++ filter q (range_with_len (lbn + count) rest))
+    (none-pass q 0 (lbn + count) (λ k _ high. gone k (omega (arith, high))))))
 
 -- the free blocks follow from the size and the bits
 pub free-same : (v w : Volume) → w.size ≡ v.size → w.free ≡ v.free → free_list w ≡ free_list v
@@ -327,7 +356,8 @@ unfolding free_list
 free-same v w size free = λ i. filter (free i) (range_with_len 0 (size i))
 
 -- a file that has no block more
-pub gains-none : (f : ℕ) (ownership : Uic × ℕ) (v w : Volume) → ((n : ℕ) → IsHeaderOf v.table f n → IsHeaderOf w.table f n) → AddsHeaders f ownership v.table w.table
+pub gains-none : (f : ℕ) (ownership : Uic × ℕ) (v w : Volume) → ((n : ℕ) → IsHeaderOf v.table f n → IsHeaderOf w.table f n)
+    → AddsHeaders f ownership v.table w.table
     → file_blocks w.table f ≡ file_blocks v.table f → KeepsBlocks v w → GainsBlocksAs f ownership 0 v w
 gains-none f ownership v w headers says blocks keeps = record {
   size = keeps.size;
@@ -348,23 +378,28 @@ gains-nothing f ownership v file =
     gains-none f ownership v v (λ m of. of) says refl (keeps-same v v refl)
 
 -- a run was marked used, and the file has it
-pub gains-run : (f : ℕ) (ownership : Uic × ℕ) (lbn count : ℕ) (v w x : Volume) → w.table ≡ v.table → free_list v ≡ range_with_len lbn count ++ free_list w
-    → NamesMore f ownership (range_with_len lbn count) w.table x.table → w.size ≡ v.size → x.size ≡ w.size → x.free ≡ w.free → GainsBlocksAs f ownership count v x
+pub gains-run : (f : ℕ) (ownership : Uic × ℕ) (lbn count : ℕ) (v w x : Volume) → w.table ≡ v.table
+    → free_list v ≡ range_with_len lbn count ++ free_list w
+    → NamesMore f ownership (range_with_len lbn count) w.table x.table → w.size ≡ v.size → x.size ≡ w.size → x.free ≡ w.free
+    → GainsBlocksAs f ownership count v x
 gains-run f ownership lbn count v w x same lowest names was size free =
     let count_is : length (range_with_len lbn count) ≡ count = length-range_with_len lbn count in
     let run : take count (free_list v) ≡ range_with_len lbn count =
-    ap (take count) lowest ∙ ap (λ (n : ℕ). take n (range_with_len lbn count ++ free_list w)) (sym count_is) ∙ take-append_seam (range_with_len lbn count) (free_list w) in
+    ap (take count) lowest ∙ ap (λ (n : ℕ). take n (range_with_len lbn count ++ free_list w)) (sym count_is)
+    ∙ take-append_seam (range_with_len lbn count) (free_list w) in
     record {
       size = size ∙ was;
       names = subst (λ (l : List ℕ). NamesMore f ownership l v.table x.table) (sym run)
           (subst (λ (t : Table). NamesMore f ownership (range_with_len lbn count) t x.table) same names);
       free =
           free-same w x size free
-          ∙ sym (ap (drop count) lowest ∙ ap (λ (n : ℕ). drop n (range_with_len lbn count ++ free_list w)) (sym count_is) ∙ drop-append_seam (range_with_len lbn count) (free_list w));
+          ∙ sym (ap (drop count) lowest ∙ ap (λ (n : ℕ). drop n (range_with_len lbn count ++ free_list w)) (sym count_is)
+          ∙ drop-append_seam (range_with_len lbn count) (free_list w));
     }
 
 -- what a file gains twice
-says-twice : (f : ℕ) (ownership : Uic × ℕ) (t u w : Table) → AddsHeaders f ownership t u → AddsHeaders f ownership u w → AddsHeaders f ownership t w
+says-twice : (f : ℕ) (ownership : Uic × ℕ) (t u w : Table) → AddsHeaders f ownership t u → AddsHeaders f ownership u w
+    → AddsHeaders f ownership t w
 says-twice f ownership t u w one two = record {
   file = one.file;
   added = λ n of. now n (two.added n of);
@@ -373,7 +408,8 @@ says-twice f ownership t u w one two = record {
   first = two.first ∙ one.first;
 }
   where
-    before : (n : ℕ) → IsHeaderOf u f n → IsHeaderOf t f n ⊎ SaysOnly ownership (u.header n) → (n ≡ f) ⊎ (n ≢ f) → IsHeaderOf t f n ⊎ SaysOnly ownership (w.header n)
+    before : (n : ℕ) → IsHeaderOf u f n → IsHeaderOf t f n ⊎ SaysOnly ownership (u.header n) → (n ≡ f) ⊎ (n ≢ f)
+        → IsHeaderOf t f n ⊎ SaysOnly ownership (w.header n)
     before n of (inl was) _ = inl was
     before n of (inr says) (inl here) = inl (subst (IsHeaderOf t f) (sym here) (first one.file))
     before n of (inr says) (inr away) = inr (only-still says (two.alike n (live_of-header of) away))
@@ -382,7 +418,8 @@ says-twice f ownership t u w one two = record {
     now n (inl of) = before n of (one.added n of) (cases_eq n f)
     now n (inr says) = inr says
 
-pub names-twice : (f : ℕ) (ownership : Uic × ℕ) (one two : List ℕ) (t u w : Table) → NamesMore f ownership one t u → NamesMore f ownership two u w
+pub names-twice : (f : ℕ) (ownership : Uic × ℕ) (one two : List ℕ) (t u w : Table) → NamesMore f ownership one t u
+    → NamesMore f ownership two u w
     → NamesMore f ownership (one ++ two) t w
 names-twice f ownership one two t u w first_more then_more = record {
   blocks = then_more.blocks ∙ ap (λ (l : List ℕ). l ++ two) first_more.blocks ∙ append_assoc (file_blocks t f) one two;

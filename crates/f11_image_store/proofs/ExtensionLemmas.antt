@@ -29,7 +29,8 @@ use Rattle.f11_image_store.specs.SlotLaws.{with_use, IsFileless}
 use Rattle.f11_image_store.specs.StoreOf.{store_of}
 use Rattle.f11_image_store.proofs.InstanceLemmas.{unused-given, fileless-set, unlive-fileless}
 
-module _ (image : Image) (home : HomeFields) (n lbn count : ℕ) (block : List ℕ) (after : Index) (is : HasSoundVolume image home) (new : IsNewExtension (index_of image home) n lbn count block)
+module _ (image : Image) (home : HomeFields) (n lbn count : ℕ) (block : List ℕ) (after : Index) (is : HasSoundVolume image home)
+    (new : IsNewExtension (index_of image home) n lbn count block)
     (unreferenced : AreUnreferenced (volume_of image home) lbn count) (bit : SetsBit true n (index_of image home) after) where
   abbrev t : Table
   t = table_of image home
@@ -61,7 +62,8 @@ module _ (image : Image) (home : HomeFields) (n lbn count : ℕ) (block : List �
       subst (MayBecome v n) (sym one.index_file.header) (record {
         valid = new.valid;
         good = λ live. absurd (both_ways _ unused-then live.in_use);
-        names = subst (MayName v n) (sym new.names) (unreferenced-names v n lbn count (unentered-unreferenced image written home n lbn count one.slot unreferenced unused-then));
+        names = subst (MayName v n) (sym new.names)
+            (unreferenced-names v n lbn count (unentered-unreferenced image written home n lbn count one.slot unreferenced unused-then));
         link = links_to_none new.no_link;
       })
 
@@ -87,7 +89,8 @@ module _ (image : Image) (home : HomeFields) (n lbn count : ℕ) (block : List �
   unlinked : (m : ℕ) → IsInFile u m → ¬ IsNext u m n
   unfolding volume_of
   unlinked m =
-      entered-unlinked (volume_of written home) (volume_of entered home) n m one.slot.sound.sound two.slot.others unused-then (ap (λ (b : List ℕ). (link_of b).number) here ∙ new.no_link)
+      entered-unlinked (volume_of written home) (volume_of entered home) n m one.slot.sound.sound two.slot.others unused-then
+      (ap (λ (b : List ℕ). (link_of b).number) here ∙ new.no_link)
 
   fileless : IsFileless u n
   fileless f (first file) = let segment = ap segment_number here in omega (arith, segment, file.first, new.later)
@@ -99,8 +102,10 @@ module _ (image : Image) (home : HomeFields) (n lbn count : ℕ) (block : List �
   -- each header of a file is one of it still
   files : (f m : ℕ) → IsHeaderOf t f m → IsHeaderOf u f m
   files f m of =
-      let before : IsWholeFile w f × ((k : ℕ) → IsHeaderOf w f k ↔ IsHeaderOf t f k) = file-kept t w n f one.slot.others ((image-files image home is).each f (file_of-header of)).whole (not-in f) in
-      let then : IsWholeFile u f × ((k : ℕ) → IsHeaderOf u f k ↔ IsHeaderOf w f k) = file-kept w u n f two.slot.others before.0 (λ also. not-in f ((before.1 n).0 also)) in
+      let before : IsWholeFile w f × ((k : ℕ) → IsHeaderOf w f k ↔ IsHeaderOf t f k) =
+      file-kept t w n f one.slot.others ((image-files image home is).each f (file_of-header of)).whole (not-in f) in
+      let then : IsWholeFile u f × ((k : ℕ) → IsHeaderOf u f k ↔ IsHeaderOf w f k) = file-kept w u n f two.slot.others before.0
+      (λ also. not-in f ((before.1 n).0 also)) in
       (then.1 m).1 ((before.1 m).1 of)
 
   -- and as it was

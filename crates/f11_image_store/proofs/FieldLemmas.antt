@@ -1,12 +1,14 @@
 -- A file whose first header was written with the map that it had.
-use Rattle.std.proofs.Common.{◌≡◌, ◌≢◌, ◌↔◌, ◌⊎◌, ◌≤◌, ◌<◌, ◌-◌, inl, inr, ℕ, Bool, true, false, IsTrue, List, [], Some, option_map, refl, ap, sym, subst, ◌∙◌, length, map, get_or, arith}
+use Rattle.std.proofs.Common.{◌≡◌, ◌≢◌, ◌↔◌, ◌⊎◌, ◌≤◌, ◌<◌, ◌-◌, inl, inr, ℕ, Bool, true, false, IsTrue, List, [], Some, option_map, refl}
+use Rattle.std.proofs.Common.{ap, sym, subst, ◌∙◌, length, map, get_or, arith}
 use Rattle.std.specs.Prelude.{Contains}
 use Rattle.std.specs.List.{sum_by}
 use Rattle.std.proofs.lemmas.Bool.{cases_eq, cond-false}
 use Rattle.std.proofs.lemmas.Grind.{get_or_default_zero}
 use Rattle.std.proofs.lemmas.Option.{none-some, same_Some, slice_get_within, get_or_from_slice_get}
 use Rattle.f11_dev.specs.Image.{Image}
-use Rattle.f11_header.specs.Fields.{HeaderFields, header_fields, file_number, file_sequence, map_area, owner, protection, characteristics, attributes, ident_area}
+use Rattle.f11_header.specs.Fields.{HeaderFields, header_fields, file_number, file_sequence, map_area, owner, protection, characteristics}
+use Rattle.f11_header.specs.Fields.{attributes, ident_area}
 use Rattle.f11_header.specs.Header.{IsHeader, holds_header, header_in}
 use Rattle.f11_header.specs.MapFields.{places, link, segment}
 use Rattle.f11_header.proofs.HeaderFacts.{header_in-held}
@@ -35,7 +37,8 @@ use Rattle.f11_writes.proofs.HeaderLemmas.{rewrite-keeps, file-rewrite-keeps}
 use Rattle.f11_writes.proofs.NameLemmas.{own-names}
 use Rattle.f11_writes.proofs.OtherSlotLemmas.{live-was, turned}
 use Rattle.f11_image_store.specs.Allocation.{ownership_in, AddsHeaders, GainsBlocksAs, KeepsBlocks}
-use Rattle.f11_image_store.specs.FieldLaws.{said_by, SaysBut, WrittenSays, AttributesAreReplaced, IdentIsReplaced, ProtectionIsReplaced, DeleteMarkIsSet, ContiguousMarkIsCleared, ContiguousMarkIsSet, ChangesFile}
+use Rattle.f11_image_store.specs.FieldLaws.{said_by, SaysBut, WrittenSays, AttributesAreReplaced, IdentIsReplaced, ProtectionIsReplaced}
+use Rattle.f11_image_store.specs.FieldLaws.{DeleteMarkIsSet, ContiguousMarkIsCleared, ContiguousMarkIsSet, ChangesFile}
 use Rattle.f11_image_store.proofs.AllocationLemmas.{gains-none, keeps-slot, named-live, said-again}
 use Rattle.f11_image_store.proofs.FileLemmas.{sum-same}
 use Rattle.f11_image_store.proofs.InstanceLemmas.{first-alone, seen-stored, file-stored}
@@ -58,7 +61,8 @@ module _ (change : File → File) (old new : List ℕ) (says : SaysBut change ol
   unfolding blocks_named
   blocks-same = ap blocks_of says.map
 
-module _ (image : Image) (home : HomeFields) (f : ℕ) (block : List ℕ) (change : File → File) (is : HasSoundVolume image home) (file : IsFile (table_of image home) f)
+module _ (image : Image) (home : HomeFields) (f : ℕ) (block : List ℕ) (change : File → File) (is : HasSoundVolume image home)
+    (file : IsFile (table_of image home) f)
     (says : SaysBut change ((table_of image home).header f) block) where
   abbrev t : Table
   t = table_of image home
@@ -71,7 +75,8 @@ module _ (image : Image) (home : HomeFields) (f : ℕ) (block : List ℕ) (chang
   becomes = record {
     valid = valid;
     good = λ _. record { valid = valid; sequence = says.sequence; segment = segment-same change (t.header f) block says };
-    names = subst (MayName (volume_of image home) f) (sym (blocks-same change (t.header f) block says)) (own-names (volume_of image home) f is.sound file.live);
+    names = subst (MayName (volume_of image home) f) (sym (blocks-same change (t.header f) block says))
+        (own-names (volume_of image home) f is.sound file.live);
     link = links_as_before file.live (link-same change (t.header f) block says);
   }
 
@@ -87,7 +92,10 @@ module _ (image : Image) (home : HomeFields) (f : ℕ) (block : List ℕ) (chang
 
     file-now : IsFile u f
     file-now = record {
-      live = record { in_use = ap (λ (g : ℕ → Bool). g f) wrote.in_use ∙ file.live.in_use; valid = subst (λ (b : List ℕ). IsHeader b f) (sym here) valid };
+      live = record {
+        in_use = ap (λ (g : ℕ → Bool). g f) wrote.in_use ∙ file.live.in_use;
+        valid = subst (λ (b : List ℕ). IsHeader b f) (sym here) valid;
+      };
       first = ap segment_number here ∙ segment-same change (t.header f) block says ∙ file.first;
     }
 
@@ -102,7 +110,8 @@ module _ (image : Image) (home : HomeFields) (f : ℕ) (block : List ℕ) (chang
     map-stays m of = go (cases_eq m f)
       where
         go : (m ≡ f) ⊎ (m ≢ f) → map_area (u.header m) ≡ map_area (t.header m)
-        go (inl same) = ap (λ (k : ℕ). map_area (u.header k)) same ∙ ap map_area here ∙ says.map ∙ ap (λ (k : ℕ). map_area (t.header k)) (sym same)
+        go (inl same) =
+            ap (λ (k : ℕ). map_area (u.header k)) same ∙ ap map_area here ∙ says.map ∙ ap (λ (k : ℕ). map_area (t.header k)) (sym same)
         go (inr apart) = ap map_area (wrote.slot.others.header m apart (live_of-header of).in_use)
 
     listed : (m : ℕ) → Contains (headers_of t f) m → map_area (u.header m) ≡ map_area (t.header m)
@@ -110,7 +119,9 @@ module _ (image : Image) (home : HomeFields) (f : ℕ) (block : List ℕ) (chang
 
     same : (headers_of u f ≡ headers_of t f) × (file_blocks u f ≡ file_blocks t f)
     unfolding link_of blocks_named
-    same = file-alike t u f (λ m in_list. ap (λ (a : List ℕ). (link a).number) (listed m in_list)) (λ m in_list. ap blocks_of (listed m in_list))
+    same =
+        file-alike t u f (λ m in_list. ap (λ (a : List ℕ). (link a).number) (listed m in_list))
+        (λ m in_list. ap blocks_of (listed m in_list))
 
     -- and names the blocks that it named
     pub field-keeps : KeepsBlocks (volume_of image home) (volume_of new home)
@@ -118,12 +129,14 @@ module _ (image : Image) (home : HomeFields) (f : ℕ) (block : List ℕ) (chang
     field-keeps = record {
       size = ap (λ (v : Volume). v.size) wrote.slot.volume;
       names = keeps-slot f image new home wrote.slot
-          (named-live u f file-now.live ∙ ap blocks_named here ∙ blocks-same change (t.header f) block says ∙ sym (named-live t f file.live));
+          (named-live u f file-now.live ∙ ap blocks_named here ∙ blocks-same change (t.header f) block says
+          ∙ sym (named-live t f file.live));
       free = ap (λ (v : Volume). v.free) wrote.slot.volume;
     }
 
     -- and has no header more
-    field-says : (ownership : Uic × ℕ) → ((m : ℕ) → IsHeaderOf u f m → IsHeaderOf t f m) → ownership_in block ≡ ownership_in (t.header f) → AddsHeaders f ownership t u
+    field-says : (ownership : Uic × ℕ) → ((m : ℕ) → IsHeaderOf u f m → IsHeaderOf t f m) → ownership_in block ≡ ownership_in (t.header f)
+        → AddsHeaders f ownership t u
     field-says ownership were alike = record {
       file = file;
       added = λ m of. inl (were m of);
@@ -135,11 +148,13 @@ module _ (image : Image) (home : HomeFields) (f : ℕ) (block : List ℕ) (chang
       first = ap ownership_in here ∙ alike;
     }
 
-    pub field-gains : (ownership : Uic × ℕ) → ((m : ℕ) → IsHeaderOf u f m ↔ IsHeaderOf t f m) → ownership_in block ≡ ownership_in (t.header f)
+    pub field-gains : (ownership : Uic × ℕ) → ((m : ℕ) → IsHeaderOf u f m ↔ IsHeaderOf t f m)
+        → ownership_in block ≡ ownership_in (t.header f)
         → GainsBlocksAs f ownership 0 (volume_of image home) (volume_of new home)
     unfolding volume_of
     field-gains ownership headers alike =
-        gains-none f ownership (volume_of image home) (volume_of new home) (λ m of. (headers m).1 of) (field-says ownership (λ m of. (headers m).0 of) alike) same.1
+        gains-none f ownership (volume_of image home) (volume_of new home) (λ m of. (headers m).1 of)
+        (field-says ownership (λ m of. (headers m).0 of) alike) same.1
         field-keeps
 
     headers-were : headers_reached t f ≡ headers_of t f
@@ -151,7 +166,8 @@ module _ (image : Image) (home : HomeFields) (f : ℕ) (block : List ℕ) (chang
     pointers-stay : sum_by (pointer_count u) (headers_of t f) ≡ sum_by (pointer_count t) (headers_of t f)
     pointers-stay =
         sum-same (pointer_count u) (pointer_count t) (headers_of t f) (λ i m at.
-        ap (λ (a : List ℕ). length (runs_of a)) (listed m (i, slice_get_within (headers_of t f) i m at, get_or_from_slice_get (headers_of t f) i m m at)))
+        ap (λ (a : List ℕ). length (runs_of a))
+        (listed m (i, slice_get_within (headers_of t f) i m at, get_or_from_slice_get (headers_of t f) i m m at)))
 
     room-stays : room_left u (headers_of t f) ≡ room_left t (headers_of t f)
     room-stays =
@@ -159,7 +175,8 @@ module _ (image : Image) (home : HomeFields) (f : ℕ) (block : List ℕ) (chang
         let some : 0 < length hs = headers-some t f (live-some file.live) in
         let within : length hs - 1 < length hs = omega (arith, some) in
         let last : ℕ = get_or hs (length hs - 1) 0 in
-        ap (λ (a : List ℕ). places a - length (runs_of a)) (listed last (length hs - 1, within, get_or_default_zero hs (length hs - 1) last within))
+        ap (λ (a : List ℕ). places a - length (runs_of a))
+        (listed last (length hs - 1, within, get_or_default_zero hs (length hs - 1) last within))
 
     seen-said : said_of home f new ≡ said_by block (said_of home f image)
     unfolding file_of
@@ -183,18 +200,21 @@ module _ (image : Image) (home : HomeFields) (f : ℕ) (block : List ℕ) (chang
     pub file-changes : f ≢ 1 → file_in home f new ≡ change (file_in home f image)
     unfolding file_of
     file-changes other =
-        let blocks = wrote.slot.contents f file-now other ∙ ap (map (block_or_zeros image)) same.1 ∙ sym (file-blocks-are image t f was-whole) in
+        let blocks = wrote.slot.contents f file-now other ∙ ap (map (block_or_zeros image)) same.1
+        ∙ sym (file-blocks-are image t f was-whole) in
         let said : file_in home f new ≡ said_by block (file_in home f image) = λ i. record (seen-said i) { blocks = blocks i } in
         said ∙ says.file (file_in home f image)
 
-pub changes-file : (image : Image) (home : HomeFields) (f : ℕ) (block : List ℕ) (change : File → File) → HasSoundVolume image home → 4 ≤ f → IsFile (table_of image home) f
+pub changes-file : (image : Image) (home : HomeFields) (f : ℕ) (block : List ℕ) (change : File → File) → HasSoundVolume image home → 4 ≤ f
+    → IsFile (table_of image home) f
     → SaysBut change ((table_of image home).header f) block → ChangesFile f block change home image (with_header image home f block)
 changes-file image home f block change is late file says =
     let wrote = file-rewrite-keeps image home is f block f late (first file) (becomes image home f block change is file says) in
     record {
       header = wrote;
       store =
-          file-stored image (with_header image home f block) home f block wrote says.sequence f change late (first file) (first (file-now image home f block change is file says wrote))
+          file-stored image (with_header image home f block) home f block wrote says.sequence f change late (first file)
+          (first (file-now image home f block change is file says wrote))
           (file-changes image home f block change is file says wrote (λ one. omega (arith, one, late)));
     }
 
@@ -212,7 +232,8 @@ changes-index image home block change is says =
     record {
       header = wrote;
       store =
-          seen-stored image (with_header image home 1 block) home 1 block wrote says.sequence 1 change (first file) (first (file-now image home 1 block change is file says wrote))
+          seen-stored image (with_header image home 1 block) home 1 block wrote says.sequence 1 change (first file)
+          (first (file-now image home 1 block change is file says wrote))
           (seen-changes image home 1 block change is file says wrote);
     }
 
@@ -227,10 +248,12 @@ held-from b h is = go (holds_header b) refl
 
 -- a file of which a header says this
 abbrev as_said : HeaderFields → File → File
-as_said h f = record f { owner = h.owner; protection = h.protection; characteristics = h.characteristics; ident = h.ident; attr = h.attributes }
+as_said h f =
+    record f { owner = h.owner; protection = h.protection; characteristics = h.characteristics; ident = h.ident; attr = h.attributes }
 
 -- fields were written
-pub says-written : (fields : HeaderFields → HeaderFields) (change : File → File) (old : List ℕ) → (fields (header_fields old)).number ≡ file_number old
+pub says-written : (fields : HeaderFields → HeaderFields) (change : File → File) (old : List ℕ)
+    → (fields (header_fields old)).number ≡ file_number old
     → (fields (header_fields old)).sequence ≡ file_sequence old → (fields (header_fields old)).map ≡ map_area old
     → ((f : File) → as_said (fields (header_fields old)) f ≡ change (said_by old f)) → WrittenSays fields change old
 says-written fields change old number sequence map file new held is sum =
@@ -245,19 +268,26 @@ says-written fields change old number sequence map file new held is sum =
     }
 
 pub attributes-replaced : AttributesAreReplaced
-attributes-replaced old attr = says-written (λ h. record h { attributes = attr }) (with_replacement (change.Attr attr)) old refl refl refl (λ f. refl)
+attributes-replaced old attr =
+    says-written (λ h. record h { attributes = attr }) (with_replacement (change.Attr attr)) old refl refl refl (λ f. refl)
 
 pub ident-replaced : IdentIsReplaced
-ident-replaced old ident = says-written (λ h. record h { ident = ident }) (with_replacement (change.Ident ident)) old refl refl refl (λ f. refl)
+ident-replaced old ident =
+    says-written (λ h. record h { ident = ident }) (with_replacement (change.Ident ident)) old refl refl refl (λ f. refl)
 
 pub protection-replaced : ProtectionIsReplaced
-protection-replaced old protects = says-written (λ h. record h { protection = protects }) (with_replacement (change.Protect protects)) old refl refl refl (λ f. refl)
+protection-replaced old protects =
+    says-written (λ h. record h { protection = protects }) (with_replacement (change.Protect protects)) old refl refl refl (λ f. refl)
 
 pub delete-marked : DeleteMarkIsSet
-delete-marked old = says-written (λ h. record h { characteristics = with_mark (characteristics old) }) with_delete_mark old refl refl refl (λ f. refl)
+delete-marked old =
+    says-written (λ h. record h { characteristics = with_mark (characteristics old) }) with_delete_mark old refl refl refl (λ f. refl)
 
 pub contiguous-set : ContiguousMarkIsSet
-contiguous-set old = says-written (λ h. record h { characteristics = with_contiguous (characteristics old) }) with_contiguous_mark old refl refl refl (λ f. refl)
+contiguous-set old =
+    says-written (λ h. record h { characteristics = with_contiguous (characteristics old) }) with_contiguous_mark old refl refl refl
+    (λ f. refl)
 
 pub contiguous-cleared : ContiguousMarkIsCleared
-contiguous-cleared old = says-written (λ h. record h { characteristics = without_contiguous (characteristics old) }) with_no_mark old refl refl refl (λ f. refl)
+contiguous-cleared old =
+    says-written (λ h. record h { characteristics = without_contiguous (characteristics old) }) with_no_mark old refl refl refl (λ f. refl)

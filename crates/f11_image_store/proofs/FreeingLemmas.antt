@@ -1,5 +1,6 @@
 -- What carries `FreesMore` from image to image, and what is freed without touching a file.
-use Rattle.std.proofs.Common.{◌≡◌, ◌⊎◌, ◌<◌, ◌≤◌, ℕ, zero, suc, IsTrue, List, refl, sym, ap, subst, ◌∙◌, inl, inr, arith, Bool, true, false, cond, if◌then◌else◌, eqb}
+use Rattle.std.proofs.Common.{◌≡◌, ◌⊎◌, ◌<◌, ◌≤◌, ℕ, zero, suc, IsTrue, List, refl, sym, ap, subst, ◌∙◌, inl, inr, arith, Bool, true, false}
+use Rattle.std.proofs.Common.{cond, if◌then◌else◌, eqb}
 use Rattle.std.proofs.lemmas.Bool.{cases_eq, cases_lt}
 use Rattle.f11_bits.specs.Bitmap.{Bitmap, count_below, free_blocks, is_free, KeepsOthers}
 use Rattle.f11_bits.proofs.CountLemmas.{count_below-zero, count_below-suc}
@@ -36,7 +37,9 @@ use Rattle.f11_image_store.proofs.StoreLemmas.{marks-counted}
 
 -- a header that is killed keeps its sequence number
 pub dead-sequence : (b : List ℕ) → file_sequence (dead_header b) ≡ file_sequence b
-dead-sequence b = word-kept {old = with_word b 2 0} {new = dead_header b} (changes-with_word (with_word b 2 0) 510 0) 4 (inl (omega arith)) ∙ word-kept {old = b} {new = with_word b 2 0} (changes-with_word b 2 0) 4 (inr (omega arith))
+dead-sequence b =
+    word-kept {old = with_word b 2 0} {new = dead_header b} (changes-with_word (with_word b 2 0) 510 0) 4 (inl (omega arith))
+    ∙ word-kept {old = b} {new = with_word b 2 0} (changes-with_word b 2 0) 4 (inr (omega arith))
 
 pub frees-none : (s : Store) → FreesMore s s
 frees-none s = record {
@@ -73,9 +76,11 @@ frees-blocks s count = record {
 }
 
 -- images that stand after one that has freed something
-pub freeing-more : (home : HomeFields) (s t : Store) (a b : Disk) → b.honest ≡ a.honest → (IsTrue a.honest → FreesMore s t) → (image : Image) → Freeing home t b image → Freeing home s a image
+pub freeing-more : (home : HomeFields) (s t : Store) (a b : Disk) → b.honest ≡ a.honest → (IsTrue a.honest → FreesMore s t)
+    → (image : Image) → Freeing home t b image → Freeing home s a image
 freeing-more home s t a b same frees image is honest =
-    let there = is (same ∙ honest) in record { sound = there.sound; frees = frees-then s t (store_of image home) (frees honest) there.frees }
+    let there = is (same ∙ honest) in
+    record { sound = there.sound; frees = frees-then s t (store_of image home) (frees honest) there.frees }
 
 -- a slot that leaves use
 pub frees-slot : (s : Store) (n : ℕ) → FreesMore s (with_use s n false)
@@ -128,7 +133,8 @@ module _ (image : Image) (home : HomeFields) (n : ℕ) (is : HasSoundVolume imag
   unfolding table_in
   slot-of used = (in_use-some (index_of image home) n used, in_use-slot (index_of image home) n used)
 
-  module _ (block : List ℕ) (live : IsLive t n) (fileless : IsFileless t n) (dead : IsDead block) (sequence : file_sequence block ≡ last_sequence t n) where
+  module _ (block : List ℕ) (live : IsLive t n) (fileless : IsFileless t n) (dead : IsDead block)
+      (sequence : file_sequence block ≡ last_sequence t n) where
     abbrev killed : Image
     killed = with_header image home n block
 
@@ -150,7 +156,9 @@ module _ (image : Image) (home : HomeFields) (n : ℕ) (is : HasSoundVolume imag
     pub orphan-killed : IsFreeing home (store_of image home) killed
     orphan-killed = record {
       sound = wrote.slot.sound;
-      frees = subst (FreesMore (store_of image home)) (sym (fileless-written image killed home n block wrote sequence fileless (unlive-fileless (table_of killed home) n not-live)))
+      frees =
+          subst (FreesMore (store_of image home))
+          (sym (fileless-written image killed home n block wrote sequence fileless (unlive-fileless (table_of killed home) n not-live)))
           (frees-none (store_of image home));
     }
 
@@ -165,7 +173,9 @@ module _ (image : Image) (home : HomeFields) (n : ℕ) (is : HasSoundVolume imag
     bit-wrote = clear-keeps image home n after is dead bit
 
     unused-now : (table_of cleared home).in_use n ≡ false
-    unused-now = ap (λ (u : Table). u.in_use n) bit-wrote.index_file.table ∙ SetsBit-in_use false n (index_of image home) after some (slot-of dead.in_use).1 bit
+    unused-now =
+        ap (λ (u : Table). u.in_use n) bit-wrote.index_file.table
+        ∙ SetsBit-in_use false n (index_of image home) after some (slot-of dead.in_use).1 bit
 
     dead-unlive : ¬ IsLive t n
     dead-unlive live = let number = live.valid.number in omega (arith, dead.dead, number, some)
@@ -177,10 +187,16 @@ module _ (image : Image) (home : HomeFields) (n : ℕ) (is : HasSoundVolume imag
         ∙ ap (with_use (store_of image home) n) unused-now
 
     pub dead-freed : IsFreeing home (store_of image home) cleared
-    dead-freed = record { sound = bit-wrote.slot.sound; frees = subst (FreesMore (store_of image home)) (sym store-cleared) (frees-slot (store_of image home) n) }
+    dead-freed =
+        record {
+          sound = bit-wrote.slot.sound;
+          frees = subst (FreesMore (store_of image home)) (sym store-cleared)
+              (frees-slot (store_of image home) n);
+        }
 
 pub unnamed-freed : (old new : Image) (home : HomeFields) → HasSoundVolume old home → KeepsOthers (storage_bitmap old home) old new
-    → ((lbn : ℕ) → is_free new (storage_bitmap old home) lbn ≡ true → (is_free old (storage_bitmap old home) lbn ≡ true) ⊎ (¬ IsNamed (table_of old home) lbn))
+    → ((lbn : ℕ) → is_free new (storage_bitmap old home) lbn ≡ true → (is_free old (storage_bitmap old home) lbn ≡ true)
+    ⊎ (¬ IsNamed (table_of old home) lbn))
     → ((lbn : ℕ) → is_free old (storage_bitmap old home) lbn ≡ true → is_free new (storage_bitmap old home) lbn ≡ true)
     → IsFreeing home (store_of old home) new
 unfolding store_of

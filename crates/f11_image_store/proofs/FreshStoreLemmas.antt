@@ -1,5 +1,6 @@
 -- The store of a fresh volume.
-use Rattle.std.proofs.Common.{◌≡◌, ◌⊎◌, ◌≤◌, ◌<◌, ◌+◌, ◌-◌, inl, inr, ℕ, zero, suc, Bool, true, false, cond, List, [], ◌∷◌, Some, None, refl, ap, sym, ◌∙◌, map, length, ltb, leb, arith}
+use Rattle.std.proofs.Common.{◌≡◌, ◌⊎◌, ◌≤◌, ◌<◌, ◌+◌, ◌-◌, inl, inr, ℕ, zero, suc, Bool, true, false, cond, List, [], ◌∷◌, Some, None}
+use Rattle.std.proofs.Common.{refl, ap, sym, ◌∙◌, map, length, ltb, leb, arith}
 use Rattle.std.specs.List.{sum_by}
 use Rattle.std.proofs.lemmas.Bool.{cases_lt, and_from, and_left, and_right, lt-ltb, le-leb, lt-leb, le-ltb, ltb-true, false_from_ne_true}
 use Rattle.std.proofs.lemmas.List.FromFn.{length-range_with_len}
@@ -22,7 +23,8 @@ use Rattle.f11_volume.specs.Contents.{block_or_zeros, file_of, headers_reached, 
 use Rattle.f11_volume.specs.Fresh.{used_by, IsFreshUpTo, IsFreshVolume}
 use Rattle.f11_volume.specs.Space.{storage_bitmap}
 use Rattle.f11_volume.proofs.FileLemmas.{reached-are, file-blocks-are}
-use Rattle.f11_volume.proofs.FreshLemmas.{home-is, bitmap-size, slots-are, header-at, own, used-own, own-in_use, is-file, whole, own-headers, own-blocks, volume-size, places-are, free-are, free-inside}
+use Rattle.f11_volume.proofs.FreshLemmas.{home-is, bitmap-size, slots-are, header-at, own, used-own, own-in_use, is-file, whole}
+use Rattle.f11_volume.proofs.FreshLemmas.{own-headers, own-blocks, volume-size, places-are, free-are, free-inside}
 use Rattle.f11_image_store.specs.FreshStore.{is_own, fresh_file, fresh_store}
 use Rattle.f11_image_store.specs.StoreOf.{as_seen, file_at, last_given, store_of}
 use Rattle.f11_image_store.proofs.InstanceLemmas.{last-at}
@@ -55,7 +57,9 @@ module _ (image : Image) (l : Layout) (is : IsImage image) (room : l.blocks ≤ 
   t = table_of image home
 
   reached : (n : ℕ) → 0 < n → n ≤ 5 → headers_reached t n ≡ n ∷ []
-  reached n some few = reached-are 256 t n (whole image l is room fresh n some few) (first (is-file image l is room fresh n some few)) ∙ own-headers image l is room fresh n some few
+  reached n some few =
+      reached-are 256 t n (whole image l is room fresh n some few) (first (is-file image l is room fresh n some few))
+      ∙ own-headers image l is room fresh n some few
 
   counted : (n : ℕ) (some : 0 < n) (few : n ≤ 5) → pointer_count t n ≡ (fresh_file image l n).pointers
   counted n some few = ap length (own image l is room fresh n some few).pointers
@@ -83,13 +87,15 @@ module _ (image : Image) (l : Layout) (is : IsImage image) (room : l.blocks ≤ 
     held = reached n some few i;
     pointers = pointers-are n some few i;
     room = room-is n some few i;
-    blocks = (file-blocks-are image t n (whole image l is room fresh n some few) ∙ ap (map (block_or_zeros image)) (own-blocks image l is room fresh n some few)) i;
+    blocks = (file-blocks-are image t n (whole image l is room fresh n some few)
+        ∙ ap (map (block_or_zeros image)) (own-blocks image l is room fresh n some few)) i;
   }
 
   files-are : (n : ℕ) → file_at image t n ≡ (fresh_store image l).file n
   files-are n = go (own-or-not n)
     where
-      go : ((0 < n) × (n ≤ 5) × (is_own n ≡ true)) ⊎ (¬ ((0 < n) × (n ≤ 5)) × (is_own n ≡ false)) → file_at image t n ≡ (fresh_store image l).file n
+      go : ((0 < n) × (n ≤ 5) × (is_own n ≡ true)) ⊎ (¬ ((0 < n) × (n ≤ 5)) × (is_own n ≡ false))
+          → file_at image t n ≡ (fresh_store image l).file n
       go (inl (some, few, is_one)) =
           file-at image t n _ (λ file. refl) (λ none. absurd (none (is-file image l is room fresh n some few)))
           ∙ ap (λ (f : File). Some (as_seen n f)) (file-is n some few)
@@ -115,24 +121,29 @@ module _ (image : Image) (l : Layout) (is : IsImage image) (room : l.blocks ≤ 
   later-last n past = go (cases_lt l.slots n)
     where
       go : (l.slots < n) ⊎ (n ≤ l.slots) → last_given t n ≡ 0
-      go (inl high) = ap (λ (b : Bool). cond b (last_sequence t n) 0) (and_right (ltb 0 n) (leb n t.slots) (lt-leb n t.slots (omega (arith, high, slots-same))))
+      go (inl high) =
+          ap (λ (b : Bool). cond b (last_sequence t n) 0)
+          (and_right (ltb 0 n) (leb n t.slots) (lt-leb n t.slots (omega (arith, high, slots-same))))
       go (inr within) =
           last-at t n (omega (arith, past)) (omega (arith, within, slots-same))
           ∙ ap file_sequence (header-at image l is room fresh n (omega (arith, past)) within
-          ∙ (fresh (first_header l.max_files + (n - 1)) (omega (arith, past, within))).free_header (n - 1) (omega (arith, past)) (omega (arith, past, within)) refl)
+          ∙ (fresh (first_header l.max_files + (n - 1)) (omega (arith, past, within))).free_header (n - 1) (omega (arith, past))
+          (omega (arith, past, within)) refl)
           ∙ zero-sequence
 
   last-are : (n : ℕ) → last_given t n ≡ (fresh_store image l).last n
   unfolding last_given
   last-are n = go (own-or-not n) (cases_lt 5 n)
     where
-      go : ((0 < n) × (n ≤ 5) × (is_own n ≡ true)) ⊎ (¬ ((0 < n) × (n ≤ 5)) × (is_own n ≡ false)) → (5 < n) ⊎ (n ≤ 5) → last_given t n ≡ (fresh_store image l).last n
+      go : ((0 < n) × (n ≤ 5) × (is_own n ≡ true)) ⊎ (¬ ((0 < n) × (n ≤ 5)) × (is_own n ≡ false)) → (5 < n) ⊎ (n ≤ 5)
+          → last_given t n ≡ (fresh_store image l).last n
       go (inl (some, few, is_one)) which =
           last-at t n some (omega (arith, few, slots-same, l.valid.some_slots)) ∙ (own image l is room fresh n some few).sequence_is
           ∙ sym (ap (λ (b : Bool). cond b n 0) is_one)
       go (inr (other, isnt)) (inl past) = later-last n past ∙ sym (ap (λ (b : Bool). cond b n 0) isnt)
       go (inr (other, isnt)) (inr few) =
-          ap (λ (b : Bool). cond b (last_sequence t n) 0) (and_left (ltb 0 n) (leb n t.slots) (false_from_ne_true (ltb 0 n) (λ some. other (ltb-true 0 n some, few))))
+          ap (λ (b : Bool). cond b (last_sequence t n) 0)
+          (and_left (ltb 0 n) (leb n t.slots) (false_from_ne_true (ltb 0 n) (λ some. other (ltb-true 0 n some, few))))
           ∙ sym (ap (λ (b : Bool). cond b n 0) isnt)
 
   free-count : free_blocks image (storage_bitmap image home) ≡ l.blocks - used_by l
@@ -144,7 +155,8 @@ module _ (image : Image) (l : Layout) (is : IsImage image) (room : l.blocks ≤ 
       (λ k low high. free-are image l is room fresh k (omega (arith, high, fits)) ∙ le-leb (used_by l) k low)
       (λ k low high. refl)
       (λ k below. free-are image l is room fresh k (omega (arith, below, l.valid.room)) ∙ lt-leb (used_by l) k below)
-      (λ k past. false_from_ne_true _ (λ free. let inside = free-inside image l is room fresh k free in omega (arith, inside, past, fits))) in
+      (λ k past. false_from_ne_true _ (λ free. let inside = free-inside image l is room fresh k free in omega (arith, inside, past, fits)))
+      in
       let none = none-pass l.blocks in
       ap (count_below (is_free image bitmap)) (volume-size image l is room fresh) ∙ omega (arith, more, none)
 
@@ -155,8 +167,12 @@ module _ (image : Image) (l : Layout) (is : IsImage image) (room : l.blocks ≤ 
       (bitmap-size image l is room fresh) limit-is
     where
       limit-is : (store_of image home).limit ≡ l.max_files
-      limit-is = let files = fresh-max_files l (omega (arith, l.valid.few_files)) in let blocks = bitmap-size image l is room fresh in omega (arith, files, blocks, l.valid.few_files)
+      limit-is =
+          let files = fresh-max_files l (omega (arith, l.valid.few_files)) in let blocks = bitmap-size image l is room fresh in
+          omega (arith, files, blocks, l.valid.few_files)
 
-pub fresh-is-stored : (l : Layout) (old new : Image) (home : HomeFields) → IsImage new → l.blocks ≤ length new → IsFreshVolume l old new → IsHomeOf new home → store_of new home ≡ fresh_store new l
+pub fresh-is-stored : (l : Layout) (old new : Image) (home : HomeFields) → IsImage new → l.blocks ≤ length new → IsFreshVolume l old new
+    → IsHomeOf new home → store_of new home ≡ fresh_store new l
 fresh-is-stored l old new home is room fresh of =
-    ap (store_of new) (home-unique new home (fields_of 1 (fresh_home l)) of (home-is new l is room fresh.front)) ∙ fresh-stored new l is room fresh.front
+    ap (store_of new) (home-unique new home (fields_of 1 (fresh_home l)) of (home-is new l is room fresh.front))
+    ∙ fresh-stored new l is room fresh.front

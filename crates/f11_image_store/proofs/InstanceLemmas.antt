@@ -1,5 +1,6 @@
 -- The kinds of write of a slot, each as the plain store has it.
-use Rattle.std.proofs.Common.{◌≡◌, ◌≢◌, ◌⊎◌, ◌≤◌, ◌<◌, inl, inr, ℕ, Bool, true, false, cond, List, Option, Some, None, option_map, refl, ap, sym, subst, ◌∙◌, ◌&&◌, eqb, leb, ltb, arith}
+use Rattle.std.proofs.Common.{◌≡◌, ◌≢◌, ◌⊎◌, ◌≤◌, ◌<◌, inl, inr, ℕ, Bool, true, false, cond, List, Option, Some, None, option_map, refl, ap}
+use Rattle.std.proofs.Common.{sym, subst, ◌∙◌, ◌&&◌, eqb, leb, ltb, arith}
 use Rattle.std.proofs.lemmas.Bool.{both_ways, cases_eq, eq-eqb, ne_eqb, le-leb, lt-ltb}
 use Rattle.f11_dev.specs.Image.{Image}
 use Rattle.f11_header.specs.Fields.{file_sequence}
@@ -40,7 +41,9 @@ with_last-same s n sequence is = λ i. record s { last = λ m. set-same s.last n
 -- the sequence number of a slot that there is
 pub last-at : (t : Table) (n : ℕ) → 0 < n → n ≤ t.slots → last_given t n ≡ last_sequence t n
 unfolding last_given
-last-at t n some within = ap (λ (b : Bool). cond (b && leb n t.slots) (last_sequence t n) 0) (lt-ltb 0 n some) ∙ ap (λ (b : Bool). cond b (last_sequence t n) 0) (le-leb n t.slots within)
+last-at t n some within =
+    ap (λ (b : Bool). cond (b && leb n t.slots) (last_sequence t n) 0) (lt-ltb 0 n some)
+    ∙ ap (λ (b : Bool). cond b (last_sequence t n) 0) (le-leb n t.slots within)
 
 -- a first header is one of its own file alone
 pub first-alone : (v : Table) (g n : ℕ) → g ≢ n → IsFile v n → ¬ IsHeaderOf v g n
@@ -80,7 +83,8 @@ module _ (old new : Image) (home : HomeFields) (n : ℕ) where
     fileless-file : with_file s n (file_at new u n) ≡ s
     unfolding store_of
     fileless-file = with_file-same s n (file_at new u n)
-        (file-at old t n _ (λ file. absurd (before n (first file))) (λ _. refl) ∙ sym (file-at new u n None (λ file. absurd (now n (first file))) (λ _. refl)))
+        (file-at old t n _ (λ file. absurd (before n (first file))) (λ _. refl)
+        ∙ sym (file-at new u n None (λ file. absurd (now n (first file))) (λ _. refl)))
 
   -- a file that has changed so
   pub seen-changed : (f : ℕ) (change : File → File) → IsFile t f → as_seen f (file_in home f new) ≡ change (as_seen f (file_in home f old))
@@ -92,7 +96,8 @@ module _ (old new : Image) (home : HomeFields) (n : ℕ) where
   -- the sequence number that the slot was last given stays
   last-kept : u.slots ≡ t.slots → last_sequence u n ≡ last_sequence t n → last_given u n ≡ last_given t n
   unfolding last_given
-  last-kept slots sequence = ap (λ (k : ℕ). cond (ltb 0 n && leb n k) (last_sequence u n) 0) slots ∙ ap (λ (q : ℕ). cond (ltb 0 n && leb n t.slots) q 0) sequence
+  last-kept slots sequence =
+      ap (λ (k : ℕ). cond (ltb 0 n && leb n k) (last_sequence u n) 0) slots ∙ ap (λ (q : ℕ). cond (ltb 0 n && leb n t.slots) q 0) sequence
 
   -- a header was written
   module _ (block : List ℕ) (wrote : WritesHeader n block home old new) where
@@ -125,18 +130,22 @@ module _ (old new : Image) (home : HomeFields) (n : ℕ) where
       file-changed : (f : ℕ) → ConcernsFile n f t u → store_of new home ≡ with_file s f (file_at new u f)
       unfolding store_of
       file-changed f concerns =
-          header-stored f concerns ∙ with_last-same (with_file s f (file_at new u f)) n (last_given u n) (sym (last-kept blocks-but.slots (sequence-is ∙ sequence)))
+          header-stored f concerns
+          ∙ with_last-same (with_file s f (file_at new u f)) n (last_given u n)
+          (sym (last-kept blocks-but.slots (sequence-is ∙ sequence)))
 
       pub fileless-written : IsFileless t n → IsFileless u n → store_of new home ≡ s
       fileless-written before now = file-changed n (fileless-concerns before now) ∙ fileless-file before now
 
       pub file-killed : IsFile t n → IsDead block → store_of new home ≡ with_file s n None
       file-killed file dead =
-          let gone : ¬ IsLive u n = λ live. dead-not-valid block n dead (subst (λ (b : List ℕ). IsHeader b n) wrote.index_file.header live.valid) in
+          let gone : ¬ IsLive u n = λ live.
+          dead-not-valid block n dead (subst (λ (b : List ℕ). IsHeader b n) wrote.index_file.header live.valid) in
           file-changed n (record { no_other = λ g apart. unlive-fileless u n gone g; not_first = λ apart. absurd (apart refl) })
           ∙ ap (with_file s n) (file-at new u n None (λ is. absurd (gone is.live)) (λ _. refl))
 
-      pub file-rewritten : (f : ℕ) → IsHeaderOf t f n → IsHeaderOf u f n → store_of new home ≡ with_file s f (Some (as_seen f (file_in home f new)))
+      pub file-rewritten : (f : ℕ) → IsHeaderOf t f n → IsHeaderOf u f n
+          → store_of new home ≡ with_file s f (Some (as_seen f (file_in home f new)))
       file-rewritten f of is =
           file-changed f (record {
             no_other = λ g apart other. apart (chained-apart (image-files new home wrote.slot.sound).chained other is);
@@ -145,19 +154,27 @@ module _ (old new : Image) (home : HomeFields) (n : ℕ) where
           ∙ ap (with_file s f) (file-at new u f _ (λ _. refl) (λ none. absurd (none (file_of-header is))))
 
       -- where it has changed so, it has in the store
-      pub seen-stored : (f : ℕ) (change : File → File) → IsHeaderOf t f n → IsHeaderOf u f n → as_seen f (file_in home f new) ≡ change (as_seen f (file_in home f old))
+      pub seen-stored : (f : ℕ) (change : File → File) → IsHeaderOf t f n → IsHeaderOf u f n
+          → as_seen f (file_in home f new) ≡ change (as_seen f (file_in home f old))
           → store_of new home ≡ with_change (store_of old home) f change
       seen-stored f change of is changed = file-rewritten f of is ∙ seen-changed f change (file_of-header of) changed
 
-      pub file-stored : (f : ℕ) (change : File → File) → 4 ≤ f → IsHeaderOf t f n → IsHeaderOf u f n → file_in home f new ≡ change (file_in home f old)
+      pub file-stored : (f : ℕ) (change : File → File) → 4 ≤ f → IsHeaderOf t f n → IsHeaderOf u f n
+          → file_in home f new ≡ change (file_in home f old)
           → store_of new home ≡ with_change (store_of old home) f change
       file-stored f change late of is changed =
-          seen-stored f change of is (seen-own f (file_in home f new) late ∙ changed ∙ ap change (sym (seen-own f (file_in home f old) late)))
+          seen-stored f change of is
+          (seen-own f (file_in home f new) late ∙ changed ∙ ap change (sym (seen-own f (file_in home f old) late)))
 
   -- a bit was written
   module _ (after : Index) (wrote : WritesSlotBit n after home old new) where
     pub headers-stay : KeepsOtherBlocks n t u
-    headers-stay = record { slots = ap (λ (v : Table). v.slots) wrote.index_file.table; header = λ m some within apart. ap (λ (v : Table). v.header m) wrote.index_file.table }
+    headers-stay =
+        record {
+          slots = ap (λ (v : Table). v.slots) wrote.index_file.table;
+          header = λ m some within apart.
+              ap (λ (v : Table). v.header m) wrote.index_file.table;
+        }
 
     last-stays : last_given t n ≡ last_given u n
     last-stays = sym (last-kept headers-stay.slots (ap (λ (v : Table). last_sequence v n) wrote.index_file.table))
@@ -176,4 +193,5 @@ module _ (old new : Image) (home : HomeFields) (n : ℕ) where
         ∙ ap (with_use (with_file s n (Some (as_seen n (file_in home n new)))) n) file.live.in_use
 
     pub fileless-set : IsFileless t n → IsFileless u n → store_of new home ≡ with_use s n (u.in_use n)
-    fileless-set before now = bit-stored n (fileless-concerns before now) ∙ ap (λ (x : Store). with_use x n (u.in_use n)) (fileless-file before now)
+    fileless-set before now =
+        bit-stored n (fileless-concerns before now) ∙ ap (λ (x : Store). with_use x n (u.in_use n)) (fileless-file before now)

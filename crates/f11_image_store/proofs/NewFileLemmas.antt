@@ -1,5 +1,6 @@
 -- A new file is written and entered, and the store has it.
-use Rattle.std.proofs.Common.{◌≡◌, ◌≢◌, ◌⊎◌, ◌≤◌, ◌<◌, ◌-◌, ◌||◌, inl, inr, ℕ, Bool, true, false, cond, List, [], ◌∷◌, Some, refl, ap, sym, subst, ◌∙◌, map, length, slice_index, ◌/◌, eqb, arith}
+use Rattle.std.proofs.Common.{◌≡◌, ◌≢◌, ◌⊎◌, ◌≤◌, ◌<◌, ◌-◌, ◌||◌, inl, inr, ℕ, Bool, true, false, cond, List, [], ◌∷◌, Some, refl, ap, sym}
+use Rattle.std.proofs.Common.{subst, ◌∙◌, map, length, slice_index, ◌/◌, eqb, arith}
 use Rattle.std.specs.List.{sum_by, range_with_len}
 use Rattle.std.proofs.lemmas.List.Sums.{sum_by-cons}
 use Rattle.std.proofs.lemmas.Option.{get_or_from_slice_get}
@@ -48,7 +49,8 @@ free-stored image home = refl
 
 pub least-stored : (image : Image) (home : HomeFields) (n : ℕ) → IsLeastFree (index_of image home) n → least_free (store_of image home) ≡ n
 least-stored image home n least =
-    ap (λ (l : List ℕ). slice_index l 0) (free-stored image home) ∙ get_or_from_slice_get (free_in_index (index_of image home)) 0 n 0 least.first
+    ap (λ (l : List ℕ). slice_index l 0) (free-stored image home)
+    ∙ get_or_from_slice_get (free_in_index (index_of image home)) 0 n 0 least.first
 
 -- a slot that comes into use with its next sequence number
 pub slot-taken : SlotIsTaken
@@ -57,8 +59,12 @@ slot-taken s n sequence next =
     (λ m. refl) refl refl (λ m. used m (cases_eq m n)) (λ m. last m (cases_eq m n)) refl refl refl refl
   where
     used : (m : ℕ) → (m ≡ n) ⊎ (m ≢ n) → cond (eqb m n) true (s.in_use m) ≡ ((eqb n m || false) || s.in_use m)
-    used m (inl same) = ap (λ (b : Bool). cond b true (s.in_use m)) (eq-eqb m n same) ∙ sym (ap (λ (b : Bool). (b || false) || s.in_use m) (eq-eqb n m (sym same)))
-    used m (inr apart) = ap (λ (b : Bool). cond b true (s.in_use m)) (ne_eqb m n apart) ∙ sym (ap (λ (b : Bool). (b || false) || s.in_use m) (ne_eqb n m (λ is. apart (sym is))))
+    used m (inl same) =
+        ap (λ (b : Bool). cond b true (s.in_use m)) (eq-eqb m n same)
+        ∙ sym (ap (λ (b : Bool). (b || false) || s.in_use m) (eq-eqb n m (sym same)))
+    used m (inr apart) =
+        ap (λ (b : Bool). cond b true (s.in_use m)) (ne_eqb m n apart)
+        ∙ sym (ap (λ (b : Bool). (b || false) || s.in_use m) (ne_eqb n m (λ is. apart (sym is))))
 
     last : (m : ℕ) → (m ≡ n) ⊎ (m ≢ n) → cond (eqb m n) sequence (s.last m) ≡ cond (eqb n m || false) (next_sequence (s.last m)) (s.last m)
     last m (inl same) =
@@ -73,10 +79,13 @@ pub runs-none : (area : List ℕ) → words_in_use area ≡ 0 → runs_of area �
 unfolding runs_of
 runs-none area none = ap (λ (w : ℕ). map (run_at area) (range_with_len 0 (w / 2))) none
 
-module _ (id : FileId) (owned : Uic) (protects : ℕ) (ident attr empty block : List ℕ) (new : IsNewFirst id owned protects ident attr empty block) where
+module _ (id : FileId) (owned : Uic) (protects : ℕ) (ident attr empty block : List ℕ)
+    (new : IsNewFirst id owned protects ident attr empty block) where
   -- an empty file with this ident area and these attributes
   says : SaysBut (λ f. record f { ident = ident; attr = attr }) empty block
-  says = says-written (λ h. record h { ident = ident; attributes = attr }) (λ f. record f { ident = ident; attr = attr }) empty refl refl refl (λ f. refl) block new.holds new.says new.sum
+  says =
+      says-written (λ h. record h { ident = ident; attributes = attr }) (λ f. record f { ident = ident; attr = attr }) empty refl refl refl
+      (λ f. refl) block new.holds new.says new.sum
 
   map-is : map_area block ≡ map_area empty
   map-is = says.map
@@ -106,7 +115,8 @@ module _ (id : FileId) (owned : Uic) (protects : ℕ) (ident attr empty block : 
   room-is = ap places map-is ∙ new.blank.room
 
   -- what it says of its file
-  module _ (image : Image) (home : HomeFields) (is : HasSoundVolume image home) (within : id.number ≤ slots (index_of image home)) (none : is_in_use (index_of image home) id.number ≡ false) where
+  module _ (image : Image) (home : HomeFields) (is : HasSoundVolume image home) (within : id.number ≤ slots (index_of image home))
+      (none : is_in_use (index_of image home) id.number ≡ false) where
     some : 0 < id.number
     some = omega (arith, valid.number, (header_facts block valid.holds).some_number)
 
@@ -119,7 +129,8 @@ module _ (id : FileId) (owned : Uic) (protects : ℕ) (ident attr empty block : 
         let wrote = unused-keeps image home is id.number block some within none in
         record {
           header = wrote;
-          store = unused-given image (with_header image home id.number block) home id.number block wrote some within none ∙ ap (with_last (store_of image home) id.number) sequence-is;
+          store = unused-given image (with_header image home id.number block) home id.number block wrote some within none
+              ∙ ap (with_last (store_of image home) id.number) sequence-is;
         }
 
     module _ (after : Index) (bit : SetsBit true id.number (index_of image home) after) where
@@ -148,7 +159,8 @@ module _ (id : FileId) (owned : Uic) (protects : ℕ) (ident attr empty block : 
           record {
             names = λ m. elim (cases_eq m id.number) [
               | inl same ↦ subst (λ (k : ℕ). named_by u k ≡ named_by (table_of image home) k) (sym same)
-                  (named-live u id.number file.live ∙ ap blocks_named here ∙ names-none ∙ sym (named-unused (table_of image home) id.number none))
+                  (named-live u id.number file.live ∙ ap blocks_named here ∙ names-none
+                  ∙ sym (named-unused (table_of image home) id.number none))
               | inr away ↦
                   named-others (table_of one home) u id.number m wrote.slot.others away
                   ∙ named-others (table_of image home) (table_of one home) id.number m first_slot.others away
@@ -164,7 +176,8 @@ module _ (id : FileId) (owned : Uic) (protects : ℕ) (ident attr empty block : 
       no-pointers = ap (λ (b : List ℕ). length (runs_of (map_area b))) here ∙ ap length no-runs
 
       pointers-none : sum_by (pointer_count u) (headers_reached u id.number) ≡ 0
-      pointers-none = let one = ap (sum_by (pointer_count u)) reached ∙ sum_by-cons (pointer_count u) id.number [] in omega (arith, one, no-pointers)
+      pointers-none =
+          let one = ap (sum_by (pointer_count u)) reached ∙ sum_by-cons (pointer_count u) id.number [] in omega (arith, one, no-pointers)
 
       room-is-all : room_left u (headers_reached u id.number) ≡ 102
       room-is-all =
@@ -178,7 +191,8 @@ module _ (id : FileId) (owned : Uic) (protects : ℕ) (ident attr empty block : 
         sequence = (ap file_sequence here ∙ sequence-is) i;
         owner = (ap owner here ∙ ap (λ (f : File). f.owner) (says.file no_file) ∙ new.blank.owner_is) i;
         protection = (ap protection here ∙ ap (λ (f : File). f.protection) (says.file no_file) ∙ new.blank.protection_is) i;
-        characteristics = (ap characteristics here ∙ ap (λ (f : File). f.characteristics) (says.file no_file) ∙ new.blank.no_characteristics) i;
+        characteristics = (ap characteristics here ∙ ap (λ (f : File). f.characteristics) (says.file no_file)
+            ∙ new.blank.no_characteristics) i;
         ident = (ap ident_area here ∙ ap (λ (f : File). f.ident) (says.file no_file)) i;
         attr = (ap attributes here ∙ ap (λ (f : File). f.attr) (says.file no_file)) i;
         held = reached i;
@@ -187,22 +201,26 @@ module _ (id : FileId) (owned : Uic) (protects : ℕ) (ident attr empty block : 
         blocks = (makes-file image home id.number block after is is-new bit first-segment).empty i;
       }
 
-      pub enters-file : IsLeastFree (index_of image home) id.number → id.sequence ≡ next_sequence (last_sequence (table_of image home) id.number)
+      pub enters-file : IsLeastFree (index_of image home) id.number
+          → id.sequence ≡ next_sequence (last_sequence (table_of image home) id.number)
           → EntersNewFile id.number after owned protects ident attr home image (with_header image home id.number block) second
       unfolding store_of table_in
       enters-file least next =
           let s : Store = store_of image home in
           let wrote = two image home id.number block after is is-new bit in
           let made : ℕ → Store = λ k. with_new_file s k (file_created s k owned protects ident attr) in
-          let new_last : id.sequence ≡ next_sequence (s.last id.number) = next ∙ ap next_sequence (sym (last-at (table_of image home) id.number some within)) in
+          let new_last : id.sequence ≡ next_sequence (s.last id.number) = next
+          ∙ ap next_sequence (sym (last-at (table_of image home) id.number some within)) in
           record {
             bit = wrote;
             store =
                 file-entered (with_header image home id.number block) second home id.number after wrote file
-                ∙ ap (λ (x : Store). with_use (with_file x id.number (Some (as_seen id.number (file_in home id.number second)))) id.number true) writes-first.store
+                ∙ ap (λ (x : Store). with_use (with_file x id.number (Some (as_seen id.number (file_in home id.number second)))) id.number
+                true) writes-first.store
                 ∙ ap (λ (f : File). with_use (with_file (with_last s id.number id.sequence) id.number (Some f)) id.number true)
                 (seen-own id.number (file_in home id.number second) (omega (arith, least.low)) ∙ file-made)
-                ∙ ap (λ (x : Store). with_file x id.number (Some (new_file id.number id.sequence owned protects ident attr))) (slot-taken s id.number id.sequence new_last)
+                ∙ ap (λ (x : Store). with_file x id.number (Some (new_file id.number id.sequence owned protects ident attr)))
+                (slot-taken s id.number id.sequence new_last)
                 ∙ ap (λ (q : ℕ). with_new_file s id.number (new_file id.number q owned protects ident attr)) new_last
                 ∙ ap made (sym (least-stored image home id.number least));
           }

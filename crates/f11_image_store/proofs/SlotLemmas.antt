@@ -1,5 +1,6 @@
 -- The store of an image one of whose slots was written.
-use Rattle.std.proofs.Common.{◌≡◌, ◌≢◌, ◌⊎◌, ◌≤◌, ◌<◌, ◌&&◌, inl, inr, ℕ, Bool, false, cond, Some, None, List, refl, ap, sym, subst, ◌∙◌, length, eqb, ltb, leb}
+use Rattle.std.proofs.Common.{◌≡◌, ◌≢◌, ◌⊎◌, ◌≤◌, ◌<◌, ◌&&◌, inl, inr, ℕ, Bool, false, cond, Some, None, List, refl, ap, sym, subst, ◌∙◌}
+use Rattle.std.proofs.Common.{length, eqb, ltb, leb}
 use Rattle.std.proofs.lemmas.Bool.{cases_lt, cases_eq, eq-eqb, ne_eqb, and_left, and_right, lt-leb, le-ltb}
 use Rattle.f11_bits.specs.Bitmap.{Bitmap, count_below, free_blocks}
 use Rattle.f11_dev.specs.Image.{Image}
@@ -51,10 +52,13 @@ module _ (old new : Image) (home : HomeFields) (n : ℕ) (slot : KeepsButSlot n 
   -- the sequence number of another slot
   other-last : KeepsOtherBlocks n t u → (m : ℕ) → m ≢ n → last_given u m ≡ last_given t m
   unfolding last_given
-  other-last blocks m apart = ap (λ (k : ℕ). cond (ltb 0 m && leb m k) (last_sequence u m) 0) blocks.slots ∙ go (cases_lt 0 m) (cases_lt t.slots m)
+  other-last blocks m apart =
+      ap (λ (k : ℕ). cond (ltb 0 m && leb m k) (last_sequence u m) 0) blocks.slots ∙ go (cases_lt 0 m) (cases_lt t.slots m)
     where
-      go : (0 < m) ⊎ (m ≤ 0) → (t.slots < m) ⊎ (m ≤ t.slots) → cond (ltb 0 m && leb m t.slots) (last_sequence u m) 0 ≡ cond (ltb 0 m && leb m t.slots) (last_sequence t m) 0
-      go (inl some) (inr within) = ap (λ (h : List ℕ). cond (ltb 0 m && leb m t.slots) (file_sequence h) 0) (blocks.header m some within apart)
+      go : (0 < m) ⊎ (m ≤ 0) → (t.slots < m) ⊎ (m ≤ t.slots)
+          → cond (ltb 0 m && leb m t.slots) (last_sequence u m) 0 ≡ cond (ltb 0 m && leb m t.slots) (last_sequence t m) 0
+      go (inl some) (inr within) =
+          ap (λ (h : List ℕ). cond (ltb 0 m && leb m t.slots) (file_sequence h) 0) (blocks.header m some within apart)
       go (inl some) (inl past) =
           let no : (ltb 0 m && leb m t.slots) ≡ false = and_right (ltb 0 m) (leb m t.slots) (lt-leb m t.slots past) in
           ap (λ (b : Bool). cond b (last_sequence u m) 0) no ∙ sym (ap (λ (b : Bool). cond b (last_sequence t m) 0) no)
@@ -62,19 +66,25 @@ module _ (old new : Image) (home : HomeFields) (n : ℕ) (slot : KeepsButSlot n 
           let no : (ltb 0 m && leb m t.slots) ≡ false = and_left (ltb 0 m) (leb m t.slots) (le-ltb 0 m none) in
           ap (λ (b : Bool). cond b (last_sequence u m) 0) no ∙ sym (ap (λ (b : Bool). cond b (last_sequence t m) 0) no)
 
-  pub slot-stored : (f : ℕ) → KeepsOtherBlocks n t u → ConcernsFile n f t u → store_of new home ≡ with_last (with_use (with_file (store_of old home) f (file_at new u f)) n (u.in_use n)) n (last_given u n)
+  pub slot-stored : (f : ℕ) → KeepsOtherBlocks n t u → ConcernsFile n f t u
+      → store_of new home ≡ with_last (with_use (with_file (store_of old home) f (file_at new u f)) n (u.in_use n)) n (last_given u n)
   unfolding store_of
-  slot-stored f blocks concerns = same-store (store_of new home) (with_last (with_use (with_file (store_of old home) f (file_at new u f)) n (u.in_use n)) n (last_given u n))
+  slot-stored f blocks concerns =
+      same-store (store_of new home)
+      (with_last (with_use (with_file (store_of old home) f (file_at new u f)) n (u.in_use n)) n (last_given u n))
       (λ g. file g (cases_eq g f)) free-stays blocks.slots (λ m. used m (cases_eq m n)) (λ m. last m (cases_eq m n))
       refl (ap (λ (b : Bitmap). length b.places) slot.bitmap) refl refl
     where
       which : (g : ℕ) → g ≢ f → (g ≡ n) ⊎ (g ≢ n) → (g ≢ n) ⊎ (¬ IsFile t g × ¬ IsFile u g)
-      which g apart (inl same) = inr (subst (λ (k : ℕ). ¬ IsFile t k × ¬ IsFile u k) (sym same) (concerns.not_first (λ is. apart (same ∙ is))))
+      which g apart (inl same) =
+          inr (subst (λ (k : ℕ). ¬ IsFile t k × ¬ IsFile u k) (sym same) (concerns.not_first (λ is. apart (same ∙ is))))
       which g apart (inr away) = inl away
 
       file : (g : ℕ) → (g ≡ f) ⊎ (g ≢ f) → file_at new u g ≡ cond (eqb g f) (file_at new u f) (file_at old t g)
       file g (inl same) = ap (file_at new u) same ∙ ap (λ (b : Bool). cond b (file_at new u f) (file_at old t g)) (sym (eq-eqb g f same))
-      file g (inr apart) = other-file g (which g apart (cases_eq g n)) (concerns.no_other g apart) ∙ ap (λ (b : Bool). cond b (file_at new u f) (file_at old t g)) (sym (ne_eqb g f apart))
+      file g (inr apart) =
+          other-file g (which g apart (cases_eq g n)) (concerns.no_other g apart)
+          ∙ ap (λ (b : Bool). cond b (file_at new u f) (file_at old t g)) (sym (ne_eqb g f apart))
 
       used : (m : ℕ) → (m ≡ n) ⊎ (m ≢ n) → u.in_use m ≡ cond (eqb m n) (u.in_use n) (t.in_use m)
       used m (inl same) = ap u.in_use same ∙ ap (λ (b : Bool). cond b (u.in_use n) (t.in_use m)) (sym (eq-eqb m n same))

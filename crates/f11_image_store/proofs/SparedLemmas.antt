@@ -35,14 +35,23 @@ module _ (image : Image) (home : HomeFields) (is : HasSoundVolume image home) wh
   two = is.framed.bitmap.sound.whole.file
 
   -- behind the home block in the index file, or behind the control block in the storage bitmap file, stands each block of those
-  spared : (lbn : ℕ) → ((i : ℕ) → slice_get (index_file_blocks image home) (2 + i) ≢ Some lbn) → ((i : ℕ) → slice_get (bitmap_file t) (1 + i) ≢ Some lbn) → IsSpared image home lbn
+  spared : (lbn : ℕ) → ((i : ℕ) → slice_get (index_file_blocks image home) (2 + i) ≢ Some lbn)
+      → ((i : ℕ) → slice_get (bitmap_file t) (1 + i) ≢ Some lbn) → IsSpared image home lbn
   unfolding index_of header_lbn
   spared lbn none_one none_two headers = record {
     header = λ n may some slot at.
         let place : 2 + (home.index_blocks + (n - 1)) ≡ 2 + home.index_blocks + (n - 1) = omega arith in
-        none_one (home.index_blocks + (n - 1)) (ap (slice_get (index_file_blocks image home)) place ∙ slice_get-header (index_file_blocks image home) (2 + home.index_blocks) _ (n - 1) lbn 0 (omega (arith, some, slot)) (sym at));
+        none_one (home.index_blocks + (n - 1))
+        (ap (slice_get (index_file_blocks image home)) place ∙ slice_get-header (index_file_blocks image home) (2 + home.index_blocks) _
+        (n - 1) lbn 0 (omega (arith, some, slot)) (sym at));
     index_bitmap = λ k within at.
-        let few : k < home.index_blocks = omega (arith, within, length-map (range_with_len home.index_lbn home.index_blocks) (image_block image), length-range_with_len home.index_lbn home.index_blocks) in
+        let few : k < home.index_blocks =
+        omega (
+          arith,
+          within,
+          length-map (range_with_len home.index_lbn home.index_blocks) (image_block image),
+          length-range_with_len home.index_lbn home.index_blocks,
+        ) in
         none_one k (is.framed.indexed.file.placed.bitmap_and_headers k (omega (arith, few)) ∙ ap Some at);
     storage = λ i within at. none_two i (place-at image home i within ∙ ap Some at);
   }
@@ -50,7 +59,8 @@ module _ (image : Image) (home : HomeFields) (is : HasSoundVolume image home) wh
   -- a block of one of the two files that stands before those
   pub first-spared : (i lbn : ℕ) → i < 2 → slice_get (index_file_blocks image home) i ≡ Some lbn → IsSpared image home lbn
   first-spared i lbn early at =
-      spared lbn (λ j there. let same = (files.one_owner 1 1 i (2 + j) lbn one one (as-file-one i lbn at) (as-file-one (2 + j) lbn there)).1 in omega (arith, same, early))
+      spared lbn (λ j there. let same = (files.one_owner 1 1 i (2 + j) lbn one one (as-file-one i lbn at) (as-file-one (2 + j) lbn there)).1
+      in omega (arith, same, early))
       (λ j there. let same = (files.one_owner 1 2 i (1 + j) lbn one two (as-file-one i lbn at) there).0 in omega (arith, same))
 
   pub boot-spared : IsSpared image home 0
@@ -61,19 +71,22 @@ module _ (image : Image) (home : HomeFields) (is : HasSoundVolume image home) wh
 
   pub control-spared : (lbn : ℕ) → slice_get (bitmap_file t) 0 ≡ Some lbn → IsSpared image home lbn
   control-spared lbn at =
-      spared lbn (λ j there. let same = (files.one_owner 1 2 (2 + j) 0 lbn one two (as-file-one (2 + j) lbn there) at).0 in omega (arith, same))
+      spared lbn (λ j there. let same = (files.one_owner 1 2 (2 + j) 0 lbn one two (as-file-one (2 + j) lbn there) at).0 in
+      omega (arith, same))
       (λ j there. let same = (files.one_owner 2 2 0 (1 + j) lbn two two at there).1 in omega (arith, same))
 
   -- a block of another file
   pub file-spared : (f i lbn : ℕ) → IsFile t f → 3 ≤ f → slice_get (file_blocks t f) i ≡ Some lbn → IsSpared image home lbn
   file-spared f i lbn file late at =
-      spared lbn (λ j there. let same = (files.one_owner f 1 i (2 + j) lbn file one at (as-file-one (2 + j) lbn there)).0 in omega (arith, same, late))
+      spared lbn (λ j there. let same = (files.one_owner f 1 i (2 + j) lbn file one at (as-file-one (2 + j) lbn there)).0 in
+      omega (arith, same, late))
       (λ j there. let same = (files.one_owner f 2 i (1 + j) lbn file two at there).0 in omega (arith, same, late))
 
   -- and one that no header names
   pub unnamed-spared : (lbn : ℕ) → ¬ IsNamed t lbn → IsSpared image home lbn
   unnamed-spared lbn none =
-      spared lbn (λ j there. none (named-of t 1 lbn (in-index-file image home is (2 + j) lbn there))) (λ j there. none (named-of t 2 lbn (in-bitmap-file image home is (1 + j) lbn there)))
+      spared lbn (λ j there. none (named-of t 1 lbn (in-index-file image home is (2 + j) lbn there)))
+      (λ j there. none (named-of t 2 lbn (in-bitmap-file image home is (1 + j) lbn there)))
 
   none-behind : (lbn : ℕ) → (volume_of image home).size ≤ lbn → ¬ IsNamed t lbn
   unfolding volume_of

@@ -1,5 +1,6 @@
 -- Facts about the bits of slots.
-use Rattle.std.proofs.Common.{◌≡◌, ◌≢◌, ◌⊎◌, inl, inr, ℕ, ◌+◌, ◌-◌, ◌*◌, ◌/◌, ◌%◌, ◌<◌, ◌≤◌, Bool, false, List, [], length, sym, ap, subst, ◌∙◌, arith}
+use Rattle.std.proofs.Common.{◌≡◌, ◌≢◌, ◌⊎◌, inl, inr, ℕ, ◌+◌, ◌-◌, ◌*◌, ◌/◌, ◌%◌, ◌<◌, ◌≤◌, Bool, false, List, [], length, sym, ap, subst}
+use Rattle.std.proofs.Common.{◌∙◌, arith}
 use Rattle.std.proofs.Math.ListN.{set, get_or}
 use Rattle.std.specs.Prelude.{nat_eq, Result, Ok, Err, OnOk, OnErr}
 use Rattle.std.proofs.lemmas.Bool.{cases_eq, cases_lt}
@@ -68,10 +69,12 @@ SetsBit-block value n place old block some is_place within is others =
     one inside rest = SetsBit-here value n old block some inside is rest
 
 -- whether slots are in use then
-pub SetsBit-in_use : (value : Bool) (n : ℕ) (before after : Index) → 0 < n → n ≤ slots before → SetsBit value n before after → is_in_use after n ≡ value
+pub SetsBit-in_use : (value : Bool) (n : ℕ) (before after : Index) → 0 < n → n ≤ slots before → SetsBit value n before after
+    → is_in_use after n ≡ value
 SetsBit-in_use value n before after some few sets = is_in_use-within after n some (omega (arith, few, ap slots sets.one_block)) ∙ sets.bit
 
-pub SetsBit-others : (before after : Index) (value : Bool) (n m : ℕ) → SetsBit value n before after → m ≢ n → is_in_use after m ≡ is_in_use before m
+pub SetsBit-others : (before after : Index) (value : Bool) (n m : ℕ) → SetsBit value n before after → m ≢ n
+    → is_in_use after m ≡ is_in_use before m
 SetsBit-others before after value n m sets apart =
     let same : slots after ≡ slots before = ap slots sets.one_block in
     elim (cases_eq m 0) [
@@ -86,7 +89,8 @@ SetsBit-others before after value n m sets apart =
 
 -- the block that has the bit was written
 module _ (value : Bool) (n : ℕ) (before after : Index) (lbn : ℕ) (block : List ℕ) (old new : Disk) where
-  is_image : lbn ≡ after.bitmap_lbn + bitmap_place n → block ≡ bitmap_block after n → set old.image lbn block ≡ with_bitmap_block old.image after n
+  is_image : lbn ≡ after.bitmap_lbn + bitmap_place n → block ≡ bitmap_block after n
+      → set old.image lbn block ≡ with_bitmap_block old.image after n
   is_image at from = ap (λ (l : ℕ). set old.image l block) at ∙ ap (set old.image (after.bitmap_lbn + bitmap_place n)) from
 
   image-written : lbn ≡ after.bitmap_lbn + bitmap_place n → block ≡ bitmap_block after n → SetsBit value n before after
@@ -97,7 +101,8 @@ module _ (value : Bool) (n : ℕ) (before after : Index) (lbn : ℕ) (block : Li
     image_is = is_image at from;
   }
 
-  pub WritesBit-written : {E : Type 0} (result : Result Unit E) → 0 < n → n ≤ slots before → lbn ≡ after.bitmap_lbn + bitmap_place n → block ≡ bitmap_block after n
+  pub WritesBit-written : {E : Type 0} (result : Result Unit E) → 0 < n → n ≤ slots before → lbn ≡ after.bitmap_lbn + bitmap_place n
+      → block ≡ bitmap_block after n
       → SetsBit value n before after → Writes result lbn block old new → OnOk result (WritesBit value n before after old new)
   WritesBit-written (Ok x) some few at from sets writes =
       record {
@@ -111,4 +116,5 @@ module _ (value : Bool) (n : ℕ) (before after : Index) (lbn : ℕ) (block : Li
   pub WritesBit-failed : {E : Type 0} (result : Result Unit E) → lbn ≡ after.bitmap_lbn + bitmap_place n → block ≡ bitmap_block after n
       → SetsBit value n before after → Writes result lbn block old new → OnErr result (FailsToWriteBit value n before old new)
   WritesBit-failed (Ok x) at from sets writes = tt
-  WritesBit-failed (Err e) at from sets writes = went_failed_write (HasBitWritten value n before old.image) old new lbn block writes.err (image-written at from sets)
+  WritesBit-failed (Err e) at from sets writes =
+      went_failed_write (HasBitWritten value n before old.image) old new lbn block writes.err (image-written at from sets)

@@ -15,7 +15,8 @@ live_of-header (first file) = file.live
 live_of-header (next of is) = is.to
 
 -- two headers of one file with the same segment number are one
-pub same-segment : {t : Table} {f n m : ℕ} → IsHeaderOf t f n → IsHeaderOf t f m → segment_number (t.header n) ≡ segment_number (t.header m) → n ≡ m
+pub same-segment : {t : Table} {f n m : ℕ} → IsHeaderOf t f n → IsHeaderOf t f m → segment_number (t.header n) ≡ segment_number (t.header m)
+    → n ≡ m
 same-segment (first file) (first other) same = refl
 same-segment (first file) (next of is) same = absurd (omega (arith, file.first, is.segment))
 same-segment (next of is) (first file) same = absurd (omega (arith, file.first, is.segment))

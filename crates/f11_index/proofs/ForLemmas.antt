@@ -18,7 +18,8 @@ use Rattle.f11_index.proofs.PlaceLemmas.{range-below}
 
 -- another block was written
 pub IsFor-other : (index : Index) (home : HomeFields) (disk : Disk) (passed : Bool) (lbn : ℕ) (block : List ℕ)
-    → (IsTrue disk.honest → IsIndexFile disk.image home × IsNoneOf lbn (index_file_blocks disk.image home)) → IsIndexFor index home disk → IsIndexFor index home (with_transfer passed (with_block_at lbn block disk))
+    → (IsTrue disk.honest → IsIndexFile disk.image home × IsNoneOf lbn (index_file_blocks disk.image home)) → IsIndexFor index home disk
+    → IsIndexFor index home (with_transfer passed (with_block_at lbn block disk))
 IsFor-other index home disk passed lbn block apart is = record {
   within = subst (IndexLiesWithin index) (sym (length-set disk.image lbn block)) is.within;
   keeps = λ honest. is.keeps honest ∙ sym (other_write disk.image home (apart honest).0 lbn block (apart honest).1).index;
@@ -26,16 +27,26 @@ IsFor-other index home disk passed lbn block apart is = record {
 
 -- the bitmap block of a slot was written
 pub IsFor-bit : (before after : Index) (home : HomeFields) (old new : Disk) (value : Bool) (n : ℕ)
-    → (IsTrue old.honest → IsIndexFile old.image home × AreApart (index_file_blocks old.image home)) → 0 < n → n ≤ slots before → IsIndexFor before home old → WritesBit value n before after old new → IsIndexFor after home new
+    → (IsTrue old.honest → IsIndexFile old.image home × AreApart (index_file_blocks old.image home)) → 0 < n → n ≤ slots before
+    → IsIndexFor before home old → WritesBit value n before after old new → IsIndexFor after home new
 IsFor-bit before after home old new value n good some few is w = record {
   within = record {
-    bitmap = omega (arith, size, is.within.bitmap, ap (λ (x : Index). x.bitmap_lbn) w.bit.one_block, ap (λ (x : Index). length x.bitmap) w.bit.one_block, length-set before.bitmap (bitmap_place n) (bitmap_block after n));
-    headers = subst (λ (k : ℕ). All (λ lbn. lbn < k) after.headers) (sym size) (subst (All (λ lbn. lbn < length old.image)) (sym (ap (λ (x : Index). x.headers) w.bit.one_block)) is.within.headers);
+    bitmap = omega (
+      arith,
+      size,
+      is.within.bitmap,
+      ap (λ (x : Index). x.bitmap_lbn) w.bit.one_block,
+      ap (λ (x : Index). length x.bitmap) w.bit.one_block,
+      length-set before.bitmap (bitmap_place n) (bitmap_block after n),
+    );
+    headers = subst (λ (k : ℕ). All (λ lbn. lbn < k) after.headers) (sym size)
+        (subst (All (λ lbn. lbn < length old.image)) (sym (ap (λ (x : Index). x.headers) w.bit.one_block)) is.within.headers);
   };
   keeps = λ honest.
       let was = sym w.went.honest ∙ honest in
       let same = is.keeps was in
-      let kept = bit_write old.image home (good was).0 value n after (good was).1 some (subst (λ (x : Index). n ≤ slots x) same few) (subst (λ (x : Index). SetsBit value n x after) same w.bit) in
+      let kept = bit_write old.image home (good was).0 value n after (good was).1 some (subst (λ (x : Index). n ≤ slots x) same few)
+      (subst (λ (x : Index). SetsBit value n x after) same w.bit) in
       sym (ap (λ (image : Image). index_of image home) w.image ∙ kept.index_is);
 }
   where
@@ -46,25 +57,29 @@ IsFor-bit before after home old new value n good some few is w = record {
 pub IsFor-header : (index : Index) (home : HomeFields) (disk : Disk) (passed : Bool) (n : ℕ) (block : List ℕ)
     → (IsTrue disk.honest → IsIndexFile disk.image home × AreApart (index_file_blocks disk.image home))
     → (IsTrue disk.honest → IsHeaderOf (table_of disk.image home) 1 n → LeadsAlike ((table_of disk.image home).header n) block)
-    → 0 < n → n ≤ slots index → IsIndexFor index home disk → IsIndexFor index home (with_transfer passed (with_block_at (header_lbn index n) block disk))
+    → 0 < n → n ≤ slots index → IsIndexFor index home disk
+    → IsIndexFor index home (with_transfer passed (with_block_at (header_lbn index n) block disk))
 IsFor-header index home disk passed n block good leads some few is = record {
   within = subst (IndexLiesWithin index) (sym (length-set disk.image (header_lbn index n) block)) is.within;
   keeps = λ honest.
       let same = is.keeps honest in
-      let kept = header_write disk.image home (good honest).0 n block (good honest).1 some (subst (λ (x : Index). n ≤ slots x) same few) (leads honest) in
+      let kept = header_write disk.image home (good honest).0 n block (good honest).1 some (subst (λ (x : Index). n ≤ slots x) same few)
+      (leads honest) in
       same ∙ sym (ap (λ (x : Index). index_of (set disk.image (header_lbn x n) block) home) same ∙ kept.index);
 }
 
 -- the index file grew
 pub IsFor-grown : (index : Index) (home : HomeFields) (disk : Disk) (passed : Bool) (n : ℕ) (block : List ℕ) (lbn count : ℕ)
     → (IsTrue disk.honest → AddsIndexBlocks home n block lbn count disk.image (with_header disk.image home n block))
-    → lbn + count ≤ length disk.image → IsIndexFor index home disk → IsIndexFor (with_blocks_behind index lbn count) home (with_transfer passed (with_block_at (header_lbn index n) block disk))
+    → lbn + count ≤ length disk.image → IsIndexFor index home disk
+    → IsIndexFor (with_blocks_behind index lbn count) home (with_transfer passed (with_block_at (header_lbn index n) block disk))
 IsFor-grown index home disk passed n block lbn count grows within is = record {
   within = record {
     bitmap = omega (arith, is.within.bitmap, size);
     headers = subst (λ (k : ℕ). All (λ l. l < k) (with_blocks_behind index lbn count).headers) (sym size)
         (All-take (λ l. l < length disk.image) (min (4096 * length index.bitmap) 65535) (index.headers ++ range_with_len lbn count)
-        (All-append (λ l. l < length disk.image) index.headers (range_with_len lbn count) is.within.headers (range-below lbn count (length disk.image) within)));
+        (All-append (λ l. l < length disk.image) index.headers (range_with_len lbn count) is.within.headers
+        (range-below lbn count (length disk.image) within)));
   };
   keeps = λ honest.
       let same = is.keeps honest in

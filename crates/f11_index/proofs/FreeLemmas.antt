@@ -1,5 +1,6 @@
 -- Facts about free slots.
-use Rattle.std.proofs.Common.{◌≡◌, inl, inr, ℕ, zero, suc, ◌+◌, ◌-◌, ◌*◌, ◌/◌, ◌%◌, ◌<◌, ◌≤◌, min, max, Bool, true, false, not, List, [], ◌∷◌, ◌++◌, length, get_or, filter, cond, Some, None, refl, sym, ap, ◌∙◌, arith}
+use Rattle.std.proofs.Common.{◌≡◌, inl, inr, ℕ, zero, suc, ◌+◌, ◌-◌, ◌*◌, ◌/◌, ◌%◌, ◌<◌, ◌≤◌, min, max, Bool, true, false, not, List, []}
+use Rattle.std.proofs.Common.{◌∷◌, ◌++◌, length, get_or, filter, cond, Some, None, refl, sym, ap, ◌∙◌, arith}
 use Rattle.std.specs.List.{slice_get, range_with_len}
 use Rattle.std.proofs.lemmas.Bool.{cases_lt, cases_Bool, cond-true, cond-false}
 use Rattle.std.proofs.lemmas.Option.{same_Some}
@@ -44,19 +45,24 @@ module _ (index : Index) where
   between-one n = let one : n + 1 - n ≡ 1 = omega arith in ap (λ (k : ℕ). filter free (range_with_len n k)) one
 
   -- one slot more, whose bit is 1, or 0
-  pub between-used : (from n : ℕ) → from ≤ n → 0 < n → n ≤ slots index → bit_of_slot index.bitmap n ≡ true → free_between index from (n + 1) ≡ free_between index from n
+  pub between-used : (from n : ℕ) → from ≤ n → 0 < n → n ≤ slots index → bit_of_slot index.bitmap n ≡ true
+      → free_between index from (n + 1) ≡ free_between index from n
   between-used from n behind some within is =
       between-append from n (n + 1) behind (omega arith)
-      ∙ ap (λ (xs : List ℕ). free_between index from n ++ xs) (between-one n ∙ cond-false (free n) _ _ (ap not (is_in_use-within index n some within ∙ is)))
+      ∙ ap (λ (xs : List ℕ). free_between index from n ++ xs)
+      (between-one n ∙ cond-false (free n) _ _ (ap not (is_in_use-within index n some within ∙ is)))
       ∙ append-nil (free_between index from n)
 
-  pub between-free : (from n : ℕ) → from ≤ n → 0 < n → n ≤ slots index → bit_of_slot index.bitmap n ≡ false → free_between index from (n + 1) ≡ free_between index from n ++ n ∷ []
+  pub between-free : (from n : ℕ) → from ≤ n → 0 < n → n ≤ slots index → bit_of_slot index.bitmap n ≡ false
+      → free_between index from (n + 1) ≡ free_between index from n ++ n ∷ []
   between-free from n behind some within is =
       between-append from n (n + 1) behind (omega arith)
-      ∙ ap (λ (xs : List ℕ). free_between index from n ++ xs) (between-one n ∙ cond-true (free n) _ _ (ap not (is_in_use-within index n some within ∙ is)))
+      ∙ ap (λ (xs : List ℕ). free_between index from n ++ xs)
+      (between-one n ∙ cond-true (free n) _ _ (ap not (is_in_use-within index n some within ∙ is)))
 
   -- the first of them
-  pub between-first : (from n end : ℕ) → from ≤ n → n < end → 0 < n → n ≤ slots index → free_between index from n ≡ [] → bit_of_slot index.bitmap n ≡ false → slice_get (free_between index from end) 0 ≡ Some n
+  pub between-first : (from n end : ℕ) → from ≤ n → n < end → 0 < n → n ≤ slots index → free_between index from n ≡ []
+      → bit_of_slot index.bitmap n ≡ false → slice_get (free_between index from end) 0 ≡ Some n
   between-first from n end behind before some within none is =
       let first : slice_get (free_between index from (n + 1)) 0 ≡ Some n =
       ap (λ (xs : List ℕ). slice_get xs 0) (between-free from n behind some within is ∙ ap (λ (xs : List ℕ). xs ++ n ∷ []) none) in
@@ -64,59 +70,83 @@ module _ (index : Index) where
       ∙ slice_get-append_front (free_between index from (n + 1)) (free_between index (n + 1) end) 0 n first
 
   -- slots whose bits are all 1
-  pub between-full : (count from : ℕ) → 0 < from → from + count ≤ slots index + 1 → ((n : ℕ) → from ≤ n → n < from + count → bit_of_slot index.bitmap n ≡ true) → free_between index from (from + count) ≡ []
+  pub between-full : (count from : ℕ) → 0 < from → from + count ≤ slots index + 1
+      → ((n : ℕ) → from ≤ n → n < from + count → bit_of_slot index.bitmap n ≡ true) → free_between index from (from + count) ≡ []
   between-full zero from some within bits = between-none from (from + 0) (omega arith)
   between-full (suc count) from some within bits =
       let next : from + suc count ≡ from + count + 1 = omega arith in
-      ap (free_between index from) next ∙ between-used from (from + count) (omega arith) (omega arith) (omega arith) (bits (from + count) (omega arith) (omega arith))
+      ap (free_between index from) next
+      ∙ between-used from (from + count) (omega arith) (omega arith) (omega arith) (bits (from + count) (omega arith) (omega arith))
       ∙ between-full count from some (omega arith) (λ n low high. bits n low (omega arith))
 
   -- slots whose bits are all 0
-  pub between-empty : (count from : ℕ) → 0 < from → from + count ≤ slots index + 1 → ((n : ℕ) → from ≤ n → n < from + count → bit_of_slot index.bitmap n ≡ false) → length (free_between index from (from + count)) ≡ count
+  pub between-empty : (count from : ℕ) → 0 < from → from + count ≤ slots index + 1
+      → ((n : ℕ) → from ≤ n → n < from + count → bit_of_slot index.bitmap n ≡ false)
+      → length (free_between index from (from + count)) ≡ count
   between-empty zero from some within bits = ap length (between-none from (from + 0) (omega arith))
   between-empty (suc count) from some within bits =
       let next : from + suc count ≡ from + count + 1 = omega arith in
-      let more = ap (free_between index from) next ∙ between-free from (from + count) (omega arith) (omega arith) (omega arith) (bits (from + count) (omega arith) (omega arith)) in
-      omega (arith, ap length more, length-append (free_between index from (from + count)) ((from + count) ∷ []), between-empty count from some (omega arith) (λ n low high. bits n low (omega arith)))
+      let more = ap (free_between index from) next
+      ∙ between-free from (from + count) (omega arith) (omega arith) (omega arith) (bits (from + count) (omega arith) (omega arith)) in
+      omega (
+        arith,
+        ap length more,
+        length-append (free_between index from (from + count)) ((from + count) ∷ []),
+        between-empty count from some (omega arith) (λ n low high. bits n low (omega arith)),
+      )
 
   -- the slots of one word more
   pub between-next : (word : ℕ) → 16 ≤ slots index → 16 * word < slots index
-      → free_between index 6 (min (slots index + 1) (16 * (word + 1) + 1)) ≡ free_between index 6 (min (slots index + 1) (16 * word + 1)) ++ free_between index (max 6 (16 * word + 1)) (min (slots index + 1) (16 * word + 17))
+      → free_between index 6 (min (slots index + 1) (16 * (word + 1) + 1)) ≡ free_between index 6
+      (min (slots index + 1) (16 * word + 1)) ++ free_between index (max 6 (16 * word + 1)) (min (slots index + 1) (16 * word + 17))
   between-next zero first some =
       let last : min (slots index + 1) (16 * (zero + 1) + 1) ≡ 17 = omega arith in
       let here : min (slots index + 1) (16 * zero + 17) ≡ 17 = omega arith in
       let from : max 6 (16 * zero + 1) ≡ 6 = omega arith in
       ap (free_between index 6) (last ∙ sym here) ∙ ap (λ (n : ℕ). free_between index n (min (slots index + 1) (16 * zero + 17))) (sym from)
-      ∙ ap (λ (xs : List ℕ). xs ++ free_between index (max 6 (16 * zero + 1)) (min (slots index + 1) (16 * zero + 17))) (sym (between-none 6 (min (slots index + 1) (16 * zero + 1)) (omega arith)))
+      ∙ ap (λ (xs : List ℕ). xs ++ free_between index (max 6 (16 * zero + 1)) (min (slots index + 1) (16 * zero + 17)))
+      (sym (between-none 6 (min (slots index + 1) (16 * zero + 1)) (omega arith)))
   between-next (suc word) first some =
       let from : max 6 (16 * suc word + 1) ≡ min (slots index + 1) (16 * suc word + 1) = omega arith in
       let last : min (slots index + 1) (16 * (suc word + 1) + 1) ≡ min (slots index + 1) (16 * suc word + 17) = omega arith in
       ap (free_between index 6) last
-      ∙ between-append 6 (min (slots index + 1) (16 * suc word + 1)) (min (slots index + 1) (16 * suc word + 17)) (omega arith) (omega arith)
-      ∙ ap (λ (n : ℕ). free_between index 6 (min (slots index + 1) (16 * suc word + 1)) ++ free_between index n (min (slots index + 1) (16 * suc word + 17))) (sym from)
+      ∙ between-append 6 (min (slots index + 1) (16 * suc word + 1)) (min (slots index + 1) (16 * suc word + 17)) (omega arith)
+      (omega arith)
+      ∙ ap (λ (n : ℕ). free_between index 6 (min (slots index + 1) (16 * suc word + 1)) ++ free_between index n
+      (min (slots index + 1) (16 * suc word + 17))) (sym from)
 
   -- all words
-  pub between-all : (words : ℕ) → slots index ≤ 16 * words → free_between index 6 (min (slots index + 1) (16 * words + 1)) ≡ free_slots_in index
+  pub between-all : (words : ℕ) → slots index ≤ 16 * words
+      → free_between index 6 (min (slots index + 1) (16 * words + 1)) ≡ free_slots_in index
   between-all words all =
       let count : min (slots index + 1) (16 * words + 1) - 6 ≡ slots index - 5 = omega arith in
       ap (λ (n : ℕ). filter free (range_with_len 6 n)) count
 
   -- the first free slot is in this word, where none is in those before it
-  pub word-first : (word n : ℕ) → 16 ≤ slots index → 16 * word < slots index → free_between index 6 (min (slots index + 1) (16 * word + 1)) ≡ []
-      → Some n ≡ slice_get (free_between index (max 6 (16 * word + 1)) (min (slots index + 1) (16 * word + 17))) 0 → Some n ≡ slice_get (free_slots_in index) 0
+  pub word-first : (word n : ℕ) → 16 ≤ slots index → 16 * word < slots index
+      → free_between index 6 (min (slots index + 1) (16 * word + 1)) ≡ []
+      → Some n ≡ slice_get (free_between index (max 6 (16 * word + 1)) (min (slots index + 1) (16 * word + 17))) 0
+      → Some n ≡ slice_get (free_slots_in index) 0
   word-first word n first some none here =
       let last : ℕ = min (slots index + 1) (16 * (word + 1) + 1) in
       let so_far : free_between index 6 last ≡ free_between index (max 6 (16 * word + 1)) (min (slots index + 1) (16 * word + 17)) =
-      between-next word first some ∙ ap (λ (xs : List ℕ). xs ++ free_between index (max 6 (16 * word + 1)) (min (slots index + 1) (16 * word + 17))) none in
+      between-next word first some
+      ∙ ap (λ (xs : List ℕ). xs ++ free_between index (max 6 (16 * word + 1)) (min (slots index + 1) (16 * word + 17))) none in
       let all : free_slots_in index ≡ free_between index 6 last ++ free_between index last (slots index + 1) =
-      sym (between-all (slots index) (omega arith)) ∙ ap (free_between index 6) (omega arith) ∙ between-append 6 last (slots index + 1) (omega arith) (omega arith) in
-      sym (ap (λ (xs : List ℕ). slice_get xs 0) all ∙ slice_get-append_front (free_between index 6 last) (free_between index last (slots index + 1)) 0 n (ap (λ (xs : List ℕ). slice_get xs 0) so_far ∙ sym here))
+      sym (between-all (slots index) (omega arith)) ∙ ap (free_between index 6) (omega arith)
+      ∙ between-append 6 last (slots index + 1) (omega arith) (omega arith) in
+      sym (ap (λ (xs : List ℕ). slice_get xs 0) all ∙ slice_get-append_front (free_between index 6 last)
+      (free_between index last (slots index + 1)) 0 n (ap (λ (xs : List ℕ). slice_get xs 0) so_far ∙ sym here))
 
   -- no slot of one word more is free
-  pub word-none : (word : ℕ) → 16 ≤ slots index → 16 * word < slots index → free_between index 6 (min (slots index + 1) (16 * word + 1)) ≡ []
-      → None ≡ slice_get (free_between index (max 6 (16 * word + 1)) (min (slots index + 1) (16 * word + 17))) 0 → free_between index 6 (min (slots index + 1) (16 * (word + 1) + 1)) ≡ []
+  pub word-none : (word : ℕ) → 16 ≤ slots index → 16 * word < slots index
+      → free_between index 6 (min (slots index + 1) (16 * word + 1)) ≡ []
+      → None ≡ slice_get (free_between index (max 6 (16 * word + 1)) (min (slots index + 1) (16 * word + 17))) 0
+      → free_between index 6 (min (slots index + 1) (16 * (word + 1) + 1)) ≡ []
   word-none word first some none here =
-      between-next word first some ∙ ap (λ (xs : List ℕ). xs ++ free_between index (max 6 (16 * word + 1)) (min (slots index + 1) (16 * word + 17))) none ∙ no-first _ here
+      between-next word first some
+      ∙ ap (λ (xs : List ℕ). xs ++ free_between index (max 6 (16 * word + 1)) (min (slots index + 1) (16 * word + 17))) none
+      ∙ no-first _ here
 
   -- a word's slots, from their first to the last of all
   abbrev start : ℕ → ℕ
@@ -126,33 +156,50 @@ module _ (index : Index) where
   end word = min (slots index + 1) (16 * word + 17)
 
   -- the slots of a word whose bits are all 1, or all 0
-  pub word-full : (word : ℕ) → ((n : ℕ) → 16 * word < n → n < 16 * word + 17 → bit_of_slot index.bitmap n ≡ true) → free_between index (start word) (end word) ≡ []
+  pub word-full : (word : ℕ) → ((n : ℕ) → 16 * word < n → n < 16 * word + 17 → bit_of_slot index.bitmap n ≡ true)
+      → free_between index (start word) (end word) ≡ []
   word-full word bits = elim (cases_lt (end word) (start word)) [
     | inl none ↦ between-none (start word) (end word) (omega arith)
     | inr some ↦
         let sum : end word ≡ start word + (end word - start word) = omega arith in
-        ap (free_between index (start word)) sum ∙ between-full (end word - start word) (start word) (omega arith) (omega arith) (λ n low high. bits n (omega arith) (omega arith))
+        ap (free_between index (start word)) sum
+        ∙ between-full (end word - start word) (start word) (omega arith) (omega arith)
+        (λ n low high. bits n (omega arith) (omega arith))
   ]
 
-  pub word-empty : (word : ℕ) → start word ≤ end word → ((n : ℕ) → 16 * word < n → n < 16 * word + 17 → bit_of_slot index.bitmap n ≡ false) → end word - start word ≡ length (free_between index (start word) (end word))
+  pub word-empty : (word : ℕ) → start word ≤ end word → ((n : ℕ) → 16 * word < n → n < 16 * word + 17 → bit_of_slot index.bitmap n ≡ false)
+      → end word - start word ≡ length (free_between index (start word) (end word))
   word-empty word some bits =
       let sum : end word ≡ start word + (end word - start word) = omega arith in
-      sym (ap (λ (n : ℕ). length (free_between index (start word) n)) sum ∙ between-empty (end word - start word) (start word) (omega arith) (omega arith) (λ n low high. bits n (omega arith) (omega arith)))
+      sym (ap (λ (n : ℕ). length (free_between index (start word) n)) sum ∙ between-empty (end word - start word) (start word) (omega arith)
+      (omega arith) (λ n low high. bits n (omega arith) (omega arith)))
 
   -- no more are free than there are
   pub between-few : (from end : ℕ) → length (free_between index from end) ≤ end - from
   between-few from end =
-      omega (arith, length-filter free (range_with_len from (end - from)), count_by-le-length free (range_with_len from (end - from)), length-range_with_len from (end - from))
+      omega (
+        arith,
+        length-filter free (range_with_len from (end - from)),
+        count_by-le-length free (range_with_len from (end - from)),
+        length-range_with_len from (end - from),
+      )
 
 -- the first of those kept of a row of numbers is one of them
-kept-first : (p : ℕ → Bool) (count from n : ℕ) → slice_get (filter p (range_with_len from count)) 0 ≡ Some n → ((from ≤ n) × (n < from + count)) × (p n ≡ true)
+kept-first : (p : ℕ → Bool) (count from n : ℕ) → slice_get (filter p (range_with_len from count)) 0 ≡ Some n
+    → ((from ≤ n) × (n < from + count)) × (p n ≡ true)
 kept-first p zero from n is = cc
 kept-first p (suc count) from n is = elim (cases_Bool (p from)) [
   | inl kept ↦
-      let same : from ≡ n = same_Some from n (sym (ap (λ (xs : List ℕ). slice_get xs 0) (cond-true (p from) (from ∷ filter p (range_with_len (from + 1) count)) (filter p (range_with_len (from + 1) count)) kept)) ∙ is) in
+      let same : from ≡ n = same_Some from n
+      (sym (ap (λ (xs : List ℕ). slice_get xs 0)
+      (cond-true (p from) (from ∷ filter p (range_with_len (from + 1) count)) (filter p (range_with_len (from + 1) count)) kept)) ∙ is)
+      in
       ((omega (arith, same), omega (arith, same)), ap p (sym same) ∙ kept)
   | inr left ↦
-      let later = kept-first p count (from + 1) n (sym (ap (λ (xs : List ℕ). slice_get xs 0) (cond-false (p from) (from ∷ filter p (range_with_len (from + 1) count)) (filter p (range_with_len (from + 1) count)) left)) ∙ is) in
+      let later = kept-first p count (from + 1) n
+      (sym (ap (λ (xs : List ℕ). slice_get xs 0)
+      (cond-false (p from) (from ∷ filter p (range_with_len (from + 1) count)) (filter p (range_with_len (from + 1) count)) left)) ∙ is)
+      in
       ((omega (arith, later.0.0), omega (arith, later.0.1)), later.1)
 ]
 
@@ -173,10 +220,12 @@ pub bit_of_slot-word : (bitmap : List (List ℕ)) (block : List ℕ) (word : ℕ
 unfolding bit_of_slot
 bit_of_slot-word bitmap block word value is bits n low high =
     let place : (n - 1) / 4096 ≡ word / 256 = omega arith in
-    ap (λ (p : ℕ). bit (get_or bitmap p []) ((n - 1) % 4096)) place ∙ ap (λ (b : List ℕ). bit b ((n - 1) % 4096)) is ∙ bits ((n - 1) % 4096) (omega arith) (omega arith)
+    ap (λ (p : ℕ). bit (get_or bitmap p []) ((n - 1) % 4096)) place ∙ ap (λ (b : List ℕ). bit b ((n - 1) % 4096)) is
+    ∙ bits ((n - 1) % 4096) (omega arith) (omega arith)
 
 -- a word whose bits are all 1
-pub bit-full : (b : List ℕ) (i : ℕ) → word b (2 * i) ≡ 65535 → get_or b (2 * i) 0 < 256 → get_or b (2 * i + 1) 0 < 256 → (k : ℕ) → 16 * i ≤ k → k < 16 * i + 16 → bit b k ≡ true
+pub bit-full : (b : List ℕ) (i : ℕ) → word b (2 * i) ≡ 65535 → get_or b (2 * i) 0 < 256 → get_or b (2 * i + 1) 0 < 256 → (k : ℕ)
+    → 16 * i ≤ k → k < 16 * i + 16 → bit b k ≡ true
 bit-full b i is low high k from to =
     let byte : get_or b (k / 8) 0 ≡ 255 = elim (cases_lt k (16 * i + 8)) [
       | inl first ↦ let place : k / 8 ≡ 2 * i = omega arith in ap (λ (n : ℕ). get_or b n 0) place ∙ omega (arith, is, low, high)

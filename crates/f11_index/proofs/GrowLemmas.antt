@@ -1,5 +1,6 @@
 -- The index file grows at its end.
-use Rattle.std.proofs.Common.{◌≡◌, ◌≢◌, ℕ, zero, suc, ◌+◌, ◌-◌, ◌*◌, ◌<◌, ◌≤◌, false, List, [], ◌++◌, length, take, drop, min, Option, Some, None, refl, sym, ap, subst, ◌∙◌, inl, inr, arith, append_assoc}
+use Rattle.std.proofs.Common.{◌≡◌, ◌≢◌, ℕ, zero, suc, ◌+◌, ◌-◌, ◌*◌, ◌<◌, ◌≤◌, false, List, [], ◌++◌, length, take, drop, min, Option, Some}
+use Rattle.std.proofs.Common.{None, refl, sym, ap, subst, ◌∙◌, inl, inr, arith, append_assoc}
 use Rattle.std.proofs.Math.ListN.{set}
 use Rattle.std.specs.List.{All, slice_get, range_with_len}
 use Rattle.std.proofs.lemmas.Bool.{cases_eq, cases_lt, cases_Bool}
@@ -17,7 +18,8 @@ use Rattle.f11_index.specs.ChangeLaws.{IsAsGood}
 use Rattle.f11_index.specs.Growth.{IsGoodFor, MayNameMore, MayLinkOn, AddsIndexBlocks, with_header}
 use Rattle.f11_map.specs.HeaderBlock.{segment_number, link_of, blocks_named}
 use Rattle.f11_index.specs.Headers.{IsLastOf}
-use Rattle.f11_index.specs.IndexFile.{Index, index_of, index_file_blocks, blocks_on, header_place, header_among, header_lbn, headers_among, most_slots, slots, slot_bit, is_in_use, first_header_lbn, HasNonePast}
+use Rattle.f11_index.specs.IndexFile.{Index, index_of, index_file_blocks, blocks_on, header_place, header_among, header_lbn, headers_among}
+use Rattle.f11_index.specs.IndexFile.{most_slots, slots, slot_bit, is_in_use, first_header_lbn, HasNonePast}
 use Rattle.f11_index.specs.Sound.{IsIndexFile, AreApart}
 use Rattle.f11_index.specs.Table.{Table, table_in, table_of, IsLive, IsNext, IsHeaderOf, first, next}
 use Rattle.f11_index.proofs.BitLemmas.{is_in_use-within, is_in_use-past, is_in_use-none}
@@ -26,7 +28,8 @@ use Rattle.f11_index.proofs.HeadersLemmas.{link_number, last-highest, last-one, 
 use Rattle.f11_index.proofs.LawLemmas.{header_at, bitmap_at, bitmap_same, elsewhere, inside, same as same_block}
 use Rattle.f11_index.proofs.PlaceLemmas.{slice_get-append_front, drop-append, take-append_take, range-below}
 use Rattle.f11_index.proofs.UpLemmas.{header-up}
-use Rattle.f11_index.proofs.WalkLemmas.{first-at, so_far, ends, goes_on, header_among-some, header_is, in_use-within, few-slots, found-there}
+use Rattle.f11_index.proofs.WalkLemmas.{first-at, so_far, ends, goes_on, header_among-some, header_is, in_use-within, few-slots}
+use Rattle.f11_index.proofs.WalkLemmas.{found-there}
 
 module _ (image : Image) (home : HomeFields) (good : IsIndexFile image home) where
   abbrev t : Table
@@ -40,15 +43,19 @@ module _ (image : Image) (home : HomeFields) (good : IsIndexFile image home) whe
 
   -- The walk over a new image: it goes the same way up to the last header, and has more from there on.
   module _ (n : ℕ) (last : IsLastOf t 1 n) (few : segment_number (t.header n) < 256) (new : Image) (more : List ℕ)
-      (others : (m l : ℕ) → IsHeaderOf t 1 m → m ≢ n → slice_get all (header_place home m) ≡ Some l → image_block new l ≡ image_block image l)
+      (others : (m l : ℕ) → IsHeaderOf t 1 m → m ≢ n → slice_get all (header_place home m) ≡ Some l
+      → image_block new l ≡ image_block image l)
       (end : (most : ℕ) (known : List ℕ) (l : ℕ) → segment_number (t.header n) + most ≡ 255 → slice_get all (header_place home n) ≡ Some l
       → all ≡ known ++ blocks_named (t.header n) → blocks_on (suc most) new home known (Some l) ≡ all ++ more) where
     Grown : ℕ → Type 0
-    Grown most = (known : List ℕ) (m l : ℕ) → IsHeaderOf t 1 m → segment_number (t.header m) + most ≡ 256 → slice_get all (header_place home m) ≡ Some l
+    Grown most =
+        (known : List ℕ) (m l : ℕ) → IsHeaderOf t 1 m → segment_number (t.header m) + most ≡ 256
+        → slice_get all (header_place home m) ≡ Some l
         → all ≡ blocks_on most image home known (Some l) → blocks_on most new home known (Some l) ≡ all ++ more
 
     -- on along a link
-    along : (most : ℕ) → Grown most → (known : List ℕ) (m : ℕ) → IsHeaderOf t 1 m → segment_number (t.header m) + most ≡ 256 → (at : Option ℕ) → header_among home known m ≡ at
+    along : (most : ℕ) → Grown most → (known : List ℕ) (m : ℕ) → IsHeaderOf t 1 m → segment_number (t.header m) + most ≡ 256
+        → (at : Option ℕ) → header_among home known m ≡ at
         → all ≡ blocks_on most image home known at → blocks_on most new home known at ≡ all ++ more
     unfolding Grown
     along most grown known m of segment None is so =
@@ -57,7 +64,9 @@ module _ (image : Image) (home : HomeFields) (good : IsIndexFile image home) whe
     along most grown known m of segment (Some l) is so =
         let some : 0 < m = (in_use-within image home m (live_of-header of).in_use).0 in
         let here : slice_get known (header_place home m) ≡ Some l = sym (header_among-some home known m some) ∙ is in
-        grown known m l of segment (ap (λ (xs : List ℕ). slice_get xs (header_place home m)) so ∙ so_far most image home known (Some l) (header_place home m) l here) so
+        grown known m l of segment
+        (ap (λ (xs : List ℕ). slice_get xs (header_place home m)) so ∙ so_far most image home known (Some l) (header_place home m) l
+        here) so
 
     from-header : (most : ℕ) → Grown most
     unfolding Grown
@@ -66,28 +75,36 @@ module _ (image : Image) (home : HomeFields) (good : IsIndexFile image home) whe
         let slot = in_use-within image home m (live_of-header of).in_use in
         let is : t.header m ≡ image_block image l = header_is image home m l slot.0 (omega (arith, slot.1, few-slots image home)) at in
         let then_known : List ℕ = known ++ blocks_named (t.header m) in
-        let on : blocks_on (suc most) image home known (Some l) ≡ blocks_on most image home then_known (header_among home then_known (link_number t m)) =
+        let on : blocks_on (suc most) image home known (Some l) ≡ blocks_on most image home then_known
+        (header_among home then_known (link_number t m)) =
         goes_on most image home known l (t.header m) (sym is) in
         elim (cases_eq m n) [
           | inl same ↦
-              let none : header_among home then_known (link_number t m) ≡ None = ap (header_among home then_known) (ap (link_number t) same ∙ last.no_link) in
-              let all_is : all ≡ known ++ blocks_named (t.header m) = so ∙ on ∙ ap (blocks_on most image home then_known) none ∙ ends most image home then_known in
-              end most known l (omega (arith, segment, ap (λ (x : ℕ). segment_number (t.header x)) same)) (ap (λ (x : ℕ). slice_get all (header_place home x)) (sym same) ∙ at)
+              let none : header_among home then_known (link_number t m) ≡ None =
+              ap (header_among home then_known) (ap (link_number t) same ∙ last.no_link) in
+              let all_is : all ≡ known ++ blocks_named (t.header m) = so ∙ on ∙ ap (blocks_on most image home then_known) none
+              ∙ ends most image home then_known in
+              end most known l (omega (arith, segment, ap (λ (x : ℕ). segment_number (t.header x)) same))
+              (ap (λ (x : ℕ). slice_get all (header_place home x)) (sym same) ∙ at)
               (all_is ∙ ap (λ (x : ℕ). known ++ blocks_named (t.header x)) same)
           | inr other ↦
-              let on_new : blocks_on (suc most) new home known (Some l) ≡ blocks_on most new home then_known (header_among home then_known (link_number t m)) =
+              let on_new : blocks_on (suc most) new home known (Some l) ≡ blocks_on most new home then_known
+              (header_among home then_known (link_number t m)) =
               goes_on most new home known l (t.header m) (others m l of other at ∙ sym is) in
               elim (good.whole.links m of) [
                 | inl none ↦ absurd (other (last-one t 1 m n (record { of = of; no_link = none }) last))
                 | inr goes ↦
                     on_new
-                    ∙ along most (from-header most) then_known (link_number t m) (next of goes) (omega (arith, goes.segment, segment)) (header_among home then_known (link_number t m)) refl (so ∙ on)
+                    ∙ along most (from-header most) then_known (link_number t m) (next of goes) (omega (arith, goes.segment, segment))
+                    (header_among home then_known (link_number t m)) refl (so ∙ on)
               ]
         ]
 
     pub file-grown : index_file_blocks new home ≡ all ++ more
     unfolding index_file_blocks Grown
-    file-grown = from-header 256 [] 1 (first_header_lbn home) (first good.whole.file) (omega (arith, good.whole.file.first)) (first-at home all good.placed) refl
+    file-grown =
+        from-header 256 [] 1 (first_header_lbn home) (first good.whole.file) (omega (arith, good.whole.file.first))
+        (first-at home all good.placed) refl
 
   -- The last header is written where it is.
   module _ (apart : AreApart all) (n : ℕ) (some : 0 < n) (slot : n ≤ slots index) (block : List ℕ) where
@@ -110,7 +127,8 @@ module _ (image : Image) (home : HomeFields) (good : IsIndexFile image home) whe
     read_back = image_block-written image lbn_n block (inside image home good lbn_n block apart place_n here)
 
     stays_at : (m l : ℕ) → 0 < m → m ≢ n → slice_get all (header_place home m) ≡ Some l → image_block new l ≡ image_block image l
-    stays_at m l some_m other at = same_block image home good lbn_n block l (away (header_place home m) l at (λ e. other (omega (arith, e, some, some_m))))
+    stays_at m l some_m other at =
+        same_block image home good lbn_n block l (away (header_place home m) l at (λ e. other (omega (arith, e, some, some_m))))
 
     -- the place of header m
     place_is : (m : ℕ) → 0 < m → header_place home m ≡ 2 + home.index_blocks + (m - 1)
@@ -145,34 +163,48 @@ module _ (image : Image) (home : HomeFields) (good : IsIndexFile image home) whe
           ∙ sym (take-append_take (most_slots home) (drop skip all) more)
 
       bitmap_is : (index_of new home).bitmap ≡ index.bitmap
-      bitmap_is = bitmap_same image home good lbn_n block (λ i below. away (2 + i) (home.index_lbn + i) (bitmap_at image home good i below) (λ e. omega (arith, e, below)))
+      bitmap_is =
+          bitmap_same image home good lbn_n block
+          (λ i below. away (2 + i) (home.index_lbn + i) (bitmap_at image home good i below) (λ e. omega (arith, e, below)))
 
       index_new : index_of new home ≡ grown
       unfolding index_of
       index_new =
-          ap (λ (b : List (List ℕ)). record { bitmap_lbn = home.index_lbn; bitmap = b; headers = headers_among home (index_file_blocks new home) }) bitmap_is
-          ∙ ap (λ (h : List ℕ). record { bitmap_lbn = home.index_lbn; bitmap = index.bitmap; headers = h }) (headers_new ∙ ap (λ (k : ℕ). take k (index.headers ++ more)) (sym most_is))
+          ap (λ (b : List (List ℕ)).
+          record { bitmap_lbn = home.index_lbn; bitmap = b; headers = headers_among home (index_file_blocks new home) }) bitmap_is
+          ∙ ap (λ (h : List ℕ). record { bitmap_lbn = home.index_lbn; bitmap = index.bitmap; headers = h })
+          (headers_new ∙ ap (λ (k : ℕ). take k (index.headers ++ more)) (sym most_is))
 
       more_slots : slots index ≤ slots grown
-      more_slots = omega (arith, length-take (min (4096 * length index.bitmap) 65535) (index.headers ++ more), length-append index.headers more, most_is, few-slots image home)
+      more_slots =
+          omega (
+            arith,
+            length-take (min (4096 * length index.bitmap) 65535) (index.headers ++ more),
+            length-append index.headers more,
+            most_is,
+            few-slots image home,
+          )
 
       -- a slot that there was
       lbn_kept : (m : ℕ) → 0 < m → m ≤ slots index → header_lbn grown m ≡ header_lbn index m
       unfolding header_lbn
       lbn_kept m some_m within =
-          get_or-take (min (4096 * length index.bitmap) 65535) (index.headers ++ more) (m - 1) 0 (omega (arith, some_m, within, most_is, few-slots image home))
+          get_or-take (min (4096 * length index.bitmap) 65535) (index.headers ++ more) (m - 1) 0
+          (omega (arith, some_m, within, most_is, few-slots image home))
           ∙ get_or_append_left index.headers more 0 (m - 1) (omega (arith, some_m, within))
 
       header_kept : (m : ℕ) → 0 < m → m ≤ slots index → (table_of new home).header m ≡ image_block new (header_lbn index m)
       unfolding table_in
-      header_kept m some_m within = ap (λ (x : Index). image_block new (header_lbn x m)) index_new ∙ ap (image_block new) (lbn_kept m some_m within)
+      header_kept m some_m within =
+          ap (λ (x : Index). image_block new (header_lbn x m)) index_new ∙ ap (image_block new) (lbn_kept m some_m within)
 
       header_new : (table_of new home).header n ≡ block
       header_new = header_kept n some slot ∙ read_back
 
       header_other : (m : ℕ) → 0 < m → m ≤ slots index → m ≢ n → (table_of new home).header m ≡ t.header m
       unfolding table_in
-      header_other m some_m within other = header_kept m some_m within ∙ stays_at m (header_lbn index m) some_m other (found_at m some_m within)
+      header_other m some_m within other =
+          header_kept m some_m within ∙ stays_at m (header_lbn index m) some_m other (found_at m some_m within)
 
       in_use_is : (m : ℕ) → (table_of new home).in_use m ≡ is_in_use grown m
       unfolding table_in
@@ -183,7 +215,8 @@ module _ (image : Image) (home : HomeFields) (good : IsIndexFile image home) whe
       in_use_kept m within = in_use_is m ∙ elim (cases_eq m 0) [
         | inl none ↦ sym (is_in_use-none grown m (inl none)) ∙ is_in_use-none index m (inl none)
         | inr above ↦
-            is_in_use-within grown m (omega (arith, above)) (omega (arith, within, more_slots)) ∙ sym (is_in_use-within index m (omega (arith, above)) within)
+            is_in_use-within grown m (omega (arith, above)) (omega (arith, within, more_slots))
+            ∙ sym (is_in_use-within index m (omega (arith, above)) within)
       ]
 
       unused : HasNonePast index → (m : ℕ) → slots index < m → (table_of new home).in_use m ≡ false
@@ -196,7 +229,8 @@ module _ (image : Image) (home : HomeFields) (good : IsIndexFile image home) whe
       ]
 
       none_past : HasNonePast index → HasNonePast (index_of new home)
-      none_past none = subst HasNonePast (sym index_new) (λ m is. none m (record { past = omega (arith, is.past, more_slots); bit = is.bit }))
+      none_past none =
+          subst HasNonePast (sym index_new) (λ m is. none m (record { past = omega (arith, is.past, more_slots); bit = is.bit }))
 
       -- Its headers are as good, where the one that was written is.
       module _ (is_good : IsGoodFor t n block) (last : IsLastOf t 1 n) where
@@ -232,7 +266,8 @@ module _ (image : Image) (home : HomeFields) (good : IsIndexFile image home) whe
           good = λ m of below. as_good m of;
           links = λ m of below.
               let slot_m = within_of m of in
-              ap link_of (header_other m slot_m.0 slot_m.1 (λ same. omega (arith, below, ap (λ (x : ℕ). segment_number (t.header x)) same)));
+              ap link_of (header_other m slot_m.0 slot_m.1
+              (λ same. omega (arith, below, ap (λ (x : ℕ). segment_number (t.header x)) same)));
         }
 
         still_live : IsLive (table_of new home) n
@@ -252,7 +287,8 @@ module _ (image : Image) (home : HomeFields) (good : IsIndexFile image home) whe
             whole = last-whole (table_of new home) 1 m ends_now;
             sequence = (as_good 1 (first good.whole.file)).sequence ∙ good.sequence;
             within = subst (λ (xs : List ℕ). All (λ l. l < length new) xs) (sym file)
-                (subst (λ (k : ℕ). All (λ l. l < k) (all ++ more)) (sym (length-set image lbn_n block)) (All-append (λ l. l < length image) all more good.within (range-below lbn count (length image) on_device)));
+                (subst (λ (k : ℕ). All (λ l. l < k) (all ++ more)) (sym (length-set image lbn_n block))
+                (All-append (λ l. l < length image) all more good.within (range-below lbn count (length image) on_device)));
             placed = record {
               boot = front 0 0 good.placed.boot;
               home_block = front 1 home.lbn good.placed.home_block;
@@ -275,10 +311,14 @@ module _ (image : Image) (home : HomeFields) (good : IsIndexFile image home) whe
       file-grown n may.last may.few new more
       (λ m l of other at. stays_at apart n slot.0 slot.1 block m l (in_use-within image home m (live_of-header of).in_use).0 other at)
       (λ most known l left at so.
-      let read : image_block new l ≡ block = ap (image_block new) (lbn_is apart n slot.0 slot.1 block n l slot.0 slot.1 at) ∙ read_back apart n slot.0 slot.1 block in
-      let none : header_among home (known ++ blocks_named block) (link_of block).number ≡ None = ap (header_among home (known ++ blocks_named block)) may.no_link in
-      goes_on most new home known l block read ∙ ap (blocks_on most new home (known ++ blocks_named block)) none ∙ ends most new home (known ++ blocks_named block)
-      ∙ ap (λ (b : List ℕ). known ++ b) may.blocks ∙ sym (append_assoc known (blocks_named (t.header n)) more) ∙ ap (λ (b : List ℕ). b ++ more) (sym so)) in
+      let read : image_block new l ≡ block = ap (image_block new) (lbn_is apart n slot.0 slot.1 block n l slot.0 slot.1 at)
+      ∙ read_back apart n slot.0 slot.1 block in
+      let none : header_among home (known ++ blocks_named block) (link_of block).number ≡ None =
+      ap (header_among home (known ++ blocks_named block)) may.no_link in
+      goes_on most new home known l block read ∙ ap (blocks_on most new home (known ++ blocks_named block)) none
+      ∙ ends most new home (known ++ blocks_named block)
+      ∙ ap (λ (b : List ℕ). known ++ b) may.blocks ∙ sym (append_assoc known (blocks_named (t.header n)) more)
+      ∙ ap (λ (b : List ℕ). b ++ more) (sym so)) in
       grows apart n slot.0 slot.1 block lbn count file may.good may.last n on_device (record {
         of = still_of apart n slot.0 slot.1 block lbn count file may.good may.last;
         no_link = ap (λ (b : List ℕ). (link_of b).number) (header_new apart n slot.0 slot.1 block lbn count file) ∙ may.no_link;
@@ -295,14 +335,18 @@ module _ (image : Image) (home : HomeFields) (good : IsIndexFile image home) whe
       let more : List ℕ = range_with_len lbn count in
       let at_m = found_at apart n slot.0 slot.1 block m slot_m.0 slot_m.1 in
       let header_m : image_block new (header_lbn index m) ≡ t.header m =
-      stays_at apart n slot.0 slot.1 block m (header_lbn index m) slot_m.0 other at_m ∙ sym (header_is image home m (header_lbn index m) slot_m.0 (omega (arith, slot_m.1, few-slots image home)) at_m) in
-      let among_m : header_among home all (link_of block).number ≡ Some (header_lbn index m) = ap (header_among home all) may.number ∙ header_among-some home all m slot_m.0 ∙ at_m in
-      let none : header_among home (all ++ blocks_named (t.header m)) (link_number t m) ≡ None = ap (header_among home (all ++ blocks_named (t.header m))) may.no_link in
+      stays_at apart n slot.0 slot.1 block m (header_lbn index m) slot_m.0 other at_m
+      ∙ sym (header_is image home m (header_lbn index m) slot_m.0 (omega (arith, slot_m.1, few-slots image home)) at_m) in
+      let among_m : header_among home all (link_of block).number ≡ Some (header_lbn index m) = ap (header_among home all) may.number
+      ∙ header_among-some home all m slot_m.0 ∙ at_m in
+      let none : header_among home (all ++ blocks_named (t.header m)) (link_number t m) ≡ None =
+      ap (header_among home (all ++ blocks_named (t.header m))) may.no_link in
       let file : index_file_blocks new home ≡ all ++ more =
       file-grown n may.last (omega (arith, may.few)) new more
       (λ x l of apart_n at. stays_at apart n slot.0 slot.1 block x l (in_use-within image home x (live_of-header of).in_use).0 apart_n at)
       (λ most known l left at so.
-      let read : image_block new l ≡ block = ap (image_block new) (lbn_is apart n slot.0 slot.1 block n l slot.0 slot.1 at) ∙ read_back apart n slot.0 slot.1 block in
+      let read : image_block new l ≡ block = ap (image_block new) (lbn_is apart n slot.0 slot.1 block n l slot.0 slot.1 at)
+      ∙ read_back apart n slot.0 slot.1 block in
       let known_is : known ++ blocks_named block ≡ all = ap (λ (b : List ℕ). known ++ b) may.blocks ∙ sym so in
       let one_more : most ≡ suc (most - 1) = omega (arith, left, may.few) in
       goes_on most new home known l block read
@@ -310,7 +354,8 @@ module _ (image : Image) (home : HomeFields) (good : IsIndexFile image home) whe
       ∙ ap (blocks_on most new home all) among_m
       ∙ ap (λ (k : ℕ). blocks_on k new home all (Some (header_lbn index m))) one_more
       ∙ goes_on (most - 1) new home all (header_lbn index m) (t.header m) header_m
-      ∙ ap (blocks_on (most - 1) new home (all ++ blocks_named (t.header m))) none ∙ ends (most - 1) new home (all ++ blocks_named (t.header m))
+      ∙ ap (blocks_on (most - 1) new home (all ++ blocks_named (t.header m))) none
+      ∙ ends (most - 1) new home (all ++ blocks_named (t.header m))
       ∙ ap (λ (b : List ℕ). all ++ b) may.next_blocks) in
       let header_n = header_new apart n slot.0 slot.1 block lbn count file in
       let header_to = header_other apart n slot.0 slot.1 block lbn count file m slot_m.0 slot_m.1 other in
@@ -322,7 +367,8 @@ module _ (image : Image) (home : HomeFields) (good : IsIndexFile image home) whe
         };
         number = ap (λ (b : List ℕ). (link_of b).number) header_n ∙ may.number;
         sequence = ap (λ (b : List ℕ). (link_of b).sequence) header_n ∙ may.sequence ∙ ap file_sequence (sym header_to);
-        segment = ap segment_number header_to ∙ may.next_segment ∙ ap (λ (k : ℕ). k + 1) (sym (ap segment_number header_n ∙ may.good.segment));
+        segment = ap segment_number header_to ∙ may.next_segment
+            ∙ ap (λ (k : ℕ). k + 1) (sym (ap segment_number header_n ∙ may.good.segment));
       } in
       grows apart n slot.0 slot.1 block lbn count file may.good may.last m on_device (record {
         of = next (still_of apart n slot.0 slot.1 block lbn count file may.good may.last) goes;

@@ -1,5 +1,6 @@
 -- The headers of a file as a list.
-use Rattle.std.proofs.Common.{◌≡◌, ◌≢◌, ℕ, zero, suc, ◌+◌, ◌-◌, ◌<◌, ◌≤◌, List, [], ◌∷◌, ◌++◌, length, Some, refl, sym, ap, subst, ◌∙◌, inl, inr, arith, append_assoc}
+use Rattle.std.proofs.Common.{◌≡◌, ◌≢◌, ℕ, zero, suc, ◌+◌, ◌-◌, ◌<◌, ◌≤◌, List, [], ◌∷◌, ◌++◌, length, Some, refl, sym, ap, subst, ◌∙◌, inl}
+use Rattle.std.proofs.Common.{inr, arith, append_assoc}
 use Rattle.std.specs.Prelude.{Contains}
 use Rattle.std.specs.List.{slice_get}
 use Rattle.std.proofs.lemmas.Bool.{cases_lt}
@@ -95,7 +96,8 @@ module _ (t : Table) (f n k : ℕ) (behind : List ℕ) (at : Comes t f n k behin
       Comes-split ∙ append_assoc behind (n ∷ []) (headers_from (255 - k) t (link_number t n)) ∙ ap (λ (l : List ℕ). behind ++ n ∷ l) rest
 
 -- and the header that it links to
-pub Comes-count-next : (t : Table) (f n k : ℕ) (behind : List ℕ) → Comes t f n k behind → 0 < n → k < 255 → link_number t n ≢ 0 → k + 2 ≤ length (headers_of t f)
+pub Comes-count-next : (t : Table) (f n k : ℕ) (behind : List ℕ) → Comes t f n k behind → 0 < n → k < 255 → link_number t n ≢ 0
+    → k + 2 ≤ length (headers_of t f)
 Comes-count-next t f n k behind at some more link =
     let to = link_number t n in
     let there = Comes-next t f n k behind at some (omega (arith, more)) to refl in
@@ -103,14 +105,19 @@ Comes-count-next t f n k behind at some more link =
     omega (arith, count)
 
 -- each header of a file comes at the place of its segment
-pub Comes-header : {t : Table} {f n : ℕ} → IsHeaderOf t f n → segment_number (t.header n) < 256 → (behind : List ℕ) × Comes t f n (segment_number (t.header n)) behind
+pub Comes-header : {t : Table} {f n : ℕ} → IsHeaderOf t f n → segment_number (t.header n) < 256
+    → (behind : List ℕ) × Comes t f n (segment_number (t.header n)) behind
 Comes-header {t} {f} (first file) few = ([], subst (λ (s : ℕ). Comes t f f s []) (sym file.first) (Comes-first t f))
 Comes-header {t} {f} (next {n = p} {m = n} of is) few =
     let k = segment_number (t.header p) in
-    let (behind, at) = Comes-header of (omega (arith, is.segment, few)) in
-    (behind ++ p ∷ [], subst (λ (s : ℕ). Comes t f n s (behind ++ p ∷ [])) (sym is.segment) (Comes-next t f p k behind at (live-some is.from) (omega (arith, is.segment, few)) n is.number))
+    let (behind, at) = Comes-header of (omega (arith, is.segment, few)) in (
+      behind ++ p ∷ [],
+      subst (λ (s : ℕ). Comes t f n s (behind ++ p ∷ [])) (sym is.segment)
+          (Comes-next t f p k behind at (live-some is.from) (omega (arith, is.segment, few)) n is.number),
+    )
 
-pub header-placed : (t : Table) (f n : ℕ) → IsHeaderOf t f n → segment_number (t.header n) < 256 → slice_get (headers_of t f) (segment_number (t.header n)) ≡ Some n
+pub header-placed : (t : Table) (f n : ℕ) → IsHeaderOf t f n → segment_number (t.header n) < 256
+    → slice_get (headers_of t f) (segment_number (t.header n)) ≡ Some n
 header-placed t f n of few =
     let (behind, at) = Comes-header of few in
     Comes-at t f n (segment_number (t.header n)) behind at (live-some (live_of-header of)) few
@@ -128,7 +135,8 @@ from-placed : (most : ℕ) {t : Table} {f n k : ℕ} → IsWholeFile t f → IsH
     → (i m : ℕ) → slice_get (headers_from most t n) i ≡ Some m → IsSegment t f m (k + i)
 from-placed zero {t} {f} {n} whole of is i m at = absurd (empty _ i m (headers_from-end t n) at)
 from-placed (suc most) {t} {f} {n} {k} whole of is zero m at =
-    let same : n ≡ m = same_Some n m (sym (ap (λ (l : List ℕ). slice_get l 0) (headers_from-some most t n (live-some (live_of-header of)))) ∙ at) in
+    let same : n ≡ m = same_Some n m (sym (ap (λ (l : List ℕ). slice_get l 0) (headers_from-some most t n (live-some (live_of-header of))))
+    ∙ at) in
     subst (λ (x : ℕ). IsSegment t f x (k + 0)) same (record { of = of; number = omega (arith, is) })
 from-placed (suc most) {t} {f} {n} {k} whole of is (suc i) m at =
     let there : slice_get (headers_from most t (link_number t n)) i ≡ Some m =
@@ -141,7 +149,8 @@ from-placed (suc most) {t} {f} {n} {k} whole of is (suc i) m at =
     ]
 
 pub place-has : (t : Table) (f n i : ℕ) → IsWholeFile t f → slice_get (headers_of t f) i ≡ Some n → IsSegment t f n i
-place-has t f n i whole at = let is = from-placed 256 whole (first whole.file) whole.file.first i n at in record { of = is.of; number = omega (arith, is.number) }
+place-has t f n i whole at =
+    let is = from-placed 256 whole (first whole.file) whole.file.first i n at in record { of = is.of; number = omega (arith, is.number) }
 
 pub listed-are : (t : Table) (f n : ℕ) → IsWholeFile t f → Contains (headers_of t f) n → IsHeaderOf t f n
 listed-are t f n whole (i, within, is) = (place-has t f n i whole (slice_get-get_or (headers_of t f) i n within ∙ ap Some is)).of
@@ -150,7 +159,8 @@ pub headers-apart : (t : Table) (f : ℕ) → IsWholeFile t f → AreApart (head
 headers-apart t f whole i j n one other = sym (place-has t f n i whole one).number ∙ (place-has t f n j whole other).number
 
 -- a whole file's last header, from one of its headers on
-last-from : (left : ℕ) {t : Table} {f n : ℕ} → HasByteSegments t → IsWholeFile t f → IsHeaderOf t f n → segment_number (t.header n) + left ≡ 256 → (m : ℕ) × IsLastOf t f m
+last-from : (left : ℕ) {t : Table} {f n : ℕ} → HasByteSegments t → IsWholeFile t f → IsHeaderOf t f n
+    → segment_number (t.header n) + left ≡ 256 → (m : ℕ) × IsLastOf t f m
 last-from zero {t} {f} {n} bytes whole of end = absurd (omega (arith, end, bytes n))
 last-from (suc left) {t} {f} {n} bytes whole of end = elim (whole.links n of) [
   | inl none ↦ (n, record { of = of; no_link = none })
@@ -161,7 +171,8 @@ pub whole-last : (t : Table) (f : ℕ) → HasByteSegments t → IsWholeFile t f
 whole-last t f bytes whole = last-from 256 bytes whole (first whole.file) (omega (arith, whole.file.first))
 
 -- its list ends there
-links-end-from : (left more : ℕ) {t : Table} {f n : ℕ} → HasByteSegments t → IsWholeFile t f → IsHeaderOf t f n → segment_number (t.header n) + left ≡ 256
+links-end-from : (left more : ℕ) {t : Table} {f n : ℕ} → HasByteSegments t → IsWholeFile t f → IsHeaderOf t f n
+    → segment_number (t.header n) + left ≡ 256
     → headers_from (left + more) t n ≡ headers_from left t n
 links-end-from zero more {t} {f} {n} bytes whole of end = absurd (omega (arith, end, bytes n))
 links-end-from (suc left) more {t} {f} {n} bytes whole of end =
@@ -196,7 +207,8 @@ last-one t f n m one other =
     let above = last-highest other one.of in
     same-segment one.of other.of (omega (arith, below, above))
 
-pub last-ends : (t : Table) (f n : ℕ) → IsLastOf t f n → segment_number (t.header n) < 256 → length (headers_of t f) ≡ segment_number (t.header n) + 1
+pub last-ends : (t : Table) (f n : ℕ) → IsLastOf t f n → segment_number (t.header n) < 256
+    → length (headers_of t f) ≡ segment_number (t.header n) + 1
 last-ends t f n last few =
     let (behind, at) = Comes-header last.of few in
     ap length (Comes-last t f n (segment_number (t.header n)) behind at (live-some (live_of-header last.of)) few last.no_link)

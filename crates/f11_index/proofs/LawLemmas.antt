@@ -1,5 +1,6 @@
 -- What a write of one block leaves of the index file.
-use Rattle.std.proofs.Common.{◌≡◌, ◌≢◌, ℕ, zero, suc, ◌+◌, ◌-◌, ◌<◌, ◌≤◌, Bool, List, ◌∷◌, length, get_or, map, Some, refl, sym, ap, subst, ◌∙◌, inl, inr, arith}
+use Rattle.std.proofs.Common.{◌≡◌, ◌≢◌, ℕ, zero, suc, ◌+◌, ◌-◌, ◌<◌, ◌≤◌, Bool, List, ◌∷◌, length, get_or, map, Some, refl, sym, ap, subst}
+use Rattle.std.proofs.Common.{◌∙◌, inl, inr, arith}
 use Rattle.std.proofs.Math.ListN.{set}
 use Rattle.std.specs.List.{All, slice_get, range_with_len}
 use Rattle.std.proofs.lemmas.Bool.{cases_lt, cases_eq}
@@ -10,7 +11,8 @@ use Rattle.f11_dev.proofs.ImageLemmas.{image_block-written, image_block-other}
 use Rattle.f11_home.specs.Home.{HomeFields}
 use Rattle.f11_index.specs.Calls.{SetsBit, with_bitmap_block, bitmap_block, bitmap_place}
 use Rattle.f11_map.specs.HeaderBlock.{link_of, blocks_named}
-use Rattle.f11_index.specs.IndexFile.{Index, index_of, index_file_blocks, headers_among, header_lbn, header_place, most_slots, slots, is_in_use}
+use Rattle.f11_index.specs.IndexFile.{Index, index_of, index_file_blocks, headers_among, header_lbn, header_place, most_slots, slots}
+use Rattle.f11_index.specs.IndexFile.{is_in_use}
 use Rattle.f11_index.specs.Laws.{BlocksStay, LeadsAlike, KeepsIndexFile, KeepsButBit, KeepsButHeader}
 use Rattle.f11_index.specs.Sound.{IsPlaced, IsIndexFile, IsNoneOf, AreApart}
 use Rattle.f11_index.specs.Table.{table_in, table_of, IsHeaderOf, IsWholeFile, last_sequence}
@@ -24,7 +26,8 @@ All-at : (xs : List ℕ) (i x : ℕ) {n : ℕ} → All (λ l. l < n) xs → slic
 All-at xs i x {n} each at = subst (λ (l : ℕ). l < n) (get_or_from_slice_get xs i x 0 at) (each i 0 (slice_get_within xs i x at))
 
 -- blocks in a row that are the same
-map-same : (f g : ℕ → List ℕ) (n a : ℕ) → ((i : ℕ) → i < n → f (a + i) ≡ g (a + i)) → map f (range_with_len a n) ≡ map g (range_with_len a n)
+map-same : (f g : ℕ → List ℕ) (n a : ℕ) → ((i : ℕ) → i < n → f (a + i) ≡ g (a + i))
+    → map f (range_with_len a n) ≡ map g (range_with_len a n)
 map-same f g zero a same = refl
 map-same f g (suc n) a same =
     let here : a + 0 ≡ a = omega arith in
@@ -34,7 +37,8 @@ map-same f g (suc n) a same =
     let next : a + 1 + i ≡ a + (i + 1) = omega arith in ap f next ∙ same (i + 1) (omega arith) ∙ ap g (sym next)))
 
 -- blocks in a row of which one is another
-map-set : (f g : ℕ → List ℕ) (b : List ℕ) (n a p : ℕ) → p < n → f (a + p) ≡ b → ((i : ℕ) → i < n → i ≢ p → f (a + i) ≡ g (a + i)) → map f (range_with_len a n) ≡ set (map g (range_with_len a n)) p b
+map-set : (f g : ℕ → List ℕ) (b : List ℕ) (n a p : ℕ) → p < n → f (a + p) ≡ b → ((i : ℕ) → i < n → i ≢ p → f (a + i) ≡ g (a + i))
+    → map f (range_with_len a n) ≡ set (map g (range_with_len a n)) p b
 map-set f g b zero a p within one others = absurd (omega arith)
 map-set f g b (suc n) a zero within one others =
     let here : a + 0 ≡ a = omega arith in
@@ -46,7 +50,8 @@ map-set f g b (suc n) a (suc p) within one others =
     let place : a + 1 + p ≡ a + suc p = omega arith in
     ap (λ (x : List ℕ). x ∷ map f (range_with_len (a + 1) n)) (ap f (sym here) ∙ others 0 (omega arith) (λ e. omega arith) ∙ ap g here)
     ∙ ap (λ (bs : List (List ℕ)). g a ∷ bs) (map-set f g b n (a + 1) p (omega arith) (ap f place ∙ one) (λ i inside apart.
-    let next : a + 1 + i ≡ a + (i + 1) = omega arith in ap f next ∙ others (i + 1) (omega arith) (λ e. apart (omega arith)) ∙ ap g (sym next)))
+    let next : a + 1 + i ≡ a + (i + 1) = omega arith in ap f next ∙ others (i + 1) (omega arith) (λ e. apart (omega arith))
+    ∙ ap g (sym next)))
 
 module _ (image : Image) (home : HomeFields) (good : IsIndexFile image home) where
   abbrev all : List ℕ
@@ -90,11 +95,13 @@ module _ (image : Image) (home : HomeFields) (good : IsIndexFile image home) whe
     unfolding index_of
     headers_same file = ap (headers_among home) file
 
-    bitmap_stays : ((i : ℕ) → i < home.index_blocks → image_block new (home.index_lbn + i) ≡ image_block image (home.index_lbn + i)) → (index_of new home).bitmap ≡ index.bitmap
+    bitmap_stays : ((i : ℕ) → i < home.index_blocks → image_block new (home.index_lbn + i) ≡ image_block image (home.index_lbn + i))
+        → (index_of new home).bitmap ≡ index.bitmap
     unfolding index_of
     bitmap_stays stay = map-same (image_block new) (image_block image) home.index_blocks home.index_lbn stay
 
-    index_from : (bitmap : List (List ℕ)) → (index_of new home).bitmap ≡ bitmap → (index_of new home).headers ≡ index.headers → index_of new home ≡ record index { bitmap = bitmap }
+    index_from : (bitmap : List (List ℕ)) → (index_of new home).bitmap ≡ bitmap → (index_of new home).headers ≡ index.headers
+        → index_of new home ≡ record index { bitmap = bitmap }
     unfolding index_of
     index_from bitmap b h =
         ap (λ (xs : List (List ℕ)). record { bitmap_lbn = home.index_lbn; bitmap = xs; headers = (index_of new home).headers }) b
@@ -125,7 +132,8 @@ module _ (image : Image) (home : HomeFields) (good : IsIndexFile image home) whe
         sound = record {
           whole = subst (λ t. IsWholeFile t 1) (sym table_is) good.whole;
           sequence = ap (λ t. last_sequence t 1) table_is ∙ good.sequence;
-          within = subst (λ (xs : List ℕ). All (λ l. l < length new) xs) (sym file) (subst (λ (n : ℕ). All (λ l. l < n) all) (sym size) good.within);
+          within = subst (λ (xs : List ℕ). All (λ l. l < length new) xs) (sym file)
+              (subst (λ (n : ℕ). All (λ l. l < n) all) (sym size) good.within);
           placed = subst (IsPlaced home) (sym file) good.placed;
         };
       }
@@ -156,7 +164,8 @@ module _ (image : Image) (home : HomeFields) (good : IsIndexFile image home) whe
       inside = All-at all at_place lbn good.within at
 
   -- the bitmap block of a slot
-  module _ (value : Bool) (n : ℕ) (after : Index) (apart : AreApart all) (some : 0 < n) (few : n ≤ slots index) (bit : SetsBit value n index after) where
+  module _ (value : Bool) (n : ℕ) (after : Index) (apart : AreApart all) (some : 0 < n) (few : n ≤ slots index)
+      (bit : SetsBit value n index after) where
     abbrev lbn : ℕ
     lbn = after.bitmap_lbn + bitmap_place n
 
@@ -181,11 +190,16 @@ module _ (image : Image) (home : HomeFields) (good : IsIndexFile image home) whe
     bitmap_is : (index_of (new lbn block) home).bitmap ≡ set index.bitmap (bitmap_place n) block
     unfolding index_of
     bitmap_is = map-set (image_block (new lbn block)) (image_block image) block home.index_blocks home.index_lbn (bitmap_place n) within
-        (ap (image_block (new lbn block)) (sym lbn_is) ∙ image_block-written image lbn block (inside lbn block apart (2 + bitmap_place n) at))
-        (λ i inside_is other. same lbn block (home.index_lbn + i) (elsewhere lbn block apart (2 + bitmap_place n) at (2 + i) (home.index_lbn + i) (bitmap_at i inside_is) (λ e. other (omega arith))))
+        (ap (image_block (new lbn block)) (sym lbn_is)
+        ∙ image_block-written image lbn block (inside lbn block apart (2 + bitmap_place n) at))
+        (λ i inside_is other. same lbn block (home.index_lbn + i)
+        (elsewhere lbn block apart (2 + bitmap_place n) at (2 + i) (home.index_lbn + i) (bitmap_at i inside_is)
+        (λ e. other (omega arith))))
 
     bit_index : index_of (new lbn block) home ≡ after
-    bit_index = index_from (new lbn block) (set index.bitmap (bitmap_place n) block) bitmap_is (headers_same (new lbn block) bit_file) ∙ sym bit.one_block
+    bit_index =
+        index_from (new lbn block) (set index.bitmap (bitmap_place n) block) bitmap_is (headers_same (new lbn block) bit_file)
+        ∙ sym bit.one_block
 
     bit_table : table_of (new lbn block) home ≡ record (table_of image home) { in_use = is_in_use after }
     unfolding table_in header_lbn
@@ -204,7 +218,9 @@ module _ (image : Image) (home : HomeFields) (good : IsIndexFile image home) whe
         header_stays : (m : ℕ) → image_block (new lbn block) (header_lbn after m) ≡ image_block image (header_lbn index m)
         header_stays m =
             ap (λ (hs : List ℕ). image_block (new lbn block) (get_or hs (m - 1) 0)) headers_are
-            ∙ same lbn block (header_lbn index m) (elsewhere lbn block apart (2 + bitmap_place n) at (is_at m).place (header_lbn index m) (is_at m).at ((is_at m).outside (bitmap_place n) within))
+            ∙ same lbn block (header_lbn index m)
+            (elsewhere lbn block apart (2 + bitmap_place n) at (is_at m).place (header_lbn index m) (is_at m).at
+            ((is_at m).outside (bitmap_place n) within))
 
     pub bit_write : KeepsButBit home after image (with_bitmap_block image after n)
     bit_write = record { file = bit_file; index_is = bit_index; table = bit_table }
@@ -222,16 +238,20 @@ module _ (image : Image) (home : HomeFields) (good : IsIndexFile image home) whe
     away = elsewhere (header_lbn index n) written apart (2 + home.index_blocks + (n - 1)) here
 
     read_back : image_block header_new (header_lbn index n) ≡ written
-    read_back = image_block-written image (header_lbn index n) written (inside (header_lbn index n) written apart (2 + home.index_blocks + (n - 1)) here)
+    read_back =
+        image_block-written image (header_lbn index n) written
+        (inside (header_lbn index n) written apart (2 + home.index_blocks + (n - 1)) here)
 
-    each_alike : (m l : ℕ) → IsHeaderOf (table_of image home) 1 m → slice_get all (header_place home m) ≡ Some l → LeadsAlike (image_block image l) (image_block header_new l)
+    each_alike : (m l : ℕ) → IsHeaderOf (table_of image home) 1 m → slice_get all (header_place home m) ≡ Some l
+        → LeadsAlike (image_block image l) (image_block header_new l)
     unfolding table_in
     each_alike m l of at = elim (cases_eq m n) [
       | inl same_number ↦
           let place : header_place home m ≡ 2 + home.index_blocks + (n - 1) = omega (arith, same_number, some) in
           let is : l ≡ header_lbn index n = same_Some l (header_lbn index n) (sym at ∙ ap (slice_get all) place ∙ here) in
           subst (λ (k : ℕ). LeadsAlike (image_block image k) (image_block header_new k)) (sym is)
-          (subst (LeadsAlike (image_block image (header_lbn index n))) (sym read_back) (leads (subst (λ (k : ℕ). IsHeaderOf (table_of image home) 1 k) same_number of)))
+          (subst (LeadsAlike (image_block image (header_lbn index n))) (sym read_back)
+          (leads (subst (λ (k : ℕ). IsHeaderOf (table_of image home) 1 k) same_number of)))
       | inr other ↦ alike (header_lbn index n) written l (away (header_place home m) l at
           (λ e. other (omega (arith, e, some, (in_use-within image home m (live_of-header of).in_use).0))))
     ]
@@ -252,5 +272,6 @@ module _ (image : Image) (home : HomeFields) (good : IsIndexFile image home) whe
       header = ap (λ (x : Index). image_block header_new (header_lbn x n)) header_index ∙ read_back;
       others = λ m above below other.
           ap (λ (x : Index). image_block header_new (header_lbn x m)) header_index
-          ∙ same (header_lbn index n) written (header_lbn index m) (away (2 + home.index_blocks + (m - 1)) (header_lbn index m) (header_at m above below) (λ e. other (omega arith)));
+          ∙ same (header_lbn index n) written (header_lbn index m)
+          (away (2 + home.index_blocks + (m - 1)) (header_lbn index m) (header_at m above below) (λ e. other (omega arith)));
     }

@@ -15,7 +15,8 @@ use Rattle.f11_index.specs.declared.blocks.Blocks.{Blocks}
 use Rattle.f11_index.proofs.BlockLemmas.{IsPlaced-fit, All-fit}
 use Rattle.f11_index.proofs.FollowLemmas.{HomeFacts, home_facts, Adds-start, looks-behind}
 
-module _ (old now new : Disk) (home : HomeFields) (bitmap : List (List ℕ)) (blocks : Blocks) (sound : IsSound home (length old.image)) (reads : ReadsBitmap home bitmap old now) (f : Follows home blocks now new) where
+module _ (old now new : Disk) (home : HomeFields) (bitmap : List (List ℕ)) (blocks : Blocks) (sound : IsSound home (length old.image))
+    (reads : ReadsBitmap home bitmap old now) (f : Follows home blocks now new) where
   looks-all : LooksThrough home old new 0
   looks-all = looks-behind old now new home home.index_blocks 0 reads.looked f.looked
 
@@ -35,7 +36,8 @@ module _ (old now new : Disk) (home : HomeFields) (bitmap : List (List ℕ)) (bl
   pub finds_few : blocks.places < first_place home + 16 → FindsMisplaced home old new
   finds_few few = record {
     misplaced = λ honest good.
-        let last = slice_get_within (index_file_blocks old.image home) _ _ (good.placed.bitmap_and_headers (home.index_blocks + 15) (omega arith)) in
+        let last = slice_get_within (index_file_blocks old.image home) _ _
+        (good.placed.bitmap_and_headers (home.index_blocks + 15) (omega arith)) in
         absurd (omega (arith, last, few, (Adds-start home f.lbns f.adds).0, ap length (file_is honest)));
     looked = looks-all;
   }
@@ -63,7 +65,8 @@ module _ (old now new : Disk) (home : HomeFields) (bitmap : List (List ℕ)) (bl
     unfolding index_of
     kept_is honest =
         ap (λ (b : List (List ℕ)). record { bitmap_lbn = home.index_lbn; bitmap = b; headers = blocks.headers.items }) (reads.blocks honest)
-        ∙ ap (λ (h : List ℕ). record { bitmap_lbn = home.index_lbn; bitmap = (index_of old.image home).bitmap; headers = h }) (headers_are ∙ ap (headers_among home) (file_is honest))
+        ∙ ap (λ (h : List ℕ). record { bitmap_lbn = home.index_lbn; bitmap = (index_of old.image home).bitmap; headers = h })
+        (headers_are ∙ ap (headers_among home) (file_is honest))
 
     pub reads_all : ReadsIndex home kept old new
     reads_all = record {
@@ -72,8 +75,10 @@ module _ (old now new : Disk) (home : HomeFields) (bitmap : List (List ℕ)) (bl
         within = record {
           bitmap = omega (arith, ap length looked.image, reads.size, facts.within);
           headers = subst (All (λ lbn. lbn < length new.image)) (sym headers_are)
-              (All-take (λ lbn. lbn < length new.image) (most_slots home) (drop (2 + home.index_blocks) f.lbns) (All-drop (λ lbn. lbn < length new.image) (2 + home.index_blocks) f.lbns
-              (subst (λ (n : ℕ). All (λ lbn. lbn < n) f.lbns) (sym (ap length f.looked.looked.image)) (All-fit home (length now.image) f.lbns f.fit))));
+              (All-take (λ lbn. lbn < length new.image) (most_slots home) (drop (2 + home.index_blocks) f.lbns)
+              (All-drop (λ lbn. lbn < length new.image) (2 + home.index_blocks) f.lbns
+              (subst (λ (n : ℕ). All (λ lbn. lbn < n) f.lbns) (sym (ap length f.looked.looked.image))
+              (All-fit home (length now.image) f.lbns f.fit))));
         };
         keeps = λ honest. kept_is (sym looked.honest ∙ honest) ∙ ap (λ (image : Image). index_of image home) (sym looked.image);
       };
@@ -81,13 +86,16 @@ module _ (old now new : Disk) (home : HomeFields) (bitmap : List (List ℕ)) (bl
     }
 
 -- a bit past the slots is 1
-pub finds_past : (home : HomeFields) (index : Index) (old new : Disk) (n : ℕ) → ReadsIndex home index old new → IsFirstPast index n → FindsPast home n old new
+pub finds_past : (home : HomeFields) (index : Index) (old new : Disk) (n : ℕ) → ReadsIndex home index old new → IsFirstPast index n
+    → FindsPast home n old new
 finds_past home index old new n reads is = record {
   sound = reads.sound;
-  first = λ honest. subst (λ (i : Index). IsFirstPast i n) (reads.is_for.keeps (reads.looked.looked.honest ∙ honest) ∙ ap (λ (image : Image). index_of image home) reads.looked.looked.image) is;
+  first = λ honest. subst (λ (i : Index). IsFirstPast i n)
+      (reads.is_for.keeps (reads.looked.looked.honest ∙ honest) ∙ ap (λ (image : Image). index_of image home) reads.looked.looked.image) is;
   looked = reads.looked;
 }
 
 -- none is
-pub loads : (home : HomeFields) (index : Index) (old new : Disk) → ReadsIndex home index old new → HasNonePast index → Loads home index old new
+pub loads : (home : HomeFields) (index : Index) (old new : Disk) → ReadsIndex home index old new → HasNonePast index
+    → Loads home index old new
 loads home index old new reads none = record { sound = reads.sound; none_past = none; is_for = reads.is_for; looked = reads.looked }

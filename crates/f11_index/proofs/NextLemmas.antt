@@ -18,7 +18,8 @@ live-from t n is =
 
 live-test : (t : Table) (n : ℕ) → IsLive t n → IsTrue (is_live t n)
 unfolding is_live
-live-test t n live = and_from _ _ live.in_use (and_from _ _ (eq-eqb _ _ live.valid.number) (and_from _ _ live.valid.holds (eq-eqb _ _ live.valid.sum)))
+live-test t n live =
+    and_from _ _ live.in_use (and_from _ _ (eq-eqb _ _ live.valid.number) (and_from _ _ live.valid.holds (eq-eqb _ _ live.valid.sum)))
 
 pub live-tested : (t : Table) (n : ℕ) → IsTrue (is_live t n) ↔ IsLive t n
 live-tested t n = (live-from t n, live-test t n)
@@ -37,7 +38,13 @@ has-next t n has =
     let from = and_parts _ _ has in
     let to = and_parts _ _ from.1 in
     let numbers = and_parts _ _ to.1 in
-    record { from = live-from t n from.0; to = live-from t _ to.0; number = refl; sequence = eqb-true _ _ numbers.0; segment = eqb-true _ _ numbers.1 }
+    record {
+      from = live-from t n from.0;
+      to = live-from t _ to.0;
+      number = refl;
+      sequence = eqb-true _ _ numbers.0;
+      segment = eqb-true _ _ numbers.1;
+    }
 
 next-test : (t : Table) (n m : ℕ) → IsNext t n m → next_of t n ≡ Some m
 unfolding next_of

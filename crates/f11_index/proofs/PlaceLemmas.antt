@@ -1,5 +1,6 @@
 -- Facts about the places of blocks in a list.
-use Rattle.std.proofs.Common.{◌≡◌, ℕ, zero, suc, ◌+◌, ◌-◌, ◌<◌, ◌≤◌, List, [], ◌∷◌, ◌++◌, length, get_or, take, drop, min, Some, refl, sym, ap, ◌∙◌, inl, inr, arith}
+use Rattle.std.proofs.Common.{◌≡◌, ℕ, zero, suc, ◌+◌, ◌-◌, ◌<◌, ◌≤◌, List, [], ◌∷◌, ◌++◌, length, get_or, take, drop, min, Some, refl, sym}
+use Rattle.std.proofs.Common.{ap, ◌∙◌, inl, inr, arith}
 use Rattle.std.specs.List.{All, slice_get, range_with_len}
 use Rattle.std.proofs.Math.Seq.{take-append-add}
 use Rattle.std.proofs.lemmas.List.FromFn.{length-range_with_len, get_or-range_with_len}
@@ -13,7 +14,8 @@ use Rattle.f11_store.proofs.RangeLemmas.{range_with_len-append}
 pub slice_get-append_front : (xs ys : List ℕ) (i x : ℕ) → slice_get xs i ≡ Some x → slice_get (xs ++ ys) i ≡ Some x
 slice_get-append_front xs ys i x at =
     let within = slice_get_within xs i x at in
-    slice_get-get_or (xs ++ ys) i x (omega (arith, length-append xs ys)) ∙ ap Some (get_or_append_left xs ys x i within ∙ get_or_from_slice_get xs i x x at)
+    slice_get-get_or (xs ++ ys) i x (omega (arith, length-append xs ys))
+    ∙ ap Some (get_or_append_left xs ys x i within ∙ get_or_from_slice_get xs i x x at)
 
 -- what is cut off twice
 pub take-append_take : (m : ℕ) (xs ys : List ℕ) → take m (take m xs ++ ys) ≡ take m (xs ++ ys)
@@ -28,14 +30,17 @@ drop-append (suc k) [] ys = let all : suc k - 0 ≡ suc k = omega arith in ap (�
 drop-append (suc k) (x ∷ xs) ys = let less : suc k - length (x ∷ xs) ≡ k - length xs = omega arith in rw less (drop-append k xs ys)
 
 -- a header among the blocks, as it is kept among the headers
-pub slice_get-header : (xs : List ℕ) (skip most i x d : ℕ) → i < length (take most (drop skip xs)) → x ≡ get_or (take most (drop skip xs)) i d → slice_get xs (skip + i) ≡ Some x
+pub slice_get-header : (xs : List ℕ) (skip most i x d : ℕ) → i < length (take most (drop skip xs))
+    → x ≡ get_or (take most (drop skip xs)) i d → slice_get xs (skip + i) ≡ Some x
 slice_get-header xs skip most i x d within is =
     let most_is : i < most = omega (arith, length-take most (drop skip xs)) in
     let inside : skip + i < length xs = omega (arith, length-take most (drop skip xs), length-drop skip xs) in
-    slice_get-get_or xs (skip + i) d inside ∙ ap Some (sym (get_or-drop skip xs i d) ∙ sym (get_or-take most (drop skip xs) i d most_is) ∙ sym is)
+    slice_get-get_or xs (skip + i) d inside
+    ∙ ap Some (sym (get_or-drop skip xs i d) ∙ sym (get_or-take most (drop skip xs) i d most_is) ∙ sym is)
 
 -- and the other way
-pub get_or-header : (xs : List ℕ) (skip most i x d : ℕ) → i < most → slice_get xs (skip + i) ≡ Some x → get_or (take most (drop skip xs)) i d ≡ x
+pub get_or-header : (xs : List ℕ) (skip most i x d : ℕ) → i < most → slice_get xs (skip + i) ≡ Some x
+    → get_or (take most (drop skip xs)) i d ≡ x
 get_or-header xs skip most i x d few at =
     get_or-take most (drop skip xs) i d few ∙ get_or-drop skip xs i d ∙ get_or_from_slice_get xs (skip + i) x d at
 
@@ -49,11 +54,13 @@ drop-range_with_len from n zero =
     let here : from ≡ from + min 0 n = omega arith in
     let all : n ≡ n - min 0 n = omega arith in
     ap (λ (a : ℕ). range_with_len a n) here ∙ ap (range_with_len (from + min 0 n)) all
-drop-range_with_len from zero (suc k) = let none : zero - min (suc k) zero ≡ zero = omega arith in ap (range_with_len (from + min (suc k) zero)) (sym none)
+drop-range_with_len from zero (suc k) =
+    let none : zero - min (suc k) zero ≡ zero = omega arith in ap (range_with_len (from + min (suc k) zero)) (sym none)
 drop-range_with_len from (suc n) (suc k) =
     let here : from + 1 + min k n ≡ from + min (suc k) (suc n) = omega arith in
     let left : n - min k n ≡ suc n - min (suc k) (suc n) = omega arith in
-    drop-range_with_len (from + 1) n k ∙ ap (λ (a : ℕ). range_with_len a (n - min k n)) here ∙ ap (range_with_len (from + min (suc k) (suc n))) left
+    drop-range_with_len (from + 1) n k ∙ ap (λ (a : ℕ). range_with_len a (n - min k n)) here
+    ∙ ap (range_with_len (from + min (suc k) (suc n))) left
 
 -- the first of them
 pub take-range : (from n k : ℕ) → take k (range_with_len from n) ≡ range_with_len from (min k n)
@@ -76,7 +83,8 @@ slice_get-range from n i x at =
 
 pub range-slice_get : (from n i : ℕ) → i < n → slice_get (range_with_len from n) i ≡ Some (from + i)
 range-slice_get from n i within =
-    slice_get-get_or (range_with_len from n) i 0 (omega (arith, length-range_with_len from n)) ∙ ap Some (get_or-range_with_len from n i 0 within)
+    slice_get-get_or (range_with_len from n) i 0 (omega (arith, length-range_with_len from n))
+    ∙ ap Some (get_or-range_with_len from n i 0 within)
 
 -- blocks in a row are below where their end is
 pub range-below : (lbn count end : ℕ) → lbn + count ≤ end → All (λ l. l < end) (range_with_len lbn count)

@@ -43,14 +43,20 @@ module _ (old new : Table) (f : ℕ) (whole : IsWholeFile old f) (each : (n : �
           file = record { live = good-live here; first = here.segment ∙ whole.file.first };
           links = λ n of. links_stay n (headers_back of);
         },
-        λ n. (headers_back, λ of. header-up old new f of (record { good = λ m from below. (each m from).good; links = λ m from below. (each m from).link })),
+        λ n. (
+          headers_back,
+          λ of.
+              header-up old new f of (record { good = λ m from below. (each m from).good; links = λ m from below. (each m from).link }),
+        ),
       )
 
-pub stays : (old new : Image) (home : HomeFields) → IsIndexFile old home → length new ≡ length old → index_file_blocks new home ≡ index_file_blocks old home
+pub stays : (old new : Image) (home : HomeFields) → IsIndexFile old home → length new ≡ length old
+    → index_file_blocks new home ≡ index_file_blocks old home
     → ((n : ℕ) → IsHeaderOf (table_of old home) 1 n → StaysHeader (table_of old home) (table_of new home) n) → IsIndexFile new home
 stays old new home good size file each = record {
   whole = (whole-stays (table_of old home) (table_of new home) 1 good.whole each).0;
   sequence = (each 1 (first good.whole.file)).good.sequence ∙ good.sequence;
-  within = subst (λ (xs : List ℕ). All (λ l. l < length new) xs) (sym file) (subst (λ (n : ℕ). All (λ l. l < n) (index_file_blocks old home)) (sym size) good.within);
+  within = subst (λ (xs : List ℕ). All (λ l. l < length new) xs) (sym file)
+      (subst (λ (n : ℕ). All (λ l. l < n) (index_file_blocks old home)) (sym size) good.within);
   placed = subst (IsPlaced home) (sym file) good.placed;
 }

@@ -10,7 +10,8 @@ pub good-live : {old new : Table} {n : ℕ} → IsAsGood old new n → IsLive ne
 good-live good = record { in_use = good.in_use; valid = good.valid }
 
 -- a header whose next one is as good, and which links as before, has it as its next still
-pub good-next : {old new : Table} {n m : ℕ} → IsAsGood old new n → IsAsGood old new m → link_of (new.header n) ≡ link_of (old.header n) → IsNext old n m → IsNext new n m
+pub good-next : {old new : Table} {n m : ℕ} → IsAsGood old new n → IsAsGood old new m → link_of (new.header n) ≡ link_of (old.header n)
+    → IsNext old n m → IsNext new n m
 good-next here there link is = record {
   from = good-live here;
   to = good-live there;
@@ -31,8 +32,10 @@ header-up old new f (next {n = p} {m = n} of is) stay =
       links = λ m from below. stay.links m from (omega (arith, below, is.segment));
     })) (good-next here there (stay.links p of (omega (arith, is.segment))) is)
 
-pub header-last : (old new : Table) (f n : ℕ) → IsHeaderOf old f n → StayUpTo f n old new → (link_of (new.header n)).number ≡ 0 → IsLastOf new f n
+pub header-last : (old new : Table) (f n : ℕ) → IsHeaderOf old f n → StayUpTo f n old new → (link_of (new.header n)).number ≡ 0
+    → IsLastOf new f n
 header-last old new f n of stay none = record { of = header-up old new f of stay; no_link = none }
 
-pub next-last : (old new : Table) (f n m : ℕ) → IsHeaderOf old f n → StayUpTo f n old new → IsNext new n m → (link_of (new.header m)).number ≡ 0 → IsLastOf new f m
+pub next-last : (old new : Table) (f n m : ℕ) → IsHeaderOf old f n → StayUpTo f n old new → IsNext new n m
+    → (link_of (new.header m)).number ≡ 0 → IsLastOf new f m
 next-last old new f n m of stay goes none = record { of = next (header-up old new f of stay) goes; no_link = none }

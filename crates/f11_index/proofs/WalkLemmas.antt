@@ -1,5 +1,6 @@
 -- What is known of an index file while its headers are read, one after another.
-use Rattle.std.proofs.Common.{◌≡◌, ◌≢◌, ℕ, zero, suc, ◌+◌, ◌-◌, ◌<◌, ◌≤◌, ◌⊎◌, List, ◌++◌, length, drop, true, false, Option, Some, None, refl, sym, ap, subst, ◌∙◌, inl, inr, arith}
+use Rattle.std.proofs.Common.{◌≡◌, ◌≢◌, ℕ, zero, suc, ◌+◌, ◌-◌, ◌<◌, ◌≤◌, ◌⊎◌, List, ◌++◌, length, drop, true, false, Option, Some, None}
+use Rattle.std.proofs.Common.{refl, sym, ap, subst, ◌∙◌, inl, inr, arith}
 use Rattle.std.specs.List.{slice_get}
 use Rattle.std.proofs.lemmas.Bool.{both_ways, cases_lt, cases_eq}
 use Rattle.std.proofs.lemmas.List.{length-take, length-drop}
@@ -8,15 +9,18 @@ use Rattle.f11_dev.specs.Image.{Image, image_block}
 use Rattle.f11_header.specs.Fields.{file_sequence}
 use Rattle.f11_home.specs.Home.{HomeFields}
 use Rattle.f11_map.specs.HeaderBlock.{segment_number, link_of, blocks_named}
-use Rattle.f11_index.specs.IndexFile.{index_of, index_file_blocks, blocks_on, header_place, header_among, header_lbn, most_slots, slots, first_header_lbn}
+use Rattle.f11_index.specs.IndexFile.{index_of, index_file_blocks, blocks_on, header_place, header_among, header_lbn, most_slots, slots}
+use Rattle.f11_index.specs.IndexFile.{first_header_lbn}
 use Rattle.f11_index.specs.Sound.{IsPlaced, IsIndexFile}
-use Rattle.f11_index.specs.Table.{Table, table_in, table_of, IsLive, IsNext, IsHeaderOf, first, next, LinksRightly, IsWholeFile, last_sequence}
+use Rattle.f11_index.specs.Table.{Table, table_in, table_of, IsLive, IsNext, IsHeaderOf, first, next, LinksRightly, IsWholeFile}
+use Rattle.f11_index.specs.Table.{last_sequence}
 use Rattle.f11_index.proofs.BitLemmas.{is_in_use-none}
 use Rattle.f11_index.proofs.ChainLemmas.{file_of-header, same-segment, links-before}
 use Rattle.f11_index.proofs.PlaceLemmas.{slice_get-append_front, get_or-header}
 
 -- the blocks so far stay where they are
-pub so_far : (most : ℕ) (image : Image) (home : HomeFields) (known : List ℕ) (at : Option ℕ) (i lbn : ℕ) → slice_get known i ≡ Some lbn → slice_get (blocks_on most image home known at) i ≡ Some lbn
+pub so_far : (most : ℕ) (image : Image) (home : HomeFields) (known : List ℕ) (at : Option ℕ) (i lbn : ℕ) → slice_get known i ≡ Some lbn
+    → slice_get (blocks_on most image home known at) i ≡ Some lbn
 unfolding blocks_on
 so_far zero image home known at i lbn is = is
 so_far (suc most) image home known None i lbn is = is
@@ -30,13 +34,16 @@ ends (suc most) image home known = refl
 
 -- one header more
 pub goes_on : (most : ℕ) (image : Image) (home : HomeFields) (known : List ℕ) (lbn : ℕ) (header : List ℕ) → image_block image lbn ≡ header
-    → blocks_on (suc most) image home known (Some lbn) ≡ blocks_on most image home (known ++ blocks_named header) (header_among home (known ++ blocks_named header) (link_of header).number)
+    → blocks_on (suc most) image home known (Some lbn) ≡ blocks_on most image home (known ++ blocks_named header)
+    (header_among home (known ++ blocks_named header) (link_of header).number)
 unfolding blocks_on
 goes_on most image home known lbn header is =
-    ap (λ (b : List ℕ). blocks_on most image home (known ++ blocks_named b) (header_among home (known ++ blocks_named b) (link_of b).number)) is
+    ap (λ (b : List ℕ). blocks_on most image home (known ++ blocks_named b)
+    (header_among home (known ++ blocks_named b) (link_of b).number)) is
 
 -- the header of a number that isn't 0
-pub header_among-some : (home : HomeFields) (known : List ℕ) (n : ℕ) → 0 < n → header_among home known n ≡ slice_get known (header_place home n)
+pub header_among-some : (home : HomeFields) (known : List ℕ) (n : ℕ) → 0 < n
+    → header_among home known n ≡ slice_get known (header_place home n)
 header_among-some home known zero some = absurd (omega arith)
 header_among-some home known (suc n) some = refl
 
@@ -57,11 +64,13 @@ module _ (image : Image) (home : HomeFields) where
   all = index_file_blocks image home
 
   -- header n of the table stands where the index file has it
-  pub header_is : (n lbn : ℕ) → 0 < n → n ≤ most_slots home → slice_get all (header_place home n) ≡ Some lbn → t.header n ≡ image_block image lbn
+  pub header_is : (n lbn : ℕ) → 0 < n → n ≤ most_slots home → slice_get all (header_place home n) ≡ Some lbn
+      → t.header n ≡ image_block image lbn
   unfolding table_in index_of header_lbn
   header_is n lbn some few at =
       let place : header_place home n ≡ 2 + home.index_blocks + (n - 1) = omega arith in
-      ap (image_block image) (get_or-header all (2 + home.index_blocks) (most_slots home) (n - 1) lbn 0 (omega arith) (ap (slice_get all) (sym place) ∙ at))
+      ap (image_block image) (get_or-header all (2 + home.index_blocks) (most_slots home) (n - 1) lbn 0 (omega arith)
+      (ap (slice_get all) (sym place) ∙ at))
 
   -- a slot in use is a slot
   pub in_use-within : (n : ℕ) → (table_of image home).in_use n ≡ true → (0 < n) × (n ≤ slots (index_of image home))
@@ -118,7 +127,12 @@ module _ (image : Image) (home : HomeFields) where
     place = place;
     due = λ good. elim (good.whole.links n (here.is_header is)) [
       | inl none ↦ absurd (some none)
-      | inr goes ↦ record { live = goes.to; sequence_is = sym goes.sequence; segment_is = goes.segment ∙ ap (λ (k : ℕ). k + 1) is.segment_is }
+      | inr goes ↦ record {
+        live = goes.to;
+        sequence_is = sym goes.sequence;
+        segment_is = goes.segment
+            ∙ ap (λ (k : ℕ). k + 1) is.segment_is;
+      }
     ];
     is_header = λ there. next (here.is_header is) (is_next there);
     right = λ there m of before. elim (cases_lt (segment_number (t.header m)) segment) [
@@ -130,7 +144,8 @@ module _ (image : Image) (home : HomeFields) where
     last = λ there. here.last is;
   }
     where
-      is_next : IsExpected (link_of (t.header n)).number (link_of (t.header n)).sequence (segment + 1) → IsNext t n (link_of (t.header n)).number
+      is_next : IsExpected (link_of (t.header n)).number (link_of (t.header n)).sequence (segment + 1)
+          → IsNext t n (link_of (t.header n)).number
       is_next there = record {
         from = is.live;
         to = there.live;
@@ -145,7 +160,8 @@ module _ (image : Image) (home : HomeFields) where
   no_header-zero n is = let never = is_in_use-none (index_of image home) 0 (inl refl) ∙ is.to.in_use in cc
 
   -- a header that links to none is the last
-  pub whole-last : (n sequence segment lbn : ℕ) → Arrives n sequence segment lbn → IsExpected n sequence segment → (link_of (t.header n)).number ≡ 0 → IsWholeFile t 1
+  pub whole-last : (n sequence segment lbn : ℕ) → Arrives n sequence segment lbn → IsExpected n sequence segment
+      → (link_of (t.header n)).number ≡ 0 → IsWholeFile t 1
   whole-last n sequence segment lbn here is none = record {
     file = file_of-header (here.is_header is);
     links = λ m of. elim (cases_lt (segment_number (t.header m)) segment) [
@@ -163,15 +179,24 @@ module _ (image : Image) (home : HomeFields) where
 
 module _ (image : Image) (home : HomeFields) (good : IsIndexFile image home) where
   -- a header of the index file is a slot, so the walk has found it by its end
-  pub found-there : (known : List ℕ) (m : ℕ) → 0 < m → m ≤ slots (index_of image home) → index_file_blocks image home ≡ known → ¬ (header_among home known m ≡ None)
+  pub found-there : (known : List ℕ) (m : ℕ) → 0 < m → m ≤ slots (index_of image home) → index_file_blocks image home ≡ known
+      → ¬ (header_among home known m ≡ None)
   unfolding index_of
   found-there known m some few so none =
       let all : List ℕ = index_file_blocks image home in
       let within : header_place home m < length known =
-      omega (arith, some, few, ap length so, length-take (most_slots home) (drop (2 + home.index_blocks) all), length-drop (2 + home.index_blocks) all) in
+      omega (
+        arith,
+        some,
+        few,
+        ap length so,
+        length-take (most_slots home) (drop (2 + home.index_blocks) all),
+        length-drop (2 + home.index_blocks) all,
+      ) in
       none-some _ (sym none ∙ header_among-some home known m some ∙ slice_get-get_or known (header_place home m) 0 within)
 
   -- the header that one links to
   pub linked-there : (m : ℕ) → IsHeaderOf (table_of image home) 1 m
-      → ((link_of ((table_of image home).header m)).number ≡ 0) ⊎ IsHeaderOf (table_of image home) 1 (link_of ((table_of image home).header m)).number
+      → ((link_of ((table_of image home).header m)).number ≡ 0)
+      ⊎ IsHeaderOf (table_of image home) 1 (link_of ((table_of image home).header m)).number
   linked-there m of = elim (good.whole.links m of) [ inl none ↦ inl none | inr goes ↦ inr (next of goes) ]

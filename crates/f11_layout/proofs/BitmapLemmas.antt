@@ -28,4 +28,10 @@ zero-bit k within =
 
 pub PutsBits-none : (l : Layout) (i : ℕ) → PutsBits l i 0 zero_block
 unfolding zero_block
-PutsBits-none l i = record { size = length-replicate {A = ℕ} 512 0; front = λ k below. absurd (omega (arith, below)); rest = λ k from within. zero-bit k within }
+PutsBits-none l i =
+    record {
+      size = length-replicate {A = ℕ} 512 0;
+      front = λ k below. absurd (omega (arith, below));
+      rest = λ k from within.
+          zero-bit k within;
+    }

@@ -5,7 +5,8 @@ use Rattle.f11_layout.specs.FreshHeader.{IsFreshHeader}
 use Rattle.f11_layout.specs.Places.{first_header}
 use Rattle.f11_layout.specs.declared.layout.Layout.{Layout}
 
-pub own-header : (l : Layout) (n : ℕ) (b : List ℕ) → 16 ≤ l.slots → 0 < n → n ≤ 5 → IsFreshHeader l n b → IsFreshBlock l (first_header l.max_files + (n - 1)) b
+pub own-header : (l : Layout) (n : ℕ) (b : List ℕ) → 16 ≤ l.slots → 0 < n → n ≤ 5 → IsFreshHeader l n b
+    → IsFreshBlock l (first_header l.max_files + (n - 1)) b
 own-header l n b slots some few fresh = record {
   boot = λ at. absurd (omega (arith, at));
   home = λ at. absurd (omega (arith, at));

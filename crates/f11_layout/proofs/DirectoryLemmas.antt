@@ -27,16 +27,24 @@ zero-record i within = ap (take 16) (drop-replicate (16 * i) 512 0) ∙ take-rep
 
 pub PutsRecords-none : (l : Layout) → PutsRecords l 0 zero_block
 unfolding zero_block
-PutsRecords-none l = record { size = length-replicate {A = ℕ} 512 0; front = λ i below. absurd (omega (arith, below)); rest = λ i from within. zero-record i within }
+PutsRecords-none l =
+    record {
+      size = length-replicate {A = ℕ} 512 0;
+      front = λ i below. absurd (omega (arith, below));
+      rest = λ i from within.
+          zero-record i within;
+    }
 
-pub PutsRecords-more : (l : Layout) (done at : ℕ) (old new words : List ℕ) (file : OwnFile) → length new ≡ 512 → PutsRecords l done old → at ≡ done → file ≡ own_file l (done + 1)
+pub PutsRecords-more : (l : Layout) (done at : ℕ) (old new words : List ℕ) (file : OwnFile) → length new ≡ 512 → PutsRecords l done old
+    → at ≡ done → file ≡ own_file l (done + 1)
     → words ≡ (done + 1) ∷ (done + 1) ∷ 0 ∷ file.name → record_in new at ≡ flat_map word_bytes words
     → ((i : ℕ) → i ≢ at → record_in new i ≡ record_in old i) → PutsRecords l (done + 1) new
 unfolding record_bytes
 PutsRecords-more l done at old new words file size puts here is said set others = record {
   size = size;
   front = λ i below. elim (cases_eq i done) [
-    | inl same ↦ rw same (subst (λ (k : ℕ). record_in new k ≡ own_record l done) here (set ∙ ap (flat_map word_bytes) (said ∙ ap (λ (f : OwnFile). (done + 1) ∷ (done + 1) ∷ 0 ∷ f.name) is)))
+    | inl same ↦ rw same (subst (λ (k : ℕ). record_in new k ≡ own_record l done) here
+        (set ∙ ap (flat_map word_bytes) (said ∙ ap (λ (f : OwnFile). (done + 1) ∷ (done + 1) ∷ 0 ∷ f.name) is)))
     | inr differ ↦ others i (λ same. differ (same ∙ here)) ∙ puts.front i (omega (arith, below, differ))
   ];
   rest = λ i from within. others i (λ same. omega (arith, from, same, here)) ∙ puts.rest i (omega (arith, from)) within;

@@ -22,7 +22,8 @@ use Rattle.f11_layout.specs.declared.layout.Layout.{Layout}
 use Rattle.f11_store.specs.declared.files.FileId.{FileId}
 
 -- what a header says that was changed
-says : (old new : List ℕ) (change : HeaderFields → HeaderFields) → IsTrue (holds_header old) → IsTrue (holds_header new) → header_in new ≡ header_with change old
+says : (old new : List ℕ) (change : HeaderFields → HeaderFields) → IsTrue (holds_header old) → IsTrue (holds_header new)
+    → header_in new ≡ header_with change old
     → header_fields new ≡ change (header_fields old)
 says old new change held holds is = same_Some _ _ (sym (header_in-held new holds) ∙ is ∙ ap (option_map change) (header_in-held old held))
 
@@ -39,10 +40,12 @@ zero-at n i = elim (cases_lt i n) [
 zero-behind : (m : List ℕ) → drop 10 m ≡ replicate 408 0 → (i : ℕ) → 10 ≤ i → slice_index m i ≡ 0
 zero-behind m zeros i past =
     let at : i ≡ 10 + (i - 10) = omega (arith, past) in
-    ap (λ (k : ℕ). get_or m k 0) at ∙ sym (get_or-drop 10 m (i - 10) 0) ∙ ap (λ (xs : List ℕ). get_or xs (i - 10) 0) zeros ∙ zero-at 408 (i - 10)
+    ap (λ (k : ℕ). get_or m k 0) at ∙ sym (get_or-drop 10 m (i - 10) 0) ∙ ap (λ (xs : List ℕ). get_or xs (i - 10) 0) zeros
+    ∙ zero-at 408 (i - 10)
 
 -- a header is fresh once its blocks are named
-pub fresh-named : (l : Layout) (n : ℕ) (old new : List ℕ) → IsBareHeader l n old → NamesBlocks (own_file l n).first (own_file l n).count old new → IsFreshHeader l n new
+pub fresh-named : (l : Layout) (n : ℕ) (old new : List ℕ) → IsBareHeader l n old
+    → NamesBlocks (own_file l n).first (own_file l n).count old new → IsFreshHeader l n new
 fresh-named l n old new bare names =
     let holds : IsTrue (holds_header new) = names.keeps.holds ∙ bare.none.holds in
     let same = says old new (λ h. record h { map = map_area new }) bare.none.holds holds names.fields in
@@ -67,20 +70,26 @@ abbrev own_id : ℕ → FileId
 own_id n = record { number = n; sequence = n; volume = 0 }
 
 -- an empty header with a name and attributes, sealed
-pub bare-made : (l : Layout) (n : ℕ) (file : OwnFile) (b one two three : List ℕ) → 0 < n → file ≡ own_file l n → b ≡ blank_header (own_id n) l.owner 57344 0 → IsEmptyHeader b (own_id n) l.owner 57344 0
+pub bare-made : (l : Layout) (n : ℕ) (file : OwnFile) (b one two three : List ℕ) → 0 < n → file ≡ own_file l n
+    → b ≡ blank_header (own_id n) l.owner 57344 0 → IsEmptyHeader b (own_id n) l.owner 57344 0
     → KeepsHeader b one → header_in one ≡ header_with (λ h. record h { ident = own_ident file.name }) b
     → KeepsHeader one two → header_in two ≡ header_with (λ h. record h { attributes = own_attributes file }) one
     → IsSealed two three → header_in three ≡ header_in two → IsBareHeader l n three
 unfolding zero_block
 bare-made l n file b one two three some is blank empty keeps_one says_one keeps_two says_two sealed says_three =
-    let held : IsTrue (holds_header b) = rw blank (holds-blank_header (own_id n) l.owner 57344 0 ∙ and_from _ _ (lt-ltb 0 n some) (lt-ltb 0 n some)) in
+    let held : IsTrue (holds_header b) =
+    rw blank (holds-blank_header (own_id n) l.owner 57344 0 ∙ and_from _ _ (lt-ltb 0 n some) (lt-ltb 0 n some)) in
     let held_one : IsTrue (holds_header one) = keeps_one.holds ∙ held in
     let held_two : IsTrue (holds_header two) = keeps_two.holds ∙ held_one in
     let held_three : IsTrue (holds_header three) = sealed.keeps.holds ∙ held_two in
-    let first : header_fields one ≡ record (header_fields b) { ident = own_ident file.name } = says b one (λ h. record h { ident = own_ident file.name }) held held_one says_one in
-    let second : header_fields two ≡ record (header_fields one) { attributes = own_attributes file } = says one two (λ h. record h { attributes = own_attributes file }) held_one held_two says_two in
-    let third : header_fields three ≡ header_fields two = same_Some _ _ (sym (header_in-held three held_three) ∙ says_three ∙ header_in-held two held_two) in
-    let map_is : map_area three ≡ map_area b = ap (λ (h : HeaderFields). h.map) third ∙ ap (λ (h : HeaderFields). h.map) second ∙ ap (λ (h : HeaderFields). h.map) first in
+    let first : header_fields one ≡ record (header_fields b) { ident = own_ident file.name } =
+    says b one (λ h. record h { ident = own_ident file.name }) held held_one says_one in
+    let second : header_fields two ≡ record (header_fields one) { attributes = own_attributes file } =
+    says one two (λ h. record h { attributes = own_attributes file }) held_one held_two says_two in
+    let third : header_fields three ≡ header_fields two =
+    same_Some _ _ (sym (header_in-held three held_three) ∙ says_three ∙ header_in-held two held_two) in
+    let map_is : map_area three ≡ map_area b = ap (λ (h : HeaderFields). h.map) third ∙ ap (λ (h : HeaderFields). h.map) second
+    ∙ ap (λ (h : HeaderFields). h.map) first in
     record {
       none = record {
         holds = held_three;
@@ -88,13 +97,20 @@ bare-made l n file b one two three some is blank empty keeps_one says_one keeps_
         room = ap places map_is ∙ empty.room;
         none = ap runs_of map_is ∙ no-runs (map_area b) empty.no_pointer;
       };
-      number_is = ap (λ (h : HeaderFields). h.number) third ∙ ap (λ (h : HeaderFields). h.number) second ∙ ap (λ (h : HeaderFields). h.number) first ∙ empty.number_is;
-      sequence_is = ap (λ (h : HeaderFields). h.sequence) third ∙ ap (λ (h : HeaderFields). h.sequence) second ∙ ap (λ (h : HeaderFields). h.sequence) first ∙ empty.sequence_is;
-      owner_is = ap (λ (h : HeaderFields). h.owner) third ∙ ap (λ (h : HeaderFields). h.owner) second ∙ ap (λ (h : HeaderFields). h.owner) first ∙ empty.owner_is;
-      protection_is = ap (λ (h : HeaderFields). h.protection) third ∙ ap (λ (h : HeaderFields). h.protection) second ∙ ap (λ (h : HeaderFields). h.protection) first ∙ empty.protection_is;
-      no_characteristics = ap (λ (h : HeaderFields). h.characteristics) third ∙ ap (λ (h : HeaderFields). h.characteristics) second ∙ ap (λ (h : HeaderFields). h.characteristics) first ∙ empty.no_characteristics;
-      attributes_are = ap (λ (h : HeaderFields). h.attributes) third ∙ ap (λ (h : HeaderFields). h.attributes) second ∙ ap own_attributes is;
-      ident_is = ap (λ (h : HeaderFields). h.ident) third ∙ ap (λ (h : HeaderFields). h.ident) second ∙ ap (λ (h : HeaderFields). h.ident) first ∙ ap (λ (f : OwnFile). own_ident f.name) is;
+      number_is = ap (λ (h : HeaderFields). h.number) third ∙ ap (λ (h : HeaderFields). h.number) second
+          ∙ ap (λ (h : HeaderFields). h.number) first ∙ empty.number_is;
+      sequence_is = ap (λ (h : HeaderFields). h.sequence) third ∙ ap (λ (h : HeaderFields). h.sequence) second
+          ∙ ap (λ (h : HeaderFields). h.sequence) first ∙ empty.sequence_is;
+      owner_is = ap (λ (h : HeaderFields). h.owner) third ∙ ap (λ (h : HeaderFields). h.owner) second
+          ∙ ap (λ (h : HeaderFields). h.owner) first ∙ empty.owner_is;
+      protection_is = ap (λ (h : HeaderFields). h.protection) third ∙ ap (λ (h : HeaderFields). h.protection) second
+          ∙ ap (λ (h : HeaderFields). h.protection) first ∙ empty.protection_is;
+      no_characteristics = ap (λ (h : HeaderFields). h.characteristics) third ∙ ap (λ (h : HeaderFields). h.characteristics) second
+          ∙ ap (λ (h : HeaderFields). h.characteristics) first ∙ empty.no_characteristics;
+      attributes_are = ap (λ (h : HeaderFields). h.attributes) third ∙ ap (λ (h : HeaderFields). h.attributes) second
+          ∙ ap own_attributes is;
+      ident_is = ap (λ (h : HeaderFields). h.ident) third ∙ ap (λ (h : HeaderFields). h.ident) second
+          ∙ ap (λ (h : HeaderFields). h.ident) first ∙ ap (λ (f : OwnFile). own_ident f.name) is;
       first_segment = ap segment map_is ∙ empty.segment_is;
       no_link = ap link map_is ∙ empty.no_link;
       most = ap most_words (map_is ∙ ap (λ (b : List ℕ). map_area b) blank);

@@ -15,7 +15,8 @@ use Rattle.f11_layout.specs.declared.layout.Layout.{Layout}
 
 pub fresh-index_blocks : (l : Layout) → bit_blocks l.max_files < 65536 → index_blocks (fresh_home l) ≡ bit_blocks l.max_files
 unfolding fresh_home with_numbers with_texts zero_block
-fresh-index_blocks l few = let is : index_blocks (fresh_home l) ≡ bit_blocks l.max_files % 256 + 256 * (bit_blocks l.max_files / 256) = refl in omega (arith, is)
+fresh-index_blocks l few =
+    let is : index_blocks (fresh_home l) ≡ bit_blocks l.max_files % 256 + 256 * (bit_blocks l.max_files / 256) = refl in omega (arith, is)
 
 pub fresh-index_lbn : (l : Layout) → index_lbn (fresh_home l) ≡ 2
 unfolding fresh_home with_numbers with_texts zero_block
@@ -29,7 +30,8 @@ fresh-max_files l few = let is : max_files (fresh_home l) ≡ l.max_files % 256 
 before-size : (b bytes : List ℕ) → length bytes ≡ 12 → length (with_bytes b 496 bytes) ≡ 512 → 496 ≤ length b
 before-size b bytes twelve size =
     let all : length (with_bytes b 496 bytes) ≡ length (take 496 b) + (length bytes + length (drop (496 + length bytes) b)) =
-    length-append (take 496 b) (bytes ++ drop (496 + length bytes) b) ∙ ap (λ (k : ℕ). length (take 496 b) + k) (length-append bytes (drop (496 + length bytes) b)) in
+    length-append (take 496 b) (bytes ++ drop (496 + length bytes) b)
+    ∙ ap (λ (k : ℕ). length (take 496 b) + k) (length-append bytes (drop (496 + length bytes) b)) in
     omega (arith, all, size, twelve, length-take 496 b, length-drop (496 + length bytes) b)
 
 set-behind : (b : List ℕ) (k v i : ℕ) → k < 46 → 46 ≤ i → slice_index (slice_set b k v) i ≡ slice_index b i
@@ -81,12 +83,14 @@ numbers-size l b =
     ∙ length-set _ 0 _
 
 -- the name of the format stands in its place
-format : (l : Layout) → length (with_numbers l (with_texts l zero_block)) ≡ 512 → slice_range (with_numbers l (with_texts l zero_block)) 496 508 ≡ codes "DECFILE11A  "
+format : (l : Layout) → length (with_numbers l (with_texts l zero_block)) ≡ 512
+    → slice_range (with_numbers l (with_texts l zero_block)) 496 508 ≡ codes "DECFILE11A  "
 unfolding with_texts
 format l size =
     let texts : List ℕ = with_texts l zero_block in
     let whole : length texts ≡ 512 = sym (numbers-size l texts) ∙ size in
-    slice_range-same (with_numbers l texts) texts 496 508 (numbers-size l texts) (λ i from to. numbers-behind l texts i (omega (arith, from)))
+    slice_range-same (with_numbers l texts) texts 496 508 (numbers-size l texts)
+    (λ i from to. numbers-behind l texts i (omega (arith, from)))
     ∙ slice_range-with_bytes _ 496 508 (codes "DECFILE11A  ") (before-size _ (codes "DECFILE11A  ") refl whole) refl
 
 fields : (l : Layout) (blocks : ℕ) → l.blocks ≤ blocks → length (with_numbers l (with_texts l zero_block)) ≡ 512
@@ -112,5 +116,6 @@ pub fresh-home : (l : Layout) (blocks : ℕ) → l.blocks ≤ blocks → length 
 unfolding fresh_home
 fresh-home l blocks room size =
     let b : List ℕ = with_numbers l (with_texts l zero_block) in
-    let whole : length b ≡ 512 = sym (length-with_word b 58 (word_sum b 29)) ∙ sym (length-with_word (with_word b 58 (word_sum b 29)) 510 (word_sum (with_word b 58 (word_sum b 29)) 255)) ∙ size in
+    let whole : length b ≡ 512 = sym (length-with_word b 58 (word_sum b 29))
+    ∙ sym (length-with_word (with_word b 58 (word_sum b 29)) 510 (word_sum (with_word b 58 (word_sum b 29)) 255)) ∙ size in
     IsHomeBlock-with_sums b blocks whole (fields l blocks room whole)

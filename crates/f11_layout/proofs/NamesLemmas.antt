@@ -11,11 +11,15 @@ use Rattle.f11_store.specs.File.{run_pointers}
 use Rattle.f11_layout.specs.NamesBlocks.{HasNoPointers, NamesBlocks}
 
 -- there is a place for each pointer
-pub has-places : (old : List ℕ) (count : ℕ) → count ≤ 256 * 102 → HasNoPointers old → run_pointers count ≤ places (map_area old) - length (runs_of (map_area old))
-has-places old count few empty = let none : length (runs_of (map_area old)) ≡ 0 = ap (λ (runs : List (ℕ × ℕ)). length runs) empty.none in omega (arith, few, none, empty.room)
+pub has-places : (old : List ℕ) (count : ℕ) → count ≤ 256 * 102 → HasNoPointers old
+    → run_pointers count ≤ places (map_area old) - length (runs_of (map_area old))
+has-places old count few empty =
+    let none : length (runs_of (map_area old)) ≡ 0 = ap (λ (runs : List (ℕ × ℕ)). length runs) empty.none in
+    omega (arith, few, none, empty.room)
 
 -- behind none, the pointers are all that there are
-pub names-blocks : (first count : ℕ) (old new : List ℕ) → HasNoPointers old → AppendsRuns old new first count → NamesBlocks first count old new
+pub names-blocks : (first count : ℕ) (old new : List ℕ) → HasNoPointers old → AppendsRuns old new first count
+    → NamesBlocks first count old new
 names-blocks first count old new empty appends = record {
   keeps = appends.header.seals.keeps;
   sum = appends.header.seals.sum;

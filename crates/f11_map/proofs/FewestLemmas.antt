@@ -1,5 +1,6 @@
 -- Facts about the fewest pointers that name blocks in a row, and how they are written one by one.
-use Rattle.std.proofs.Common.{◌≡◌, ℕ, zero, suc, ◌+◌, ◌-◌, ◌*◌, ◌/◌, ◌%◌, ◌<◌, ◌≤◌, min, true, false, List, [], ◌∷◌, ◌++◌, length, get_or, take, map, refl, sym, ap, ◌∙◌, ⊎_elim, arith, add-one, append_assoc}
+use Rattle.std.proofs.Common.{◌≡◌, ℕ, zero, suc, ◌+◌, ◌-◌, ◌*◌, ◌/◌, ◌%◌, ◌<◌, ◌≤◌, min, true, false, List, [], ◌∷◌, ◌++◌, length, get_or}
+use Rattle.std.proofs.Common.{take, map, refl, sym, ap, ◌∙◌, ⊎_elim, arith, add-one, append_assoc}
 use Rattle.std.specs.List.{All, range_with_len}
 use Rattle.std.proofs.lemmas.Bool.{cases_lt, cond-true, false_from_ne_true}
 use Rattle.std.proofs.lemmas.Bool.Decides.{nat_tests}
@@ -29,7 +30,8 @@ pub length-fewest_runs : (lbn count : ℕ) → length (fewest_runs lbn count) �
 length-fewest_runs lbn count = length-map-range_with_len (fewest_run lbn count) 0 (run_pointers count)
 
 -- and with those before them
-pub length-behind : (before runs : List (ℕ × ℕ)) (lbn count : ℕ) → runs ≡ before ++ fewest_runs lbn count → length runs ≡ length before + run_pointers count
+pub length-behind : (before runs : List (ℕ × ℕ)) (lbn count : ℕ) → runs ≡ before ++ fewest_runs lbn count
+    → length runs ≡ length before + run_pointers count
 length-behind before runs lbn count is =
     ap length is ∙ length-append before (fewest_runs lbn count) ∙ ap (λ (n : ℕ). length before + n) (length-fewest_runs lbn count)
 
@@ -42,7 +44,8 @@ blocks_in-first lbn count (suc n) few =
     ap (λ (k : ℕ). blocks_in (first_runs lbn count k)) (sym (add-one n)) ∙ ap blocks_in (first_runs-more lbn count n)
     ∙ blocks_in-append (first_runs lbn count n) (fewest_run lbn count n ∷ [])
     ∙ ap (λ (blocks : List ℕ). blocks ++ blocks_in (fewest_run lbn count n ∷ [])) (blocks_in-first lbn count n (omega arith))
-    ∙ ap (λ (blocks : List ℕ). range_with_len lbn (min (256 * n) count) ++ blocks) (append-nil (range_with_len (lbn + 256 * n) (min 256 (count - 256 * n))))
+    ∙ ap (λ (blocks : List ℕ). range_with_len lbn (min (256 * n) count) ++ blocks)
+    (append-nil (range_with_len (lbn + 256 * n) (min 256 (count - 256 * n))))
     ∙ ap (λ (from : ℕ). range_with_len lbn (min (256 * n) count) ++ range_with_len from (min 256 (count - 256 * n))) at
     ∙ sym (range_with_len-append lbn (min (256 * n) count) (min 256 (count - 256 * n))) ∙ ap (range_with_len lbn) all
 
@@ -53,9 +56,11 @@ blocks_in-fewest_runs lbn count =
     blocks_in-first lbn count (run_pointers count) (omega arith) ∙ ap (range_with_len lbn) all
 
 -- behind others
-pub blocks_in-behind : (before runs : List (ℕ × ℕ)) (lbn count : ℕ) → runs ≡ before ++ fewest_runs lbn count → blocks_in runs ≡ blocks_in before ++ range_with_len lbn count
+pub blocks_in-behind : (before runs : List (ℕ × ℕ)) (lbn count : ℕ) → runs ≡ before ++ fewest_runs lbn count
+    → blocks_in runs ≡ blocks_in before ++ range_with_len lbn count
 blocks_in-behind before runs lbn count is =
-    ap blocks_in is ∙ blocks_in-append before (fewest_runs lbn count) ∙ ap (λ (blocks : List ℕ). blocks_in before ++ blocks) (blocks_in-fewest_runs lbn count)
+    ap blocks_in is ∙ blocks_in-append before (fewest_runs lbn count)
+    ∙ ap (λ (blocks : List ℕ). blocks_in before ++ blocks) (blocks_in-fewest_runs lbn count)
 
 -- pointers of 256 blocks at most name no more than that
 length-blocks_in-le : (runs : List (ℕ × ℕ)) → All (λ (run : ℕ × ℕ). run.1 ≤ 256) runs → length (blocks_in runs) ≤ 256 * length runs
@@ -66,8 +71,10 @@ length-blocks_in-le (r ∷ runs) few =
     omega (arith, length-blocks_in-cons r runs)
 
 -- so fewer can't name these
-pub are-fewest : (runs : List (ℕ × ℕ)) (lbn count : ℕ) → All (λ (run : ℕ × ℕ). run.1 ≤ 256) runs → count ≤ length (blocks_in runs) → length (fewest_runs lbn count) ≤ length runs
-are-fewest runs lbn count few name = let all : length (blocks_in runs) ≤ 256 * length runs = length-blocks_in-le runs few in omega (arith, length-fewest_runs lbn count)
+pub are-fewest : (runs : List (ℕ × ℕ)) (lbn count : ℕ) → All (λ (run : ℕ × ℕ). run.1 ≤ 256) runs → count ≤ length (blocks_in runs)
+    → length (fewest_runs lbn count) ≤ length runs
+are-fewest runs lbn count few name =
+    let all : length (blocks_in runs) ≤ 256 * length runs = length-blocks_in-le runs few in omega (arith, length-fewest_runs lbn count)
 
 -- pointers of 256 blocks, and those behind them
 module _ (lbn pointers count : ℕ) where
@@ -96,7 +103,8 @@ module _ (lbn pointers count : ℕ) where
       let from : lbn + 256 * pointers + 256 * (k - pointers) ≡ lbn + 256 * k = omega arith in
       let same : min 256 (count - 256 * (k - pointers)) ≡ min 256 (256 * pointers + count - 256 * k) = omega arith in
       get_or-append_right front back pointers k (0, 0) (length-fewest_runs lbn (256 * pointers) ∙ whole) past
-      ∙ get_or-map-range_with_len (fewest_run (lbn + 256 * pointers) count) 0 (run_pointers count) (k - pointers) (k - pointers) (0, 0) (omega arith) (omega arith)
+      ∙ get_or-map-range_with_len (fewest_run (lbn + 256 * pointers) count) 0 (run_pointers count) (k - pointers) (k - pointers) (0, 0)
+      (omega arith) (omega arith)
       ∙ (λ j. (from j, same j))
 
   pub go-on : fewest_runs lbn (256 * pointers + count) ≡ fewest_runs lbn (256 * pointers) ++ fewest_runs (lbn + 256 * pointers) count
@@ -105,7 +113,8 @@ module _ (lbn pointers count : ℕ) where
       let sum : run_pointers (256 * pointers + count) ≡ pointers + run_pointers count = omega arith in
       sym (fill_by_all (fewest_run lbn all) (front ++ back) (run_pointers all) (0, 0)
       (omega (arith, length-append front back, length-fewest_runs lbn (256 * pointers), length-fewest_runs (lbn + 256 * pointers) count))
-      (λ k below. ⊎_elim (λ (before : k < pointers). in-front k before) (λ (past : pointers ≤ k). in-back k past (omega arith)) (cases_lt k pointers)))
+      (λ k below. ⊎_elim (λ (before : k < pointers). in-front k before) (λ (past : pointers ≤ k). in-back k past (omega arith))
+      (cases_lt k pointers)))
 
 -- a pointer that is last, behind others
 joins_last-behind : (before : List (ℕ × ℕ)) (run : ℕ × ℕ) (lbn count : ℕ) → joins_last (before ++ run ∷ []) lbn count ≡ joins run lbn count
@@ -118,7 +127,8 @@ with_blocks-behind : (before : List (ℕ × ℕ)) (run : ℕ × ℕ) (lbn count 
     → with_blocks (before ++ run ∷ []) lbn count ≡ before ++ (run.0, run.1 + count) ∷ []
 with_blocks-behind [] run lbn count joined = cond-true (joins run lbn count) _ _ joined
 with_blocks-behind (r ∷ []) run lbn count joined = ap (λ (rest : List (ℕ × ℕ)). r ∷ rest) (cond-true (joins run lbn count) _ _ joined)
-with_blocks-behind (r ∷ s ∷ before) run lbn count joined = ap (λ (rest : List (ℕ × ℕ)). r ∷ rest) (with_blocks-behind (s ∷ before) run lbn count joined)
+with_blocks-behind (r ∷ s ∷ before) run lbn count joined =
+    ap (λ (rest : List (ℕ × ℕ)). r ∷ rest) (with_blocks-behind (s ∷ before) run lbn count joined)
 
 -- one pointer names 256 blocks at most
 one-run : (lbn count : ℕ) → 0 < count → count ≤ 256 → fewest_runs lbn count ≡ (lbn, count) ∷ []
@@ -132,7 +142,8 @@ one-run lbn count some few =
 with-rest : (lbn pointers rest : ℕ) → 0 < rest → rest ≤ 256
     → fewest_runs lbn (256 * pointers + rest) ≡ fewest_runs lbn (256 * pointers) ++ (lbn + 256 * pointers, rest) ∷ []
 with-rest lbn pointers rest some few =
-    go-on lbn pointers rest ∙ ap (λ (runs : List (ℕ × ℕ)). fewest_runs lbn (256 * pointers) ++ runs) (one-run (lbn + 256 * pointers) rest some few)
+    go-on lbn pointers rest ∙ ap (λ (runs : List (ℕ × ℕ)). fewest_runs lbn (256 * pointers) ++ runs)
+    (one-run (lbn + 256 * pointers) rest some few)
 
 -- one block more joins the last pointer where that names fewer
 joins-rest : (lbn pointers rest : ℕ) → 0 < rest → rest < 256
@@ -153,9 +164,11 @@ none-joins lbn (suc pointers) at =
     ap (λ (count : ℕ). joins_last (fewest_runs lbn count) at 1) sum
     ∙ ap (λ (runs : List (ℕ × ℕ)). joins_last runs at 1) (with-rest lbn pointers 256 (omega arith) (omega arith))
     ∙ joins_last-behind (fewest_runs lbn (256 * pointers)) (lbn + 256 * pointers, 256) at 1
-    ∙ false_from_ne_true (joins (lbn + 256 * pointers, 256) at 1) (λ joined. let fits = joins-fits (lbn + 256 * pointers, 256) at 1 joined in absurd (omega arith))
+    ∙ false_from_ne_true (joins (lbn + 256 * pointers, 256) at 1)
+    (λ joined. let fits = joins-fits (lbn + 256 * pointers, 256) at 1 joined in absurd (omega arith))
 
-takes-one : (lbn pointers : ℕ) → with_blocks (fewest_runs lbn (256 * pointers)) (lbn + 256 * pointers) 1 ≡ fewest_runs lbn (256 * pointers + 1)
+takes-one : (lbn pointers : ℕ)
+    → with_blocks (fewest_runs lbn (256 * pointers)) (lbn + 256 * pointers) 1 ≡ fewest_runs lbn (256 * pointers + 1)
 takes-one lbn pointers =
     with_blocks-apart (fewest_runs lbn (256 * pointers)) (lbn + 256 * pointers) 1 (none-joins lbn pointers (lbn + 256 * pointers))
     ∙ sym (with-rest lbn pointers 1 (omega arith) (omega arith))
@@ -170,7 +183,8 @@ one-by-one lbn count =
     ∙ ap (λ (n : ℕ). with_blocks (fewest_runs lbn n) (lbn + n) 1) sum)
     (λ (none : count % 256 ≤ 0).
     let even : 256 * (count / 256) ≡ count = omega arith in
-    ap (λ (n : ℕ). fewest_runs lbn (n + 1)) (sym even) ∙ sym (takes-one lbn (count / 256)) ∙ ap (λ (n : ℕ). with_blocks (fewest_runs lbn n) (lbn + n) 1) even)
+    ap (λ (n : ℕ). fewest_runs lbn (n + 1)) (sym even) ∙ sym (takes-one lbn (count / 256))
+    ∙ ap (λ (n : ℕ). with_blocks (fewest_runs lbn n) (lbn + n) 1) even)
     (cases_lt 0 (count % 256))
 
 -- The first n of them are written, behind the pointers that there were.
@@ -186,11 +200,13 @@ length-puts lbn count n old new puts =
 
 -- one pointer more
 pub PutsRuns-more : (lbn count n pointers : ℕ) (old mid new : List ℕ) → PutsRuns lbn count n old mid → pointers ≡ length (runs_of old)
-    → runs_of new ≡ take (pointers + n) (runs_of mid) ++ fewest_run lbn count n ∷ [] → WritesPointers mid new → PutsRuns lbn count (n + 1) old new
+    → runs_of new ≡ take (pointers + n) (runs_of mid) ++ fewest_run lbn count n ∷ [] → WritesPointers mid new
+    → PutsRuns lbn count (n + 1) old new
 PutsRuns-more lbn count n pointers old mid new puts are last writes =
     let run : List (ℕ × ℕ) = fewest_run lbn count n ∷ [] in
     let grown : runs_of new ≡ runs_of mid ++ run =
-    last ∙ ap (λ (runs : List (ℕ × ℕ)). runs ++ run) (take_all (pointers + n) (runs_of mid) (omega (arith, length-puts lbn count n old mid puts))) in
+    last ∙ ap (λ (runs : List (ℕ × ℕ)). runs ++ run)
+    (take_all (pointers + n) (runs_of mid) (omega (arith, length-puts lbn count n old mid puts))) in
     record {
       pointers = grown ∙ ap (λ (runs : List (ℕ × ℕ)). runs ++ run) puts.pointers ∙ append_assoc (runs_of old) (first_runs lbn count n) run
           ∙ ap (λ (runs : List (ℕ × ℕ)). runs_of old ++ runs) (sym (first_runs-more lbn count n));

@@ -1,10 +1,12 @@
 -- Facts about the bytes of a map area that are written.
-use Rattle.std.proofs.Common.{◌≡◌, ◌≢◌, ◌⊎◌, inl, inr, ⊎_elim, ℕ, ◌+◌, ◌-◌, ◌*◌, ◌/◌, ◌%◌, ◌<◌, ◌≤◌, min, List, [], ◌∷◌, ◌++◌, length, take, drop, map, refl, sym, ap, ◌∙◌, arith}
+use Rattle.std.proofs.Common.{◌≡◌, ◌≢◌, ◌⊎◌, inl, inr, ⊎_elim, ℕ, ◌+◌, ◌-◌, ◌*◌, ◌/◌, ◌%◌, ◌<◌, ◌≤◌, min, List, [], ◌∷◌, ◌++◌, length, take}
+use Rattle.std.proofs.Common.{drop, map, refl, sym, ap, ◌∙◌, arith}
 use Rattle.std.specs.Prelude.{slice_index}
 use Rattle.std.specs.List.{range_with_len}
 use Rattle.std.proofs.Math.ListN.{set}
 use Rattle.std.proofs.lemmas.Grind.{same_number_lists}
-use Rattle.std.proofs.lemmas.List.{length-set, length-take, length-drop, get_or-take, get_or-drop, get_or-set_same, get_or-set_other, take_all}
+use Rattle.std.proofs.lemmas.List.{length-set, length-take, length-drop, get_or-take, get_or-drop, get_or-set_same, get_or-set_other}
+use Rattle.std.proofs.lemmas.List.{take_all}
 use Rattle.std.proofs.lemmas.List.FromFn.{fill_by_all, get_or-map-range_with_len, map-range_with_len_more}
 use Rattle.f11_bytes.specs.Words.{word, with_word}
 use Rattle.f11_bytes.proofs.WordLemmas.{length-with_word, slice_index-with_word, word-with_word, word-with_word_apart}
@@ -21,18 +23,21 @@ length-with_run m i run =
     let at : ℕ = 10 + 4 * i in
     let high : List ℕ = set m at (run.0 / 65536) in
     let count : List ℕ = set high (at + 1) (run.1 - 1) in
-    length-set (set count (at + 2) (run.0 % 65536 % 256)) (at + 2 + 1) (run.0 % 65536 / 256) ∙ length-set count (at + 2) (run.0 % 65536 % 256)
+    length-set (set count (at + 2) (run.0 % 65536 % 256)) (at + 2 + 1) (run.0 % 65536 / 256)
+    ∙ length-set count (at + 2) (run.0 % 65536 % 256)
     ∙ length-set high (at + 1) (run.1 - 1) ∙ length-set m at (run.0 / 65536)
 
 -- a byte outside of the pointer that is written
-slice_index-with_run : (m : List ℕ) (i k : ℕ) (run : ℕ × ℕ) → k < 10 + 4 * i ⊎ 14 + 4 * i ≤ k → slice_index (with_run m i run) k ≡ slice_index m k
+slice_index-with_run : (m : List ℕ) (i k : ℕ) (run : ℕ × ℕ) → k < 10 + 4 * i ⊎ 14 + 4 * i ≤ k
+    → slice_index (with_run m i run) k ≡ slice_index m k
 slice_index-with_run m i k run apart =
     let at : ℕ = 10 + 4 * i in
     let high : List ℕ = set m at (run.0 / 65536) in
     let count : List ℕ = set high (at + 1) (run.1 - 1) in
     let differs : (j : ℕ) → j < 4 → k ≢ at + j = λ j few is. ⊎_elim (λ before. omega arith) (λ behind. omega arith) apart in
     slice_index-with_word count (at + 2) (run.0 % 65536) k (differs 2 (omega arith)) (λ is. differs 3 (omega arith) (omega arith))
-    ∙ get_or-set_other high (at + 1) k (run.1 - 1) 0 (differs 1 (omega arith)) ∙ get_or-set_other m at k (run.0 / 65536) 0 (λ is. differs 0 (omega arith) (omega arith))
+    ∙ get_or-set_other high (at + 1) k (run.1 - 1) 0 (differs 1 (omega arith))
+    ∙ get_or-set_other m at k (run.0 / 65536) 0 (λ is. differs 0 (omega arith) (omega arith))
 
 -- the pointer that is written
 run_at-with_run : (m : List ℕ) (i : ℕ) (run : ℕ × ℕ) → 14 + 4 * i ≤ length m → 0 < run.1 → run_at (with_run m i run) i ≡ run
@@ -54,7 +59,8 @@ run_at-with_run m i run room some =
     λ k. (lbn k, blocks k)
 
 -- a pointer whose bytes stay
-run_at-same : (old new : List ℕ) (i : ℕ) → ((k : ℕ) → 10 + 4 * i ≤ k → k < 14 + 4 * i → slice_index new k ≡ slice_index old k) → run_at new i ≡ run_at old i
+run_at-same : (old new : List ℕ) (i : ℕ) → ((k : ℕ) → 10 + 4 * i ≤ k → k < 14 + 4 * i → slice_index new k ≡ slice_index old k)
+    → run_at new i ≡ run_at old i
 run_at-same old new i same =
     let at : ℕ = 10 + 4 * i in
     let high = same at (omega arith) (omega arith) in
@@ -64,7 +70,8 @@ run_at-same old new i same =
     λ k. (high k * 65536 + (low k + 256 * middle k), count k + 1)
 
 -- pointers whose bytes stay
-runs_front : (old new : List ℕ) (n : ℕ) → n ≤ length (runs_of old) → ((k : ℕ) → 10 ≤ k → k < 10 + 4 * n → slice_index new k ≡ slice_index old k)
+runs_front : (old new : List ℕ) (n : ℕ) → n ≤ length (runs_of old)
+    → ((k : ℕ) → 10 ≤ k → k < 10 + 4 * n → slice_index new k ≡ slice_index old k)
     → map (run_at new) (range_with_len 0 n) ≡ take n (runs_of old)
 unfolding runs_of
 runs_front old new n few same =
@@ -75,12 +82,14 @@ runs_front old new n few same =
     ∙ sym (run_at-same old new k (λ j from to. same j (omega arith) (omega arith)))))
 
 -- all pointers stay
-runs_of-same : (old new : List ℕ) → words_in_use new ≡ words_in_use old → ((k : ℕ) → 10 ≤ k → slice_index new k ≡ slice_index old k) → runs_of new ≡ runs_of old
+runs_of-same : (old new : List ℕ) → words_in_use new ≡ words_in_use old → ((k : ℕ) → 10 ≤ k → slice_index new k ≡ slice_index old k)
+    → runs_of new ≡ runs_of old
 unfolding runs_of
 runs_of-same old new in_use same =
     let all : length (runs_of old) ≡ words_in_use old / 2 = length-runs_of old in
     ap (λ (words : ℕ). map (run_at new) (range_with_len 0 (words / 2))) in_use
-    ∙ runs_front old new (words_in_use old / 2) (omega arith) (λ k from to. same k from) ∙ take_all (words_in_use old / 2) (runs_of old) (omega arith)
+    ∙ runs_front old new (words_in_use old / 2) (omega arith) (λ k from to. same k from)
+    ∙ take_all (words_in_use old / 2) (runs_of old) (omega arith)
 
 -- All bytes stay but M.USE, which is right for n pointers, and the pointers from i on.
 pub record Rewrites (old new : List ℕ) (i n : ℕ) : Type 0 where
@@ -97,7 +106,8 @@ Rewrites-kept m n long = record {
 }
 
 -- a pointer and M.USE are written
-pub Rewrites-last : (m : List ℕ) (i : ℕ) (run : ℕ × ℕ) → 14 + 4 * i ≤ length m → Rewrites m (with_words_in_use (with_run m i run) (2 * (i + 1))) i (i + 1)
+pub Rewrites-last : (m : List ℕ) (i : ℕ) (run : ℕ × ℕ) → 14 + 4 * i ≤ length m
+    → Rewrites m (with_words_in_use (with_run m i run) (2 * (i + 1))) i (i + 1)
 Rewrites-last m i run room =
     let long : length (with_run m i run) ≡ length m = length-with_run m i run in
     record {
@@ -124,14 +134,17 @@ runs_of-last old i run room some few =
     let new : List ℕ = with_words_in_use put (2 * (i + 1)) in
     let writes : Rewrites old new i (i + 1) = Rewrites-last old i run room in
     let in_use : words_in_use new ≡ 2 * (i + 1) = writes.in_use in
-    let last : run_at new i ≡ run = run_at-same put new i (λ k from to. get_or-set_other put 8 k (2 * (i + 1)) 0 (λ is. omega arith)) ∙ run_at-with_run old i run room some in
+    let last : run_at new i ≡ run = run_at-same put new i (λ k from to. get_or-set_other put 8 k (2 * (i + 1)) 0 (λ is. omega arith))
+    ∙ run_at-with_run old i run room some in
     ap (λ (c : ℕ). map (run_at new) (range_with_len 0 c)) (omega arith) ∙ map-range_with_len_more (run_at new) 0 i i (omega arith)
-    ∙ ap (λ (front : List (ℕ × ℕ)). front ++ run_at new i ∷ []) (runs_front old new i few (λ k from to. writes.others k (λ is. omega arith) (inl to)))
+    ∙ ap (λ (front : List (ℕ × ℕ)). front ++ run_at new i ∷ [])
+    (runs_front old new i few (λ k from to. writes.others k (λ is. omega arith) (inl to)))
     ∙ ap (λ (x : ℕ × ℕ). take i (runs_of old) ++ x ∷ []) last
 
 -- the places are as many
 places-same : (old new : List ℕ) → length new ≡ length old → most_words new ≡ most_words old → places new ≡ places old
-places-same old new size most = ap (λ (w : ℕ). min w ((length new - 10) / 2) / 2) most ∙ ap (λ (l : ℕ). min (most_words old) ((l - 10) / 2) / 2) size
+places-same old new size most =
+    ap (λ (w : ℕ). min w ((length new - 10) / 2) / 2) most ∙ ap (λ (l : ℕ). min (most_words old) ((l - 10) / 2) / 2) size
 
 -- it is still a map area
 IsMapArea-from : (old new : List ℕ) (i n : ℕ) → Rewrites old new i n → IsMapArea old → n ≤ places old → IsMapArea new
@@ -159,12 +172,14 @@ pub WritesPointers-from : (old new : List ℕ) (i n : ℕ) → Rewrites old new 
 WritesPointers-from old new i n writes area few =
     let size : length new ≡ length old = writes.size in
     let count : length (runs_of new) ≡ n = omega (arith, length-runs_of new, writes.in_use) in
-    let byte : (k : ℕ) → k < 8 → slice_index new k ≡ slice_index old k = λ k front. writes.others k (λ is. omega arith) (inl (omega arith)) in
+    let byte : (k : ℕ) → k < 8
+    → slice_index new k ≡ slice_index old k = λ k front. writes.others k (λ is. omega arith) (inl (omega arith)) in
     record {
       valid = IsMapArea-from old new i n writes area few;
       size = size;
       front = same_number_lists (take 8 new) (take 8 old) (omega (arith, length-take 8 new, length-take 8 old))
-          (λ k below. let front : k < 8 = omega (arith, length-take 8 new) in get_or-take 8 new k 0 front ∙ writes.others k (λ is. omega arith) (inl (omega arith)) ∙ sym (get_or-take 8 old k 0 front));
+          (λ k below. let front : k < 8 = omega (arith, length-take 8 new) in get_or-take 8 new k 0 front
+          ∙ writes.others k (λ is. omega arith) (inl (omega arith)) ∙ sym (get_or-take 8 old k 0 front));
       segment_stays = byte 0 (omega arith);
       link_stays = λ k. record {
         number = byte 2 (omega arith) k + 256 * byte 3 (omega arith) k;
@@ -177,10 +192,12 @@ WritesPointers-from old new i n writes area few =
 
 -- nothing is written
 pub WritesPointers-same : (m : List ℕ) → IsMapArea m → WritesPointers m m
-WritesPointers-same m area = record { valid = area; size = refl; front = refl; segment_stays = refl; link_stays = refl; most = refl; behind = λ i past. refl }
+WritesPointers-same m area =
+    record { valid = area; size = refl; front = refl; segment_stays = refl; link_stays = refl; most = refl; behind = λ i past. refl }
 
 -- pointers are written twice, the second time no fewer
-pub WritesPointers-then : (old mid new : List ℕ) → length (runs_of mid) ≤ length (runs_of new) → WritesPointers old mid → WritesPointers mid new → WritesPointers old new
+pub WritesPointers-then : (old mid new : List ℕ) → length (runs_of mid) ≤ length (runs_of new) → WritesPointers old mid
+    → WritesPointers mid new → WritesPointers old new
 WritesPointers-then old mid new more one two = record {
   valid = two.valid;
   size = two.size ∙ one.size;
@@ -195,10 +212,12 @@ WritesPointers-then old mid new more one two = record {
 abbrev with_link : List ℕ → ℕ → ℕ → ℕ → List ℕ
 with_link m volume number sequence = with_word (with_word (set m 1 volume) 2 number) 4 sequence
 
-slice_index-with_link : (m : List ℕ) (volume number sequence k : ℕ) → k ≡ 0 ⊎ 6 ≤ k → slice_index (with_link m volume number sequence) k ≡ slice_index m k
+slice_index-with_link : (m : List ℕ) (volume number sequence k : ℕ) → k ≡ 0 ⊎ 6 ≤ k
+    → slice_index (with_link m volume number sequence) k ≡ slice_index m k
 slice_index-with_link m volume number sequence k apart =
     let differs : (j : ℕ) → 0 < j → j < 6 → k ≢ j = λ j some few is. ⊎_elim (λ first. omega arith) (λ behind. omega arith) apart in
-    slice_index-with_word (with_word (set m 1 volume) 2 number) 4 sequence k (differs 4 (omega arith) (omega arith)) (differs 5 (omega arith) (omega arith))
+    slice_index-with_word (with_word (set m 1 volume) 2 number) 4 sequence k (differs 4 (omega arith) (omega arith))
+    (differs 5 (omega arith) (omega arith))
     ∙ slice_index-with_word (set m 1 volume) 2 number k (differs 2 (omega arith) (omega arith)) (differs 3 (omega arith) (omega arith))
     ∙ get_or-set_other m 1 k volume 0 (differs 1 (omega arith) (omega arith))
 
@@ -236,11 +255,14 @@ WritesLink-with_link m id area =
     let new : List ℕ = with_link m 0 id.number id.sequence in
     let long : length new ≡ length m = grind (arith, length-set) in
     let byte : (k : ℕ) → k ≡ 0 ⊎ 6 ≤ k → slice_index new k ≡ slice_index m k = slice_index-with_link m 0 id.number id.sequence in
-    let number : word new 2 ≡ id.number = word-with_word_apart twice 4 id.sequence 2 (inl (omega arith)) ∙ word-with_word once 2 id.number (omega (arith, area.fields, length-set m 1 0)) in
-    let sequence : word new 4 ≡ id.sequence = word-with_word twice 4 id.sequence (omega (arith, area.fields, length-with_word once 2 id.number, length-set m 1 0)) in
+    let number : word new 2 ≡ id.number = word-with_word_apart twice 4 id.sequence 2 (inl (omega arith))
+    ∙ word-with_word once 2 id.number (omega (arith, area.fields, length-set m 1 0)) in
+    let sequence : word new 4 ≡ id.sequence =
+    word-with_word twice 4 id.sequence (omega (arith, area.fields, length-with_word once 2 id.number, length-set m 1 0)) in
     let volume : slice_index new 1 ≡ 0 =
     slice_index-with_word twice 4 id.sequence 1 (λ is. omega arith) (λ is. omega arith)
-    ∙ slice_index-with_word once 2 id.number 1 (λ is. omega arith) (λ is. omega arith) ∙ get_or-set_same m 1 0 0 (omega (arith, area.fields)) in
+    ∙ slice_index-with_word once 2 id.number 1 (λ is. omega arith) (λ is. omega arith)
+    ∙ get_or-set_same m 1 0 0 (omega (arith, area.fields)) in
     record {
       valid = IsMapArea-with_link m 0 id.number id.sequence area;
       size = long;

@@ -14,9 +14,11 @@ no_comma ds most digits i within is =
     absurd (omega arith)
 
 -- the text of a user's code is cut at its comma
-pub split_at_comma : (text : List ℕ) (uic : Uic) (r : Option (Bor (List ℕ) × Bor (List ℕ))) → IsSplitOnceResult 44 text r → (s : SpellsUic text uic)
+pub split_at_comma : (text : List ℕ) (uic : Uic) (r : Option (Bor (List ℕ) × Bor (List ℕ))) → IsSplitOnceResult 44 text r
+    → (s : SpellsUic text uic)
     → MatchOption r ⊥ (λ x. (x.0.now ≡ s.group) × (x.1.now ≡ s.member))
-split_at_comma text uic r split s = split_after 44 text s.group s.member r split (omega arith) s.is_text (no_comma s.group 255 s.group_digits)
+split_at_comma text uic r split s =
+    split_after 44 text s.group s.member r split (omega arith) s.is_text (no_comma s.group 255 s.group_digits)
 
 pub same_uic : (a b : Uic) → a.group ≡ b.group → a.member ≡ b.member → a ≡ b
 same_uic a b group member = λ i. record { group = group i; member = member i }

@@ -66,7 +66,8 @@ abbrev to_rt-6 : Text → Text → Text → Text → Text → Text → Walk
 to_rt-6 mode image uic name rt rt_name = with_positional to_rt_shape.rules (to_rt-5 mode image uic name rt).held 5 rt_name
 
 walk-to_rt : (mode image uic name rt rt_name : Text) → ArePlain (mode ∷ image ∷ uic ∷ name ∷ rt ∷ rt_name ∷ [])
-    → walk to_rt_shape.rules [] nothing_held (codes "--mode" ∷ mode ∷ image ∷ uic ∷ name ∷ rt ∷ rt_name ∷ []) ≡ to_rt-6 mode image uic name rt rt_name
+    → walk to_rt_shape.rules [] nothing_held
+    (codes "--mode" ∷ mode ∷ image ∷ uic ∷ name ∷ rt ∷ rt_name ∷ []) ≡ to_rt-6 mode image uic name rt rt_name
 walk-to_rt mode image uic name rt rt_name plain = mode-to_rt (mode ∷ image ∷ uic ∷ name ∷ rt ∷ rt_name ∷ [])
     ∙ fold-value to_rt_shape.rules (codes "mode") mode_met 1 mode (image ∷ uic ∷ name ∷ rt ∷ rt_name ∷ []) (plain 0 [] (omega arith))
     ∙ fold-plain to_rt_shape.rules (to_rt-1 mode).held 1 image (uic ∷ name ∷ rt ∷ rt_name ∷ []) (plain 1 [] (omega arith))
@@ -93,13 +94,15 @@ level-to_rt mode image uic name rt rt_name plain =
     && (settle_passes to_rt_shape.rules to_rt_shape.args_override_self w.held && (list_all default_passes to_rt_shape.rules
     && is_valid to_rt_shape (finished to_rt_shape.rules w.held) false))) (walk-to_rt mode image uic name rt rt_name plain)
     ∙ ap (λ (p : Bool). p && (settle_passes to_rt_shape.rules to_rt_shape.args_override_self (to_rt-6 mode image uic name rt rt_name).held
-    && (list_all default_passes to_rt_shape.rules && is_valid to_rt_shape (finished to_rt_shape.rules (to_rt-6 mode image uic name rt rt_name).held) false)))
+    && (list_all default_passes to_rt_shape.rules && is_valid to_rt_shape
+    (finished to_rt_shape.rules (to_rt-6 mode image uic name rt rt_name).held) false)))
     (passes-to_rt mode image uic name rt rt_name plain)
 
 pub takes-to_rt : (program mode image uic name rt rt_name : Text) → ArePlain (texts_of (to_rt_line mode image uic name rt rt_name))
     → takes program_app (program ∷ words_given (to_rt_line mode image uic name rt rt_name)) ≡ true
 takes-to_rt program mode image uic name rt rt_name plain =
-    ap (λ (p : Bool). p && built_takes (built program_app) nothing_held (words_given (to_rt_line mode image uic name rt rt_name))) is_simple-program
+    ap (λ (p : Bool). p && built_takes (built program_app) nothing_held (words_given (to_rt_line mode image uic name rt rt_name)))
+    is_simple-program
     ∙ takes-command (built program_app) (codes "flx-to-rt") (codes "--mode" ∷ mode ∷ image ∷ uic ∷ name ∷ rt ∷ rt_name ∷ [])
     refl refl (level-to_rt mode image uic name rt rt_name plain) refl
 
@@ -110,7 +113,8 @@ subcommand_of-to_rt program mode image uic name rt rt_name plain =
     ap (λ (w : Walk). command_and_words copy_names (entered (built program_app) w.stopped))
     (walk-command (built program_app).top.rules (names_of (built program_app)) nothing_held (codes "flx-to-rt")
     (codes "--mode" ∷ mode ∷ image ∷ uic ∷ name ∷ rt ∷ rt_name ∷ []) refl)
-    ∙ ap (λ (w : Walk). Some (codes "flx-to-rt", words_in copy_names (finished to_rt_shape.rules w.held))) (walk-to_rt mode image uic name rt rt_name plain)
+    ∙ ap (λ (w : Walk). Some (codes "flx-to-rt", words_in copy_names (finished to_rt_shape.rules w.held)))
+    (walk-to_rt mode image uic name rt rt_name plain)
 
 abbrev from_rt_shape : Shape
 from_rt_shape = built_leaf from_rt_app.top
@@ -145,7 +149,8 @@ abbrev from_rt-6 : Text → Text → Text → Text → Text → Text → Walk
 from_rt-6 mode rt rt_name image uic name = with_positional from_rt_shape.rules (from_rt-5 mode rt rt_name image uic).held 5 name
 
 walk-from_rt : (mode rt rt_name image uic name : Text) → ArePlain (mode ∷ rt ∷ rt_name ∷ image ∷ uic ∷ name ∷ [])
-    → walk from_rt_shape.rules [] nothing_held (codes "--mode" ∷ mode ∷ rt ∷ rt_name ∷ image ∷ uic ∷ name ∷ []) ≡ from_rt-6 mode rt rt_name image uic name
+    → walk from_rt_shape.rules [] nothing_held
+    (codes "--mode" ∷ mode ∷ rt ∷ rt_name ∷ image ∷ uic ∷ name ∷ []) ≡ from_rt-6 mode rt rt_name image uic name
 walk-from_rt mode rt rt_name image uic name plain = mode-from_rt (mode ∷ rt ∷ rt_name ∷ image ∷ uic ∷ name ∷ [])
     ∙ fold-value from_rt_shape.rules (codes "mode") mode_met 1 mode (rt ∷ rt_name ∷ image ∷ uic ∷ name ∷ []) (plain 0 [] (omega arith))
     ∙ fold-plain from_rt_shape.rules (from_rt-1 mode).held 1 rt (rt_name ∷ image ∷ uic ∷ name ∷ []) (plain 1 [] (omega arith))
@@ -171,7 +176,8 @@ level-from_rt mode rt rt_name image uic name plain =
     ap (λ (w : Walk). walk_passes from_rt_shape [] (walk_from nothing_held) (codes "--mode" ∷ mode ∷ rt ∷ rt_name ∷ image ∷ uic ∷ name ∷ [])
     && (settle_passes from_rt_shape.rules from_rt_shape.args_override_self w.held && (list_all default_passes from_rt_shape.rules
     && is_valid from_rt_shape (finished from_rt_shape.rules w.held) false))) (walk-from_rt mode rt rt_name image uic name plain)
-    ∙ ap (λ (p : Bool). p && (settle_passes from_rt_shape.rules from_rt_shape.args_override_self (from_rt-6 mode rt rt_name image uic name).held
+    ∙ ap (λ (p : Bool). p &&
+    (settle_passes from_rt_shape.rules from_rt_shape.args_override_self (from_rt-6 mode rt rt_name image uic name).held
     && (list_all default_passes from_rt_shape.rules
     && is_valid from_rt_shape (finished from_rt_shape.rules (from_rt-6 mode rt rt_name image uic name).held) false)))
     (passes-from_rt mode rt rt_name image uic name plain)
@@ -179,11 +185,13 @@ level-from_rt mode rt rt_name image uic name plain =
 pub takes-from_rt : (program mode rt rt_name image uic name : Text) → ArePlain (texts_of (from_rt_line mode rt rt_name image uic name))
     → takes program_app (program ∷ words_given (from_rt_line mode rt rt_name image uic name)) ≡ true
 takes-from_rt program mode rt rt_name image uic name plain =
-    ap (λ (p : Bool). p && built_takes (built program_app) nothing_held (words_given (from_rt_line mode rt rt_name image uic name))) is_simple-program
+    ap (λ (p : Bool). p && built_takes (built program_app) nothing_held (words_given (from_rt_line mode rt rt_name image uic name)))
+    is_simple-program
     ∙ takes-command (built program_app) (codes "flx-from-rt") (codes "--mode" ∷ mode ∷ rt ∷ rt_name ∷ image ∷ uic ∷ name ∷ [])
     refl refl (level-from_rt mode rt rt_name image uic name plain) refl
 
-pub subcommand_of-from_rt : (program mode rt rt_name image uic name : Text) → ArePlain (texts_of (from_rt_line mode rt rt_name image uic name))
+pub subcommand_of-from_rt : (program mode rt rt_name image uic name : Text)
+    → ArePlain (texts_of (from_rt_line mode rt rt_name image uic name))
     → MeetsCopy (codes "flx-from-rt") mode image uic name rt rt_name
     (subcommand_of program_app (program ∷ words_given (from_rt_line mode rt rt_name image uic name)))
 subcommand_of-from_rt program mode rt rt_name image uic name plain =

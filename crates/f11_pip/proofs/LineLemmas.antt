@@ -23,17 +23,42 @@ use Rattle.f11_pip.specs.Words.{
 }
 use Rattle.f11_pip.proofs.CopyLemmas.{takes-from_rt, takes-to_rt}
 use Rattle.f11_pip.proofs.PlainLemmas.{no_hyphens, not_two}
-use Rattle.f11_pip.proofs.WordsLemmas.{takes-dump, takes-home, takes-name, takes-rights, takes-rt_list, takes-rt_vfy, takes-run, takes-update, takes-vfy}
+use Rattle.f11_pip.proofs.WordsLemmas.{takes-dump, takes-home, takes-name, takes-rights, takes-rt_list, takes-rt_vfy, takes-run}
+use Rattle.f11_pip.proofs.WordsLemmas.{takes-update, takes-vfy}
 
 pub takes-rt_init : (program blocks segments image : Text) → is_option blocks ≡ false → is_option segments ≡ false → is_option image ≡ false
     → takes program_app (program ∷ codes "rt-init" ∷ codes "--blocks" ∷ blocks ∷ codes "--segments" ∷ segments ∷ image ∷ []) ≡ true
 unfolding clap_on_literals
-takes-rt_init program blocks segments image p q r = rw (not_two blocks p, no_hyphens blocks p, no_hyphens blocks p, not_two segments q, no_hyphens segments q, no_hyphens segments q, not_two image r, no_hyphens image r, no_hyphens image r) refl
+takes-rt_init program blocks segments image p q r =
+    rw (
+      not_two blocks p,
+      no_hyphens blocks p,
+      no_hyphens blocks p,
+      not_two segments q,
+      no_hyphens segments q,
+      no_hyphens segments q,
+      not_two image r,
+      no_hyphens image r,
+      no_hyphens image r,
+    ) refl
 
-pub subcommand_of-rt_init : (program blocks segments image : Text) → is_option blocks ≡ false → is_option segments ≡ false → is_option image ≡ false
-    → MeetsRtInit blocks segments image (subcommand_of program_app (program ∷ codes "rt-init" ∷ codes "--blocks" ∷ blocks ∷ codes "--segments" ∷ segments ∷ image ∷ []))
+pub subcommand_of-rt_init : (program blocks segments image : Text) → is_option blocks ≡ false → is_option segments ≡ false
+    → is_option image ≡ false
+    → MeetsRtInit blocks segments image
+    (subcommand_of program_app (program ∷ codes "rt-init" ∷ codes "--blocks" ∷ blocks ∷ codes "--segments" ∷ segments ∷ image ∷ []))
 unfolding clap_on_literals
-subcommand_of-rt_init program blocks segments image p q r = rw (not_two blocks p, no_hyphens blocks p, no_hyphens blocks p, not_two segments q, no_hyphens segments q, no_hyphens segments q, not_two image r, no_hyphens image r, no_hyphens image r) refl
+subcommand_of-rt_init program blocks segments image p q r =
+    rw (
+      not_two blocks p,
+      no_hyphens blocks p,
+      no_hyphens blocks p,
+      not_two segments q,
+      no_hyphens segments q,
+      no_hyphens segments q,
+      not_two image r,
+      no_hyphens image r,
+      no_hyphens image r,
+    ) refl
 
 -- clap takes the words of a command line
 pub takes-line : (command : CommandLine) (program : Text) → All (λ text. is_option text ≡ false) (texts_of command)
@@ -43,8 +68,10 @@ takes-line (from_rt_line mode rt rt_name image uic name) program plain = takes-f
 takes-line (to_rt_line mode image uic name rt rt_name) program plain = takes-to_rt program mode image uic name rt rt_name plain
 takes-line (home_line image) program plain = takes-home program image (plain 0 [] (omega arith))
 takes-line (name_line text) program plain = takes-name program text (plain 0 [] (omega arith))
-takes-line (rights_line caller owner word) program plain = takes-rights program caller owner word (plain 0 [] (omega arith)) (plain 1 [] (omega arith)) (plain 2 [] (omega arith))
-takes-line (rt_init_line blocks segments image) program plain = takes-rt_init program blocks segments image (plain 0 [] (omega arith)) (plain 1 [] (omega arith)) (plain 2 [] (omega arith))
+takes-line (rights_line caller owner word) program plain =
+    takes-rights program caller owner word (plain 0 [] (omega arith)) (plain 1 [] (omega arith)) (plain 2 [] (omega arith))
+takes-line (rt_init_line blocks segments image) program plain =
+    takes-rt_init program blocks segments image (plain 0 [] (omega arith)) (plain 1 [] (omega arith)) (plain 2 [] (omega arith))
 takes-line (rt_list_line image) program plain = takes-rt_list program image (plain 0 [] (omega arith))
 takes-line (rt_vfy_line image) program plain = takes-rt_vfy program image (plain 0 [] (omega arith))
 takes-line (run_line image script) program plain = takes-run program image script (plain 0 [] (omega arith)) (plain 1 [] (omega arith))

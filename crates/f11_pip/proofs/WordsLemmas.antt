@@ -1,6 +1,8 @@
 -- What clap makes of the words.
 use Rattle.std.specs.Option.{option_map_or}
-use Rattle.std.proofs.Common.{IfSome, ok_or, ◌⊎◌, inl, inr, length, ◌≤◌, arith, Result, Ok, Err, IsErrAnd, IsOkAnd, MatchResult, Bool, not, ◌&&◌, ap, ◌∙◌, ◌≡◌, List, [], ◌∷◌, Option, Some, None, true, false, codes, refl, map, option_map, option_and_then}
+use Rattle.std.proofs.Common.{IfSome, ok_or, ◌⊎◌, inl, inr, length, ◌≤◌, arith, Result, Ok, Err, IsErrAnd, IsOkAnd, MatchResult, Bool, not}
+use Rattle.std.proofs.Common.{◌&&◌, ap, ◌∙◌, ◌≡◌, List, [], ◌∷◌, Option, Some, None, true, false, codes, refl, map, option_map}
+use Rattle.std.proofs.Common.{option_and_then}
 use Rattle.clap.specs.Words.{Row, Text, first_of, is_simple, one_of, subcommand_of, takes}
 use Rattle.clap.proofs.OnLiterals.{clap_on_literals}
 use Rattle.clap.specs.declared.error.kind.ErrorKind.{ErrorKind}
@@ -9,7 +11,8 @@ use Rattle.f11_pip.specs.declared.outcome.Failure.{Failure}
 use Rattle.f11_pip.specs.declared.outcome.Failure.TheVariants.{NoMemory}
 use Rattle.f11_pip.specs.Outcome.{failure_of_kind}
 use Rattle.f11_store.specs.declared.callers.Uic.{Uic}
-use Rattle.f11_pip.specs.Commands.{MeetsDump, MeetsRights, MeetsRun, MeetsVfy, command_and_flag, command_and_word, command_and_words, program_app, words_in}
+use Rattle.f11_pip.specs.Commands.{MeetsDump, MeetsRights, MeetsRun, MeetsVfy, command_and_flag, command_and_word, command_and_words}
+use Rattle.f11_pip.specs.Commands.{program_app, words_in}
 use Rattle.f11_numbers.specs.Octal.{SpellsUic}
 use Rattle.f11_pip.specs.Words.{IsNoUic, is_option}
 
@@ -34,7 +37,8 @@ takes-rt_list program [] plain = refl
 takes-rt_list program (b ∷ bs) plain = simp plain
 
 pub subcommand_of-rt_list : (program image : Text) → is_option image ≡ false
-    → command_and_word (codes "image") (subcommand_of program_app (program ∷ codes "rt-list" ∷ image ∷ [])) ≡ Some (codes "rt-list", Some image)
+    → command_and_word (codes "image") (subcommand_of program_app (program ∷ codes "rt-list" ∷ image ∷ [])) ≡ Some
+    (codes "rt-list", Some image)
 unfolding clap_on_literals
 subcommand_of-rt_list program [] plain = refl
 subcommand_of-rt_list program (b ∷ bs) plain = rw (plain, plain) refl
@@ -45,7 +49,8 @@ takes-rt_vfy program [] plain = refl
 takes-rt_vfy program (b ∷ bs) plain = simp plain
 
 pub subcommand_of-rt_vfy : (program image : Text) → is_option image ≡ false
-    → command_and_word (codes "image") (subcommand_of program_app (program ∷ codes "rt-vfy" ∷ image ∷ [])) ≡ Some (codes "rt-vfy", Some image)
+    → command_and_word (codes "image") (subcommand_of program_app (program ∷ codes "rt-vfy" ∷ image ∷ [])) ≡ Some
+    (codes "rt-vfy", Some image)
 unfolding clap_on_literals
 subcommand_of-rt_vfy program [] plain = refl
 subcommand_of-rt_vfy program (b ∷ bs) plain = rw (plain, plain) refl
@@ -55,12 +60,14 @@ unfolding clap_on_literals
 takes-vfy program [] plain = refl
 takes-vfy program (b ∷ bs) plain = simp plain
 
-pub subcommand_of-vfy : (program image : Text) → is_option image ≡ false → MeetsVfy false image (subcommand_of program_app (program ∷ codes "vfy" ∷ image ∷ []))
+pub subcommand_of-vfy : (program image : Text) → is_option image ≡ false
+    → MeetsVfy false image (subcommand_of program_app (program ∷ codes "vfy" ∷ image ∷ []))
 unfolding clap_on_literals
 subcommand_of-vfy program [] plain = (refl, refl)
 subcommand_of-vfy program (b ∷ bs) plain = (rw (plain, plain) refl, rw (plain, plain) refl)
 
-pub takes-update : (program image : Text) → is_option image ≡ false → takes program_app (program ∷ codes "vfy" ∷ codes "--update" ∷ image ∷ []) ≡ true
+pub takes-update : (program image : Text) → is_option image ≡ false
+    → takes program_app (program ∷ codes "vfy" ∷ codes "--update" ∷ image ∷ []) ≡ true
 unfolding clap_on_literals
 takes-update program [] plain = refl
 takes-update program (b ∷ bs) plain = rw (plain, plain) refl
@@ -104,7 +111,8 @@ subcommand_of-rights program [] (b ∷ ys) (d ∷ zs) p q r = (rw (q, q, r, r) r
 subcommand_of-rights program (a ∷ xs) [] [] p q r = (rw (p, p) refl, rw (p, p) refl, rw (p, p) refl)
 subcommand_of-rights program (a ∷ xs) [] (d ∷ zs) p q r = (rw (p, p, r, r) refl, rw (p, p, r, r) refl, rw (p, p, r, r) refl)
 subcommand_of-rights program (a ∷ xs) (b ∷ ys) [] p q r = (rw (p, p, q, q) refl, rw (p, p, q, q) refl, rw (p, p, q, q) refl)
-subcommand_of-rights program (a ∷ xs) (b ∷ ys) (d ∷ zs) p q r = (rw (p, p, q, q, r, r) refl, rw (p, p, q, q, r, r) refl, rw (p, p, q, q, r, r) refl)
+subcommand_of-rights program (a ∷ xs) (b ∷ ys) (d ∷ zs) p q r =
+    (rw (p, p, q, q, r, r) refl, rw (p, p, q, q, r, r) refl, rw (p, p, q, q, r, r) refl)
 
 pub takes-dump : (program image number : Text) → is_option image ≡ false → is_option number ≡ false
     → takes program_app (program ∷ codes "dump" ∷ image ∷ number ∷ []) ≡ true
@@ -138,7 +146,8 @@ subcommand_of-run program [] (b ∷ ys) p q = (rw (q, q) refl, rw (q, q) refl)
 subcommand_of-run program (a ∷ xs) [] p q = (rw (p, p) refl, rw (p, p) refl)
 subcommand_of-run program (a ∷ xs) (b ∷ ys) p q = (rw (p, p, q, q) refl, rw (p, p, q, q) refl)
 
-pub subcommand_of-none : {X : Type 0} (text : X → Text) (words : List X) → length words ≤ 1 → subcommand_of program_app (map text words) ≡ None
+pub subcommand_of-none : {X : Type 0} (text : X → Text) (words : List X) → length words ≤ 1
+    → subcommand_of program_app (map text words) ≡ None
 unfolding clap_on_literals
 subcommand_of-none text [] few = refl
 subcommand_of-none text (program ∷ []) few = refl
@@ -176,7 +185,8 @@ words_met (Some met) rows name ids values its is =
     ap (words_in ids) same ∙ ap (λ (o : Option (Text × List (Option Text))). option_map_or (λ p. p.1) o []) is
 
 -- where memory ran out that is the failure
-pub failure_out_of_memory : {T : Type 0} (P : T → Type 0) (r : Result T Failure) (kind : ErrorKind) → IsErrAnd r (λ failure. failure ≡ failure_of_kind kind)
+pub failure_out_of_memory : {T : Type 0} (P : T → Type 0) (r : Result T Failure) (kind : ErrorKind)
+    → IsErrAnd r (λ failure. failure ≡ failure_of_kind kind)
     → kind ≡ OutOfMemory → MatchResult r P (λ failure. failure ≡ NoMemory)
 failure_out_of_memory P (Ok x) kind fails out = absurd fails
 failure_out_of_memory P (Err failure) kind fails out = fails ∙ ap failure_of_kind out
@@ -185,7 +195,8 @@ pub match_ok : {T E : Type 0} (P : T → Type 0) (Q : E → Type 0) (r : Result 
 match_ok P Q (Ok x) holds = holds
 match_ok P Q (Err e) holds = absurd holds
 
-pub uic_or_none : (r : Option Uic) (out : Result Uic Failure) (failure : Failure) (text : Text) → out ≡ ok_or r failure → IfSome r (SpellsUic text)
+pub uic_or_none : (r : Option Uic) (out : Result Uic Failure) (failure : Failure) (text : Text) → out ≡ ok_or r failure
+    → IfSome r (SpellsUic text)
     → ((uic : Uic) → SpellsUic text uic → r ≡ Some uic) → MatchResult out (SpellsUic text) (λ _. IsNoUic text)
 uic_or_none None out failure text is spelled every = rw is (λ uic s. let same = every uic s in cc)
 uic_or_none (Some uic) out failure text is spelled every = rw is spelled

@@ -31,14 +31,17 @@ abbrev place : List ℕ → ℕ → ℕ
 place cs i = slice_index_or cs i 32
 
 -- three digits in base forty are read back
-digits_in_forty : (a b c : ℕ) → a < 40 → b < 40 → c < 40 → (((a * 40 + b) * 40 + c) / 1600 ≡ a) × (((a * 40 + b) * 40 + c) / 40 % 40 ≡ b) × (((a * 40 + b) * 40 + c) % 40 ≡ c)
+digits_in_forty : (a b c : ℕ) → a < 40 → b < 40 → c < 40
+    → (((a * 40 + b) * 40 + c) / 1600 ≡ a) × (((a * 40 + b) * 40 + c) / 40 % 40 ≡ b) × (((a * 40 + b) * 40 + c) % 40 ≡ c)
 digits_in_forty a b c x y z = (omega arith, omega arith, omega arith)
 
 -- the characters of a value are those that it was made of
-pub characters_of-radix50 : (cs : List ℕ) → IsCharacter (place cs 0) → IsCharacter (place cs 1) → IsCharacter (place cs 2) → characters_of (radix50 cs) ≡ place cs 0 ∷ place cs 1 ∷ place cs 2 ∷ []
+pub characters_of-radix50 : (cs : List ℕ) → IsCharacter (place cs 0) → IsCharacter (place cs 1) → IsCharacter (place cs 2)
+    → characters_of (radix50 cs) ≡ place cs 0 ∷ place cs 1 ∷ place cs 2 ∷ []
 unfolding radix50 characters_of
 characters_of-radix50 cs x y z =
-    let d = digits_in_forty (code_of (place cs 0)) (code_of (place cs 1)) (code_of (place cs 2)) (code_of-lt _) (code_of-lt _) (code_of-lt _) in
+    let d = digits_in_forty (code_of (place cs 0)) (code_of (place cs 1)) (code_of (place cs 2)) (code_of-lt _) (code_of-lt _)
+    (code_of-lt _) in
     rw (d.0, d.1, d.2, character_of-code_of (place cs 0) x, character_of-code_of (place cs 1) y, character_of-code_of (place cs 2) z) refl
 
 -- a value is below 64000
@@ -57,7 +60,8 @@ pub radix50-characters_of : (w : ℕ) → All IsCharacter (characters_of w) → 
 unfolding radix50 characters_of
 radix50-characters_of w h =
     let high = below_forty (w / 1600) (h 0 32 (omega arith)) in
-    rw (code_of-character_of (w / 1600) high, code_of-character_of (w / 40 % 40) (omega arith), code_of-character_of (w % 40) (omega arith)) (omega arith)
+    rw (code_of-character_of (w / 1600) high, code_of-character_of (w / 40 % 40) (omega arith), code_of-character_of (w % 40) (omega arith))
+    (omega arith)
 
 length-characters_of : (w : ℕ) → length (characters_of w) ≡ 3
 unfolding characters_of
@@ -75,5 +79,6 @@ characters_of-IsRadix50 [] w r = cc
 characters_of-IsRadix50 (a ∷ []) w r = cc
 characters_of-IsRadix50 (a ∷ b ∷ []) w r = cc
 characters_of-IsRadix50 (a ∷ b ∷ c ∷ []) w r =
-    rw (← r.value) (characters_of-radix50 (a ∷ b ∷ c ∷ []) (r.in_set 0 32 (omega arith)) (r.in_set 1 32 (omega arith)) (r.in_set 2 32 (omega arith)))
+    rw (← r.value) (characters_of-radix50 (a ∷ b ∷ c ∷ []) (r.in_set 0 32 (omega arith)) (r.in_set 1 32 (omega arith))
+    (r.in_set 2 32 (omega arith)))
 characters_of-IsRadix50 (a ∷ b ∷ c ∷ d ∷ cs) w r = absurd (omega (arith, r.three))

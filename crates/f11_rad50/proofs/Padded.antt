@@ -1,5 +1,6 @@
 -- The words of a name by the codes in them, and by the parts that they are the values of.
-use Rattle.std.proofs.Common.{◌≡◌, ◌≢◌, ℕ, ◌+◌, ◌*◌, ◌/◌, ◌%◌, ◌<◌, ◌≤◌, Bool, true, false, not, ◌&&◌, ◌||◌, ◌==◌, List, [], ◌∷◌, ◌++◌, length, get_or, drop, IsTrue, ◌↔◌, arith, refl, sym, ◌∙◌, ap, drop-drop, length-append}
+use Rattle.std.proofs.Common.{◌≡◌, ◌≢◌, ℕ, ◌+◌, ◌*◌, ◌/◌, ◌%◌, ◌<◌, ◌≤◌, Bool, true, false, not, ◌&&◌, ◌||◌, ◌==◌, List, [], ◌∷◌, ◌++◌}
+use Rattle.std.proofs.Common.{length, get_or, drop, IsTrue, ◌↔◌, arith, refl, sym, ◌∙◌, ap, drop-drop, length-append}
 use Rattle.std.specs.List.{AllPass}
 use Rattle.std.proofs.lemmas.Bool.Decides.{nat_tests}
 use Rattle.std.proofs.lemmas.List.Elements.{All-nil, All-cons, All-head, All-tail, All-drop, All-append}
@@ -65,7 +66,8 @@ padded-two w d f h k e =
     let none : w % 40 ≡ 0 = omega (arith, e) in
     rw (high, middle, none, h, k) (grind (arith, nat_tests))
 
-padded-three : (w d f g : ℕ) → is_name_code d ≡ true → is_name_code f ≡ true → is_name_code g ≡ true → w ≡ d * 1600 + f * 40 + g → is_padded w ≡ true
+padded-three : (w d f g : ℕ) → is_name_code d ≡ true → is_name_code f ≡ true → is_name_code g ≡ true → w ≡ d * 1600 + f * 40 + g
+    → is_padded w ≡ true
 unfolding is_padded
 padded-three w d f g h k l e =
     let few = name_code-lt f k in
@@ -85,11 +87,13 @@ is_padded-radix50 [] h = rw radix50-none padded-none
 is_padded-radix50 (x ∷ []) h = padded-one _ _ (code-of_character x (All-head InName x [] h)) (radix50-one x)
 is_padded-radix50 (x ∷ y ∷ []) h =
     let behind = All-tail InName x (y ∷ []) h in
-    padded-two _ _ _ (code-of_character x (All-head InName x (y ∷ []) h)) (code-of_character y (All-head InName y [] behind)) (radix50-two x y)
+    padded-two _ _ _ (code-of_character x (All-head InName x (y ∷ []) h)) (code-of_character y (All-head InName y [] behind))
+    (radix50-two x y)
 is_padded-radix50 (x ∷ y ∷ z ∷ cs) h =
     let behind = All-tail InName x (y ∷ z ∷ cs) h in
     let last = All-tail InName y (z ∷ cs) behind in
-    padded-three _ _ _ _ (code-of_character x (All-head InName x (y ∷ z ∷ cs) h)) (code-of_character y (All-head InName y (z ∷ cs) behind)) (code-of_character z (All-head InName z cs last))
+    padded-three _ _ _ _ (code-of_character x (All-head InName x (y ∷ z ∷ cs) h)) (code-of_character y (All-head InName y (z ∷ cs) behind))
+    (code-of_character z (All-head InName z cs last))
     (radix50-three x y z cs)
 
 -- a part with a character has a value above 0
@@ -161,10 +165,12 @@ part_of-two w d f h k e = record {
   value = omega (arith, e, radix50-two (character_of d) (character_of f), back d h, back f k);
 }
 
-part_of-three : (w d f g : ℕ) → is_name_code d ≡ true → is_name_code f ≡ true → is_name_code g ≡ true → w ≡ d * 1600 + f * 40 + g → HasPart w
+part_of-three : (w d f g : ℕ) → is_name_code d ≡ true → is_name_code f ≡ true → is_name_code g ≡ true → w ≡ d * 1600 + f * 40 + g
+    → HasPart w
 part_of-three w d f g h k l e = record {
   part = character_of d ∷ character_of f ∷ character_of g ∷ [];
-  in_name = one-in_name d (character_of f ∷ character_of g ∷ []) h (one-in_name f (character_of g ∷ []) k (one-in_name g [] l (All-nil InName)));
+  in_name = one-in_name d (character_of f ∷ character_of g ∷ []) h
+      (one-in_name f (character_of g ∷ []) k (one-in_name g [] l (All-nil InName)));
   few = omega arith;
   value = omega (arith, e, radix50-three (character_of d) (character_of f) (character_of g) [], back d h, back f k, back g l);
 }
@@ -175,11 +181,15 @@ zero_of n h = grind (arith, nat_tests)
 -- what passes the test is the value of a part
 part_of : (w : ℕ) → is_padded w ≡ true → HasPart w
 unfolding is_padded
-part_of w h = by_tests (w == 0) (is_name_code (w / 1600)) (w % 1600 == 0) (is_name_code (w / 40 % 40)) (w % 40 == 0) (is_name_code (w % 40)) refl refl refl refl refl refl h
+part_of w h =
+    by_tests (w == 0) (is_name_code (w / 1600)) (w % 1600 == 0) (is_name_code (w / 40 % 40)) (w % 40 == 0) (is_name_code (w % 40)) refl refl
+    refl refl refl refl h
   where
-    by_tests : (p q r s t u : Bool) → (w == 0) ≡ p → is_name_code (w / 1600) ≡ q → (w % 1600 == 0) ≡ r → is_name_code (w / 40 % 40) ≡ s → (w % 40 == 0) ≡ t →
+    by_tests : (p q r s t u : Bool) → (w == 0) ≡ p → is_name_code (w / 1600) ≡ q → (w % 1600 == 0) ≡ r → is_name_code (w / 40 % 40) ≡ s
+        → (w % 40 == 0) ≡ t →
         is_name_code (w % 40) ≡ u → (p || (q && (r || (s && (t || u))))) ≡ true → HasPart w
-    by_tests true q r s t u a b c d e f k = record { part = []; in_name = All-nil InName; few = omega arith; value = omega (arith, zero_of w a, radix50-none) }
+    by_tests true q r s t u a b c d e f k =
+        record { part = []; in_name = All-nil InName; few = omega arith; value = omega (arith, zero_of w a, radix50-none) }
     by_tests false true true s t u a b c d e f k = part_of-one w (w / 1600) b (omega (arith, zero_of (w % 1600) c))
     by_tests false true false true true u a b c d e f k = part_of-two w (w / 1600) (w / 40 % 40) b d (omega (arith, zero_of (w % 40) e))
     by_tests false true false true false true a b c d e f k = part_of-three w (w / 1600) (w / 40 % 40) (w % 40) b d f (omega arith)
@@ -188,7 +198,8 @@ part_of w h = by_tests (w == 0) (is_name_code (w / 1600)) (w % 1600 == 0) (is_na
     by_tests false false r s t u a b c d e f k = absurd (cc)
 
 -- a part and what stands behind it, which is nothing behind a space
-joined : (cs rest : List ℕ) → length cs ≤ 3 → (length cs < 3 → rest ≡ []) → (radix50 (cs ++ rest) ≡ radix50 cs) × (drop 3 (cs ++ rest) ≡ rest)
+joined : (cs rest : List ℕ) → length cs ≤ 3 → (length cs < 3 → rest ≡ [])
+    → (radix50 (cs ++ rest) ≡ radix50 cs) × (drop 3 (cs ++ rest) ≡ rest)
 unfolding radix50
 joined [] rest l h = rw (h (omega arith)) (refl, refl)
 joined (x ∷ []) rest l h = rw (h (omega arith)) (refl, refl)
@@ -275,7 +286,8 @@ IsName-from_named a b c t v h low high =
       version_to = high;
     } in
     IsName-from_parts _ (p ++ (q ++ r)) k.kind.part v proper
-    (sym (words_of-eq (p ++ (q ++ r)) k.kind.part v a b c t (sym (one.0 ∙ k.first.value)) (sym (ap radix50 one.1 ∙ two.0 ∙ k.second.value)) (sym (ap radix50 three ∙ k.third.value)) (sym k.kind.value)))
+    (sym (words_of-eq (p ++ (q ++ r)) k.kind.part v a b c t (sym (one.0 ∙ k.first.value)) (sym (ap radix50 one.1 ∙ two.0 ∙ k.second.value))
+    (sym (ap radix50 three ∙ k.third.value)) (sym k.kind.value)))
 
 some-word : (name type : List ℕ) → AllPass is_name_character name → AllPass is_name_character type → 0 < length name + length type →
     (not (radix50 name == 0) || not (radix50 type == 0)) ≡ true
@@ -295,7 +307,14 @@ named-parts name type n t some =
     let third : AllPass is_name_character (drop 6 name) = All-drop InName 6 name n in
     let end : goes_on (radix50 (drop 3 name)) (radix50 (drop 6 name)) ≡ true =
     ap (λ d. goes_on (radix50 (drop 3 name)) (radix50 d)) (sym (drop-drop 3 3 name)) ∙ goes_on-radix50 (drop 3 name) second in
-    rw (is_padded-radix50 name n, is_padded-radix50 (drop 3 name) second, is_padded-radix50 (drop 6 name) third, is_padded-radix50 type t, goes_on-radix50 name n, end)
+    rw (
+      is_padded-radix50 name n,
+      is_padded-radix50 (drop 3 name) second,
+      is_padded-radix50 (drop 6 name) third,
+      is_padded-radix50 type t,
+      goes_on-radix50 name n,
+      end,
+    )
     (some-word name type n t some)
 
 pub named-from_IsName : (a b c t v : ℕ) → IsName (a ∷ b ∷ c ∷ t ∷ v ∷ []) → (are_named a b c t ≡ true) × ((0 < v) × (v < 32768))
@@ -310,7 +329,8 @@ named-from_IsName a b c t v n =
     (rw (first, second, third, kind) at named, (n.proper.version_from, n.proper.version_to))
 
 -- five words are what they are one by one
-five_words : (words : List ℕ) → length words ≡ 5 → get_or words 0 0 ∷ get_or words 1 0 ∷ get_or words 2 0 ∷ get_or words 3 0 ∷ get_or words 4 0 ∷ [] ≡ words
+five_words : (words : List ℕ) → length words ≡ 5
+    → get_or words 0 0 ∷ get_or words 1 0 ∷ get_or words 2 0 ∷ get_or words 3 0 ∷ get_or words 4 0 ∷ [] ≡ words
 five_words [] e = absurd (omega (arith, e))
 five_words (a ∷ []) e = absurd (omega (arith, e))
 five_words (a ∷ b ∷ []) e = absurd (omega (arith, e))
@@ -320,6 +340,7 @@ five_words (a ∷ b ∷ c ∷ d ∷ v ∷ []) e = refl
 five_words (a ∷ b ∷ c ∷ d ∷ v ∷ x ∷ xs) e = absurd (omega (arith, e))
 
 -- what is a name by its five words is one
-pub is_name-by_words : (words : List ℕ) (b : Bool) → length words ≡ 5 → (IsTrue b ↔ IsName (get_or words 0 0 ∷ get_or words 1 0 ∷ get_or words 2 0 ∷ get_or words 3 0 ∷ get_or words 4 0 ∷ [])) →
+pub is_name-by_words : (words : List ℕ) (b : Bool) → length words ≡ 5
+    → (IsTrue b ↔ IsName (get_or words 0 0 ∷ get_or words 1 0 ∷ get_or words 2 0 ∷ get_or words 3 0 ∷ get_or words 4 0 ∷ [])) →
     IsTrue b ↔ IsName words
 is_name-by_words words b five h = rw (five_words words five) at h

@@ -1,5 +1,7 @@
 -- A separator's place in a text, pieces put one after another, and the digits of a version.
-use Rattle.std.proofs.Common.{◌≡◌, ◌≢◌, ℕ, ◌+◌, ◌<◌, ◌≤◌, true, false, not, List, [], ◌∷◌, ◌++◌, length, get_or, take, drop, All, Some, position, nat_lt, ◌==◌, arith, refl, sym, ◌∙◌, ap, length-append, take-append-drop, drop-cons, drop-drop, add-one, lt_of_lt_of_le}
+use Rattle.std.proofs.Common.{◌≡◌, ◌≢◌, ℕ, ◌+◌, ◌<◌, ◌≤◌, true, false, not, List, [], ◌∷◌, ◌++◌, length, get_or, take, drop, All, Some}
+use Rattle.std.proofs.Common.{position, nat_lt, ◌==◌, arith, refl, sym, ◌∙◌, ap, length-append, take-append-drop, drop-cons, drop-drop}
+use Rattle.std.proofs.Common.{add-one, lt_of_lt_of_le}
 use Rattle.std.specs.List.{position_or_len}
 use Rattle.std.specs.Str.Parse.{digits_value}
 use Rattle.std.proofs.lemmas.Bool.Decides.{nat_tests}
@@ -15,7 +17,8 @@ use Rattle.f11_rad50.specs.Name.{IsVersion}
 use Rattle.std.proofs.Math.Seq.{take-append_seam, drop-append_seam}
 
 -- the separator's place is the length of what stands before it
-position_or_len-front : (sep : ℕ) (front back : List ℕ) → All (λ c. c ≢ sep) front → position_or_len (λ c. c == sep) (front ++ (sep ∷ back)) ≡ length front
+position_or_len-front : (sep : ℕ) (front back : List ℕ) → All (λ c. c ≢ sep) front
+    → position_or_len (λ c. c == sep) (front ++ (sep ∷ back)) ≡ length front
 position_or_len-front sep [] back h =
     let e : not (sep == sep) ≡ false = grind (arith, nat_tests) in
     rw e refl
@@ -24,7 +27,8 @@ position_or_len-front sep (c ∷ front) back h =
     let e : not (c == sep) ≡ true = grind (arith, nat_tests) in
     rw (e, position_or_len-front sep front back (All-tail (λ x. x ≢ sep) c front h)) (omega arith)
 
-pub position-front : (sep : ℕ) (text front back : List ℕ) → All (λ c. c ≢ sep) front → text ≡ front ++ (sep ∷ back) → position (λ c. c == sep) text ≡ Some (length front)
+pub position-front : (sep : ℕ) (text front back : List ℕ) → All (λ c. c ≢ sep) front → text ≡ front ++ (sep ∷ back)
+    → position (λ c. c == sep) text ≡ Some (length front)
 position-front sep text front back h e =
     let place = position_or_len-front sep front back h in
     let within : nat_lt (length front) (length (front ++ (sep ∷ back))) ≡ true = simp length-append (grind (arith, nat_tests)) in
@@ -40,15 +44,22 @@ parts_at sep text i h =
     sym (take-append-drop i text) ∙ ap (λ t. take i text ++ t) rest
 
 -- and these are all the parts that it has
-pub split_at_front : (sep : ℕ) (front back text : List ℕ) (i : ℕ) → text ≡ front ++ (sep ∷ back) → i ≡ length front → (take i text ≡ front) × (drop (i + 1) text ≡ back)
+pub split_at_front : (sep : ℕ) (front back text : List ℕ) (i : ℕ) → text ≡ front ++ (sep ∷ back) → i ≡ length front
+    → (take i text ≡ front) × (drop (i + 1) text ≡ back)
 split_at_front sep front back text i e f =
-    rw (e, f) (take-append_seam front _, sym (drop-drop 1 (length front) (front ++ (sep ∷ back))) ∙ ap (drop 1) (drop-append_seam front (sep ∷ back)))
+    rw (e, f) (
+      take-append_seam front _,
+      sym (drop-drop 1 (length front) (front ++ (sep ∷ back)))
+          ∙ ap (drop 1) (drop-append_seam front (sep ∷ back)),
+    )
 
 -- a piece put after another one
-pub IsPut-append : (old mid new p q : List ℕ) (at last next : ℕ) → at ≤ length old → IsPut old mid p at last → IsPut mid new q last next → IsPut old new (p ++ q) at next
+pub IsPut-append : (old mid new p q : List ℕ) (at last next : ℕ) → at ≤ length old → IsPut old mid p at last → IsPut mid new q last next
+    → IsPut old new (p ++ q) at next
 IsPut-append old mid new p q at last next fits a b = record {
   next_is = omega (arith, length-append p q, a.next_is, b.next_is);
-  written = b.written ∙ ap (λ m. with_bytes m last q) a.written ∙ ap (λ k. with_bytes (with_bytes old at p) k q) a.next_is ∙ with_bytes-append old at p q fits;
+  written = b.written ∙ ap (λ m. with_bytes m last q) a.written ∙ ap (λ k. with_bytes (with_bytes old at p) k q) a.next_is
+      ∙ with_bytes-append old at p q fits;
 }
 
 -- a version has up to five digits, so its value is below 32768

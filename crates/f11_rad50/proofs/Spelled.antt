@@ -1,5 +1,6 @@
 -- The words that a text spells, as a function and as a relation.
-use Rattle.std.proofs.Common.{◌≡◌, ℕ, ◌+◌, ◌&&◌, ◌==◌, Bool, true, false, List, [], ◌∷◌, ◌++◌, length, take, drop, position, Option, Some, None, IfSome, SomeIff, option_map, if◌then◌else◌, refl, sym, ◌∙◌, ap}
+use Rattle.std.proofs.Common.{◌≡◌, ℕ, ◌+◌, ◌&&◌, ◌==◌, Bool, true, false, List, [], ◌∷◌, ◌++◌, length, take, drop, position, Option, Some}
+use Rattle.std.proofs.Common.{None, IfSome, SomeIff, option_map, if◌then◌else◌, refl, sym, ◌∙◌, ap}
 use Rattle.std.specs.Char.{is_digit}
 use Rattle.std.specs.List.{list_all, AllPass}
 use Rattle.std.specs.Option.{option_and_then, option_map_or}
@@ -8,7 +9,8 @@ use Rattle.std.proofs.lemmas.Slice.Eq.{bytes_eq-Decides}
 use Rattle.std.specs.Str.Parse.{AllDigits, digits_value}
 use Rattle.std.proofs.lemmas.Bool.{ltb-true, leb-true, lt-ltb, le-leb}
 use Rattle.std.proofs.lemmas.List.Sums.{AllPass-from_list_all, list_all-from_AllPass}
-use Rattle.f11_rad50.specs.Name.{is_name_character, IsProper, IsVersion, Spells, words_of, cut_at, are_parts, words_behind, words_spelled, IsName, is_name, name_text}
+use Rattle.f11_rad50.specs.Name.{is_name_character, IsProper, IsVersion, Spells, words_of, cut_at, are_parts, words_behind, words_spelled}
+use Rattle.f11_rad50.specs.Name.{IsName, is_name, name_text}
 use Rattle.f11_rad50.proofs.Places.{position-front, parts_at, split_at_front}
 use Rattle.f11_rad50.proofs.Texts.{Spells-name_text}
 use Rattle.f11_rad50.proofs.Words.{without, dot_out, semicolon_out, IsName-from_parts}
@@ -32,7 +34,8 @@ octal_passes (d ∷ ds) h = rw (lt-ltb _ _ h.0) (octal_passes ds h.1)
 pub cut_at-parts : (c : ℕ) (text front back : List ℕ) → cut_at c text ≡ Some (front, back) → text ≡ front ++ (c ∷ back)
 cut_at-parts c text front back h = by_place (position (λ x. x == c) text) refl h
   where
-    by_place : (o : Option ℕ) → position (λ x. x == c) text ≡ o → option_map {U = List ℕ × List ℕ} (λ i. (take i text, drop (i + 1) text)) o ≡ Some (front, back) →
+    by_place : (o : Option ℕ) → position (λ x. x == c) text ≡ o
+        → option_map {U = List ℕ × List ℕ} (λ i. (take i text, drop (i + 1) text)) o ≡ Some (front, back) →
         text ≡ front ++ (c ∷ back)
     by_place None e k = absurd (cc)
     by_place (Some i) e k =
@@ -41,7 +44,8 @@ cut_at-parts c text front back h = by_place (position (λ x. x == c) text) refl 
         let rest : drop (i + 1) text ≡ back = ap (λ (p : List ℕ × List ℕ). p.1) parts in
         parts_at c text i e ∙ rw (same, rest) refl
 
-pub cut_at-front : (c : ℕ) (text front back : List ℕ) → AllPass is_name_character front → is_name_character c ≡ false → text ≡ front ++ (c ∷ back) →
+pub cut_at-front : (c : ℕ) (text front back : List ℕ) → AllPass is_name_character front → is_name_character c ≡ false
+    → text ≡ front ++ (c ∷ back) →
     cut_at c text ≡ Some (front, back)
 cut_at-front c text front back clean out e =
     let place : position (λ x. x == c) text ≡ Some (length front) = position-front c text front back (without c front out clean) e in
@@ -49,7 +53,8 @@ cut_at-front c text front back clean out e =
     rw (place, parts.0, parts.1) refl
 
 -- the parts of a name pass the test, and what passes it are the parts of one
-pub are_parts-true : (name type digits : List ℕ) → IsProper name type (digits_value 8 digits) → IsVersion digits → are_parts name type digits ≡ true
+pub are_parts-true : (name type digits : List ℕ) → IsProper name type (digits_value 8 digits) → IsVersion digits
+    → are_parts name type digits ≡ true
 unfolding are_parts
 are_parts-true name type digits p v =
     rw (
@@ -106,14 +111,16 @@ words_spelled-every text words s =
     let front = cut_at-front 46 text s.name (s.type ++ (59 ∷ s.digits)) s.proper.name_characters dot_out s.is_text in
     let back = cut_at-front 59 (s.type ++ (59 ∷ s.digits)) s.type s.digits s.proper.type_characters semicolon_out refl in
     ap (option_and_then (λ parts. words_behind parts.0 (cut_at 59 parts.1))) front ∙ ap (words_behind s.name) back
-    ∙ ap (λ b. if b then Some (words_of s.name s.type (digits_value 8 s.digits)) else None) (are_parts-true s.name s.type s.digits s.proper s.version)
+    ∙ ap (λ b. if b then Some (words_of s.name s.type (digits_value 8 s.digits)) else None)
+    (are_parts-true s.name s.type s.digits s.proper s.version)
     ∙ ap Some s.same_words
 
 pub words_spelled-only : (text words : List ℕ) → words_spelled text ≡ Some words → Spells text words
 unfolding words_spelled
 words_spelled-only text words h = by_dot (cut_at 46 text) refl h
   where
-    by_test : (name type digits rest : List ℕ) (b : Bool) → are_parts name type digits ≡ b → text ≡ name ++ (46 ∷ rest) → rest ≡ type ++ (59 ∷ digits) →
+    by_test : (name type digits rest : List ℕ) (b : Bool) → are_parts name type digits ≡ b → text ≡ name ++ (46 ∷ rest)
+        → rest ≡ type ++ (59 ∷ digits) →
         (if b then Some (words_of name type (digits_value 8 digits)) else None) ≡ Some words → Spells text words
     by_test name type digits rest false e t u k = absurd (cc)
     by_test name type digits rest true e t u k =
@@ -128,17 +135,20 @@ words_spelled-only text words h = by_dot (cut_at 46 text) refl h
           same_words = (let w : words_of name type (digits_value 8 digits) ≡ words = cc in w);
         }
 
-    by_semicolon : (name rest : List ℕ) (o : Option (List ℕ × List ℕ)) → cut_at 59 rest ≡ o → text ≡ name ++ (46 ∷ rest) → words_behind name o ≡ Some words → Spells text words
+    by_semicolon : (name rest : List ℕ) (o : Option (List ℕ × List ℕ)) → cut_at 59 rest ≡ o → text ≡ name ++ (46 ∷ rest)
+        → words_behind name o ≡ Some words → Spells text words
     by_semicolon name rest None e t k = absurd (cc)
     by_semicolon name rest (Some (type, digits)) e t k =
         by_test name type digits rest (are_parts name type digits) refl t (cut_at-parts 59 rest type digits e) k
 
-    by_dot : (o : Option (List ℕ × List ℕ)) → cut_at 46 text ≡ o → option_and_then (λ parts. words_behind parts.0 (cut_at 59 parts.1)) o ≡ Some words → Spells text words
+    by_dot : (o : Option (List ℕ × List ℕ)) → cut_at 46 text ≡ o
+        → option_and_then (λ parts. words_behind parts.0 (cut_at 59 parts.1)) o ≡ Some words → Spells text words
     by_dot None e k = absurd (cc)
     by_dot (Some (name, rest)) e k = by_semicolon name rest (cut_at 59 rest) refl (cut_at-parts 46 text name rest e) k
 
 -- what is read exactly where a text spells it is what the function gives
-pub reads_spelled : (r : Option (List ℕ)) (text : List ℕ) → IfSome r (λ words. Spells text words) → ((words : List ℕ) → Spells text words → r ≡ Some words) →
+pub reads_spelled : (r : Option (List ℕ)) (text : List ℕ) → IfSome r (λ words. Spells text words)
+    → ((words : List ℕ) → Spells text words → r ≡ Some words) →
     r ≡ words_spelled text
 reads_spelled (Some words) text spelled every = sym (words_spelled-every text words spelled)
 reads_spelled None text spelled every = by_words (words_spelled text) refl
@@ -154,12 +164,14 @@ same_list xs = (bytes_eq-Decides xs xs).1 refl
 -- words are a name exactly where their text spells them
 pub is_name-true : (words : List ℕ) → IsName words → is_name words ≡ true
 is_name-true words n =
-    ap (λ o. option_map_or (λ found. bytes_eq found words) o false) (words_spelled-every (name_text words) words (Spells-name_text words n)) ∙ same_list words
+    ap (λ o. option_map_or (λ found. bytes_eq found words) o false) (words_spelled-every (name_text words) words (Spells-name_text words n))
+    ∙ same_list words
 
 pub IsName-from_test : (words : List ℕ) → is_name words ≡ true → IsName words
 IsName-from_test words h = by_words (words_spelled (name_text words)) refl h
   where
-    by_words : (o : Option (List ℕ)) → words_spelled (name_text words) ≡ o → option_map_or (λ found. bytes_eq found words) o false ≡ true → IsName words
+    by_words : (o : Option (List ℕ)) → words_spelled (name_text words) ≡ o → option_map_or (λ found. bytes_eq found words) o false ≡ true
+        → IsName words
     by_words None e k = absurd (cc)
     by_words (Some found) e k =
         let same : found ≡ words = (bytes_eq-Decides found words).0 k in
@@ -167,7 +179,8 @@ IsName-from_test words h = by_words (words_spelled (name_text words)) refl h
         IsName-from_parts words s.name s.type _ s.proper s.same_words
 
 -- what is there exactly under that fact is there exactly under the test
-pub name_by_test : (r : Option (List ℕ)) (words : List ℕ) → SomeIff r (IsName words) words → r ≡ (if is_name words then Some words else None)
+pub name_by_test : (r : Option (List ℕ)) (words : List ℕ) → SomeIff r (IsName words) words
+    → r ≡ (if is_name words then Some words else None)
 name_by_test r words h = by_test (is_name words) refl r h
   where
     by_test : (b : Bool) → is_name words ≡ b → (r : Option (List ℕ)) → SomeIff r (IsName words) words → r ≡ (if b then Some words else None)

@@ -7,7 +7,9 @@ use Rattle.f11_rad50.specs.Name.{is_name_character, words_of, name_of, type_of, 
 use Rattle.f11_rad50.proofs.Words.{IsName-from_parts}
 
 -- parts that pass the tests have words that are a name
-IsName-tested : (words name type : List ℕ) (version : ℕ) → list_all is_name_character name ≡ true → list_all is_name_character type ≡ true → length name ≤ 9 → length type ≤ 3 → 0 < length name + length type → 0 < version → version < 32768 → words_of name type version ≡ words → IsName words
+IsName-tested : (words name type : List ℕ) (version : ℕ) → list_all is_name_character name ≡ true → list_all is_name_character type ≡ true
+    → length name ≤ 9 → length type ≤ 3 → 0 < length name + length type → 0 < version → version < 32768 → words_of name type version ≡ words
+    → IsName words
 IsName-tested words name type version n t nl tl some low high e =
     let proper : IsProper name type version = record {
       name_characters = AllPass-from_list_all is_name_character name n;

@@ -1,11 +1,13 @@
 -- The text of a name: its digits, its length, and that it spells the name.
-use Rattle.std.proofs.Common.{◌≡◌, ℕ, true, ◌+◌, ◌/◌, ◌%◌, ◌<◌, ◌≤◌, List, [], ◌∷◌, ◌++◌, map, length, IsAscii, Result, Ok, Err, MatchResult, IsOk, IsUtf8, arith, refl, ◌∙◌, ap, append_assoc, length-append}
+use Rattle.std.proofs.Common.{◌≡◌, ℕ, true, ◌+◌, ◌/◌, ◌%◌, ◌<◌, ◌≤◌, List, [], ◌∷◌, ◌++◌, map, length, IsAscii, Result, Ok, Err}
+use Rattle.std.proofs.Common.{MatchResult, IsOk, IsUtf8, arith, refl, ◌∙◌, ap, append_assoc, length-append}
 use Rattle.std.specs.Char.{digit_value}
 use Rattle.std.specs.List.{AllPass}
 use Rattle.std.specs.Int.Digits.{AllBelowBase, digits_of}
 use Rattle.std.specs.Str.Parse.{AllDigits, digits_value}
 use Rattle.std.proofs.lemmas.Bool.Decides.{nat_tests}
-use Rattle.std.proofs.lemmas.Int.Digits.{digits_value_is, all_below_base_digits_of, number_digits_of, length-digits_of-le, length-digits_of_step, digits_of_step}
+use Rattle.std.proofs.lemmas.Int.Digits.{digits_value_is, all_below_base_digits_of, number_digits_of, length-digits_of-le}
+use Rattle.std.proofs.lemmas.Int.Digits.{length-digits_of_step, digits_of_step}
 use Rattle.std.proofs.lemmas.List.{length-map, map-append}
 use Rattle.std.proofs.lemmas.List.Elements.{All-head, All-tail}
 use Rattle.std.proofs.lemmas.Str.{IsAscii-append, IsUtf8-from_ascii}
@@ -44,7 +46,8 @@ length-octal-step n h = ap length (octal-step n h) ∙ length-append (octal (n /
 pub digits_value-octal : (n : ℕ) → digits_value 8 (octal n) ≡ n
 unfolding octal
 digits_value-octal n =
-    digits_value_is 8 (map (λ d. 48 + d) (digits_of 8 n)) ∙ rw ((digits-written (digits_of 8 n) (all_below_base_digits_of 8 n (omega arith))).1) (number_digits_of 8 n (omega arith))
+    digits_value_is 8 (map (λ d. 48 + d) (digits_of 8 n))
+    ∙ rw ((digits-written (digits_of 8 n) (all_below_base_digits_of 8 n (omega arith))).1) (number_digits_of 8 n (omega arith))
 
 -- up to 32767 it has at most five digits
 pub length-octal-le : (n : ℕ) → n < 32768 → length (octal n) ≤ 5
@@ -61,7 +64,8 @@ IsVersion-octal n low high = record {
 }
 
 -- the pieces of a name's text, one after another
-pub name_text-eq : (words name type : List ℕ) → name ≡ name_of words → type ≡ type_of words → (((name ++ (46 ∷ [])) ++ type) ++ (59 ∷ [])) ++ octal (version_of words) ≡ name_text words
+pub name_text-eq : (words name type : List ℕ) → name ≡ name_of words → type ≡ type_of words
+    → (((name ++ (46 ∷ [])) ++ type) ++ (59 ∷ [])) ++ octal (version_of words) ≡ name_text words
 unfolding name_text
 name_text-eq words name type e f = rw (e, f) (simp append_assoc)
 
@@ -102,9 +106,12 @@ pub IsAscii-name_text : (words : List ℕ) → IsName words → IsAscii (name_te
 unfolding name_text
 IsAscii-name_text words n =
     IsAscii-append (name_of words) _ (part-ascii _ n.proper.name_characters)
-    (IsAscii-cons 46 _ (omega arith) (IsAscii-append (type_of words) _ (part-ascii _ n.proper.type_characters) (IsAscii-cons 59 _ (omega arith) (octal-ascii (version_of words)))))
+    (IsAscii-cons 46 _ (omega arith)
+    (IsAscii-append (type_of words) _ (part-ascii _ n.proper.type_characters)
+    (IsAscii-cons 59 _ (omega arith) (octal-ascii (version_of words)))))
 
 -- what fails only at other than UTF-8 succeeds at a name's text
-pub ok_at_name_text : {T E : Type 0} (r : Result T E) (P : T → Type 0) (Q : E → Type 0) (bytes words : List ℕ) → MatchResult r P (λ e. ¬ (IsUtf8 bytes) × Q e) → IsName words → bytes ≡ name_text words → IsOk r
+pub ok_at_name_text : {T E : Type 0} (r : Result T E) (P : T → Type 0) (Q : E → Type 0) (bytes words : List ℕ)
+    → MatchResult r P (λ e. ¬ (IsUtf8 bytes) × Q e) → IsName words → bytes ≡ name_text words → IsOk r
 ok_at_name_text (Ok x) P Q bytes words h n e = refl
 ok_at_name_text (Err y) P Q bytes words h n e = absurd (h.0 (rw e (IsUtf8-from_ascii (name_text words) (IsAscii-name_text words n))))

@@ -1,5 +1,7 @@
 -- The words of a name and the characters that they spell.
-use Rattle.std.proofs.Common.{◌≡◌, ◌≢◌, ℕ, zero, suc, ◌+◌, ◌≤◌, true, List, [], ◌∷◌, ◌++◌, length, drop, All, slice_index_or, arith, refl, sym, ◌∙◌, ap, inl, inr, zero-add, suc-add, drop-drop, not, ◌==◌, false, true≢false, Option, Some, None, SomeIff}
+use Rattle.std.proofs.Common.{◌≡◌, ◌≢◌, ℕ, zero, suc, ◌+◌, ◌≤◌, true, List, [], ◌∷◌, ◌++◌, length, drop, All, slice_index_or, arith, refl}
+use Rattle.std.proofs.Common.{sym, ◌∙◌, ap, inl, inr, zero-add, suc-add, drop-drop, not, ◌==◌, false, true≢false, Option, Some, None}
+use Rattle.std.proofs.Common.{SomeIff}
 use Rattle.std.specs.List.{AllPass}
 use Rattle.std.proofs.lemmas.Bool.{cases_lt}
 use Rattle.std.proofs.lemmas.Bool.Decides.{nat_tests}
@@ -56,14 +58,16 @@ unpadded-padded zero [] h l = refl
 unpadded-padded (suc n) [] h l = refl
 unpadded-padded zero (c ∷ cs) h l = absurd (omega (arith, l))
 unpadded-padded (suc n) (c ∷ cs) h l =
-    unpadded-cons c (padded n cs) (is_name_character-space c (All-head InName c cs h)) ∙ ap (λ t. c ∷ t) (unpadded-padded n cs (All-tail InName c cs h) (omega (arith, l)))
+    unpadded-cons c (padded n cs) (is_name_character-space c (All-head InName c cs h))
+    ∙ ap (λ t. c ∷ t) (unpadded-padded n cs (All-tail InName c cs h) (omega (arith, l)))
 
 -- padding goes on after the first m characters
 pub padded-append : (m n : ℕ) (cs : List ℕ) → padded m cs ++ padded n (drop m cs) ≡ padded (m + n) cs
 unfolding padded
 padded-append zero n cs = ap (λ k. padded k cs) (sym (zero-add n))
 padded-append (suc m) n [] =
-    ap (λ t. 32 ∷ t) (ap (λ d. padded m [] ++ padded n d) (sym (drop-nil m)) ∙ padded-append m n []) ∙ ap (λ k. padded k []) (sym (suc-add m n))
+    ap (λ t. 32 ∷ t) (ap (λ d. padded m [] ++ padded n d) (sym (drop-nil m)) ∙ padded-append m n [])
+    ∙ ap (λ k. padded k []) (sym (suc-add m n))
 padded-append (suc m) n (c ∷ cs) = ap (λ t. c ∷ t) (padded-append m n cs) ∙ ap (λ k. padded k (c ∷ cs)) (sym (suc-add m n))
 
 pub three_places : (cs : List ℕ) → slice_index_or cs 0 32 ∷ slice_index_or cs 1 32 ∷ slice_index_or cs 2 32 ∷ [] ≡ padded 3 cs
@@ -80,7 +84,8 @@ characters_of-part cs h =
     characters_of-radix50 cs (IsCharacter-place cs h 0) (IsCharacter-place cs h 1) (IsCharacter-place cs h 2) ∙ three_places cs
 
 -- the nine characters of a name's three words
-nine_characters : (cs : List ℕ) → AllPass is_name_character cs → characters_of (radix50 cs) ++ (characters_of (radix50 (drop 3 cs)) ++ characters_of (radix50 (drop 6 cs))) ≡ padded 9 cs
+nine_characters : (cs : List ℕ) → AllPass is_name_character cs
+    → characters_of (radix50 cs) ++ (characters_of (radix50 (drop 3 cs)) ++ characters_of (radix50 (drop 6 cs))) ≡ padded 9 cs
 nine_characters cs h =
     let second : AllPass is_name_character (drop 3 cs) = All-drop InName 3 cs h in
     let third : AllPass is_name_character (drop 6 cs) = All-drop InName 6 cs h in
@@ -113,7 +118,8 @@ IsName-words_of name type version p =
     record { proper = rw (n, t, v) p; same_words = rw (n, t, v) refl }
 
 -- the words of parts, one by one
-pub words_of-eq : (name type : List ℕ) (version a b c d : ℕ) → a ≡ radix50 name → b ≡ radix50 (drop 3 name) → c ≡ radix50 (drop 6 name) → d ≡ radix50 type → a ∷ b ∷ c ∷ d ∷ version ∷ [] ≡ words_of name type version
+pub words_of-eq : (name type : List ℕ) (version a b c d : ℕ) → a ≡ radix50 name → b ≡ radix50 (drop 3 name) → c ≡ radix50 (drop 6 name)
+    → d ≡ radix50 type → a ∷ b ∷ c ∷ d ∷ version ∷ [] ≡ words_of name type version
 unfolding words_of
 words_of-eq name type version a b c d e f g h = rw (e, f, g, h) refl
 
@@ -123,7 +129,8 @@ found_at None P v words h p e = absurd (h p)
 found_at (Some found) P v words h p e = ap Some (h.1 ∙ e)
 
 -- words of proper parts are a name
-pub IsName-from_parts : (words name type : List ℕ) (version : ℕ) → IsProper name type version → words_of name type version ≡ words → IsName words
+pub IsName-from_parts : (words name type : List ℕ) (version : ℕ) → IsProper name type version → words_of name type version ≡ words
+    → IsName words
 IsName-from_parts words name type version p e = rw e at (IsName-words_of name type version p)
 
 -- a byte that may not stand in a name is not in one

@@ -1,5 +1,6 @@
 -- Accesses to files that are there.
-use Rattle.std.proofs.Common.{◌≡◌, ℕ, ◌+◌, ◌<◌, ◌==◌, ◌&&◌, Bool, true, false, Option, Some, None, refl, sym, ◌∙◌, ap, arith, is_none, if◌then◌else◌}
+use Rattle.std.proofs.Common.{◌≡◌, ℕ, ◌+◌, ◌<◌, ◌==◌, ◌&&◌, Bool, true, false, Option, Some, None, refl, sym, ◌∙◌, ap, arith, is_none}
+use Rattle.std.proofs.Common.{if◌then◌else◌}
 use Rattle.std.specs.List.{list_any, range_with_len}
 use Rattle.std.specs.Option.{option_and_then}
 use Rattle.std.proofs.lemmas.Bool.{eqb-true, eq-eqb, and_parts, and_from}
@@ -25,7 +26,8 @@ pub record IsThere (s : Store) (id : FileId) : Type 0 where
 pub there-is : (s : Store) (id : FileId) → is_missing s id ≡ false → IsThere s id
 there-is s id there = by_file (s.file id.number) refl there
   where
-    by_test : (f : File) (b : Bool) → (f.sequence == id.sequence) ≡ b → s.file id.number ≡ Some f → is_none (if b then Some f else None) ≡ false → IsThere s id
+    by_test : (f : File) (b : Bool) → (f.sequence == id.sequence) ≡ b → s.file id.number ≡ Some f
+        → is_none (if b then Some f else None) ≡ false → IsThere s id
     by_test f true e is h = record { file = f; is = is; sequence = eqb-true f.sequence id.sequence e }
     by_test f false e is h = absurd (cc)
 
@@ -55,13 +57,15 @@ none-range p n never =
     let at : 0 + i ≡ i = omega arith in
     ap p (get_or-range_with_len 0 n i d low ∙ at) ∙ never i low)
 
-pub held-none : (test : Mode → Bool) (s : Store) (id : FileId) → ((t l : ℕ) → t < 8 → l < 4 → is_to test id (s.access t l) ≡ false) → is_held test s id ≡ false
+pub held-none : (test : Mode → Bool) (s : Store) (id : FileId) → ((t l : ℕ) → t < 8 → l < 4 → is_to test id (s.access t l) ≡ false)
+    → is_held test s id ≡ false
 unfolding is_held
 held-none test s id never =
     none-range (λ t. list_any (λ l. is_to test id (s.access t l)) (range_with_len 0 4)) 8
     (λ t low. none-range (λ l. is_to test id (s.access t l)) 4 (λ l small. never t l low small))
 
-pub held-each : (test : Mode → Bool) (s : Store) (id : FileId) → is_held test s id ≡ false → (t l : ℕ) → t < 8 → l < 4 → is_to test id (s.access t l) ≡ false
+pub held-each : (test : Mode → Bool) (s : Store) (id : FileId) → is_held test s id ≡ false → (t l : ℕ) → t < 8 → l < 4
+    → is_to test id (s.access t l) ≡ false
 held-each test s id none t l low small = by_access (s.access t l) refl
   where
     by_access : (o : Option Access) → s.access t l ≡ o → is_to test id o ≡ false
@@ -75,9 +79,11 @@ held-each test s id none t l low small = by_access (s.access t l) refl
             absurd (true-false (sym (held-at test s t l a id low small is parts.0 parts.1) ∙ none))
 
 -- an access that is taken or given up
-pub held-with : (test : Mode → Bool) (s : Store) (task lun : ℕ) (o : Option Access) (id : FileId) → is_held test s id ≡ false → is_to test id o ≡ false → is_held test (with_access s task lun o) id ≡ false
+pub held-with : (test : Mode → Bool) (s : Store) (task lun : ℕ) (o : Option Access) (id : FileId) → is_held test s id ≡ false
+    → is_to test id o ≡ false → is_held test (with_access s task lun o) id ≡ false
 held-with test s task lun o id none new =
-    held-none test (with_access s task lun o) id (λ t l low small. by_test ((t == task) && (l == lun)) _ (held-each test s id none t l low small))
+    held-none test (with_access s task lun o) id
+    (λ t l low small. by_test ((t == task) && (l == lun)) _ (held-each test s id none t l low small))
   where
     by_test : (b : Bool) (x : Option Access) → is_to test id x ≡ false → is_to test id (if b then o else x) ≡ false
     by_test true x h = new

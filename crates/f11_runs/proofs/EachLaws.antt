@@ -1,8 +1,10 @@
 -- Calls that were answered one after another, in parts and all the way.
-use Rattle.std.proofs.Common.{◌≡◌, ℕ, ◌+◌, ◌≤◌, suc, Bool, true, List, [], ◌∷◌, ◌++◌, length, refl, sym, ◌∙◌, ap, subst, arith, All, length-append}
+use Rattle.std.proofs.Common.{◌≡◌, ℕ, ◌+◌, ◌≤◌, suc, Bool, true, List, [], ◌∷◌, ◌++◌, length, refl, sym, ◌∙◌, ap, subst, arith, All}
+use Rattle.std.proofs.Common.{length-append}
 use Rattle.f11_store.specs.Run.{Call, Answer}
 use Rattle.f11_runs.specs.Each.{Each, AddsCost, EachCosts, IsSeenAs, Steps, Within}
-use Rattle.f11_runs.specs.Laws.{EmptyChangesNothing, EachIsAnswered, TwoAreOne, OneIsTwo, OneMoreRuns, LastIsStep, RunIsSteps, StepsAreRun, KeptAlong}
+use Rattle.f11_runs.specs.Laws.{EmptyChangesNothing, EachIsAnswered, TwoAreOne, OneIsTwo, OneMoreRuns, LastIsStep, RunIsSteps, StepsAreRun}
+use Rattle.f11_runs.specs.Laws.{KeptAlong}
 
 module _ {V : Type 0} (R : V → Call → Answer → V → Type 0) where
   pub each-length : (v w : V) (cs : List Call) (bs : List Answer) → Each R v cs bs w → length bs ≡ length cs
@@ -12,14 +14,16 @@ module _ {V : Type 0} (R : V → Call → Answer → V → Type 0) where
   each-length v w (c ∷ cs) [] h = absurd h
 
   -- two lists one after the other
-  pub each-two : (v u w : V) (cs more : List Call) (bs others : List Answer) → Each R v cs bs u → Each R u more others w → Each R v (cs ++ more) (bs ++ others) w
+  pub each-two : (v u w : V) (cs more : List Call) (bs others : List Answer) → Each R v cs bs u → Each R u more others w
+      → Each R v (cs ++ more) (bs ++ others) w
   each-two v u w [] more [] others h k = subst (λ x. Each R x more others w) h k
   each-two v u w (c ∷ cs) more (a ∷ bs) others h k = (h.0, h.1, each-two h.0 u w cs more bs others h.2 k)
   each-two v u w [] more (a ∷ bs) others h k = absurd h
   each-two v u w (c ∷ cs) more [] others h k = absurd h
 
   -- and a list in two parts
-  pub each-parts : (v w : V) (cs more : List Call) (bs others : List Answer) → length bs ≡ length cs → Each R v (cs ++ more) (bs ++ others) w →
+  pub each-parts : (v w : V) (cs more : List Call) (bs others : List Answer) → length bs ≡ length cs
+      → Each R v (cs ++ more) (bs ++ others) w →
       (u : V) × (Each R v cs bs u) × (Each R u more others w)
   each-parts v w [] more [] others n h = (v, refl, h)
   each-parts v w (c ∷ cs) more (a ∷ bs) others n h =
@@ -29,12 +33,15 @@ module _ {V : Type 0} (R : V → Call → Answer → V → Type 0) where
   each-parts v w (c ∷ cs) more [] others n h = absurd (omega (arith, n))
 
   -- one call more
-  pub each-more : (v u w : V) (cs : List Call) (c : Call) (bs : List Answer) (a : Answer) → Each R v cs bs u → R u c a w → Each R v (cs ++ c ∷ []) (bs ++ a ∷ []) w
+  pub each-more : (v u w : V) (cs : List Call) (c : Call) (bs : List Answer) (a : Answer) → Each R v cs bs u → R u c a w
+      → Each R v (cs ++ c ∷ []) (bs ++ a ∷ []) w
   each-more v u w cs c bs a h one = each-two v u w cs (c ∷ []) bs (a ∷ []) h (w, one, refl)
 
-  pub each-last : (v w : V) (cs : List Call) (c : Call) (bs : List Answer) (a : Answer) → Each R v (cs ++ c ∷ []) (bs ++ a ∷ []) w → (u : V) × (Each R v cs bs u) × (R u c a w)
+  pub each-last : (v w : V) (cs : List Call) (c : Call) (bs : List Answer) (a : Answer) → Each R v (cs ++ c ∷ []) (bs ++ a ∷ []) w
+      → (u : V) × (Each R v cs bs u) × (R u c a w)
   each-last v w cs c bs a h =
-      let as-many : length bs ≡ length cs = omega (arith, each-length v w (cs ++ c ∷ []) (bs ++ a ∷ []) h, length-append cs (c ∷ []), length-append bs (a ∷ [])) in
+      let as-many : length bs ≡ length cs =
+      omega (arith, each-length v w (cs ++ c ∷ []) (bs ++ a ∷ []) h, length-append cs (c ∷ []), length-append bs (a ∷ [])) in
       let both = each-parts v w cs (c ∷ []) bs (a ∷ []) as-many h in
       (both.0, both.1, subst (λ x. R both.0 c a x) (sym both.2.2) both.2.1)
 
@@ -58,8 +65,10 @@ each-seen R T view so v w (c ∷ cs) (a ∷ bs) h = (view h.0, so v h.0 c a h.1,
 each-seen R T view so v w [] (a ∷ bs) h = absurd h
 each-seen R T view so v w (c ∷ cs) [] h = absurd h
 
--- what is seen as another thing where it is sound and nothing fails, is seen so all the way where nothing failed from the first call to the last
-module _ {V W : Type 0} (R : V → Call → Answer → V → Type 0) (T : W → Call → Answer → W → Type 0) (view : V → W) (failures : V → ℕ) (is_sound : V → Bool)
+-- what is seen as another thing where it is sound and nothing fails, is seen so all the way where nothing failed from the first call to the
+-- last
+module _ {V W : Type 0} (R : V → Call → Answer → V → Type 0) (T : W → Call → Answer → W → Type 0) (view : V → W) (failures : V → ℕ)
+    (is_sound : V → Bool)
     (m : IsSeenAs R T view failures is_sound)
   where
     each-rises : (v w : V) (cs : List Call) (bs : List Answer) → Each R v cs bs w → failures v ≤ failures w
@@ -68,7 +77,8 @@ module _ {V W : Type 0} (R : V → Call → Answer → V → Type 0) (T : W → 
     each-rises v w [] (a ∷ bs) h = absurd h
     each-rises v w (c ∷ cs) [] h = absurd h
 
-    pub each-sound : (v w : V) (cs : List Call) (bs : List Answer) → Each R v cs bs w → is_sound v ≡ true → failures w ≡ failures v → Each T (view v) cs bs (view w)
+    pub each-sound : (v w : V) (cs : List Call) (bs : List Answer) → Each R v cs bs w → is_sound v ≡ true → failures w ≡ failures v
+        → Each T (view v) cs bs (view w)
     each-sound v w [] [] h sound none = ap view h
     each-sound v w (c ∷ cs) (a ∷ bs) h sound none =
         let same : failures h.0 ≡ failures v = omega (arith, m.rises v h.0 c a h.1, each-rises h.0 w cs bs h.2, none) in
@@ -82,7 +92,8 @@ module _ {V : Type 0} (R : V → Call → Answer → V → Type 0) (cost : V →
     (grows : (v w : V) (c : Call) (a : Answer) → P v → R v c a w → (measure w ≤ measure v + cost v c) × P w)
   where
     costs-from : (v w : V) (n : ℕ) (cs : List Call) (bs : List Answer) → Each R v cs bs w →
-        (most : ℕ) × Each (AddsCost R cost) (record { value = v; sum = n }) cs bs (record { value = w; sum = most }) × (P v → measure w + n ≤ measure v + most)
+        (most : ℕ) × Each (AddsCost R cost) (record { value = v; sum = n }) cs bs (record { value = w; sum = most })
+        × (P v → measure w + n ≤ measure v + most)
     costs-from v w n [] [] h = (n, (λ i. record { value = h i; sum = n }), λ p. omega (arith, ap measure h))
     costs-from v w n (c ∷ cs) (a ∷ bs) h =
         let rest = costs-from h.0 w (n + cost v c) cs bs h.2 in
@@ -91,7 +102,8 @@ module _ {V : Type 0} (R : V → Call → Answer → V → Type 0) (cost : V →
     costs-from v w n [] (a ∷ bs) h = absurd h
     costs-from v w n (c ∷ cs) [] h = absurd h
 
-    pub each-costs : (v w : V) (cs : List Call) (bs : List Answer) → Each R v cs bs w → (most : ℕ) × EachCosts R cost v cs bs w most × (P v → measure w ≤ measure v + most)
+    pub each-costs : (v w : V) (cs : List Call) (bs : List Answer) → Each R v cs bs w
+        → (most : ℕ) × EachCosts R cost v cs bs w most × (P v → measure w ≤ measure v + most)
     each-costs v w cs bs h =
         let all = costs-from v w 0 cs bs h in
         (all.0, all.1, λ p. omega (arith, all.2 p))
@@ -117,7 +129,8 @@ each-is-answered s s' cs bs h = each-length Steps s s' cs bs (run-is-steps s s' 
 
 pub two-are-one : TwoAreOne
 two-are-one s t s' cs more bs others h k =
-    steps-are-run s s' (cs ++ more) (bs ++ others) (each-two Steps s t s' cs more bs others (run-is-steps s t cs bs h) (run-is-steps t s' more others k))
+    steps-are-run s s' (cs ++ more) (bs ++ others)
+    (each-two Steps s t s' cs more bs others (run-is-steps s t cs bs h) (run-is-steps t s' more others k))
 
 pub one-is-two : OneIsTwo
 one-is-two s s' cs more bs others n h =
@@ -135,4 +148,5 @@ last-is-step s s' cs c bs a h =
 
 pub kept-along : KeptAlong
 kept-along holds s s' cs bs keeps first h =
-    each-within Steps (λ t. holds t ≡ true) (λ c. Unit {0}) (λ t u c a _ k one. keeps t u c a k one) s s' cs bs (λ k d within. tt) first (run-is-steps s s' cs bs h)
+    each-within Steps (λ t. holds t ≡ true) (λ c. Unit {0}) (λ t u c a _ k one. keeps t u c a k one) s s' cs bs (λ k d within. tt) first
+    (run-is-steps s s' cs bs h)

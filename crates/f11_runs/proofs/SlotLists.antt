@@ -1,5 +1,6 @@
 -- Slots in lists, and in no list twice.
-use Rattle.std.proofs.Common.{◌≡◌, ℕ, zero, suc, ◌+◌, ◌-◌, ◌≤◌, ◌==◌, ◌||◌, Bool, true, false, not, List, [], ◌∷◌, ◌++◌, take, drop, filter, refl, sym, ◌∙◌, ap, subst, arith, if◌then◌else◌}
+use Rattle.std.proofs.Common.{◌≡◌, ℕ, zero, suc, ◌+◌, ◌-◌, ◌≤◌, ◌==◌, ◌||◌, Bool, true, false, not, List, [], ◌∷◌, ◌++◌, take, drop, filter}
+use Rattle.std.proofs.Common.{refl, sym, ◌∙◌, ap, subst, arith, if◌then◌else◌}
 use Rattle.std.specs.List.{range_with_len}
 use Rattle.std.proofs.lemmas.Bool.{eqb-true}
 use Rattle.std.proofs.lemmas.List.Folds.{list_any-append}
@@ -58,11 +59,14 @@ take-apart zero xs n d h = absurd (cc)
 take-apart (suc k) [] n d h = absurd (cc)
 take-apart (suc k) (x ∷ xs) n d h = by_test (x == n) refl h (take-apart k xs n d.1)
   where
-    by_test : (b : Bool) → (x == n) ≡ b → (b || is_in (take k xs) n) ≡ true → (is_in (take k xs) n ≡ true → is_in (drop k xs) n ≡ false) → is_in (drop k xs) n ≡ false
-    by_test true e h later = subst (λ (m : ℕ). is_in (drop k xs) m ≡ false) (eqb-true x n e) (fails-so (is_in (drop k xs) x) (is_in xs x) (in-drop k xs x) d.0)
+    by_test : (b : Bool) → (x == n) ≡ b → (b || is_in (take k xs) n) ≡ true → (is_in (take k xs) n ≡ true → is_in (drop k xs) n ≡ false)
+        → is_in (drop k xs) n ≡ false
+    by_test true e h later =
+        subst (λ (m : ℕ). is_in (drop k xs) m ≡ false) (eqb-true x n e) (fails-so (is_in (drop k xs) x) (is_in xs x) (in-drop k xs x) d.0)
     by_test false e h later = later h
 
-pub distinct-two : (xs ys : List ℕ) → AreDistinct xs → AreDistinct ys → ((n : ℕ) → is_in xs n ≡ true → is_in ys n ≡ false) → AreDistinct (xs ++ ys)
+pub distinct-two : (xs ys : List ℕ) → AreDistinct xs → AreDistinct ys → ((n : ℕ) → is_in xs n ≡ true → is_in ys n ≡ false)
+    → AreDistinct (xs ++ ys)
 distinct-two [] ys d e apart = e
 distinct-two (x ∷ xs) ys d e apart = (
   in-two xs ys x ∙ neither (is_in xs x) (is_in ys x) d.0 (apart x (ap (λ b. b || is_in xs x) (same_number x))),
@@ -81,11 +85,13 @@ in-passed p a (suc m) n h = by_test (p a) refl h (in-passed p (a + 1) m n)
     rest : List ℕ
     rest = filter p (range_with_len (a + 1) m)
 
-    by_number : (b : Bool) → (a == n) ≡ b → p a ≡ true → (b || is_in rest n) ≡ true → (is_in rest n ≡ true → (a + 1 ≤ n) × (p n ≡ true)) → (a ≤ n) × (p n ≡ true)
+    by_number : (b : Bool) → (a == n) ≡ b → p a ≡ true → (b || is_in rest n) ≡ true → (is_in rest n ≡ true → (a + 1 ≤ n) × (p n ≡ true))
+        → (a ≤ n) × (p n ≡ true)
     by_number true e passes h later = let same : a ≡ n = eqb-true a n e in (omega arith, ap p (sym same) ∙ passes)
     by_number false e passes h later = let l = later h in (omega (arith, l.0), l.1)
 
-    by_test : (b : Bool) → p a ≡ b → is_in (if b then a ∷ rest else rest) n ≡ true → (is_in rest n ≡ true → (a + 1 ≤ n) × (p n ≡ true)) → (a ≤ n) × (p n ≡ true)
+    by_test : (b : Bool) → p a ≡ b → is_in (if b then a ∷ rest else rest) n ≡ true → (is_in rest n ≡ true → (a + 1 ≤ n) × (p n ≡ true))
+        → (a ≤ n) × (p n ≡ true)
     by_test true e h later = by_number (a == n) refl e h later
     by_test false e h later = let l = later h in (omega (arith, l.0), l.1)
 

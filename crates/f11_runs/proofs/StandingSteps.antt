@@ -1,5 +1,6 @@
 -- A store that stands does so after each request.
-use Rattle.std.proofs.Common.{◌≡◌, ℕ, zero, suc, ◌<◌, ◌==◌, ◌&&◌, ◌||◌, Bool, true, false, List, [], ◌∷◌, Option, Some, None, Result, Ok, Err, refl, sym, ◌∙◌, ap, subst, is_none, is_some, option_map, take, if◌then◌else◌, fold, nat_lt}
+use Rattle.std.proofs.Common.{◌≡◌, ℕ, zero, suc, ◌<◌, ◌==◌, ◌&&◌, ◌||◌, Bool, true, false, List, [], ◌∷◌, Option, Some, None, Result, Ok}
+use Rattle.std.proofs.Common.{Err, refl, sym, ◌∙◌, ap, subst, is_none, is_some, option_map, take, if◌then◌else◌, fold, nat_lt}
 use Rattle.std.specs.List.{range_with_len}
 use Rattle.std.proofs.lemmas.Bool.{eq-eqb, eqb-true}
 use Rattle.f11_store.specs.declared.callers.Uic.{Uic}
@@ -15,10 +16,13 @@ use Rattle.f11_store.specs.Accesses.{FreeIsEmpty}
 use Rattle.f11_store.specs.File.{File}
 use Rattle.f11_store.specs.Store.{Store, Access, id_held, least_free, free_headers, is_same, is_accessed}
 use Rattle.f11_store.specs.Causes.{is_missing, first_refusal, is_bad}
-use Rattle.f11_store.specs.Changes.{is_in, with_access, with_change, with_block, with_replacement, with_delete_mark, without_file_at, with_marked_file, is_due, after_giving_up, after_deaccess, after_delete, GetsSlots, Grows, GrowsIndex, with_more_slots, EntersAt, EntersAtEnd, Changes}
+use Rattle.f11_store.specs.Changes.{is_in, with_access, with_change, with_block, with_replacement, with_delete_mark, without_file_at}
+use Rattle.f11_store.specs.Changes.{with_marked_file, is_due, after_giving_up, after_deaccess, after_delete, GetsSlots, Grows, GrowsIndex}
+use Rattle.f11_store.specs.Changes.{with_more_slots, EntersAt, EntersAtEnd, Changes}
 use Rattle.f11_store.specs.Step.{Step}
 use Rattle.f11_store.specs.Run.{Call, Answer}
-use Rattle.f11_store.proofs.FateLaws.{Fate, fate-kept, gained-access, gained-keeps, stays, altered, new, gone, held-at, fate-given-up, fate-gone, fate-grows}
+use Rattle.f11_store.proofs.FateLaws.{Fate, fate-kept, gained-access, gained-keeps, stays, altered, new, gone, held-at, fate-given-up}
+use Rattle.f11_store.proofs.FateLaws.{fate-gone, fate-grows}
 use Rattle.f11_store.proofs.FileLaws.{least_free_is_free}
 use Rattle.f11_store.proofs.StepFates.{fate-served, fate-create, replacement-sequence}
 use Rattle.f11_store.proofs.StoreLemmas.{none_first, none_rest}
@@ -71,14 +75,16 @@ apart-released (l ∷ luns) s task was = apart-released luns (after_deaccess s t
 -- the index file grows, or does first
 apart-index : (s s' : Store) (n : ℕ) → HoldApart s → GrowsIndex s n s' → HoldApart s'
 apart-index s s' n was h =
-    subst HoldApart (sym h.store_is) (apart-stays h.grown (with_more_slots h.grown n) (λ m. refl) (λ m. refl) (apart-grown s h.grown 1 n [] was h.grows))
+    subst HoldApart (sym h.store_is)
+    (apart-stays h.grown (with_more_slots h.grown n) (λ m. refl) (λ m. refl) (apart-grown s h.grown 1 n [] was h.grows))
 
 apart-gained : (n : ℕ) (s s' : Store) → HoldApart s → GetsSlots n s s' → HoldApart s'
 apart-gained zero s s' was e = subst HoldApart (sym e) was
 apart-gained (suc n) s s' was e = apart-index s s' (suc n) was e
 
 -- a record is entered
-apart-entered-at-end : (b : Bool) (s : Store) (d : FileId) (i : ℕ) (r : List ℕ) (s' : Store) → HoldApart s → EntersAtEnd b s d i r s' → HoldApart s'
+apart-entered-at-end : (b : Bool) (s : Store) (d : FileId) (i : ℕ) (r : List ℕ) (s' : Store) → HoldApart s → EntersAtEnd b s d i r s'
+    → HoldApart s'
 apart-entered-at-end false s d i r s' was e = apart-change s s' d.number _ (λ f. refl) was e
 apart-entered-at-end true s d i r s' was (grown, h, e) =
     apart-change grown s' d.number _ (λ f. refl) (apart-grown h.ready grown d.number 1 _ (apart-gained _ s h.ready was h.gains) h.makes) e
@@ -100,7 +106,8 @@ replacement-held (change.Ident i) f = refl
 replacement-held (change.Protect p) f = refl
 
 -- the slots after a request that is served
-apart-served : (s : Store) (task : ℕ) (caller : Uic) (r : Request) (block : List ℕ) (s' : Store) → HoldApart s → first_refusal s task caller r ≡ None → Changes s task caller r block s' → HoldApart s'
+apart-served : (s : Store) (task : ℕ) (caller : Uic) (r : Request) (block : List ℕ) (s' : Store) → HoldApart s
+    → first_refusal s task caller r ≡ None → Changes s task caller r block s' → HoldApart s'
 apart-served s task caller (request.Create word ident attr) block s' was none h =
     subst HoldApart (sym h.makes)
     (apart-made h.ready (least_free h.ready) _ refl (least_free_is_free h.ready h.enough).unused (apart-gained _ s h.ready was h.gains))
@@ -110,16 +117,20 @@ apart-served s task caller (request.Contiguous lun n) block s' was none h = apar
 apart-served s task caller (request.Truncate lun to) block s' was none h = apart-cut s s' (id_held s task lun).number to was h
 apart-served s task caller (request.Delete id) block s' was none h = subst HoldApart (sym h) (apart-deleted s id was)
 apart-served s task caller (request.GrowIndex n) block s' was none h = apart-index s s' n was h
-apart-served s task caller (request.Access id m lun) block s' was none h = subst HoldApart (sym h) (apart-stays s _ (λ n. refl) (λ n. refl) was)
-apart-served s task caller (request.Deaccess lun) block s' was none h = subst HoldApart (sym h) (apart-given-up s task lun (s.access task lun) was)
+apart-served s task caller (request.Access id m lun) block s' was none h =
+    subst HoldApart (sym h) (apart-stays s _ (λ n. refl) (λ n. refl) was)
+apart-served s task caller (request.Deaccess lun) block s' was none h =
+    subst HoldApart (sym h) (apart-given-up s task lun (s.access task lun) was)
 apart-served s task caller request.Release block s' was none h = subst HoldApart (sym h) (apart-released (range_with_len 0 4) s task was)
 apart-served s task caller (request.ReadBlock lun vbn) block s' was none h = subst HoldApart (sym h) was
-apart-served s task caller (request.WriteBlock lun vbn) block s' was none h = apart-change s s' (id_held s task lun).number (with_block vbn block) (λ f. refl) was h
+apart-served s task caller (request.WriteBlock lun vbn) block s' was none h =
+    apart-change s s' (id_held s task lun).number (with_block vbn block) (λ f. refl) was h
 apart-served s task caller (request.Find d name) block s' was none h = subst HoldApart (sym h) was
 apart-served s task caller (request.Enter d name id) block s' was none h = apart-entered _ s d _ s' was h
 apart-served s task caller (request.Remove d name) block s' was none h = apart-change s s' d.number _ (λ f. refl) was h
 apart-served s task caller (request.ReadAttr id) block s' was none h = subst HoldApart (sym h) was
-apart-served s task caller (request.WriteAttr id c) block s' was none h = apart-change s s' id.number (with_replacement c) (replacement-held c) was h
+apart-served s task caller (request.WriteAttr id c) block s' was none h =
+    apart-change s s' id.number (with_replacement c) (replacement-held c) was h
 apart-served s task caller request.Space block s' was none h = subst HoldApart (sym h) was
 
 -- a file that was there and is accessed is there
@@ -139,20 +150,30 @@ there-by-fate s s' fates id there held = by_fate (there-is s id there) (fates id
         let same : f ≡ here.file = let files : Some f ≡ Some here.file = sym was ∙ here.is in cc in
         absurd (true-false (sym held ∙ nobody id refl (sym (ap (λ (x : File). x.sequence) same ∙ here.sequence))))
 
-there-changed : (s s' : Store) (k : ℕ) (change : File → File) → ((f : File) → (change f).sequence ≡ f.sequence) → s' ≡ with_change s k change → KeepsThere s s'
-there-changed s s' k change keeps is id there held = subst (λ (x : Store). is_missing x id ≡ false) (sym is) (by_number (id.number == k) refl (there-is s id there))
+there-changed : (s s' : Store) (k : ℕ) (change : File → File) → ((f : File) → (change f).sequence ≡ f.sequence)
+    → s' ≡ with_change s k change → KeepsThere s s'
+there-changed s s' k change keeps is id there held =
+    subst (λ (x : Store). is_missing x id ≡ false) (sym is) (by_number (id.number == k) refl (there-is s id there))
   where
     by_number : (b : Bool) → (id.number == k) ≡ b → IsThere s id → is_missing (with_change s k change) id ≡ false
-    by_number false e here = ap is_none (there-file (with_change s k change) id (record { file = here.file; is = ap (λ b. if b then option_map change (s.file k) else s.file id.number) e ∙ here.is; sequence = here.sequence }))
+    by_number false e here =
+        ap is_none (there-file (with_change s k change) id
+        (record {
+          file = here.file;
+          is = ap (λ b. if b then option_map change (s.file k) else s.file id.number) e ∙ here.is;
+          sequence = here.sequence;
+        }))
     by_number true e here =
         ap is_none (there-file (with_change s k change) id (record {
           file = change here.file;
-          is = ap (λ b. if b then option_map change (s.file k) else s.file id.number) e ∙ ap (option_map change) (ap s.file (sym (eqb-true id.number k e)) ∙ here.is);
+          is = ap (λ b. if b then option_map change (s.file k) else s.file id.number) e
+              ∙ ap (option_map change) (ap s.file (sym (eqb-true id.number k e)) ∙ here.is);
           sequence = keeps here.file ∙ here.sequence;
         }))
 
 -- each access stands where it was to a file that was there
-accesses-stand : (s s' : Store) → KeepsThere s s' → ((task lun : ℕ) → task < 8 → lun < 4 → is_lost s (s'.access task lun) ≡ false) → AccessesStand s'
+accesses-stand : (s s' : Store) → KeepsThere s s' → ((task lun : ℕ) → task < 8 → lun < 4 → is_lost s (s'.access task lun) ≡ false)
+    → AccessesStand s'
 accesses-stand s s' there before task lun low small = by_access (s'.access task lun) refl (before task lun low small)
   where
     by_access : (o : Option Access) → s'.access task lun ≡ o → is_lost s o ≡ false → is_lost s' o ≡ false
@@ -165,12 +186,15 @@ accesses-stand s s' there before task lun low small = by_access (s'.access task 
 -- and where the accesses are the same
 same-stand : (s s' : Store) → AccessesStand s → KeepsThere s s' → s'.access ≡ s.access → AccessesStand s'
 same-stand s s' was there same =
-    accesses-stand s s' there (λ task lun low small. ap (λ (a : ℕ → ℕ → Option Access). is_lost s (a task lun)) same ∙ was task lun low small)
+    accesses-stand s s' there (λ task lun low small. ap (λ (a : ℕ → ℕ → Option Access). is_lost s (a task lun)) same
+    ∙ was task lun low small)
 
 -- an access is taken or given up
-stand-with : (s s' : Store) (task lun : ℕ) (o : Option Access) → AccessesStand s → is_lost s o ≡ false → KeepsThere s s' → s'.access ≡ (with_access s task lun o).access → AccessesStand s'
+stand-with : (s s' : Store) (task lun : ℕ) (o : Option Access) → AccessesStand s → is_lost s o ≡ false → KeepsThere s s'
+    → s'.access ≡ (with_access s task lun o).access → AccessesStand s'
 stand-with s s' task lun o was standing there same =
-    accesses-stand s s' there (λ t l low small. ap (λ (a : ℕ → ℕ → Option Access). is_lost s (a t l)) same ∙ by_test ((t == task) && (l == lun)) (s.access t l) (was t l low small))
+    accesses-stand s s' there (λ t l low small. ap (λ (a : ℕ → ℕ → Option Access). is_lost s (a t l)) same
+    ∙ by_test ((t == task) && (l == lun)) (s.access t l) (was t l low small))
   where
     by_test : (b : Bool) (x : Option Access) → is_lost s x ≡ false → is_lost s (if b then o else x) ≡ false
     by_test true x h = standing
@@ -182,7 +206,8 @@ stand-given-up s task lun (Some a) was =
     stand-with s (after_giving_up s task lun (Some a)) task lun None was refl (there-by-fate s _ (λ n. fate-given-up s task lun n (Some a)))
     (by_test (is_due (with_access s task lun None) a.file))
   where
-    by_test : (b : Bool) → (if b then without_file_at (with_access s task lun None) a.file.number else with_access s task lun None).access ≡ (with_access s task lun None).access
+    by_test : (b : Bool) → (if b then without_file_at (with_access s task lun None) a.file.number else with_access s task lun None).access
+        ≡ (with_access s task lun None).access
     by_test true = refl
     by_test false = refl
 
@@ -190,7 +215,8 @@ stand-released : (luns : List ℕ) (s : Store) (task : ℕ) → AccessesStand s 
 stand-released [] s task was = was
 stand-released (l ∷ luns) s task was = stand-released luns (after_deaccess s task l) task (stand-given-up s task l (s.access task l) was)
 
-stand-changed : (s s' : Store) (k : ℕ) (change : File → File) → ((f : File) → (change f).sequence ≡ f.sequence) → AccessesStand s → s' ≡ with_change s k change → AccessesStand s'
+stand-changed : (s s' : Store) (k : ℕ) (change : File → File) → ((f : File) → (change f).sequence ≡ f.sequence) → AccessesStand s
+    → s' ≡ with_change s k change → AccessesStand s'
 stand-changed s s' k change keeps was is = same-stand s s' was (there-changed s s' k change keeps is) (ap (λ (x : Store). x.access) is)
 
 stand-grown : (s s' : Store) (k n : ℕ) (blocks : List (List ℕ)) → AccessesStand s → Grows s k n blocks s' → AccessesStand s'
@@ -198,9 +224,11 @@ stand-grown s s' k n blocks was grows =
     same-stand s s' was (there-by-fate s s' (λ m. fate-grows s s' k n m blocks grows)) (ap (λ (x : Store). x.access) grows.store_is)
 
 stand-gained : (n : ℕ) (s s' : Store) → AccessesStand s → GetsSlots n s s' → AccessesStand s'
-stand-gained n s s' was e = same-stand s s' was (there-by-fate s s' (λ m. fate-kept s s' m (gained-keeps s s' n m e))) (gained-access s s' n e)
+stand-gained n s s' was e =
+    same-stand s s' was (there-by-fate s s' (λ m. fate-kept s s' m (gained-keeps s s' n m e))) (gained-access s s' n e)
 
-stand-entered-at-end : (b : Bool) (s : Store) (d : FileId) (i : ℕ) (r : List ℕ) (s' : Store) → AccessesStand s → EntersAtEnd b s d i r s' → AccessesStand s'
+stand-entered-at-end : (b : Bool) (s : Store) (d : FileId) (i : ℕ) (r : List ℕ) (s' : Store) → AccessesStand s → EntersAtEnd b s d i r s'
+    → AccessesStand s'
 stand-entered-at-end false s d i r s' was e = stand-changed s s' d.number _ (λ f. refl) was e
 stand-entered-at-end true s d i r s' was (grown, h, e) =
     stand-changed grown s' d.number _ (λ f. refl) (stand-grown h.ready grown d.number 1 _ (stand-gained _ s h.ready was h.gains) h.makes) e
@@ -217,7 +245,8 @@ stand-deleted s id was there = by_test (is_accessed s id) refl
     by_test false e = same-stand s (without_file_at s id.number) was (there-by-fate s _ (λ n. fate-gone s id n there e)) refl
 
 -- the accesses after a request that is served
-pub accesses-served : (s : Store) (task : ℕ) (caller : Uic) (r : Request) (block : List ℕ) (s' : Store) → FreeIsEmpty s → AccessesStand s → first_refusal s task caller r ≡ None
+pub accesses-served : (s : Store) (task : ℕ) (caller : Uic) (r : Request) (block : List ℕ) (s' : Store) → FreeIsEmpty s → AccessesStand s
+    → first_refusal s task caller r ≡ None
     → Changes s task caller r block s' → AccessesStand s'
 accesses-served s task caller (request.Create word ident attr) block s' empty was none h =
     same-stand s s' was (there-by-fate s s' (λ n. fate-create s s' caller word ident attr n empty h))
@@ -228,9 +257,11 @@ accesses-served s task caller (request.Contiguous lun n) block s' empty was none
     same-stand s s' was (there-by-fate s s' (λ m. fate-served s task caller (request.Contiguous lun n) block s' m tt h tt))
     (ap (λ (x : Store). x.access) h.store_is)
 accesses-served s task caller (request.Truncate lun to) block s' empty was none h =
-    same-stand s s' was (there-by-fate s s' (λ n. fate-served s task caller (request.Truncate lun to) block s' n tt h tt)) (ap (λ (x : Store). x.access) h.store_is)
+    same-stand s s' was (there-by-fate s s' (λ n. fate-served s task caller (request.Truncate lun to) block s' n tt h tt))
+    (ap (λ (x : Store). x.access) h.store_is)
 accesses-served s task caller (request.Delete id) block s' empty was none h =
-    subst AccessesStand (sym h) (stand-deleted s id was (none_first (is_missing s id) _ _ (none_rest (nat_lt id.number 6) _ _ (none_rest (is_bad id) _ _ none))))
+    subst AccessesStand (sym h)
+    (stand-deleted s id was (none_first (is_missing s id) _ _ (none_rest (nat_lt id.number 6) _ _ (none_rest (is_bad id) _ _ none))))
 accesses-served s task caller (request.GrowIndex n) block s' empty was none h =
     same-stand s s' was (there-by-fate s s' (λ m. fate-served s task caller (request.GrowIndex n) block s' m tt h tt))
     (ap (λ (x : Store). x.access) (h.store_is ∙ ap (λ (x : Store). with_more_slots x n) h.grows.store_is))
@@ -240,15 +271,19 @@ accesses-served s task caller (request.Access id m lun) block s' empty was none 
     let three = none_rest (nat_lt id.number 4) _ _ two in
     stand-with s s' task lun (Some (record { file = id; mode = m })) was (none_first (is_missing s id) _ _ three)
     (there-by-fate s s' (λ n. stays (ap (λ (x : Store). x.file n) h))) (ap (λ (x : Store). x.access) h)
-accesses-served s task caller (request.Deaccess lun) block s' empty was none h = subst AccessesStand (sym h) (stand-given-up s task lun (s.access task lun) was)
-accesses-served s task caller request.Release block s' empty was none h = subst AccessesStand (sym h) (stand-released (range_with_len 0 4) s task was)
+accesses-served s task caller (request.Deaccess lun) block s' empty was none h =
+    subst AccessesStand (sym h) (stand-given-up s task lun (s.access task lun) was)
+accesses-served s task caller request.Release block s' empty was none h =
+    subst AccessesStand (sym h) (stand-released (range_with_len 0 4) s task was)
 accesses-served s task caller (request.ReadBlock lun vbn) block s' empty was none h = subst AccessesStand (sym h) was
-accesses-served s task caller (request.WriteBlock lun vbn) block s' empty was none h = stand-changed s s' (id_held s task lun).number (with_block vbn block) (λ f. refl) was h
+accesses-served s task caller (request.WriteBlock lun vbn) block s' empty was none h =
+    stand-changed s s' (id_held s task lun).number (with_block vbn block) (λ f. refl) was h
 accesses-served s task caller (request.Find d name) block s' empty was none h = subst AccessesStand (sym h) was
 accesses-served s task caller (request.Enter d name id) block s' empty was none h = stand-entered _ s d _ s' was h
 accesses-served s task caller (request.Remove d name) block s' empty was none h = stand-changed s s' d.number _ (λ f. refl) was h
 accesses-served s task caller (request.ReadAttr id) block s' empty was none h = subst AccessesStand (sym h) was
-accesses-served s task caller (request.WriteAttr id c) block s' empty was none h = stand-changed s s' id.number (with_replacement c) (replacement-sequence c) was h
+accesses-served s task caller (request.WriteAttr id c) block s' empty was none h =
+    stand-changed s s' id.number (with_replacement c) (replacement-sequence c) was h
 accesses-served s task caller request.Space block s' empty was none h = subst AccessesStand (sym h) was
 
 -- a step
@@ -275,13 +310,16 @@ step-stands s s' c a is h = record {
 -- and all the way
 pub run-stands : RunStands
 run-stands s s' cs bs is h =
-    each-within Steps IsStanding (λ c. Unit {0}) (λ t u c a _ was one. step-stands t u c a was one) s s' cs bs (λ k d within. tt) is (run-is-steps s s' cs bs h)
+    each-within Steps IsStanding (λ c. Unit {0}) (λ t u c a _ was one. step-stands t u c a was one) s s' cs bs (λ k d within. tt) is
+    (run-is-steps s s' cs bs h)
 
 pub standing-run-is-tidy : StandingRunIsTidy
 standing-run-is-tidy s s' cs bs is h =
-    each-seen (Within IsStanding Steps) (Within FreeIsEmpty Steps) (λ t. t) (λ t u c a (was, one, now). (standing-is-empty t was, one, standing-is-empty u now)) s s' cs bs
+    each-seen (Within IsStanding Steps) (Within FreeIsEmpty Steps) (λ t. t)
+    (λ t u c a (was, one, now). (standing-is-empty t was, one, standing-is-empty u now)) s s' cs bs
     (run-stands s s' cs bs is h).0
 
 pub accesses-stay : AccessesStay
 accesses-stay s s' cs bs was h =
-    (each-within (Within FreeIsEmpty Steps) AccessesStand (λ c. Unit {0}) (λ t u c a _ so one. step-accesses t u c a one.0 so one.1) s s' cs bs (λ k d within. tt) was h).1
+    (each-within (Within FreeIsEmpty Steps) AccessesStand (λ c. Unit {0}) (λ t u c a _ so one. step-accesses t u c a one.0 so one.1) s s' cs
+    bs (λ k d within. tt) was h).1

@@ -1,5 +1,6 @@
 -- The worked examples, computed.
-use Rattle.std.proofs.Common.{◌≡◌, ◌≢◌, ℕ, ◌==◌, ◌||◌, Bool, true, false, List, [], ◌∷◌, Option, Some, None, refl, sym, ◌∙◌, ap, subst, All, take, drop, slice_index_or, lit<, if◌then◌else◌}
+use Rattle.std.proofs.Common.{◌≡◌, ◌≢◌, ℕ, ◌==◌, ◌||◌, Bool, true, false, List, [], ◌∷◌, Option, Some, None, refl, sym, ◌∙◌, ap, subst, All}
+use Rattle.std.proofs.Common.{take, drop, slice_index_or, lit<, if◌then◌else◌}
 use Rattle.std.specs.List.{list_any}
 use Rattle.std.proofs.lemmas.Bool.{eqb-true}
 use Rattle.std.proofs.lemmas.List.Elements.{All-nil, All-cons}
@@ -49,9 +50,11 @@ ones-apart s one = record {
 -- the five files of the small volume
 five-ones : (n : ℕ) (f : File) → own_files n ≡ Some f → HoldsOne small_volume n f
 five-ones n f is =
-    one-of 1 _ _ refl refl (one-of 2 _ _ refl refl (one-of 3 _ _ refl refl (one-of 4 _ _ refl refl (one-of 5 _ _ refl refl (λ none. absurd (cc)))))) is
+    one-of 1 _ _ refl refl (one-of 2 _ _ refl refl
+    (one-of 3 _ _ refl refl (one-of 4 _ _ refl refl (one-of 5 _ _ refl refl (λ none. absurd (cc)))))) is
   where
-    one-of : (k : ℕ) (g : File) (rest : Option File) → g.held ≡ k ∷ [] → small_volume.in_use k ≡ true → (rest ≡ Some f → HoldsOne small_volume n f) →
+    one-of : (k : ℕ) (g : File) (rest : Option File) → g.held ≡ k ∷ [] → small_volume.in_use k ≡ true
+        → (rest ≡ Some f → HoldsOne small_volume n f) →
         (if n == k then Some g else rest) ≡ Some f → HoldsOne small_volume n f
     one-of k g rest held used more h = by_test (n == k) refl h
       where
@@ -78,13 +81,45 @@ served h k = record { no_cause = h; reply_is = refl; changes = k; block_is = ref
 
 pub locked-is-answered : LockedIsAnswered
 unfolding free_slots is_held stated_end is_directory record_at entries_of has_name record_bytes with_record with_end own_records mfd_block
-locked-is-answered =
-    (_, (_, served refl refl, (_, served refl refl, (_, refused refl, (_, refused refl, (_, refused refl, (_, served refl refl, (_, served refl refl, (_, served refl refl, (_, served refl refl, (_, refused refl, (_, served refl refl, (_, served refl refl, refl)))))))))))))
+locked-is-answered = (
+  _,
+  (
+    _,
+    served refl refl,
+    (
+      _,
+      served refl refl,
+      (
+        _,
+        refused refl,
+        (
+          _,
+          refused refl,
+          (
+            _,
+            refused refl,
+            (
+              _,
+              served refl refl,
+              (
+                _,
+                served refl refl,
+                (_, served refl refl, (_, served refl refl, (_, refused refl, (_, served refl refl, (_, served refl refl, refl))))),
+              ),
+            ),
+          ),
+        ),
+      ),
+    ),
+  ),
+)
 
 -- calls of which none ends the access of task 1 by lun 0
 goes-on : (cs : List Call) → list_any (λ c. ends 1 0 c) cs ≡ false → All (λ c. ends 1 0 c ≡ false) cs
 goes-on [] h = All-nil (λ c. ends 1 0 c ≡ false)
-goes-on (c ∷ cs) h = All-cons (λ c. ends 1 0 c ≡ false) c cs (left (ends 1 0 c) (list_any (λ c. ends 1 0 c) cs) h) (goes-on cs (right (ends 1 0 c) (list_any (λ c. ends 1 0 c) cs) h))
+goes-on (c ∷ cs) h =
+    All-cons (λ c. ends 1 0 c ≡ false) c cs (left (ends 1 0 c) (list_any (λ c. ends 1 0 c) cs) h)
+    (goes-on cs (right (ends 1 0 c) (list_any (λ c. ends 1 0 c) cs) h))
   where
     left : (b c : Bool) → (b || c) ≡ false → b ≡ false
     left false c h = refl

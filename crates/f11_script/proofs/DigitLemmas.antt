@@ -1,5 +1,6 @@
 -- Digits that are read one after another.
-use Rattle.std.proofs.Common.{◌≡◌, ℕ, ◌+◌, ◌*◌, ◌<◌, ◌≤◌, ◌&&◌, Bool, true, false, List, length, map, take, get_or, nat_le, Option, Some, None, IsSome, IfSome, ◌↔◌, if◌then◌else◌, refl, sym, ◌∙◌, ap, arith}
+use Rattle.std.proofs.Common.{◌≡◌, ℕ, ◌+◌, ◌*◌, ◌<◌, ◌≤◌, ◌&&◌, Bool, true, false, List, length, map, take, get_or, nat_le, Option, Some}
+use Rattle.std.proofs.Common.{None, IsSome, IfSome, ◌↔◌, if◌then◌else◌, refl, sym, ◌∙◌, ap, arith}
 use Rattle.std.specs.Char.{digit_value, is_digit}
 use Rattle.std.specs.List.{list_all, range_with_len}
 use Rattle.std.specs.Str.Parse.{digits_value}
@@ -42,7 +43,9 @@ too_great radix most text i value some is above =
     by_test (list_all (λ c. is_digit c radix) text) (nat_le (digits_value radix text) most) great
   where
     great : nat_le (digits_value radix text) most ≡ false
-    great = let less = digits_value-take-le radix text (i + 1) some in let past : most < digits_value radix text = omega (arith, less, is, above) in grind (arith, nat_tests)
+    great =
+        let less = digits_value-take-le radix text (i + 1) some in
+        let past : most < digits_value radix text = omega (arith, less, is, above) in grind (arith, nat_tests)
 
     by_test : (a b : Bool) → b ≡ false → None ≡ (if a && b then Some (digits_value radix text) else None)
     by_test true b h = rw h refl
@@ -83,4 +86,5 @@ values-are : VALUES ≡ map digit_value (range_with_len 0 256)
 values-are = refl
 
 pub value_of_byte : (c : ℕ) → c < 256 → get_or VALUES c 0 ≡ digit_value c
-value_of_byte c within = ap (λ (l : List ℕ). get_or l c 0) values-are ∙ get_or-map-range_with_len digit_value 0 256 c c 0 within (omega arith)
+value_of_byte c within =
+    ap (λ (l : List ℕ). get_or l c 0) values-are ∙ get_or-map-range_with_len digit_value 0 256 c c 0 within (omega arith)

@@ -1,9 +1,12 @@
 -- Bytes that are read piece by piece.
-use Rattle.std.proofs.Common.{◌≡◌, ◌≢◌, ◌⊎◌, inl, inr, All, ℕ, ◌+◌, ◌<◌, ◌≤◌, List, [], ◌∷◌, ◌++◌, length, take, drop, get_or, Option, Some, None, Bool, true, false, ◌==◌, ◌-◌, if◌then◌else◌, refl, sym, ◌∙◌, ap, subst, arith, add-one, append_assoc, drop-cons, length-append, length-drop, min}
+use Rattle.std.proofs.Common.{◌≡◌, ◌≢◌, ◌⊎◌, inl, inr, All, ℕ, ◌+◌, ◌<◌, ◌≤◌, List, [], ◌∷◌, ◌++◌, length, take, drop, get_or, Option, Some}
+use Rattle.std.proofs.Common.{None, Bool, true, false, ◌==◌, ◌-◌, if◌then◌else◌, refl, sym, ◌∙◌, ap, subst, arith, add-one, append_assoc}
+use Rattle.std.proofs.Common.{drop-cons, length-append, length-drop, min}
 use Rattle.std.specs.Io.KnownBytes.{Consumes, Keeps, IsAtEnd, prepend_known}
 use Rattle.std.proofs.KnownBytes.{Consumes-trans, Consumes-kept, prepend_known-nil}
 use Rattle.std.proofs.lemmas.Bool.{cases_lt, ne_eqb}
-use Rattle.std.proofs.lemmas.List.{length-take-le, get_or-take, take_all, take-append-le, length-take, append-nil, drop-append-le, drop-take, take-append-drop, take-take}
+use Rattle.std.proofs.lemmas.List.{length-take-le, get_or-take, take_all, take-append-le, length-take, append-nil, drop-append-le}
+use Rattle.std.proofs.lemmas.List.{drop-take, take-append-drop, take-take}
 use Rattle.std.proofs.Math.Seq.{take-append-add}
 use Rattle.std.proofs.lemmas.List.Elements.{All-append, All-replicate}
 use Rattle.std.specs.List.{slice_split, onto_first, slice_index}
@@ -30,14 +33,16 @@ byte_taken (Some xs) piece at end None below within kept = kept
 byte_taken (Some xs) piece at end (Some rest) below within kept = sym kept ∙ ap (λ t. t ++ rest) (next_of_piece piece at end below within)
 
 -- with a byte at hand one is left, and with none at hand what is left is the reader's
-pub hand_has : (piece : List ℕ) (at end : ℕ) (known : Option (List ℕ)) → end ≤ length piece → 0 < end - at → HasByte (bytes_left piece at end known)
+pub hand_has : (piece : List ℕ) (at end : ℕ) (known : Option (List ℕ)) → end ≤ length piece → 0 < end - at
+    → HasByte (bytes_left piece at end known)
 hand_has piece at end None within some = tt
 hand_has piece at end (Some rest) within some = rw (next_of_piece piece at end (omega (arith, some)) within) (omega arith)
 
 pub hand_empty : (piece : List ℕ) (at end : ℕ) (known : Option (List ℕ)) → at ≤ end → end ≤ length piece → end - at ≡ 0 →
     bytes_left piece at end known ≡ known
 hand_empty piece at end known in_piece within none =
-    ap (λ bs. prepend_known bs known) (length-zero (drop at (take end piece)) (omega (arith, none, length-drop at (take end piece), length-take-le end piece within)))
+    ap (λ bs. prepend_known bs known)
+    (length-zero (drop at (take end piece)) (omega (arith, none, length-drop at (take end piece), length-take-le end piece within)))
     ∙ prepend_known-nil known
 
 -- the bytes of a line so far, and what is kept of them
@@ -60,7 +65,8 @@ clip bytes xs = by_length (cases_lt 1202 (length bytes))
         ∙ take_all 1202 (take 1202 bytes) (omega (arith, full))
         ∙ sym (take-append-le 1202 bytes xs (omega (arith, long)))
 
-pub collected_bytes : (a b c : Option (List ℕ)) (n m k : ℕ) (line more : List ℕ) → Collected a b n m line → TakesBytes b c m k line more → Collected a c n k more
+pub collected_bytes : (a b c : Option (List ℕ)) (n m k : ℕ) (line more : List ℕ) → Collected a b n m line → TakesBytes b c m k line more
+    → Collected a c n k more
 collected_bytes a b c n m k line more h t = record {
   bytes = h.bytes ++ t.bytes;
   taken = Consumes-trans a b c h.bytes t.bytes h.taken t.taken;
@@ -70,41 +76,56 @@ collected_bytes a b c n m k line more h t = record {
 }
 
 -- and of one byte more
-pub collected_more : (a b c : Option (List ℕ)) (n m k x : ℕ) (line more : List ℕ) → Collected a b n m line → Consumes b c (x ∷ []) → x ≢ 10 →
+pub collected_more : (a b c : Option (List ℕ)) (n m k x : ℕ) (line more : List ℕ) → Collected a b n m line → Consumes b c (x ∷ []) → x ≢ 10
+    →
     k ≡ m + 1 → more ≡ take 1202 (line ++ x ∷ []) → Collected a c n k more
 collected_more a b c n m k x line more h next other counted is =
-    collected_bytes a b c n m k line more h record { bytes = x ∷ []; taken = next; no_end = All-replicate (λ y. y ≢ 10) 1 x other; number = counted; kept = is }
+    collected_bytes a b c n m k line more h record {
+      bytes = x ∷ [];
+      taken = next;
+      no_end = All-replicate (λ y. y ≢ 10) 1 x other;
+      number = counted;
+      kept = is;
+    }
 
 -- the bytes of a piece up to a place
 pub bytes_taken : (piece : List ℕ) (at stop end : ℕ) (known : Option (List ℕ)) → at ≤ stop → stop ≤ end → end ≤ length piece →
     Consumes (bytes_left piece at end known) (bytes_left piece stop end known) (drop at (take stop piece))
 bytes_taken piece at stop end None order within long = tt
-bytes_taken piece at stop end (Some rest) order within long = ap (λ t. t ++ rest) split ∙ append_assoc (drop at (take stop piece)) (drop stop (take end piece)) rest
+bytes_taken piece at stop end (Some rest) order within long =
+    ap (λ t. t ++ rest) split ∙ append_assoc (drop at (take stop piece)) (drop stop (take end piece)) rest
   where
     split : drop at (take end piece) ≡ drop at (take stop piece) ++ drop stop (take end piece)
     split =
         ap (drop at) (sym (take-append-drop stop (take end piece)))
-        ∙ drop-append-le at (take stop (take end piece)) (drop stop (take end piece)) (omega (arith, length-take stop (take end piece), length-take-le end piece long))
+        ∙ drop-append-le at (take stop (take end piece)) (drop stop (take end piece))
+        (omega (arith, length-take stop (take end piece), length-take-le end piece long))
         ∙ ap (λ t. drop at t ++ drop stop (take end piece)) (take-take stop end piece within)
 
 -- what is kept of the bytes of a piece, as far as there is room
 pub kept_part : (line piece : List ℕ) (at end stop : ℕ) → at ≤ end → length line ≤ 1202 → stop ≡ min end (at + (1202 - length line)) →
     line ++ take (stop - at) (drop at piece) ≡ take 1202 (line ++ drop at (take end piece))
-kept_part line piece at end stop order few is = ap (λ t. line ++ t) (by_room (cases_lt (1202 - length line) (end - at))) ∙ sym (split (take (end - at) (drop at piece))) ∙ ap (λ t. take 1202 (line ++ t)) (sym to_end)
+kept_part line piece at end stop order few is =
+    ap (λ t. line ++ t) (by_room (cases_lt (1202 - length line) (end - at))) ∙ sym (split (take (end - at) (drop at piece)))
+    ∙ ap (λ t. take 1202 (line ++ t)) (sym to_end)
   where
     to_end : drop at (take end piece) ≡ take (end - at) (drop at piece)
     to_end = let e : end ≡ at + (end - at) = omega arith in ap (λ n. drop at (take n piece)) e ∙ drop-take at (end - at) piece
 
     split : (xs : List ℕ) → take 1202 (line ++ xs) ≡ line ++ take (1202 - length line) xs
-    split xs = let e : 1202 ≡ length line + (1202 - length line) = omega arith in ap (λ n. take n (line ++ xs)) e ∙ take-append-add line xs (1202 - length line)
+    split xs =
+        let e : 1202 ≡ length line + (1202 - length line) = omega arith in ap (λ n. take n (line ++ xs)) e
+        ∙ take-append-add line xs (1202 - length line)
 
-    by_room : (1202 - length line < end - at) ⊎ (end - at ≤ 1202 - length line) → take (stop - at) (drop at piece) ≡ take (1202 - length line) (take (end - at) (drop at piece))
+    by_room : (1202 - length line < end - at) ⊎ (end - at ≤ 1202 - length line)
+        → take (stop - at) (drop at piece) ≡ take (1202 - length line) (take (end - at) (drop at piece))
     by_room (inl full) =
         let e : stop - at ≡ 1202 - length line = omega arith in
         ap (λ n. take n (drop at piece)) e ∙ sym (take-take (1202 - length line) (end - at) (drop at piece) (omega arith))
     by_room (inr fits) =
         let e : stop - at ≡ end - at = omega arith in
-        ap (λ n. take n (drop at piece)) e ∙ sym (take_all (1202 - length line) (take (end - at) (drop at piece)) (omega (arith, length-take (end - at) (drop at piece))))
+        ap (λ n. take n (drop at piece)) e
+        ∙ sym (take_all (1202 - length line) (take (end - at) (drop at piece)) (omega (arith, length-take (end - at) (drop at piece))))
 
 -- what is kept of a byte, where there is room and where there is none
 pub kept_room : (line : List ℕ) (x : ℕ) → length line < 1202 → line ++ x ∷ [] ≡ take 1202 (line ++ x ∷ [])
@@ -124,7 +145,8 @@ lines-more line [] = refl
 lines-more line (c ∷ rest) = by_test (c == 10) (slice_split (λ b. b == 10) rest)
   where
     by_test : (b : Bool) (parts : List (List ℕ)) →
-        lines_of_parts (line ∷ (if b then [] ∷ parts else onto_first c parts)) ≡ strip_carriage_return line ∷ lines_of_parts (if b then [] ∷ parts else onto_first c parts)
+        lines_of_parts (line ∷ (if b then [] ∷ parts else onto_first c parts)) ≡ strip_carriage_return line ∷ lines_of_parts
+        (if b then [] ∷ parts else onto_first c parts)
     by_test true parts = refl
     by_test false [] = refl
     by_test false (part ∷ parts) = refl
@@ -139,7 +161,8 @@ lines-last line some h =
     ∙ ap (λ b. if b then [] else line ∷ []) (ne_eqb (length line) 0 (λ e. absurd (omega (arith, some, e))))
 
 -- a line is at most one byte shorter than it was with its carriage return
-length-strip : (line : List ℕ) → (length (strip_carriage_return line) ≤ length line) × (length line ≤ length (strip_carriage_return line) + 1)
+length-strip : (line : List ℕ)
+    → (length (strip_carriage_return line) ≤ length line) × (length line ≤ length (strip_carriage_return line) + 1)
 length-strip line = by_test (slice_index line (length line - 1) == 13)
   where
     by_test : (b : Bool) → (length (if b then take (length line - 1) line else line) ≤ length line)
@@ -151,7 +174,8 @@ length-strip line = by_test (slice_index line (length line - 1) == 13)
 kept_line : (bytes : List ℕ) → IsLine (strip_carriage_return (take 1202 bytes)) (strip_carriage_return bytes)
 kept_line bytes = by_length (cases_lt 1202 (length bytes))
   where
-    by_length : (1202 < length bytes) ⊎ (length bytes ≤ 1202) → IsLine (strip_carriage_return (take 1202 bytes)) (strip_carriage_return bytes)
+    by_length : (1202 < length bytes) ⊎ (length bytes ≤ 1202)
+        → IsLine (strip_carriage_return (take 1202 bytes)) (strip_carriage_return bytes)
     by_length (inr short) =
         let same : take 1202 bytes ≡ bytes = take_all 1202 bytes short in
         record { short = λ h. ap strip_carriage_return same; long = λ h. rw same h }
@@ -178,7 +202,8 @@ first_of_ended : (a b c : Option (List ℕ)) (bytes : List ℕ) → Consumes a b
 first_of_ended None b c bytes taken next no_end = tt
 first_of_ended (Some xs) None c bytes taken next no_end = absurd taken
 first_of_ended (Some xs) (Some ys) None bytes taken next no_end = absurd next
-first_of_ended (Some xs) (Some ys) (Some zs) bytes taken next no_end = ap lines (taken ∙ ap (λ t. bytes ++ t) next) ∙ lines-ended bytes zs no_end
+first_of_ended (Some xs) (Some ys) (Some zs) bytes taken next no_end =
+    ap lines (taken ∙ ap (λ t. bytes ++ t) next) ∙ lines-ended bytes zs no_end
 
 pub collected_line : (a b c : Option (List ℕ)) (n m k : ℕ) (line given : List ℕ) → Collected a b n m line → Consumes b c (10 ∷ []) →
     k ≡ m + 1 → k ≤ 16777216 → given ≡ strip_carriage_return line → TakesLine a c n k given
@@ -191,11 +216,13 @@ collected_line a b c n m k line given h next counted few is = record {
   line = strip_carriage_return h.bytes;
   is_line = lines-ended h.bytes [] h.no_end;
   first = first_of_ended a b c h.bytes h.taken next h.no_end;
-  handed_out = subst (λ (g : List ℕ). IsLine g (strip_carriage_return h.bytes)) (sym (is ∙ ap strip_carriage_return h.kept)) (kept_line h.bytes);
+  handed_out = subst (λ (g : List ℕ). IsLine g (strip_carriage_return h.bytes)) (sym (is ∙ ap strip_carriage_return h.kept))
+      (kept_line h.bytes);
 }
 
 -- the last line
-first_of_last : (a b c : Option (List ℕ)) (bytes : List ℕ) → Consumes a b bytes → IsAtEnd b → Keeps b c → lines bytes ≡ bytes ∷ [] → HasFirst a c bytes
+first_of_last : (a b c : Option (List ℕ)) (bytes : List ℕ) → Consumes a b bytes → IsAtEnd b → Keeps b c → lines bytes ≡ bytes ∷ []
+    → HasFirst a c bytes
 first_of_last None b c bytes taken end kept is = tt
 first_of_last (Some xs) None c bytes taken end kept is = absurd taken
 first_of_last (Some xs) (Some ys) None bytes taken end kept is = absurd kept

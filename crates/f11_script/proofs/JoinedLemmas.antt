@@ -1,5 +1,6 @@
 -- Words that are joined by spaces.
-use Rattle.std.proofs.Common.{◌≡◌, ℕ, ◌<◌, ◌≤◌, ◌==◌, ◌^◌, Bool, true, false, not, All, List, [], ◌∷◌, ◌++◌, length, Some, option_map, refl, sym, ◌∙◌, ap, arith}
+use Rattle.std.proofs.Common.{◌≡◌, ℕ, ◌<◌, ◌≤◌, ◌==◌, ◌^◌, Bool, true, false, not, All, List, [], ◌∷◌, ◌++◌, length, Some, option_map, refl}
+use Rattle.std.proofs.Common.{sym, ◌∙◌, ap, arith}
 use Rattle.std.specs.Char.{digit_value, is_digit}
 use Rattle.std.specs.Fmt.{decimal}
 use Rattle.std.specs.List.{list_all, join_with_byte, AllPass}
@@ -22,7 +23,9 @@ use Rattle.f11_store.specs.declared.files.Mode.TheVariants as mode
 use Rattle.f11_script.specs.Reading.{words_between}
 use Rattle.f11_script.specs.Fields.{is_hex}
 use Rattle.f11_script.specs.Lines.{is_comment, request_line}
-use Rattle.f11_script.specs.Spelling.{Sentence, create, extend, contiguous, truncate, delete, grow, access, close, release, read, fill, write, find, enter, remove, attr, set_attr, protect, space, sentence_words, line_words, line_text, line_call, IsInRange, IsId, SpelledIsRead}
+use Rattle.f11_script.specs.Spelling.{Sentence, create, extend, contiguous, truncate, delete, grow, access, close, release, read, fill}
+use Rattle.f11_script.specs.Spelling.{write, find, enter, remove, attr, set_attr, protect, space, sentence_words, line_words, line_text}
+use Rattle.f11_script.specs.Spelling.{line_call, IsInRange, IsId, SpelledIsRead}
 use Rattle.f11_script.proofs.LineLemmas.{call}
 use Rattle.f11_script.proofs.SpellingLemmas.{id_text-alone, octal_numeral, uic_text-inside, words_read}
 
@@ -73,7 +76,11 @@ plain_code : (uic : Uic) → uic.group ≤ 255 → uic.member ≤ 255 → plain 
 plain_code uic group member =
     ap plain (uic_text-inside uic)
     ∙ list_all-append is_plain (octal_digits uic.group ++ (44 ∷ octal_digits uic.member)) (93 ∷ [])
-    ∙ rw (list_all-append is_plain (octal_digits uic.group) (44 ∷ octal_digits uic.member), plain_octal uic.group (omega (arith, group)), plain_octal uic.member (omega (arith, member))) refl
+    ∙ rw (
+      list_all-append is_plain (octal_digits uic.group) (44 ∷ octal_digits uic.member),
+      plain_octal uic.group (omega (arith, group)),
+      plain_octal uic.member (omega (arith, member)),
+    ) refl
 
 plain_part : (cs : List ℕ) → AllPass is_name_character cs → plain cs ≡ true
 plain_part cs h = list_all-from_AllPass is_plain cs (λ k d within. turned _ (ne_eqb _ 32 (is_name_character-space _ (h k d within))))
@@ -90,7 +97,8 @@ plain_name words n =
       plain_part (name_of words) n.proper.name_characters,
       list_all-append is_plain (type_of words) (59 ∷ octal (version_of words)),
       plain_part (type_of words) n.proper.type_characters,
-      plain_digits 8 (octal (version_of words)) (omega arith) (IsVersion-octal (version_of words) n.proper.version_from n.proper.version_to).octal_digits,
+      plain_digits 8 (octal (version_of words)) (omega arith)
+          (IsVersion-octal (version_of words) n.proper.version_from n.proper.version_to).octal_digits,
     ) refl
 
 plain_hex : (text : List ℕ) → is_hex text ≡ true → plain text ≡ true
@@ -117,7 +125,8 @@ plain_sentence (access f mode.Write lun) h = rw (plain_id f h.0, plain_number lu
 plain_sentence (close lun) h = rw (plain_number lun (omega (arith, h))) refl
 plain_sentence release h = refl
 plain_sentence (read lun vbn) h = rw (plain_number lun (omega (arith, h.0)), plain_number vbn h.1) refl
-plain_sentence (fill lun vbn byte) h = rw (plain_number lun (omega (arith, h.0)), plain_number vbn h.1, plain_octal byte (omega (arith, h.2))) refl
+plain_sentence (fill lun vbn byte) h =
+    rw (plain_number lun (omega (arith, h.0)), plain_number vbn h.1, plain_octal byte (omega (arith, h.2))) refl
 plain_sentence (write lun vbn hex) h = rw (plain_number lun (omega (arith, h.0)), plain_number vbn h.1, plain_hex hex h.2) refl
 plain_sentence (find d name) h = rw (plain_id d h.0, plain_name name h.1) refl
 plain_sentence (enter d name f) h = rw (plain_id d h.0, plain_name name h.1, plain_id f h.2) refl
@@ -137,9 +146,11 @@ plain_sentence (protect f word) h = rw (plain_id f h.0, plain_octal word h.1) re
 plain_sentence space h = refl
 
 -- the words of a line
-words_of-line : (task : ℕ) (uic : Uic) (s : Sentence) → task ≤ 7 → uic.group ≤ 255 → uic.member ≤ 255 → IsInRange s → words_between (line_text task uic s) ≡ line_words task uic s
+words_of-line : (task : ℕ) (uic : Uic) (s : Sentence) → task ≤ 7 → uic.group ≤ 255 → uic.member ≤ 255 → IsInRange s
+    → words_between (line_text task uic s) ≡ line_words task uic s
 words_of-line task uic s t group member h =
-    words_of-joined (octal_digits task) (uic_text uic ∷ sentence_words s) (rw (plain_octal task (omega (arith, t)), plain_code uic group member) (plain_sentence s h))
+    words_of-joined (octal_digits task) (uic_text uic ∷ sentence_words s)
+    (rw (plain_octal task (omega (arith, t)), plain_code uic group member) (plain_sentence s h))
 
 -- a line begins with a digit
 no_comment : (digits rest : List ℕ) → 0 < length digits → AllDigits 8 digits → is_comment (digits ++ rest) ≡ false

@@ -1,5 +1,6 @@
 -- What a line is, case by case.
-use Rattle.std.proofs.Common.{◌≡◌, ◌⊎◌, inl, inr, ℕ, ◌<◌, ◌≤◌, true, false, List, length, Option, Some, None, option_map, refl, sym, ◌∙◌, ap}
+use Rattle.std.proofs.Common.{◌≡◌, ◌⊎◌, inl, inr, ℕ, ◌<◌, ◌≤◌, true, false, List, length, Option, Some, None, option_map, refl, sym, ◌∙◌}
+use Rattle.std.proofs.Common.{ap}
 use Rattle.std.proofs.lemmas.Bool.{lt-ltb, le-ltb, cases_lt}
 use Rattle.f11_store.specs.Run.{Call}
 use Rattle.f11_script.specs.Reading.{words_between}
@@ -15,11 +16,13 @@ unfolding line_of
 comment line block short h = rw (le-ltb 1200 (length line) short, h) refl
 
 -- a line that is neither is a call or a bad line
-other : (line block : List ℕ) → length line ≤ 1200 → is_comment line ≡ false → line_of line block ≡ line_of_call (call_of (words_between line) block)
+other : (line block : List ℕ) → length line ≤ 1200 → is_comment line ≡ false
+    → line_of line block ≡ line_of_call (call_of (words_between line) block)
 unfolding line_of
 other line block short h = rw (le-ltb 1200 (length line) short, h) refl
 
-pub call : (line block : List ℕ) (words : List (List ℕ)) (o : Option Line) → length line ≤ 1200 → is_comment line ≡ false → words ≡ words_between line →
+pub call : (line block : List ℕ) (words : List (List ℕ)) (o : Option Line) → length line ≤ 1200 → is_comment line ≡ false
+    → words ≡ words_between line →
     option_map request_line (call_of words block) ≡ o → (l : Line) → o ≡ Some l → l ≡ line_of line block
 call line block words o short plain same is l there =
     by_call (call_of words block) (is ∙ there) ∙ ap (λ ws. line_of_call (call_of ws block)) same ∙ sym (other line block short plain)

@@ -1,5 +1,6 @@
 -- What is spelled is read.
-use Rattle.std.proofs.Common.{◌≡◌, inl, inr, ℕ, ◌+◌, ◌<◌, ◌≤◌, ◌==◌, ◌^◌, true, false, List, [], ◌∷◌, ◌++◌, length, take, get_or, nat_le, ◌-◌, ◌/◌, ◌%◌, zero, suc, Option, Some, None, refl, sym, subst, ◌∙◌, ap, arith, append_assoc, length-append}
+use Rattle.std.proofs.Common.{◌≡◌, inl, inr, ℕ, ◌+◌, ◌<◌, ◌≤◌, ◌==◌, ◌^◌, true, false, List, [], ◌∷◌, ◌++◌, length, take, get_or, nat_le}
+use Rattle.std.proofs.Common.{◌-◌, ◌/◌, ◌%◌, zero, suc, Option, Some, None, refl, sym, subst, ◌∙◌, ap, arith, append_assoc, length-append}
 use Rattle.std.specs.Char.{digit_value, is_digit}
 use Rattle.std.specs.Fmt.{decimal, digit_glyph, digits, digits_onto}
 use Rattle.std.specs.List.{list_all}
@@ -24,8 +25,12 @@ use Rattle.f11_script.specs.Reading.{◌>>=◌, argument}
 use Rattle.f11_script.specs.Fields.{numeral, value_up_to, id_of, mode_of, bracketed, uic_of}
 use Rattle.f11_script.specs.Lines.{call_of}
 use Rattle.f11_script.specs.Verbs.{verb_of}
-use Rattle.f11_script.specs.Requests.{create_asks, extend_asks, contiguous_asks, truncate_asks, delete_asks, grow_asks, access_asks, close_asks, release_asks, read_asks, fill_asks, write_asks, find_asks, enter_asks, remove_asks, attr_asks, set_attr_asks, protect_asks, space_asks, Ask, verb_asks}
-use Rattle.f11_script.specs.Spelling.{create, extend, contiguous, truncate, delete, grow, access, close, release, read, fill, find, enter, remove, attr, write, set_attr, protect, space, Sentence, sentence_words, sentence_asks, IsInRange, IsId, line_words, line_call}
+use Rattle.f11_script.specs.Requests.{create_asks, extend_asks, contiguous_asks, truncate_asks, delete_asks, grow_asks, access_asks}
+use Rattle.f11_script.specs.Requests.{close_asks, release_asks, read_asks, fill_asks, write_asks, find_asks, enter_asks, remove_asks}
+use Rattle.f11_script.specs.Requests.{attr_asks, set_attr_asks, protect_asks, space_asks, Ask, verb_asks}
+use Rattle.f11_script.specs.Spelling.{create, extend, contiguous, truncate, delete, grow, access, close, release, read, fill, find, enter}
+use Rattle.f11_script.specs.Spelling.{remove, attr, write, set_attr, protect, space, Sentence, sentence_words, sentence_asks, IsInRange}
+use Rattle.f11_script.specs.Spelling.{IsId, line_words, line_call}
 
 digits_pass : (radix : ℕ) (ds : List ℕ) → AllDigits radix ds → list_all (λ c. is_digit c radix) ds ≡ true
 digits_pass radix [] h = refl
@@ -112,7 +117,9 @@ id_read id h =
     let digits = (decimal_is_IsNumeral id.number below).0 in
     let cut = cut_at-front 44 alone (decimal id.number) (decimal id.sequence)
     (AllPass-from_list_all is_name_character (decimal id.number) (name_digits (decimal id.number) digits.1)) comma_out refl in
-    ap id_of (id_text-alone id h) ∙ rw (cut, number_read 65535 id.number (omega arith) h.number, number_read 65535 id.sequence (omega arith) h.sequence) (ap Some (same_id id h))
+    ap id_of (id_text-alone id h)
+    ∙ rw (cut, number_read 65535 id.number (omega arith) h.number, number_read 65535 id.sequence (omega arith) h.sequence)
+    (ap Some (same_id id h))
 
 -- a name
 name_read : (words : List ℕ) → IsName words → words_spelled (name_text words) ≡ Some words
@@ -125,7 +132,8 @@ words_ask words = do
   verb_asks next.0 next.1
 
 sentence_read : (s : Sentence) → IsInRange s → words_ask (sentence_words s) ≡ Some (sentence_asks s)
-unfolding verb_of mode_of create_asks extend_asks contiguous_asks truncate_asks delete_asks grow_asks access_asks close_asks release_asks read_asks fill_asks write_asks find_asks enter_asks remove_asks attr_asks set_attr_asks protect_asks space_asks
+unfolding verb_of mode_of create_asks extend_asks contiguous_asks truncate_asks delete_asks grow_asks access_asks close_asks release_asks
+    read_asks fill_asks write_asks find_asks enter_asks remove_asks attr_asks set_attr_asks protect_asks space_asks
 sentence_read (create name word) h = rw (name_read name h.0, word_read word h.1) refl
 sentence_read (extend lun n) h = rw (number_read 3 lun (omega arith) h.0, number_read 4294967295 n (omega arith) h.1) refl
 sentence_read (contiguous lun n) h = rw (number_read 3 lun (omega arith) h.0, number_read 4294967295 n (omega arith) h.1) refl
@@ -138,7 +146,8 @@ sentence_read (access f mode.Write lun) h = rw (id_read f h.0, number_read 3 lun
 sentence_read (close lun) h = rw (number_read 3 lun (omega arith) h) refl
 sentence_read release h = refl
 sentence_read (read lun vbn) h = rw (number_read 3 lun (omega arith) h.0, number_read 4294967295 vbn (omega arith) h.1) refl
-sentence_read (fill lun vbn byte) h = rw (number_read 3 lun (omega arith) h.0, number_read 4294967295 vbn (omega arith) h.1, byte_read byte h.2) refl
+sentence_read (fill lun vbn byte) h =
+    rw (number_read 3 lun (omega arith) h.0, number_read 4294967295 vbn (omega arith) h.1, byte_read byte h.2) refl
 sentence_read (write lun vbn hex) h = rw (number_read 3 lun (omega arith) h.0, number_read 4294967295 vbn (omega arith) h.1, h.2) refl
 sentence_read (find d name) h = rw (id_read d h.0, name_read name h.1) refl
 sentence_read (enter d name f) h = rw (id_read d h.0, name_read name h.1, id_read f h.2) refl
@@ -197,11 +206,20 @@ unfolding uic_of
 code_read uic group member =
     let digits = (octal_numeral uic.group (omega (arith, group))).0 in
     let cut = cut_at-front 44 (octal_digits uic.group ++ (44 ∷ octal_digits uic.member)) (octal_digits uic.group) (octal_digits uic.member)
-    (AllPass-from_list_all is_name_character (octal_digits uic.group) (name_octal_digits (octal_digits uic.group) digits.1)) comma_out refl in
-    ap uic_of (uic_text-inside uic) ∙ rw (bracketed-inside (octal_digits uic.group ++ (44 ∷ octal_digits uic.member)), cut, byte_read uic.group group, byte_read uic.member member) refl
+    (AllPass-from_list_all is_name_character (octal_digits uic.group) (name_octal_digits (octal_digits uic.group) digits.1)) comma_out refl
+    in
+    ap uic_of (uic_text-inside uic)
+    ∙ rw (
+      bracketed-inside (octal_digits uic.group ++ (44 ∷ octal_digits uic.member)),
+      cut,
+      byte_read uic.group group,
+      byte_read uic.member member,
+    ) refl
 
 pub words_read : (task : ℕ) (uic : Uic) (s : Sentence) (block : List ℕ) → task ≤ 7 → uic.group ≤ 255 → uic.member ≤ 255 → IsInRange s →
     call_of (line_words task uic s) block ≡ Some (line_call task uic s block)
 unfolding call_of
 words_read task uic s block t group member h =
-    rw (task_read task t, code_read uic group member) (asked_then (argument verb_of (sentence_words s)) (sentence_asks s) (λ a. record { task = task; caller = uic; request = a.request; block = a.block block }) (sentence_read s h))
+    rw (task_read task t, code_read uic group member)
+    (asked_then (argument verb_of (sentence_words s)) (sentence_asks s)
+    (λ a. record { task = task; caller = uic; request = a.request; block = a.block block }) (sentence_read s h))

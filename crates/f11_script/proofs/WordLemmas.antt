@@ -1,5 +1,6 @@
 -- The words of a line, one after another.
-use Rattle.std.proofs.Common.{◌≡◌, ℕ, ◌+◌, ◌≤◌, ◌==◌, Bool, true, false, List, [], ◌∷◌, length, take, drop, position, nat_lt, Some, None, if◌then◌else◌, refl, ◌∙◌, arith}
+use Rattle.std.proofs.Common.{◌≡◌, ℕ, ◌+◌, ◌≤◌, ◌==◌, Bool, true, false, List, [], ◌∷◌, length, take, drop, position, nat_lt, Some, None}
+use Rattle.std.proofs.Common.{if◌then◌else◌, refl, ◌∙◌, arith}
 use Rattle.std.specs.List.{onto_first, position_or_len}
 use Rattle.std.proofs.lemmas.Bool.{ltb-true, ltb-false}
 use Rattle.std.proofs.lemmas.List.Splits.{slice_split_first, slice_split_none}
@@ -22,11 +23,13 @@ words_of-one text h = by_test (nat_lt (position_or_len is_space text) (length te
         slice_split_none is_space text (λ k d l. fails_before_first is_space text k d (omega (arith, l, past)))
 
 -- a word ends at the first space
-pub words_of-more : (text : List ℕ) (at : ℕ) → position is_space text ≡ Some at → words_between text ≡ take at text ∷ words_between (drop (at + 1) text)
+pub words_of-more : (text : List ℕ) (at : ℕ) → position is_space text ≡ Some at
+    → words_between text ≡ take at text ∷ words_between (drop (at + 1) text)
 words_of-more text at h = by_test (nat_lt (position_or_len is_space text) (length text)) refl h
   where
     by_test : (b : Bool) → nat_lt (position_or_len is_space text) (length text) ≡ b →
-        (if b then Some (position_or_len is_space text) else None) ≡ Some at → words_between text ≡ take at text ∷ words_between (drop (at + 1) text)
+        (if b then Some (position_or_len is_space text) else None) ≡ Some at
+        → words_between text ≡ take at text ∷ words_between (drop (at + 1) text)
     by_test true e k =
         let same : position_or_len is_space text ≡ at = cc in
         slice_split_first is_space text 0 (ltb-true _ _ e) ∙ rw same refl

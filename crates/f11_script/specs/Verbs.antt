@@ -2,7 +2,8 @@
 use Rattle.std.specs.Prelude.{ℕ, List, [], ◌∷◌, Option, codes, find}
 use Rattle.std.specs.Str.{bytes_eq}
 use Rattle.f11_script.specs.declared.verb.Verb.{Verb}
-use Rattle.f11_script.specs.declared.verb.Verb.TheVariants.{Create, Extend, Contiguous, Truncate, Delete, Grow, Access, Close, Release, Read, Fill}
+use Rattle.f11_script.specs.declared.verb.Verb.TheVariants.{Create, Extend, Contiguous, Truncate, Delete, Grow, Access, Close, Release}
+use Rattle.f11_script.specs.declared.verb.Verb.TheVariants.{Read, Fill}
 use Rattle.f11_script.specs.declared.verb.Verb.TheVariants.{Write, Find, Enter, Remove, Attr, SetAttr, Protect, Space}
 
 -- how it is written

@@ -1,5 +1,6 @@
 -- A script that is served as far as it was read.
-use Rattle.std.proofs.Common.{◌≡◌, ℕ, ◌+◌, ◌<◌, ◌≤◌, List, [], ◌∷◌, ◌++◌, length, Err, Option, Some, None, IfSome, refl, sym, ◌∙◌, ap, subst, arith, append_assoc, append-nil, length-append}
+use Rattle.std.proofs.Common.{◌≡◌, ℕ, ◌+◌, ◌<◌, ◌≤◌, List, [], ◌∷◌, ◌++◌, length, Err, Option, Some, None, IfSome, refl, sym, ◌∙◌, ap}
+use Rattle.std.proofs.Common.{subst, arith, append_assoc, append-nil, length-append}
 use Rattle.std.specs.Bool.{⊤}
 use Rattle.std.specs.Io.KnownBytes.{Appends}
 use Rattle.std.proofs.KnownBytes.{Appends-nil, Appends-trans}
@@ -26,7 +27,8 @@ read-self (Some xs) = ([], refl, refl, refl)
 read-none : (a b : Option (List ℕ)) (n : ℕ) → b ≡ a → n ≡ 0 → ReadTo a b [] n
 read-none a b n e z = subst (λ k. ReadTo a b [] k) (sym z) (subst (λ (x : Option (List ℕ)). ReadTo a x [] 0) (sym e) (read-self a))
 
-read-more : (a b c : Option (List ℕ)) (read : List (List ℕ)) (n m : ℕ) (given : List ℕ) → ReadTo a b read n → (t : TakesLine b c n m given) →
+read-more : (a b c : Option (List ℕ)) (read : List (List ℕ)) (n m : ℕ) (given : List ℕ) → ReadTo a b read n → (t : TakesLine b c n m given)
+    →
     ReadTo a c (read ++ t.line ∷ []) m
 read-more None b c read n m given h t = tt
 read-more (Some xs) None c read n m given h t = absurd h
@@ -75,7 +77,8 @@ read-whole (Some xs) (Some ys) read n h = record {
 }
 
 -- the lines so far, from the beginning to where the script is now
-pub record SoFar {V : Type 0} (S : Service V) (bytes left : Option (List ℕ)) (old new : V) (block : List ℕ) (written written' : Option (List ℕ)) (count taken : ℕ) : Type 0 where
+pub record SoFar {V : Type 0} (S : Service V) (bytes left : Option (List ℕ)) (old new : V) (block : List ℕ)
+    (written written' : Option (List ℕ)) (count taken : ℕ) : Type 0 where
   pub read : List (List ℕ)
   pub to : ReadTo bytes left read taken
   pub text : List ℕ
@@ -96,7 +99,8 @@ so-far-none S bytes left v written taken e z = record {
 
 -- a line as it is in the script
 whole-line : {V : Type 0} (S : Service V) (b c : Option (List ℕ)) (n m : ℕ) (given block block' text : List ℕ) (count : ℕ) (v w : V) →
-    (t : TakesLine b c n m given) → ServesLines S (given ∷ []) v block text count w block' → ServesLines S (t.line ∷ []) v block text count w block'
+    (t : TakesLine b c n m given) → ServesLines S (given ∷ []) v block text count w block'
+    → ServesLines S (t.line ∷ []) v block text count w block'
 whole-line S b c n m given block block' text count v w t h =
     one-alike S given t.line block block' text count v w (cut_line_is_alike given t.line block t.handed_out) h
 
@@ -116,7 +120,8 @@ so-far-more S a b c old v u block block' w0 w w' count n m given text number mor
     })
 
 pub so-far-ends : {V : Type 0} (S : Service V) (a b : Option (List ℕ)) (place : Place) (old v : V) (block : List ℕ) (w0 w : Option (List ℕ))
-    (count n : ℕ) (given : List ℕ) → SoFar S a b old v block w0 w count n → TakesNone b place.left n place.count given → place.count ≤ 16777216 →
+    (count n : ℕ) (given : List ℕ) → SoFar S a b old v block w0 w count n → TakesNone b place.left n place.count given
+    → place.count ≤ 16777216 →
     Finishes S a place old v w0 w count
 so-far-ends S a b place old v block w0 w count n given h t few = record {
   read = h.read;
@@ -136,17 +141,21 @@ so-far-stops S a b place old v block w0 w count n h t few = record {
   answers = record { text = h.text; block = block; serves = h.serves; wrote = h.wrote };
 }
 
-pub so-far-fails : {V : Type 0} (S : Service V) (a b : Option (List ℕ)) (place : Place) (old v : V) (block : List ℕ) (w0 w : Option (List ℕ))
-    (count n : ℕ) (e : ScriptError) → SoFar S a b old v block w0 w count n → TakesNoLine b place.left n place.count × IsReadError e place.count place.hand →
+pub so-far-fails : {V : Type 0} (S : Service V) (a b : Option (List ℕ)) (place : Place) (old v : V) (block : List ℕ)
+    (w0 w : Option (List ℕ))
+    (count n : ℕ) (e : ScriptError) → SoFar S a b old v block w0 w count n
+    → TakesNoLine b place.left n place.count × IsReadError e place.count place.hand →
     (0 < place.hand → HasByte place.left) → place.count ≤ 16777216 → ServesScript S a place old v w0 w (Err e)
 so-far-fails S a b place old v block w0 w count n ReadFault h t has few = (so-far-stops S a b place old v block w0 w count n h t.0 few, t.1)
 so-far-fails S a b place old v block w0 w count n TooLong h t has few =
     (so-far-stops S a b place old v block w0 w count n h t.0 few, t.1.0, t.1.1, has t.1.1)
 so-far-fails S a b place old v block w0 w count n WriteFault h t has few = absurd t.1
 
-so-far-breaks : {V : Type 0} (S : Service V) (a b : Option (List ℕ)) (place : Place) (old v u : V) (block block' : List ℕ) (w0 w w' : Option (List ℕ))
+so-far-breaks : {V : Type 0} (S : Service V) (a b : Option (List ℕ)) (place : Place) (old v u : V) (block block' : List ℕ)
+    (w0 w w' : Option (List ℕ))
     (count n : ℕ) (given text : List ℕ) (number : ℕ) → SoFar S a b old v block w0 w count n → TakesLine b place.left n place.count given →
-    ServesLines S (given ∷ []) v block text number u block' → AppendsSome w w' text → place.count ≤ 16777216 → StopsWriting S a place old u w0 w'
+    ServesLines S (given ∷ []) v block text number u block' → AppendsSome w w' text → place.count ≤ 16777216
+    → StopsWriting S a place old u w0 w'
 so-far-breaks S a b place old v u block block' w0 w w' count n given text number h t serves wrote few = record {
   few = few;
   read = h.read;
@@ -166,7 +175,8 @@ so-far-breaks S a b place old v u block block' w0 w w' count n given text number
   wrote_last = wrote;
 }
 
-pub so-far-fault : {V : Type 0} (S : Service V) (a b : Option (List ℕ)) (place : Place) (old v u : V) (block block' : List ℕ) (w0 w w' : Option (List ℕ))
+pub so-far-fault : {V : Type 0} (S : Service V) (a b : Option (List ℕ)) (place : Place) (old v u : V) (block block' : List ℕ)
+    (w0 w w' : Option (List ℕ))
     (count n : ℕ) (given : List ℕ) (e : ScriptError) → SoFar S a b old v block w0 w count n → TakesLine b place.left n place.count given →
     AnswersLine S given v u block block' w w' (Err e) → place.count ≤ 16777216 → ServesScript S a place old u w0 w' (Err e)
 so-far-fault S a b place old v u block block' w0 w w' count n given e h t x few =

@@ -30,7 +30,8 @@ line-more S (request_line call) old block text more count others P Q next h = re
 }
 
 -- from the end of the front on
-from-end : {V : Type 0} (S : Service V) (rest : List (List ℕ)) (old between new : V) (block b block' text more : List ℕ) (count others : ℕ) →
+from-end : {V : Type 0} (S : Service V) (rest : List (List ℕ)) (old between new : V) (block b block' text more : List ℕ) (count others : ℕ)
+    →
     IsScriptEnd between b old block text count → ServesLines S rest between b more others new block' →
     ServesLines S rest old block (text ++ more) (count + others) new block'
 from-end S rest old between new block b block' text more count others h k =
@@ -50,7 +51,8 @@ parts-are-served S (line ∷ front) rest old between new block b block' text mor
     (λ v d t n p. parts-are-served S front rest v between new d b block' t more n others p k) h
 
 -- a request
-pub one-request : {V : Type 0} (S : Service V) (line block : List ℕ) (call : Call) (a : Answer) (v w : V) → request_line call ≡ line_of line block →
+pub one-request : {V : Type 0} (S : Service V) (line block : List ℕ) (call : Call) (a : Answer) (v w : V)
+    → request_line call ≡ line_of line block →
     S v call a w → ServesLines S (line ∷ []) v block (answer_line call.request a.block a.result) 1 w a.block
 one-request S line block call a v w is serves =
     subst (λ (l : Line). ServesLine S l v block (answer_line call.request a.block a.result) 1 (λ u b t n. IsScriptEnd w a.block u b t n)) is
@@ -66,7 +68,8 @@ one-request S line block call a v w is serves =
     })
 
 -- a line that is read alike is served alike
-pub one-alike : {V : Type 0} (S : Service V) (given line block block' text : List ℕ) (count : ℕ) (v w : V) → line_of given block ≡ line_of line block →
+pub one-alike : {V : Type 0} (S : Service V) (given line block block' text : List ℕ) (count : ℕ) (v w : V)
+    → line_of given block ≡ line_of line block →
     ServesLines S (given ∷ []) v block text count w block' → ServesLines S (line ∷ []) v block text count w block'
 one-alike S given line block block' text count v w alike h =
     subst (λ (l : Line). ServesLine S l v block text count (λ u d t n. IsScriptEnd w block' u d t n)) alike h

@@ -1,5 +1,6 @@
 -- Scripts that a volume serves: a run of its store, and its transfers.
-use Rattle.std.proofs.Common.{◌≡◌, ℕ, ◌+◌, ◌<◌, ◌≤◌, ◌||◌, Bool, true, false, IsTrue, List, [], ◌∷◌, Option, Result, Ok, Err, refl, sym, ◌∙◌, ap, arith}
+use Rattle.std.proofs.Common.{◌≡◌, ℕ, ◌+◌, ◌<◌, ◌≤◌, ◌||◌, Bool, true, false, IsTrue, List, [], ◌∷◌, Option, Result, Ok, Err, refl, sym}
+use Rattle.std.proofs.Common.{◌∙◌, ap, arith}
 use Rattle.f11_dev.specs.declared.device.Device.{Ghosts}
 use Rattle.f11_store.specs.Run.{Call, Answer}
 use Rattle.f11_store.specs.declared.refusals.Refusal.{Refusal}
@@ -20,10 +21,12 @@ use Rattle.f11_serving.specs.Scripts.{KeepsScriptCosts, ServesScriptRun}
 use Rattle.f11_serving.proofs.RunLemmas.{costs-from, lines-keep, lines-rise, lines-seen, lines-sound}
 
 -- a script that is served by what is seen as another service
-module _ {V W : Type 0} (S : Service V) (T : Service W) (view : V → W) (failures : V → ℕ) (is_sound : V → Bool) (m : IsSeenAs S T view failures is_sound)
+module _ {V W : Type 0} (S : Service V) (T : Service W) (view : V → W) (failures : V → ℕ) (is_sound : V → Bool)
+    (m : IsSeenAs S T view failures is_sound)
     (bytes written written' : Option (List ℕ)) (old new : V) (sound : is_sound old ≡ true) (none : failures new ≡ failures old)
   where
-    answers-seen : (read : List (List ℕ)) (count : ℕ) → AnswersLines S read old new written written' count → AnswersLines T read (view old) (view new) written written' count
+    answers-seen : (read : List (List ℕ)) (count : ℕ) → AnswersLines S read old new written written' count
+        → AnswersLines T read (view old) (view new) written written' count
     answers-seen read count a = record {
       text = a.text;
       block = a.block;
@@ -31,17 +34,22 @@ module _ {V W : Type 0} (S : Service V) (T : Service W) (view : V → W) (failur
       wrote = a.wrote;
     }
 
-    reading-seen : (place : Place) → StopsReading S bytes place old new written written' → StopsReading T bytes place (view old) (view new) written written'
-    reading-seen place s = record { read = s.read; reads = s.reads; few = s.few; count = s.count; answers = answers-seen s.read s.count s.answers }
+    reading-seen : (place : Place) → StopsReading S bytes place old new written written'
+        → StopsReading T bytes place (view old) (view new) written written'
+    reading-seen place s =
+        record { read = s.read; reads = s.reads; few = s.few; count = s.count; answers = answers-seen s.read s.count s.answers }
 
-    pub script-seen : (result : Result ℕ ScriptError) → RunsScript S bytes old new written written' result → RunsScript T bytes (view old) (view new) written written' result
-    script-seen (Ok count) h = (h.0, record { read = h.1.read; all = h.1.all; few = h.1.few; answers = answers-seen h.1.read count h.1.answers })
+    pub script-seen : (result : Result ℕ ScriptError) → RunsScript S bytes old new written written' result
+        → RunsScript T bytes (view old) (view new) written written' result
+    script-seen (Ok count) h =
+        (h.0, record { read = h.1.read; all = h.1.all; few = h.1.few; answers = answers-seen h.1.read count h.1.answers })
     script-seen (Err ReadFault) h = (h.0, (reading-seen h.0 h.1.0, h.1.1))
     script-seen (Err TooLong) h = (h.0, (reading-seen h.0 h.1.0, h.1.1, h.1.2, h.1.3))
     script-seen (Err WriteFault) h =
         let s = h.1 in
         let first = lines-rise S T view failures is_sound m s.read old s.between zeros s.block s.text s.count s.serves in
-        let then = lines-rise S T view failures is_sound m (s.last ∷ []) s.between new s.block s.last_block s.last_text s.last_count s.serves_last in
+        let then = lines-rise S T view failures is_sound m (s.last ∷ []) s.between new s.block s.last_block s.last_text s.last_count
+        s.serves_last in
         let before : failures s.between ≡ failures old = omega (arith, first, then, none) in
         let after : failures new ≡ failures s.between = omega (arith, first, then, none) in (
           h.0,
@@ -59,7 +67,8 @@ module _ {V W : Type 0} (S : Service V) (T : Service W) (view : V → W) (failur
             last_block = s.last_block;
             last_text = s.last_text;
             serves_last =
-                lines-seen S T view failures is_sound m (s.last ∷ []) s.between new s.block s.last_block s.last_text s.last_count s.serves_last
+                lines-seen S T view failures is_sound m (s.last ∷ []) s.between new s.block s.last_block s.last_text s.last_count
+                s.serves_last
                 (lines-sound S T view failures is_sound m s.read old s.between zeros s.block s.text s.count s.serves sound before) after;
             middle = s.middle;
             wrote = s.wrote;
@@ -71,7 +80,8 @@ module _ {V W : Type 0} (S : Service V) (T : Service W) (view : V → W) (failur
 module _ {V : Type 0} (S : Service V) (R : V → V → Type 0) (self : (v : V) → R v v) (trans : (u v w : V) → R u v → R v w → R u w)
     (each : (v w : V) (c : Call) (a : Answer) → S v c a w → R v w)
   where
-    pub script-keeps : (bytes written written' : Option (List ℕ)) (old new : V) (result : Result ℕ ScriptError) → RunsScript S bytes old new written written' result → R old new
+    pub script-keeps : (bytes written written' : Option (List ℕ)) (old new : V) (result : Result ℕ ScriptError)
+        → RunsScript S bytes old new written written' result → R old new
     script-keeps bytes written written' old new (Ok count) h =
         let a = h.1.answers in
         lines-keep S R self trans each h.1.read old new zeros a.block a.text count a.serves
@@ -93,19 +103,43 @@ module _ {V : Type 0} (S : Service V) (cost : V → Call → ℕ) (measure : V �
   where
     abbrev pub Costs : Result ℕ ScriptError → Type 0
     Costs result =
-        (most : ℕ) × RunsScript (AddsCost S cost) bytes (record { value = old; sum = 0 }) (record { value = new; sum = most }) written written' result × (P old → measure new ≤ measure old + most)
+        (most : ℕ) × RunsScript (AddsCost S cost) bytes (record { value = old; sum = 0 }) (record { value = new; sum = most }) written
+        written' result × (P old → measure new ≤ measure old + most)
 
     pub script-costs : (result : Result ℕ ScriptError) → RunsScript S bytes old new written written' result → Costs result
     script-costs (Ok count) h =
         let a = h.1.answers in
-        let c = costs-from S cost measure P rises h.1.read old new 0 zeros a.block a.text count a.serves in
-        (c.most, (h.0, record { read = h.1.read; all = h.1.all; few = h.1.few; answers = record { text = a.text; block = a.block; serves = c.serves; wrote = a.wrote } }), λ p. omega (arith, (c.bound p).0))
+        let c = costs-from S cost measure P rises h.1.read old new 0 zeros a.block a.text count a.serves in (
+          c.most,
+          (
+            h.0,
+            record {
+              read = h.1.read;
+              all = h.1.all;
+              few = h.1.few;
+              answers = record { text = a.text; block = a.block; serves = c.serves; wrote = a.wrote };
+            },
+          ),
+          λ p. omega (arith, (c.bound p).0),
+        )
     script-costs (Err ReadFault) h =
         let s = h.1.0 in
         let a = s.answers in
         let c = costs-from S cost measure P rises s.read old new 0 zeros a.block a.text s.count a.serves in (
           c.most,
-          (h.0, (record { read = s.read; reads = s.reads; few = s.few; count = s.count; answers = record { text = a.text; block = a.block; serves = c.serves; wrote = a.wrote } }, h.1.1)),
+          (
+            h.0,
+            (
+              record {
+                read = s.read;
+                reads = s.reads;
+                few = s.few;
+                count = s.count;
+                answers = record { text = a.text; block = a.block; serves = c.serves; wrote = a.wrote };
+              },
+              h.1.1,
+            ),
+          ),
           λ p. omega (arith, (c.bound p).0),
         )
     script-costs (Err TooLong) h =
@@ -113,13 +147,28 @@ module _ {V : Type 0} (S : Service V) (cost : V → Call → ℕ) (measure : V �
         let a = s.answers in
         let c = costs-from S cost measure P rises s.read old new 0 zeros a.block a.text s.count a.serves in (
           c.most,
-          (h.0, (record { read = s.read; reads = s.reads; few = s.few; count = s.count; answers = record { text = a.text; block = a.block; serves = c.serves; wrote = a.wrote } }, h.1.1, h.1.2, h.1.3)),
+          (
+            h.0,
+            (
+              record {
+                read = s.read;
+                reads = s.reads;
+                few = s.few;
+                count = s.count;
+                answers = record { text = a.text; block = a.block; serves = c.serves; wrote = a.wrote };
+              },
+              h.1.1,
+              h.1.2,
+              h.1.3,
+            ),
+          ),
           λ p. omega (arith, (c.bound p).0),
         )
     script-costs (Err WriteFault) h =
         let s = h.1 in
         let first = costs-from S cost measure P rises s.read old s.between 0 zeros s.block s.text s.count s.serves in
-        let then = costs-from S cost measure P rises (s.last ∷ []) s.between new first.most s.block s.last_block s.last_text s.last_count s.serves_last in (
+        let then = costs-from S cost measure P rises (s.last ∷ []) s.between new first.most s.block s.last_block s.last_text s.last_count
+        s.serves_last in (
           then.most,
           (
             h.0,
@@ -157,8 +206,8 @@ fatal-one (Err DeviceFault) fatal undamaged = refl
 fatal-one (Err Damaged) fatal undamaged = absurd (let never : true ≡ false = undamaged in cc)
 fatal-one (Err _) fatal undamaged = absurd (let never : false ≡ true = fatal in cc)
 
--- the home block and whether the disk is honest stay; once a request has failed the volume that stays so; while none has no transfer fails, and
--- where one does a transfer failed, on an honest disk
+-- the home block and whether the disk is honest stay; once a request has failed the volume that stays so; while none has no transfer fails,
+-- and where one does a transfer failed, on an honest disk
 module _ {D : Type 0} {met : Ghosts D} where
   pub record KeepsVolume (v w : Volume D met) : Type 0 where
     pub home : (state_in w).home ≡ (state_in v).home
@@ -192,7 +241,8 @@ module _ {D : Type 0} {met : Ghosts D} where
             spent = λ was. absurd (let never : false ≡ true = sym is ∙ was in cc);
             rises = omega (arith, handled.writes.went.failures);
             same = λ alive. omega (arith, handled.writes.went.failures, clean-none a.result (sym next ∙ alive));
-            more = λ honest _ failed. omega (arith, handled.writes.went.failures, fatal-one a.result (sym next ∙ failed) (handled.undamaged honest));
+            more = λ honest _ failed.
+                omega (arith, handled.writes.went.failures, fatal-one a.result (sym next ∙ failed) (handled.undamaged honest));
           }
 
   volume-self : (v : Volume D met) → KeepsVolume v v
@@ -222,7 +272,8 @@ module _ {D : Type 0} {met : Ghosts D} where
           before false is = is
           before true is = absurd (let never : true ≡ false = sym (then.spent is) ∙ alive in cc)
 
-      by_spent : (b : Bool) → is_spent v ≡ b → IsTrue (state_in u).disk.honest → is_spent u ≡ false → is_spent w ≡ true → failures_of u < failures_of w
+      by_spent : (b : Bool) → is_spent v ≡ b → IsTrue (state_in u).disk.honest → is_spent u ≡ false → is_spent w ≡ true
+          → failures_of u < failures_of w
       by_spent true is honest alive failed = let first = one.more honest alive is in omega (arith, first, then.rises)
       by_spent false is honest alive failed = let second = then.more (one.honest ∙ honest) is failed in omega (arith, one.rises, second)
 
@@ -242,5 +293,6 @@ module _ {D : Type 0} {met : Ghosts D} (old new : Volume D met) (bytes written w
 
     pub keeps-script-costs : KeepsScriptCosts old new bytes written written' result
     keeps-script-costs =
-        let all = script-costs ServesCall cost_of transfers_of (λ v. IsTrue (state_in v).disk.honest) grows bytes written written' old new result runs in
+        let all = script-costs ServesCall cost_of transfers_of (λ v. IsTrue (state_in v).disk.honest) grows bytes written written' old new
+        result runs in
         record { most = all.0; costs = all.1; few = all.2 }

@@ -68,13 +68,15 @@ pub record TellsAnswers (lines : List (List ℕ)) (block text : List ℕ) (count
 abbrev pub RequestsAreAnswered : {V : Type 0} → Service V → Type 0
 RequestsAreAnswered {V = V} S =
     (lines : List (List ℕ)) (old new : V) (block block' text : List ℕ) (count : ℕ) →
-    ServesLines S lines old block text count new block' → TellsAnswers lines block text count (λ calls answers. Each S old calls answers new)
+    ServesLines S lines old block text count new block'
+    → TellsAnswers lines block text count (λ calls answers. Each S old calls answers new)
 
 -- lines that are served by steps tell a run
 abbrev pub LinesAreRun : Type 0
 LinesAreRun =
     (lines : List (List ℕ)) (old new : Store) (block block' text : List ℕ) (count : ℕ) →
-    ServesLines Steps lines old block text count new block' → TellsAnswers lines block text count (λ calls answers. Run old calls answers new)
+    ServesLines Steps lines old block text count new block'
+    → TellsAnswers lines block text count (λ calls answers. Run old calls answers new)
 
 -- a sound service that makes steps tells a run where nothing failed from the first line to the last
 abbrev pub SoundIsRun : {V : Type 0} → Service V → Type 0

@@ -1,5 +1,6 @@
 -- Slots that are added while a file of the plain store grows piece by piece.
-use Rattle.std.proofs.Common.{◌≡◌, ℕ, ◌+◌, ◌-◌, ◌<◌, ◌≤◌, ◌&&◌, ◌||◌, ◌==◌, Bool, true, false, List, ◌++◌, Option, Some, take, unwrap_or, refl, sym, ◌∙◌, ap, subst, arith, if◌then◌else◌, nat_le, nat_lt}
+use Rattle.std.proofs.Common.{◌≡◌, ℕ, ◌+◌, ◌-◌, ◌<◌, ◌≤◌, ◌&&◌, ◌||◌, ◌==◌, Bool, true, false, List, ◌++◌, Option, Some, take, unwrap_or}
+use Rattle.std.proofs.Common.{refl, sym, ◌∙◌, ap, subst, arith, if◌then◌else◌, nat_le, nat_lt}
 use Rattle.std.proofs.lemmas.Bool.Decides.{nat_tests}
 use Rattle.f11_store.specs.Changes.{is_in, next_sequence, with_more_slots}
 use Rattle.f11_store.specs.File.{File, need, no_file}
@@ -30,7 +31,8 @@ slots-twice s a b =
 -- a file that grows once slots were added, in headers that were free before: the slots may as well be added then
 pub longer-then-slots :
     (s : Store) (k a n : ℕ) (f : File) (blocks : List (List ℕ)) (added pointers room : ℕ) → added ≤ free_headers s →
-    with_longer_file (with_more_slots s a) k f n blocks added pointers room ≡ with_more_slots (with_longer_file s k f n blocks added pointers room) a
+    with_longer_file (with_more_slots s a) k f n blocks added pointers room ≡ with_more_slots
+    (with_longer_file s k f n blocks added pointers room) a
 longer-then-slots s k a n f blocks added pointers room few =
     same-store
     (with_longer_file (with_more_slots s a) k f n blocks added pointers room)
@@ -62,11 +64,13 @@ longer-then-slots s k a n f blocks added pointers room few =
 
 -- the headers that the second piece takes are free after the first
 pub headers-left :
-    (s t u : Store) (k n a b most p q : ℕ) (blocks more : List (List ℕ)) → HasPlaces s k n most → p + q ≤ most → (one : AddsBlocks s k a p blocks t)
+    (s t u : Store) (k n a b most p q : ℕ) (blocks more : List (List ℕ)) → HasPlaces s k n most → p + q ≤ most
+    → (one : AddsBlocks s k a p blocks t)
     (two : AddsBlocks t k b q more u) → two.added ≤ free_headers t
 headers-left s t u k n a b most p q blocks more may few one two =
     let same : file_numbered s k ≡ one.before = ap (λ (o : Option File). unwrap_or o no_file) one.was in
-    let enough : need one.before.room most ≤ free_headers s = subst (λ (f : File). need f.room most ≤ free_headers s) same may.has_room.headers in
+    let enough : need one.before.room most ≤ free_headers s = subst (λ (f : File). need f.room most ≤ free_headers s) same
+    may.has_room.headers in
     let left : free_headers t ≡ free_headers s - one.added =
     ap (λ (x : Store). free_headers x) one.store_is ∙ headers-longer s k a one.before blocks one.added one.pointers one.room in
     let fits : two.added ≤ need one.room q =

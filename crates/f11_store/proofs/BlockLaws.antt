@@ -40,7 +40,8 @@ can_write s task caller lun vbn block a s' block' h =
 
 -- the file held after a block was written
 held_after : (s : Store) (task lun vbn : ℕ) (block : List ℕ) → CanWrite s task lun vbn →
-    file_named (with_change s (id_held s task lun).number (with_block vbn block)) (id_held s task lun) ≡ with_block vbn block (file_held s task lun)
+    file_named (with_change s (id_held s task lun).number (with_block vbn block)) (id_held s task lun) ≡ with_block vbn block
+    (file_held s task lun)
 held_after s task lun vbn block can =
     file_named-with_change s (id_held s task lun) (with_block vbn block) (λ f. refl) (omega (arith, can.within, can.above))
 
@@ -54,13 +55,15 @@ written_is_read s task caller lun vbn block a s' block' before h =
       no_cause = no_cause_of_three _ _ _ can.no_zero can.holds (le-ltb _ _ long);
       reply_is = refl;
       changes = refl;
-      block_is = sym (ap (λ f. block_at f vbn) after ∙ get_or-set_same (file_held s task lun).blocks (vbn - 1) block [] (omega (arith, can.within, can.above)));
+      block_is = sym (ap (λ f. block_at f vbn) after ∙ get_or-set_same (file_held s task lun).blocks (vbn - 1) block []
+          (omega (arith, can.within, can.above)));
     })
   where
     can : CanWrite s task lun vbn
     can = can_write s task caller lun vbn block a s' block' h
 
-    after : file_named (with_change s (id_held s task lun).number (with_block vbn block)) (id_held s task lun) ≡ with_block vbn block (file_held s task lun)
+    after : file_named (with_change s (id_held s task lun).number (with_block vbn block)) (id_held s task lun) ≡ with_block vbn block
+        (file_held s task lun)
     after = held_after s task lun vbn block can
 
     long : vbn ≤ length_of (file_named (with_change s (id_held s task lun).number (with_block vbn block)) (id_held s task lun))

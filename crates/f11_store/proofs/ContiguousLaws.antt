@@ -1,5 +1,6 @@
 -- A file of the plain store that is laid out in one run.
-use Rattle.std.proofs.Common.{◌≡◌, ◌≢◌, ℕ, ◌+◌, ◌-◌, ◌*◌, ◌<◌, ◌≤◌, ◌==◌, ◌||◌, ◌⊎◌, inl, inr, Bool, true, false, List, [], ◌∷◌, ◌++◌, Option, Some, length, take, max, unwrap_or, option_map, refl, sym, ◌∙◌, ap, subst, arith, if◌then◌else◌}
+use Rattle.std.proofs.Common.{◌≡◌, ◌≢◌, ℕ, ◌+◌, ◌-◌, ◌*◌, ◌<◌, ◌≤◌, ◌==◌, ◌||◌, ◌⊎◌, inl, inr, Bool, true, false, List, [], ◌∷◌, ◌++◌}
+use Rattle.std.proofs.Common.{Option, Some, length, take, max, unwrap_or, option_map, refl, sym, ◌∙◌, ap, subst, arith, if◌then◌else◌}
 use Rattle.std.specs.Int.{bit_at}
 use Rattle.std.proofs.lemmas.Bool.Decides.{eqb_tells}
 use Rattle.std.proofs.lemmas.List.{get_or-replicate, length-replicate}
@@ -8,13 +9,15 @@ use Rattle.std.proofs.lemmas.Nat.Bits.{bit_at-lt, bit_at_or}
 use Rattle.f11_store.specs.Changes.{is_in, next_sequence, with_change, laid_file, with_laid_file, MayGrow}
 use Rattle.f11_store.specs.Contiguous.{BlocksComeLags, IsLaidOut, LaidOutHas, LaidOutLags, MarkComesLags, MarkedIsLaidOut}
 use Rattle.f11_store.specs.File.{File, no_file, need, run_need, run_pointers, has_contiguous_mark, with_contiguous, zero_block, zero_blocks}
-use Rattle.f11_store.specs.Lags.{blocks_work, contiguous_work, file_changes, one_part, with_contiguous_mark, with_part, with_parts, AreLike, LagsBy, Work}
+use Rattle.f11_store.specs.Lags.{blocks_work, contiguous_work, file_changes, one_part, with_contiguous_mark, with_part, with_parts, AreLike}
+use Rattle.f11_store.specs.Lags.{LagsBy, Work}
 use Rattle.f11_store.specs.Moments.{Did, Respects}
 use Rattle.f11_store.specs.Pieces.{file_numbered, longer_file, with_longer_file, AddsBlocks}
 use Rattle.f11_store.specs.Step.{block_at}
 use Rattle.f11_store.specs.Store.{Store, file_named, free_slots}
 use Rattle.f11_store.proofs.Frees.{same_limits}
-use Rattle.f11_store.proofs.Growth.{alike, blocks_and_slots, blocks_elsewhere, blocks_one_by_one, headers_taken, last_or_next, room-file_named, stays_unused, StoresAlike}
+use Rattle.f11_store.proofs.Growth.{alike, blocks_and_slots, blocks_elsewhere, blocks_one_by_one, headers_taken, last_or_next}
+use Rattle.f11_store.proofs.Growth.{room-file_named, stays_unused, StoresAlike}
 use Rattle.f11_store.proofs.LagLaws.{did_lags, did_taking, need_no_less, taken_at_most, Takes}
 use Rattle.f11_store.proofs.PieceLagLemmas.{longer_alike, piece-takes, takes-none, zero_parts}
 use Rattle.f11_store.proofs.ProgressLaws.{lags_after, more_work_lags}
@@ -43,7 +46,8 @@ mark-respects f g l = record {
 }
 
 -- a file that has its blocks did that work
-adds-did : (s u : Store) (k n most : ℕ) → AddsBlocks s k n most (zero_blocks n) u → Did (blocks_work k n (need (file_numbered s k).room most)) u s
+adds-did : (s u : Store) (k n most : ℕ) → AddsBlocks s k n most (zero_blocks n) u
+    → Did (blocks_work k n (need (file_numbered s k).room most)) u s
 adds-did s u k n most e =
     let same : e.before ≡ file_numbered s k = sym (ap (λ (o : Option File). unwrap_or o no_file) e.was) in
     subst (λ (f : File). Did (blocks_work k n (need f.room most)) u s) same
@@ -51,7 +55,8 @@ adds-did s u k n most e =
     (did_taking (blocks_work k n (need e.before.room most)) s g
     (longer_alike s k n e.before e.added e.pointers e.room e.was)
     (sym (blocks_and_slots n s k))
-    (piece-takes s k n most n most 0 0 e.before e.added e.pointers e.room e.may_grow (omega arith) (omega arith) g (takes-none g (need e.room 0)))))
+    (piece-takes s k n most n most 0 0 e.before e.added e.pointers e.room e.may_grow (omega arith) (omega arith) g
+    (takes-none g (need e.room 0)))))
   where
     g : Store
     g = with_longer_file s k e.before n (zero_blocks n) e.added e.pointers e.room
@@ -97,7 +102,8 @@ marked-is-laid-out s u k n empty none e enough = record {
 
     are : (e.pointers ≡ run_pointers n) × (e.added ≡ run_need f.room n) × (e.room ≡ f.room + 102 * run_need f.room n - run_pointers n)
     are = exact f n e.added e.pointers e.room none
-        (let more : (file_numbered u k).pointers ≡ e.pointers = ap (λ (o : Option File). (unwrap_or o no_file).pointers) there in omega (arith, enough, more)) may
+        (let more : (file_numbered u k).pointers ≡ e.pointers = ap (λ (o : Option File). (unwrap_or o no_file).pointers) there in
+        omega (arith, enough, more)) may
 
     laid : with_contiguous_mark longer ≡ laid_file s f n
     laid = λ i. record (same i) {
@@ -108,7 +114,8 @@ marked-is-laid-out s u k n empty none e enough = record {
       blocks = (ap (λ (g : File). g.blocks ++ zero_blocks n) same ∙ ap (λ (bs : List (List ℕ)). bs ++ zero_blocks n) empty) i;
     }
 
-    marked : with_change (with_longer_file s k e.before n (zero_blocks n) e.added e.pointers e.room) k with_contiguous_mark ≡ with_laid_file s k f n
+    marked : with_change (with_longer_file s k e.before n (zero_blocks n) e.added e.pointers e.room) k with_contiguous_mark ≡ with_laid_file
+        s k f n
     marked =
         same-store (with_change g k with_contiguous_mark) (with_laid_file s k f n)
         (λ m. two_writes (m == k) (s.file m)) refl refl
@@ -122,14 +129,16 @@ marked-is-laid-out s u k n empty none e enough = record {
         two_writes : (here : Bool) (o : Option File) →
             (if here then option_map with_contiguous_mark (g.file k) else if here then Some longer else o)
             ≡ (if here then Some (laid_file s f n) else o)
-        two_writes true o = ap (option_map with_contiguous_mark) (ap (λ (b : Bool). if b then Some longer else s.file k) (same_number k)) ∙ ap Some laid
+        two_writes true o =
+            ap (option_map with_contiguous_mark) (ap (λ (b : Bool). if b then Some longer else s.file k) (same_number k)) ∙ ap Some laid
         two_writes false o = refl
 
 -- its parts make such a file
 laid-alike : (s : Store) (k n : ℕ) (f : File) → s.file k ≡ Some f → f.blocks ≡ [] →
     StoresAlike (with_laid_file s k f n) (with_parts s (zero_parts k n ++ file_changes k with_contiguous_mark ∷ []))
 laid-alike s k n f was empty m =
-    subst (λ (x : Store). AreLike ((with_laid_file s k f n).file m) (x.file m)) (sym (fold-append with_part s (zero_parts k n) (file_changes k with_contiguous_mark ∷ [])))
+    subst (λ (x : Store). AreLike ((with_laid_file s k f n).file m) (x.file m))
+    (sym (fold-append with_part s (zero_parts k n) (file_changes k with_contiguous_mark ∷ [])))
     (by_number (eqb_tells m k))
   where
     come : Store
@@ -139,10 +148,21 @@ laid-alike s k n f was empty m =
     here = blocks_one_by_one n s k f was
 
     marked : AreLike (Some (laid_file s f n)) (Some (with_contiguous_mark (record f { blocks = f.blocks ++ zero_blocks n })))
-    marked = record { sequence = refl; owner = refl; protection = refl; characteristics = refl; ident = refl; attr = refl; blocks = ap (λ (bs : List (List ℕ)). bs ++ zero_blocks n) (sym empty) }
+    marked =
+        record {
+          sequence = refl;
+          owner = refl;
+          protection = refl;
+          characteristics = refl;
+          ident = refl;
+          attr = refl;
+          blocks = ap (λ (bs : List (List ℕ)). bs ++ zero_blocks n) (sym empty);
+        }
 
-    by_number : ((m == k) ≡ true) × (m ≡ k) ⊎ ((m == k) ≡ false) × (m ≢ k) → AreLike ((with_laid_file s k f n).file m) ((with_change come k with_contiguous_mark).file m)
-    by_number (inl w) = rw w.0 (subst (λ (o : Option File). AreLike (Some (laid_file s f n)) (option_map with_contiguous_mark o)) (sym here) marked)
+    by_number : ((m == k) ≡ true) × (m ≡ k) ⊎ ((m == k) ≡ false) × (m ≢ k)
+        → AreLike ((with_laid_file s k f n).file m) ((with_change come k with_contiguous_mark).file m)
+    by_number (inl w) =
+        rw w.0 (subst (λ (o : Option File). AreLike (Some (laid_file s f n)) (option_map with_contiguous_mark o)) (sym here) marked)
     by_number (inr w) = rw w.0 (subst (AreLike (s.file m)) (sym (blocks_elsewhere n s k m w.0)) (alike (s.file m)))
 
 laid-takes : (s : Store) (k n : ℕ) (f : File) (less : ℕ) → less ≤ f.room →
@@ -170,7 +190,8 @@ laid-out-lags s t f n laid =
     subst (λ (x : Store). LagsBy work x s) (sym laid.store_is)
     (did_lags work after s (did_taking work s after
     (laid-alike s f.number n laid.before laid.was laid.empty)
-    (sym (ap (λ (x : Store). x.slots) (fold-append with_part s (zero_parts f.number n) (file_changes f.number with_contiguous_mark ∷ [])) ∙ blocks_and_slots n s f.number))
+    (sym (ap (λ (x : Store). x.slots) (fold-append with_part s (zero_parts f.number n) (file_changes f.number with_contiguous_mark ∷ []))
+    ∙ blocks_and_slots n s f.number))
     (laid-takes s f.number n laid.before (file_named s f).room (room-file_named s f laid.before laid.was))))
   where
     work : Work
@@ -190,10 +211,12 @@ pub laid-out-has : LaidOutHas
 unfolding zero_blocks
 laid-out-has s t k n laid = subst (λ (x : Store). IsLaidOut s k n x) (sym laid.store_is) (record {
   long = ap (λ (f : File). length f.blocks) now ∙ length-replicate {A = List ℕ} n zero_block;
-  zeros = λ vbn some within. ap (λ (f : File). block_at f vbn) now ∙ get_or-replicate n (vbn - 1) zero_block [] (omega (arith, some, within));
+  zeros = λ vbn some within. ap (λ (f : File). block_at f vbn) now
+      ∙ get_or-replicate n (vbn - 1) zero_block [] (omega (arith, some, within));
   marked = ap has_contiguous_mark now ∙ mark-set laid.before.characteristics;
   pointers = ap (λ (f : File). f.pointers) now;
-  places = let room = ap (λ (f : File). f.room) now in let was = ap (λ (o : Option File). (unwrap_or o no_file).room) laid.was in omega (arith, room, was);
+  places = let room = ap (λ (f : File). f.room) now in let was = ap (λ (o : Option File). (unwrap_or o no_file).room) laid.was in
+      omega (arith, room, was);
 })
   where
     now : file_numbered (with_laid_file s k laid.before n) k ≡ laid_file s laid.before n

@@ -1,5 +1,7 @@
 -- Laws of names that are entered, found and removed.
-use Rattle.std.proofs.Common.{◌≡◌, ◌≢◌, ℕ, ◌+◌, ◌-◌, ◌*◌, ◌/◌, ◌%◌, ◌<◌, ◌≤◌, ◌==◌, ◌||◌, Bool, true, false, not, List, [], ◌∷◌, ◌++◌, Option, Some, None, Result, Ok, Err, length, take, drop, get_or, find, nat_eq, nat_lt, nat_le, is_none, unwrap_or, if◌then◌else◌, refl, sym, ◌∙◌, ap, subst, arith, length-append}
+use Rattle.std.proofs.Common.{◌≡◌, ◌≢◌, ℕ, ◌+◌, ◌-◌, ◌*◌, ◌/◌, ◌%◌, ◌<◌, ◌≤◌, ◌==◌, ◌||◌, Bool, true, false, not, List, [], ◌∷◌, ◌++◌}
+use Rattle.std.proofs.Common.{Option, Some, None, Result, Ok, Err, length, take, drop, get_or, find, nat_eq, nat_lt, nat_le, is_none}
+use Rattle.std.proofs.Common.{unwrap_or, if◌then◌else◌, refl, sym, ◌∙◌, ap, subst, arith, length-append}
 use Rattle.std.specs.Prelude.{All, position}
 use Rattle.std.specs.List.{range_with_len, position_or_len}
 use lib.Pointwise.{pointwise}
@@ -11,16 +13,20 @@ use Rattle.std.proofs.lemmas.List.FromFn.{length-range_with_len}
 use Rattle.f11_store.specs.declared.callers.Uic.{Uic}
 use Rattle.f11_store.specs.declared.files.FileId.{FileId}
 use Rattle.f11_store.specs.declared.refusals.Refusal.{Refusal}
-use Rattle.f11_store.specs.declared.refusals.Refusal.TheVariants.{BadArgument, SystemFile, NoSuchFile, Marked, NoPrivilege, Conflict, NotDirectory, NoSuchEntry, DuplicateName}
+use Rattle.f11_store.specs.declared.refusals.Refusal.TheVariants.{BadArgument, SystemFile, NoSuchFile, Marked, NoPrivilege, Conflict}
+use Rattle.f11_store.specs.declared.refusals.Refusal.TheVariants.{NotDirectory, NoSuchEntry, DuplicateName}
 use Rattle.f11_store.specs.declared.protection.Right.TheVariants as right
 use Rattle.f11_store.specs.declared.requests.Reply.{Reply}
 use Rattle.f11_store.specs.declared.requests.Reply.TheVariants as reply
 use Rattle.f11_store.specs.declared.requests.Request.TheVariants as request
 use Rattle.f11_store.specs.File.{File, no_file, is_marked, stated_end, zero_block, zero_blocks}
 use Rattle.f11_store.specs.Store.{Store, file_of, file_named, is_held, bars_writing}
-use Rattle.f11_store.specs.Directory.{is_directory, record_in, record_at, entry_count, entries_of, record_id, record_name, is_empty, has_name, is_entered, index_of_empty, needs_block, word_bytes, long_bytes, record_bytes, empty_record, with_record, with_end}
+use Rattle.f11_store.specs.Directory.{is_directory, record_in, record_at, entry_count, entries_of, record_id, record_name, is_empty}
+use Rattle.f11_store.specs.Directory.{has_name, is_entered, index_of_empty, needs_block, word_bytes, long_bytes, record_bytes, empty_record}
+use Rattle.f11_store.specs.Directory.{with_record, with_end}
 use Rattle.f11_store.specs.Causes.{Cause, ◌⇐◌, first_of, is_bad, is_missing, lacks, extend_causes_if, first_refusal}
-use Rattle.f11_store.specs.Changes.{with_change, with_entry, with_end_after, with_entry_at_end, grown_file, with_grown_file, EntersAtEnd, EntersAt, Extends}
+use Rattle.f11_store.specs.Changes.{with_change, with_entry, with_end_after, with_entry_at_end, grown_file, with_grown_file, EntersAtEnd}
+use Rattle.f11_store.specs.Changes.{EntersAt, Extends}
 use Rattle.f11_store.specs.Step.{Step, MayRefuse}
 use Rattle.f11_store.specs.Laws.{IsWhole, IsFiveWords, IsFound, EnteredIsFound, StandingIsDuplicate, RemovedIsEmpty}
 use Rattle.f11_store.proofs.SlotsFirst.{gained-is-ready, no_index, of-stays}
@@ -118,7 +124,8 @@ pointwise_same [] = refl
 pointwise_same (x ∷ xs) = rw (same_number x) (pointwise_same xs)
 
 -- the record of five words under a name
-record_of_five : (id : FileId) (a b c d e : ℕ) → is_bad id ≡ false → has_name (a ∷ b ∷ c ∷ d ∷ e ∷ []) (record_bytes id (a ∷ b ∷ c ∷ d ∷ e ∷ [])) ≡ true
+record_of_five : (id : FileId) (a b c d e : ℕ) → is_bad id ≡ false
+    → has_name (a ∷ b ∷ c ∷ d ∷ e ∷ []) (record_bytes id (a ∷ b ∷ c ∷ d ∷ e ∷ [])) ≡ true
 unfolding has_name record_bytes
 record_of_five id a b c d e good =
     rw (word_read id.number, number_of (id.number == 0) _ good, word_read a, word_read b, word_read c, word_read d, word_read e)
@@ -182,7 +189,9 @@ stated_end-with_end attr allocation end long =
     rest = (long_bytes allocation ++ (long_bytes (end / 512 + 1) ++ word_bytes (end % 512))) ++ drop 14 attr
 
     at : (k : ℕ) → get_or (front ++ rest) (4 + k) 0 ≡ get_or rest k 0
-    at k = subst (λ (n : ℕ). get_or (front ++ rest) (n + k) 0 ≡ get_or rest k 0) (length-take-le 4 attr (omega (arith, long))) (get_or-append-add front rest k 0)
+    at k =
+        subst (λ (n : ℕ). get_or (front ++ rest) (n + k) 0 ≡ get_or rest k 0) (length-take-le 4 attr (omega (arith, long)))
+        (get_or-append-add front rest k 0)
 
 -- the record that was put is found, where no earlier one has the name
 found_at :
@@ -193,7 +202,8 @@ found_at :
 unfolding entries_of
 found_at f f' blocks i name r put within low same there whole sixteen none has =
     first_found (has_name name) (record_at f'.blocks) 0 (entry_count f') i (omega arith) (omega (arith, within)) (rw here has)
-    (λ j zero below. rw (earlier j below) (none_passes (has_name name) (record_at f.blocks) 0 (entry_count f) j none zero (omega (arith, low, below))))
+    (λ j zero below. rw (earlier j below)
+    (none_passes (has_name name) (record_at f.blocks) 0 (entry_count f) j none zero (omega (arith, low, below))))
     ∙ ap Some here
   where
     here : record_at f'.blocks i ≡ r
@@ -211,13 +221,16 @@ pub record IsThere (name : List ℕ) (f : File) (r : List ℕ) : Type 0 where
 
 -- what Find then answers
 found_answers :
-    (s : Store) (other : ℕ) (reader : Uic) (d : FileId) (name : List ℕ) (id : FileId) (before : List ℕ) (result : Result Reply Refusal) (s' : Store) (after : List ℕ) →
-    IsThere name (file_named s d) (record_bytes id name) → Step s other reader (request.Find d name) before result s' after → IsFound id result
+    (s : Store) (other : ℕ) (reader : Uic) (d : FileId) (name : List ℕ) (id : FileId) (before : List ℕ) (result : Result Reply Refusal)
+    (s' : Store) (after : List ℕ) →
+    IsThere name (file_named s d) (record_bytes id name) → Step s other reader (request.Find d name) before result s' after
+    → IsFound id result
 found_answers s other reader d name id before (Ok a) s' after there k =
     k.reply_is ∙ ap (λ o. reply.Found (record_id (unwrap_or o []))) there.found ∙ ap reply.Found (record_id-record_bytes id name)
 found_answers s other reader d name id before (Err e) s' after there k =
     refused_otherwise (first_refusal s other reader (request.Find d name)) e
-    (λ x h. found_causes (is_bad d) (nat_lt d.number 4) (is_missing s d) (is_marked (file_named s d)) (lacks right.Read reader (file_named s d))
+    (λ x h. found_causes (is_bad d) (nat_lt d.number 4) (is_missing s d) (is_marked (file_named s d))
+    (lacks right.Read reader (file_named s d))
     (not (is_directory (file_named s d))) (is_entered name (file_named s d)) x
     (some_passes (has_name name) (entries_of (file_named s d)) (record_bytes id name) there.found) h)
     k.may_refuse
@@ -226,7 +239,8 @@ found_answers s other reader d name id before (Err e) s' after there k =
 pub placed : (p : List ℕ → Bool) (xs : List (List ℕ)) (i : ℕ) → position p xs ≡ Some i → i < length xs
 placed p xs i h = by_test (nat_lt (position_or_len p xs) (length xs)) refl h
   where
-    by_test : (b : Bool) → nat_lt (position_or_len p xs) (length xs) ≡ b → (if b then Some (position_or_len p xs) else None) ≡ Some i → i < length xs
+    by_test : (b : Bool) → nat_lt (position_or_len p xs) (length xs) ≡ b → (if b then Some (position_or_len p xs) else None) ≡ Some i
+        → i < length xs
     by_test true t e = let same : position_or_len p xs ≡ i = cc in subst (λ (n : ℕ). n < length xs) same (ltb-true _ _ t)
     by_test false t e = absurd (cc)
 
@@ -257,7 +271,8 @@ removed_is_empty s task caller d name block a s' block' i whole h there =
   where
     missing : is_missing s d ≡ false
     missing = removed_causes (is_bad d) (nat_lt d.number 4) (is_missing s d)
-        ((Marked ⇐ is_marked (file_named s d)) ∷ (NoPrivilege ⇐ lacks right.Write caller (file_named s d)) ∷ (Conflict ⇐ is_held bars_writing s d)
+        ((Marked ⇐ is_marked (file_named s d)) ∷ (NoPrivilege ⇐ lacks right.Write caller (file_named s d)) ∷
+        (Conflict ⇐ is_held bars_writing s d)
         ∷ (NotDirectory ⇐ not (is_directory (file_named s d))) ∷ (NoSuchEntry ⇐ not (is_entered name (file_named s d))) ∷ []) h.no_cause
 
     after : file_named s' d ≡ with_entry i empty_record (file_named s d)
@@ -266,7 +281,9 @@ removed_is_empty s task caller d name block a s' block' i whole h there =
         ∙ file_named-changed s d (with_entry i empty_record) (λ f. refl) missing
 
     in_it : i / 32 < length (file_named s d).blocks
-    in_it = in_blocks (file_named s d) i (subst (λ (n : ℕ). i < n) (length-entries_of (file_named s d)) (placed (has_name name) (entries_of (file_named s d)) i there))
+    in_it =
+        in_blocks (file_named s d) i
+        (subst (λ (n : ℕ). i < n) (length-entries_of (file_named s d)) (placed (has_name name) (entries_of (file_named s d)) i there))
 
     full : length (get_or (file_named s d).blocks (i / 32) []) ≡ 512
     full = All-get_or (λ b. length b ≡ 512) (file_named s d).blocks (i / 32) [] in_it whole.blocks
@@ -276,7 +293,8 @@ count-with_entry_at_end :
     (g : File) (i : ℕ) (r : List ℕ) → length g.attr ≡ 32 → 16 * (i + 1) ≤ 512 * length g.blocks →
     i < entry_count (with_end_after i (with_entry i r g))
 count-with_entry_at_end g i r long within =
-    rw (stated_end-with_end g.attr (length (with_record g.blocks i r)) (16 * (i + 1)) long, length-with_record g.blocks i r) (omega (arith, within))
+    rw (stated_end-with_end g.attr (length (with_record g.blocks i r)) (16 * (i + 1)) long, length-with_record g.blocks i r)
+    (omega (arith, within))
 
 -- a block of zeros is as long as any
 pub length-zero_block : length zero_block ≡ 512
@@ -328,11 +346,13 @@ entered_in_place s d name r i can place =
 
 -- at the end, where the allocation has room
 entered_past_end :
-    (s : Store) (d : FileId) (name r : List ℕ) → Enterable s d name r → 16 * entry_count (file_named s d) < 512 * length (file_named s d).blocks →
+    (s : Store) (d : FileId) (name r : List ℕ) → Enterable s d name r
+    → 16 * entry_count (file_named s d) < 512 * length (file_named s d).blocks →
     IsThere name (file_named (with_entry_at_end s d.number (entry_count (file_named s d)) r) d) r
 entered_past_end s d name r can room =
     subst (λ (f : File). IsThere name f r)
-    (sym (file_named-changed s d (λ f. with_end_after (entry_count (file_named s d)) (with_entry (entry_count (file_named s d)) r f)) (λ f. refl) can.there)) (record {
+    (sym (file_named-changed s d (λ f. with_end_after (entry_count (file_named s d)) (with_entry (entry_count (file_named s d)) r f))
+    (λ f. refl) can.there)) (record {
       found = found_at (file_named s d) (with_end_after i (with_entry i r (file_named s d))) (file_named s d).blocks i name r refl
           (count-with_entry_at_end (file_named s d) i r can.whole.attr (omega (arith, room))) (omega arith) (λ j h. refl) in_it
           (All-get_or (λ b. length b ≡ 512) (file_named s d).blocks (i / 32) [] in_it can.whole.blocks) can.sixteen can.none can.has;
@@ -347,12 +367,14 @@ entered_past_end s d name r can room =
 -- at the end, after one more block
 entered_in_new_block :
     (s : Store) (d : FileId) (name r : List ℕ) (f : File) (added pointers room : ℕ) → Enterable s d name r → s.file d.number ≡ Some f →
-    file_named s d ≡ f → IsThere name (file_named (with_entry_at_end (with_grown_file s d.number f 1 (zero_blocks 1) added pointers room) d.number (entry_count f) r) d) r
+    file_named s d ≡ f → IsThere name
+    (file_named (with_entry_at_end (with_grown_file s d.number f 1 (zero_blocks 1) added pointers room) d.number (entry_count f) r) d) r
 unfolding zero_blocks
 entered_in_new_block s d name r f added pointers room can was is =
     subst (λ (g : File). IsThere name g r) (sym after) (record {
       found = found_at f (with_end_after i (with_entry i r g)) (f.blocks ++ zero_blocks 1) i name r refl
-          (count-with_entry_at_end g i r (subst (λ (x : File). length x.attr ≡ 32) is can.whole.attr) (rw longer (omega arith))) (omega arith)
+          (count-with_entry_at_end g i r (subst (λ (x : File). length x.attr ≡ 32) is can.whole.attr) (rw longer (omega arith)))
+          (omega arith)
           (λ j h. record_at-grown_file f (zero_blocks 1) j h) in_it
           (All-get_or (λ b. length b ≡ 512) (f.blocks ++ zero_blocks 1) (i / 32) [] in_it full) can.sixteen
           (subst (λ (x : File). is_entered name x ≡ false) is can.none) can.has;
@@ -382,7 +404,10 @@ entered_in_new_block s d name r f added pointers room can was is =
     in_it = rw longer (omega arith)
 
     full : All (λ b. length b ≡ 512) (f.blocks ++ zero_block ∷ [])
-    full = All-append (λ b. length b ≡ 512) f.blocks (zero_block ∷ []) (subst (λ (x : File). All (λ b. length b ≡ 512) x.blocks) is can.whole.blocks) (All-replicate (λ b. length b ≡ 512) 1 zero_block length-zero_block)
+    full =
+        All-append (λ b. length b ≡ 512) f.blocks (zero_block ∷ [])
+        (subst (λ (x : File). All (λ b. length b ≡ 512) x.blocks) is can.whole.blocks)
+        (All-replicate (λ b. length b ≡ 512) 1 zero_block length-zero_block)
 
 -- a directory that can be entered in can be once the index file grew
 enterable_then : (s t : Store) (d : FileId) (name r : List ℕ) → file_of t d ≡ file_of s d → Enterable s d name r → Enterable t d name r
@@ -403,8 +428,11 @@ entered_with_block :
     s' ≡ with_entry_at_end grown d.number (entry_count (file_named s d)) r → IsThere name (file_named s' d) r
 entered_with_block s grown d name r s' can grows k =
     let is : file_named s d ≡ grows.before = file_named-there s d grows.before grows.was can.there in
-    subst (λ (x : Store). IsThere name (file_named x d) r) (sym (k ∙ ap (λ t. with_entry_at_end t d.number (entry_count (file_named s d)) r) grows.store_is))
-    (subst (λ (n : ℕ). IsThere name (file_named (with_entry_at_end (with_grown_file s d.number grows.before 1 (zero_blocks 1) grows.added grows.pointers grows.room) d.number n r) d) r)
+    subst (λ (x : Store). IsThere name (file_named x d) r)
+    (sym (k ∙ ap (λ t. with_entry_at_end t d.number (entry_count (file_named s d)) r) grows.store_is))
+    (subst (λ (n : ℕ). IsThere name
+    (file_named (with_entry_at_end (with_grown_file s d.number grows.before 1 (zero_blocks 1) grows.added grows.pointers grows.room)
+    d.number n r) d) r)
     (ap entry_count (sym is))
     (entered_in_new_block s d name r grows.before grows.added grows.pointers grows.room can grows.was is))
 
@@ -417,9 +445,12 @@ entered_there (Some i) s d name r s' can other place h =
 entered_there None s d name r s' can other place h = at_end (needs_block (file_named s d)) refl h
   where
     no_room : needs_block (file_named s d) ≡ false → 16 * entry_count (file_named s d) < 512 * length (file_named s d).blocks
-    no_room e = let t : nat_le (512 * length (file_named s d).blocks) (16 * entry_count (file_named s d)) ≡ false = (rw place at e) in grind (arith, nat_tests)
+    no_room e =
+        let t : nat_le (512 * length (file_named s d).blocks) (16 * entry_count (file_named s d)) ≡ false = (rw place at e) in
+        grind (arith, nat_tests)
 
-    at_end : (b : Bool) → needs_block (file_named s d) ≡ b → EntersAtEnd b s d (entry_count (file_named s d)) r s' → IsThere name (file_named s' d) r
+    at_end : (b : Bool) → needs_block (file_named s d) ≡ b → EntersAtEnd b s d (entry_count (file_named s d)) r s'
+        → IsThere name (file_named s' d) r
     at_end false e k = subst (λ (x : Store). IsThere name (file_named x d) r) (sym k) (entered_past_end s d name r can (no_room e))
     at_end true e (grown, h, k) =
         let same : file_of h.ready d ≡ file_of s d = of-stays s h.ready _ d (gained-is-ready s h.ready _ h.gains) other in
@@ -432,7 +463,9 @@ entered_is_found s task caller d name id block a s' block' other reader before r
     (entered_there (index_of_empty (file_named s d)) s d name (record_bytes id name) s' can (no_index d causes.1) refl h.changes) k
   where
     causes : (is_bad id ≡ false) × (nat_lt d.number 4 ≡ false) × (is_missing s d ≡ false) × (is_entered name (file_named s d) ≡ false)
-    causes = entered_causes (is_bad d) (is_bad id) (nat_lt d.number 4) (is_missing s d) (is_marked (file_named s d)) (lacks right.Write caller (file_named s d))
+    causes =
+        entered_causes (is_bad d) (is_bad id) (nat_lt d.number 4) (is_missing s d) (is_marked (file_named s d))
+        (lacks right.Write caller (file_named s d))
         (is_held bars_writing s d) (not (is_directory (file_named s d))) (is_entered name (file_named s d))
         (extend_causes_if (needs_block (file_named s d)) s (file_named s d) 1) h.no_cause
 

@@ -1,5 +1,6 @@
 -- What a step makes of the files that are accessed.
-use Rattle.std.proofs.Common.{◌≡◌, ℕ, ◌+◌, ◌<◌, ◌==◌, ◌&&◌, Bool, true, false, not, List, Option, Some, None, refl, sym, ◌∙◌, ap, subst, arith, option_map, if◌then◌else◌, is_none, unwrap_or, zero, suc}
+use Rattle.std.proofs.Common.{◌≡◌, ℕ, ◌+◌, ◌<◌, ◌==◌, ◌&&◌, Bool, true, false, not, List, Option, Some, None, refl, sym, ◌∙◌, ap, subst}
+use Rattle.std.proofs.Common.{arith, option_map, if◌then◌else◌, is_none, unwrap_or, zero, suc}
 use Rattle.std.specs.List.{range_with_len, list_any}
 use Rattle.std.specs.Option.{option_and_then}
 use Rattle.std.specs.Int.{bit_at}
@@ -12,7 +13,8 @@ use Rattle.f11_store.specs.declared.files.Mode.{Mode}
 use Rattle.f11_store.specs.File.{File, no_file, is_marked, with_contiguous, without_contiguous}
 use Rattle.f11_store.specs.Store.{Store, Access, of_sequence, file_of, is_same, is_to, is_held, is_accessed, file_named}
 use Rattle.f11_store.specs.Causes.{is_missing}
-use Rattle.f11_store.specs.Changes.{without_file_at, after_giving_up, is_due, with_change, with_access, Grows, LaysOut, Truncates, GetsSlots, GrowsIndex, with_more_slots}
+use Rattle.f11_store.specs.Changes.{without_file_at, after_giving_up, is_due, with_change, with_access, Grows, LaysOut, Truncates}
+use Rattle.f11_store.specs.Changes.{GetsSlots, GrowsIndex, with_more_slots}
 use Rattle.f11_store.specs.Accesses.{mark_of}
 
 -- one of the first numbers settles the answer
@@ -25,7 +27,8 @@ both-true : (b c : Bool) → b ≡ true → c ≡ true → (b && c) ≡ true
 both-true b c is so = rw is so
 
 -- an access that stands is found
-pub held-at : (test : Mode → Bool) (s : Store) (task lun : ℕ) (a : Access) (id : FileId) → task < 8 → lun < 4 → s.access task lun ≡ Some a → is_same a.file id ≡ true → test a.mode ≡ true
+pub held-at : (test : Mode → Bool) (s : Store) (task lun : ℕ) (a : Access) (id : FileId) → task < 8 → lun < 4 → s.access task lun ≡ Some a
+    → is_same a.file id ≡ true → test a.mode ≡ true
     → is_held test s id ≡ true
 unfolding is_held
 held-at test s task lun a id low small is same passes =
@@ -33,30 +36,35 @@ held-at test s task lun a id low small is same passes =
     (any-range (λ l. is_to test id (s.access task l)) 4 lun small
     (ap (is_to test id) is ∙ both-true (is_same a.file id) (test a.mode) same passes))
 
--- what a step makes of the file under a number: it stays; it is changed, and is marked as it was; it is new; or it goes, and nobody accesses it
+-- what a step makes of the file under a number: it stays; it is changed, and is marked as it was; it is new; or it goes, and nobody
+-- accesses it
 pub data Fate (s s' : Store) (n : ℕ) : Type 0 where
   stays : s'.file n ≡ s.file n → Fate s s' n
   altered : (f g : File) → s.file n ≡ Some f → s'.file n ≡ Some g → g.sequence ≡ f.sequence → is_marked g ≡ is_marked f → Fate s s' n
   new : s.file n ≡ None → Fate s s' n
-  gone : (f : File) → s.file n ≡ Some f → ((id : FileId) → id.number ≡ n → id.sequence ≡ f.sequence → is_accessed s' id ≡ false) → Fate s s' n
+  gone : (f : File) → s.file n ≡ Some f → ((id : FileId) → id.number ≡ n → id.sequence ≡ f.sequence → is_accessed s' id ≡ false)
+      → Fate s s' n
 
 -- of a file that is there
 seen : ℕ → Option File → Option Bool
 seen q o = option_map is_marked (option_and_then (of_sequence q) o)
 
-pub seen-some : (q : ℕ) (f : File) (m : Bool) → option_map is_marked (if f.sequence == q then Some f else None) ≡ Some m → (f.sequence == q) ≡ true
+pub seen-some : (q : ℕ) (f : File) (m : Bool) → option_map is_marked (if f.sequence == q then Some f else None) ≡ Some m
+    → (f.sequence == q) ≡ true
 seen-some q f m is = by_test (f.sequence == q) is
   where
     by_test : (b : Bool) → option_map is_marked (if b then Some f else None) ≡ Some m → b ≡ true
     by_test true h = refl
     by_test false h = absurd (cc)
 
-pub mark-stays : (s s' : Store) (id : FileId) (m : Bool) → Fate s s' id.number → mark_of s id ≡ Some m → is_accessed s' id ≡ true → mark_of s' id ≡ Some m
+pub mark-stays : (s s' : Store) (id : FileId) (m : Bool) → Fate s s' id.number → mark_of s id ≡ Some m → is_accessed s' id ≡ true
+    → mark_of s' id ≡ Some m
 mark-stays s s' id m (stays same) is held = ap (λ o. option_map is_marked (option_and_then (of_sequence id.sequence) o)) same ∙ is
 mark-stays s s' id m (altered f g was now alike marked) is held =
     rw now (at-same (f.sequence == id.sequence) (g.sequence == id.sequence) (ap (λ q. q == id.sequence) alike) (rw was at is))
   where
-    at-same : (b c : Bool) → c ≡ b → option_map is_marked (if b then Some f else None) ≡ Some m → option_map is_marked (if c then Some g else None) ≡ Some m
+    at-same : (b c : Bool) → c ≡ b → option_map is_marked (if b then Some f else None) ≡ Some m
+        → option_map is_marked (if c then Some g else None) ≡ Some m
     at-same true true e h = ap Some marked ∙ h
     at-same false false e h = h
     at-same true false e h = absurd (cc)
@@ -71,7 +79,8 @@ pub fate-none : (s s' : Store) (n : ℕ) → s' ≡ s → Fate s s' n
 fate-none s s' n is = stays (ap (λ (x : Store). x.file n) is)
 
 -- a file that is changed, and keeps its sequence number and its mark
-pub fate-change : (s s' : Store) (k n : ℕ) (change : File → File) → ((f : File) → (change f).sequence ≡ f.sequence) → ((f : File) → is_marked (change f) ≡ is_marked f)
+pub fate-change : (s s' : Store) (k n : ℕ) (change : File → File) → ((f : File) → (change f).sequence ≡ f.sequence)
+    → ((f : File) → is_marked (change f) ≡ is_marked f)
     → s' ≡ with_change s k change → Fate s s' n
 fate-change s s' k n change alike marked is = subst (λ (x : Store). Fate s x n) (sym is) (by_test (n == k) refl)
   where
@@ -93,14 +102,16 @@ fate-kept s t n (kept e) = stays e
 fate-kept s t n (changed f g was now alike marked) = altered f g was now alike marked
 
 -- a file that is set anew, of one that was there
-keeps-set : (s s' : Store) (k n : ℕ) (f g : File) → s.file k ≡ Some f → g.sequence ≡ f.sequence → is_marked g ≡ is_marked f → s'.file n ≡ (if n == k then Some g else s.file n) → Keeps s s' n
+keeps-set : (s s' : Store) (k n : ℕ) (f g : File) → s.file k ≡ Some f → g.sequence ≡ f.sequence → is_marked g ≡ is_marked f
+    → s'.file n ≡ (if n == k then Some g else s.file n) → Keeps s s' n
 keeps-set s s' k n f g was alike marked is = by_test (n == k) refl is
   where
     by_test : (b : Bool) → (n == k) ≡ b → s'.file n ≡ (if b then Some g else s.file n) → Keeps s s' n
     by_test true e h = changed f g (ap s.file (eqb-true n k e) ∙ was) h alike marked
     by_test false e h = kept h
 
-pub fate-set : (s s' : Store) (k n : ℕ) (f g : File) → s.file k ≡ Some f → g.sequence ≡ f.sequence → is_marked g ≡ is_marked f → s'.file n ≡ (if n == k then Some g else s.file n) → Fate s s' n
+pub fate-set : (s s' : Store) (k n : ℕ) (f g : File) → s.file k ≡ Some f → g.sequence ≡ f.sequence → is_marked g ≡ is_marked f
+    → s'.file n ≡ (if n == k then Some g else s.file n) → Fate s s' n
 fate-set s s' k n f g was alike marked is = fate-kept s s' n (keeps-set s s' k n f g was alike marked is)
 
 -- bit 15 stays where UC.CON is cleared
@@ -109,7 +120,8 @@ mark-of-cleared c = bit_at_and c 65407 15 ∙ omega arith
 
 pub fate-grows : (s s' : Store) (k q n : ℕ) (blocks : List (List ℕ)) → Grows s k q blocks s' → Fate s s' n
 fate-grows s s' k q n blocks grows =
-    fate-set s s' k n grows.before _ grows.was refl (ap (λ b. b == 1) (mark-of-cleared grows.before.characteristics)) (ap (λ (x : Store). x.file n) grows.store_is)
+    fate-set s s' k n grows.before _ grows.was refl (ap (λ b. b == 1) (mark-of-cleared grows.before.characteristics))
+    (ap (λ (x : Store). x.file n) grows.store_is)
 
 -- bit 15 stays where UC.CON is set
 pub mark-of-marked : (c : ℕ) → bit_at (with_contiguous c) 15 ≡ bit_at c 15
@@ -131,25 +143,31 @@ held-volume test s n q v w = refl
 -- accesses alone say who accesses a file
 pub held-accesses : (test : Mode → Bool) (s t : Store) (id : FileId) → s.access ≡ t.access → is_held test s id ≡ is_held test t id
 unfolding is_held
-held-accesses test s t id same = ap (λ (a : ℕ → ℕ → Option Access). list_any (λ task. list_any (λ lun. is_to test id (a task lun)) (range_with_len 0 4)) (range_with_len 0 8)) same
+held-accesses test s t id same =
+    ap (λ (a : ℕ → ℕ → Option Access). list_any (λ task. list_any (λ lun. is_to test id (a task lun)) (range_with_len 0 4))
+    (range_with_len 0 8)) same
 
 -- two identifications of one file are alike to whoever looks for accesses
-pub held-alike : (test : Mode → Bool) (s : Store) (a b : FileId) → a.number ≡ b.number → a.sequence ≡ b.sequence → is_held test s a ≡ is_held test s b
+pub held-alike : (test : Mode → Bool) (s : Store) (a b : FileId) → a.number ≡ b.number → a.sequence ≡ b.sequence
+    → is_held test s a ≡ is_held test s b
 held-alike test s a b number sequence =
     held-volume test s a.number a.sequence a.volume b.volume
     ∙ ap (λ q. is_held test s (record { number = a.number; sequence = q; volume = b.volume })) sequence
     ∙ ap (λ n. is_held test s (record { number = n; sequence = b.sequence; volume = b.volume })) number
 
 -- a file that nobody accesses goes
-pub fate-gone : (s : Store) (id : FileId) (n : ℕ) → is_missing s id ≡ false → is_accessed s id ≡ false → Fate s (without_file_at s id.number) n
+pub fate-gone : (s : Store) (id : FileId) (n : ℕ) → is_missing s id ≡ false → is_accessed s id ≡ false
+    → Fate s (without_file_at s id.number) n
 fate-gone s id n there nobody = by_test (n == id.number) refl
   where
-    by_file : (o : Option File) → s.file id.number ≡ o → is_none (option_and_then (of_sequence id.sequence) o) ≡ false → n ≡ id.number → Fate s (without_file_at s id.number) n
+    by_file : (o : Option File) → s.file id.number ≡ o → is_none (option_and_then (of_sequence id.sequence) o) ≡ false → n ≡ id.number
+        → Fate s (without_file_at s id.number) n
     by_file None none h same = absurd (cc)
     by_file (Some f) some h same =
         gone f (ap s.file same ∙ some)
         (λ other number sequence.
-        held-alike (λ _. true) (without_file_at s id.number) other id (number ∙ same) (sequence ∙ eqb-true f.sequence id.sequence (at-sequence (f.sequence == id.sequence) h)) ∙ same-held)
+        held-alike (λ _. true) (without_file_at s id.number) other id (number ∙ same)
+        (sequence ∙ eqb-true f.sequence id.sequence (at-sequence (f.sequence == id.sequence) h)) ∙ same-held)
       where
         at-sequence : (b : Bool) → is_none (if b then Some f else None) ≡ false → b ≡ true
         at-sequence true h = refl

@@ -1,5 +1,6 @@
 -- Laws of files that are created, deleted, cut and extended.
-use Rattle.std.proofs.Common.{◌≡◌, ℕ, ◌+◌, ◌-◌, ◌<◌, ◌≤◌, ◌==◌, Bool, true, false, List, [], Option, Some, length, take, get_or, refl, sym, ◌∙◌, subst, arith, if◌then◌else◌, IsSomeAnd, ◌∷◌, zero, suc, ◌++◌, not, filter, slice_index, ap}
+use Rattle.std.proofs.Common.{◌≡◌, ℕ, ◌+◌, ◌-◌, ◌<◌, ◌≤◌, ◌==◌, Bool, true, false, List, [], Option, Some, length, take, get_or, refl, sym}
+use Rattle.std.proofs.Common.{◌∙◌, subst, arith, if◌then◌else◌, IsSomeAnd, ◌∷◌, zero, suc, ◌++◌, not, filter, slice_index, ap}
 use Rattle.std.proofs.lemmas.Bool.Decides.{nat_tests}
 use Rattle.std.proofs.lemmas.Bool.{ltb-false}
 use Rattle.std.proofs.lemmas.List.{get_or-replicate, get_or-append_right, length-take}
@@ -86,7 +87,8 @@ new_file_is_next s task caller word ident attr block id s' block' h =
     let free : IsFreeSlot made.ready (least_free made.ready) = least_free_is_free made.ready made.enough in
     subst (λ (i : FileId). (i.sequence ≡ next_sequence (last_of s i.number)) × (s'.last i.number ≡ i.sequence))
     (sym (created_id id (next_id (with_slots_first s 1)) h.reply_is ∙ made_id s made.ready _ ready)) (
-      ap next_sequence (sym (last_there made.ready (least_free made.ready) free.high) ∙ last-stays s made.ready (slots_first s 1) (least_free made.ready) ready),
+      ap next_sequence (sym (last_there made.ready (least_free made.ready) free.high) ∙ last-stays s made.ready (slots_first s 1)
+          (least_free made.ready) ready),
       subst (λ (x : Store). x.last (next_id made.ready).number ≡ (next_id made.ready).sequence) (sym made.makes)
           (rw (same_number (next_id made.ready).number) refl),
     )
@@ -96,7 +98,8 @@ accessed_keeps_blocks s task caller id block a s' block' h accessed =
     subst (λ (x : Store). ((file_named x id).blocks ≡ (file_named s id).blocks) × (x.access ≡ s.access)) (sym is_marked)
     (kept-with_change s id (λ f. record f { characteristics = with_mark f.characteristics }) (λ f. refl) (λ f. f.blocks) (λ f. refl), refl)
   where
-    by_test : (b : Bool) → b ≡ true → (if b then with_marked_file s id.number else without_file_at s id.number) ≡ with_marked_file s id.number
+    by_test : (b : Bool) → b ≡ true
+        → (if b then with_marked_file s id.number else without_file_at s id.number) ≡ with_marked_file s id.number
     by_test true e = refl
     by_test false e = absurd (cc)
 
@@ -153,7 +156,8 @@ cut_comes_back_zero s task caller lun to n block a b s' s'' block' block'' vbn h
     cut_then_grown s grown.ready s'' (id_held s task lun).number to n vbn (slots_first s' (need (file_held s' task lun).room n))
     cut.before cut.headers cut.pointers cut.room
     (subst (λ (x : Store). GetsSlots (slots_first s' (need (file_held s' task lun).room n)) x grown.ready) cut.store_is grown.gains)
-    (subst (λ (i : ℕ). Grows grown.ready i n (zero_blocks n) s'') (ap (λ (x : Store). (id_held x task lun).number) cut.store_is) grown.makes)
+    (subst (λ (i : ℕ). Grows grown.ready i n (zero_blocks n) s'') (ap (λ (x : Store). (id_held x task lun).number) cut.store_is)
+    grown.makes)
     long above below
   where
     cut : Truncates s (id_held s task lun).number to s'

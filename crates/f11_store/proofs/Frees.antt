@@ -1,5 +1,6 @@
 -- Changes of a store that take nothing.
-use Rattle.std.proofs.Common.{◌≡◌, ℕ, ◌≤◌, ◌==◌, ◌&&◌, ◌||◌, Bool, true, false, List, [], ◌∷◌, Option, Some, None, fold, if◌then◌else◌, refl, ◌∙◌, arith}
+use Rattle.std.proofs.Common.{◌≡◌, ℕ, ◌≤◌, ◌==◌, ◌&&◌, ◌||◌, Bool, true, false, List, [], ◌∷◌, Option, Some, None, fold, if◌then◌else◌}
+use Rattle.std.proofs.Common.{refl, ◌∙◌, arith}
 use Rattle.f11_store.specs.File.{File}
 use Rattle.f11_store.specs.Store.{Store, Access}
 use Rattle.f11_store.specs.Changes.{with_change, with_access, is_due, without_file_at, after_giving_up, after_deaccess}
@@ -16,7 +17,8 @@ pub record Frees (s : Store) (meant : ℕ → Bool) (t : Store) : Type 0 where
   pub limits : SameLimits s t
 
 -- what never changes is the same
-pub same_limits : {s t : Store} → t.bitmap_blocks ≡ s.bitmap_blocks → t.index_bitmap_blocks ≡ s.index_bitmap_blocks → t.limit ≡ s.limit → SameLimits s t
+pub same_limits : {s t : Store} → t.bitmap_blocks ≡ s.bitmap_blocks → t.index_bitmap_blocks ≡ s.index_bitmap_blocks → t.limit ≡ s.limit
+    → SameLimits s t
 same_limits b i l = record { bitmap_blocks = b; index_bitmap_blocks = i; limit = l }
 
 pub same_limits_then : (s t u : Store) → SameLimits s t → SameLimits t u → SameLimits s u
@@ -27,7 +29,15 @@ same_limits_then s t u h k = record {
 }
 
 pub frees_nothing : (s : Store) (meant : ℕ → Bool) → Frees s meant s
-frees_nothing s meant = record { others = λ n h. refl; free = omega arith; unused = λ n h. h; last = λ n. refl; slots = refl; limits = same_limits refl refl refl }
+frees_nothing s meant =
+    record {
+      others = λ n h. refl;
+      free = omega arith;
+      unused = λ n h. h;
+      last = λ n. refl;
+      slots = refl;
+      limits = same_limits refl refl refl;
+    }
 
 pub frees_then : (s t u : Store) (meant : ℕ → Bool) → Frees s meant t → Frees t meant u → Frees s meant u
 frees_then s t u meant h k = record {
@@ -67,10 +77,19 @@ frees_without_file s k = record {
 
 -- an access that is taken or given up
 pub frees_access : (s : Store) (meant : ℕ → Bool) (task lun : ℕ) (a : Option Access) → Frees s meant (with_access s task lun a)
-frees_access s meant task lun a = record { others = λ n out. refl; free = omega arith; unused = λ n h. h; last = λ n. refl; slots = refl; limits = same_limits refl refl refl }
+frees_access s meant task lun a =
+    record {
+      others = λ n out. refl;
+      free = omega arith;
+      unused = λ n h. h;
+      last = λ n. refl;
+      slots = refl;
+      limits = same_limits refl refl refl;
+    }
 
 -- what is given up
-pub frees_given_up : (s : Store) (task lun : ℕ) (o : Option Access) → Frees s (give_up_work s task lun o).is_meant (after_giving_up s task lun o)
+pub frees_given_up : (s : Store) (task lun : ℕ) (o : Option Access)
+    → Frees s (give_up_work s task lun o).is_meant (after_giving_up s task lun o)
 frees_given_up s task lun None = frees_nothing s no_work.is_meant
 frees_given_up s task lun (Some a) = by_test (is_due (with_access s task lun None) a.file)
   where

@@ -1,12 +1,16 @@
 -- A file of the plain store that grows piece by piece, whether its blocks are slots or not.
-use Rattle.std.proofs.Common.{◌≡◌, ℕ, ◌+◌, ◌-◌, ◌<◌, ◌≤◌, ◌==◌, ◌++◌, ◌∷◌, Bool, true, false, IsTrue, List, [], refl, sym, ◌∙◌, ap, subst, arith}
+use Rattle.std.proofs.Common.{◌≡◌, ℕ, ◌+◌, ◌-◌, ◌<◌, ◌≤◌, ◌==◌, ◌++◌, ◌∷◌, Bool, true, false, IsTrue, List, [], refl, sym, ◌∙◌, ap, subst}
+use Rattle.std.proofs.Common.{arith}
 use Rattle.f11_store.specs.Changes.{with_change, with_more_slots, with_slots, Extends}
 use Rattle.f11_store.specs.File.{zero_blocks}
 use Rattle.f11_store.specs.Store.{Store, free_headers, least_free}
-use Rattle.f11_store.specs.Pieces.{file_numbered, new_blocks, with_blocks_named, with_longer_file, with_more_blocks, with_more_free, with_slots_if, AddsBlocks, GrowsAs, GrowsIf, GrowsUnmarked, HasPlaces, MayGrowAs}
-use Rattle.f11_store.specs.Pieces.{ClearedGrows, ClearedMayGrow, FewerMayGrow, GrowsAsExtends, GrowsAsIndex, GrowsTwice, GrowsWithin, NoneGrows, OthersMayGrow}
+use Rattle.f11_store.specs.Pieces.{file_numbered, new_blocks, with_blocks_named, with_longer_file, with_more_blocks, with_more_free}
+use Rattle.f11_store.specs.Pieces.{with_slots_if, AddsBlocks, GrowsAs, GrowsIf, GrowsUnmarked, HasPlaces, MayGrowAs}
+use Rattle.f11_store.specs.Pieces.{ClearedGrows, ClearedMayGrow, FewerMayGrow, GrowsAsExtends, GrowsAsIndex, GrowsTwice, GrowsWithin}
+use Rattle.f11_store.specs.Pieces.{NoneGrows, OthersMayGrow}
 use Rattle.f11_store.proofs.AddedSlotLemmas.{headers-left, longer-then-slots, may-more, no-slots, slots-twice}
-use Rattle.f11_store.proofs.PieceLemmas.{adds-twice, cleared-may, cleared-then, fewer-may, linked-adds, may-within, named-adds, none-adds, none-zeros, others-may-grow, with_linked, zeros-add}
+use Rattle.f11_store.proofs.PieceLemmas.{adds-twice, cleared-may, cleared-then, fewer-may, linked-adds, may-within, named-adds, none-adds}
+use Rattle.f11_store.proofs.PieceLemmas.{none-zeros, others-may-grow, with_linked, zeros-add}
 use Rattle.f11_store.proofs.StoreLemmas.{other_number}
 
 -- what slots leave
@@ -35,13 +39,20 @@ none-grow s k n most may = by_kind (k == 1)
     by_kind false = record { grown = s; grows = none-zeros s k n most may.places; store_is = refl }
 
 -- slots may as well be added at the end
-grown-twice : (slots : Bool) (s t u : Store) (k n most a b p q : ℕ) → HasPlaces s k n most → p + q ≤ most → (one : GrowsIf slots s k a p t) (two : GrowsIf slots t k b q u)
+grown-twice : (slots : Bool) (s t u : Store) (k n most a b p q : ℕ) → HasPlaces s k n most → p + q ≤ most
+    → (one : GrowsIf slots s k a p t) (two : GrowsIf slots t k b q u)
     → (whole : GrowsIf slots s k (a + b) (p + q) u) × (whole.grows.added ≡ one.grows.added + two.grows.added)
 grown-twice slots s t u k n most a b p q may few one two =
     let both =
-    subst (λ (bs : List (List ℕ)). (whole : AddsBlocks s k (a + b) (p + q) bs after) × (whole.added ≡ one.grows.added + two.grows.added)) (blocks-then slots a b)
+    subst (λ (bs : List (List ℕ)). (whole : AddsBlocks s k (a + b) (p + q) bs after) × (whole.added ≡ one.grows.added + two.grows.added))
+    (blocks-then slots a b)
     (adds-twice s g after k a b p q (new_blocks slots a) (new_blocks slots b) one.grows second) in (
-      record { grown = after; grows = both.0; store_is = two.store_is ∙ ap (with_slots_if slots b) (two.grows.store_is ∙ ap (λ (x : Store). regrown x) one.store_is) ∙ swapped slots },
+      record {
+        grown = after;
+        grows = both.0;
+        store_is = two.store_is
+            ∙ ap (with_slots_if slots b) (two.grows.store_is ∙ ap (λ (x : Store). regrown x) one.store_is) ∙ swapped slots;
+      },
       both.1,
     )
   where
@@ -70,7 +81,9 @@ grown-twice slots s t u k n most a b p q may few one two =
 
     swapped : (x : Bool) → with_slots_if x b (regrown (with_slots_if x a g)) ≡ with_slots_if x (a + b) after
     swapped true =
-        ap (λ (y : Store). with_more_slots y b) (longer-then-slots g k a b two.grows.before (new_blocks slots b) two.grows.added two.grows.pointers two.grows.room few-left) ∙ slots-twice after a b
+        ap (λ (y : Store). with_more_slots y b)
+        (longer-then-slots g k a b two.grows.before (new_blocks slots b) two.grows.added two.grows.pointers two.grows.room few-left)
+        ∙ slots-twice after a b
     swapped false = refl
 
 pub grows-twice : GrowsTwice
@@ -95,7 +108,8 @@ grows-within s t k n p q few one = (
 )
 
 pub fewer-may-grow : FewerMayGrow
-fewer-may-grow s k n m p q may few fewer = record { places = fewer-may s k n m p q may.places few fewer; within = λ is. omega (arith, may.within is, few) }
+fewer-may-grow s k n m p q may few fewer =
+    record { places = fewer-may s k n m p q may.places few fewer; within = λ is. omega (arith, may.within is, few) }
 
 pub others-may : OthersMayGrow
 others-may s t k n a most p may one few fewer = record {
@@ -135,7 +149,8 @@ cleared-grows s t k n was one =
     let whole = cleared-then s one.grown k n (new_blocks (k == 1) n) was one.grows in
     (record { grown = one.grown; grows = whole.0; store_is = one.store_is }, whole.1)
 
-as-extends : (slots : Bool) (s t : Store) (k n : ℕ) → slots ≡ false → (one : GrowsUnmarked slots s k n t) → (whole : Extends s k n t) × (whole.added ≡ one.grows.added)
+as-extends : (slots : Bool) (s t : Store) (k n : ℕ) → slots ≡ false → (one : GrowsUnmarked slots s k n t)
+    → (whole : Extends s k n t) × (whole.added ≡ one.grows.added)
 as-extends true s t k n none one = absurd (cc)
 as-extends false s t k n none one = (
   record {
@@ -166,11 +181,18 @@ named-grown s k count more most may few fits =
 
 -- and so has one that has header m more, which names them by so many pointers
 pub linked-grown :
-    (s : Store) (k count more m : ℕ) → MayGrowAs (with_more_free s count) k count more → 0 < more → more ≤ 102 → (file_numbered s k).room ≡ 0 →
+    (s : Store) (k count more m : ℕ) → MayGrowAs (with_more_free s count) k count more → 0 < more → more ≤ 102
+    → (file_numbered s k).room ≡ 0 →
     m ≡ least_free s →
     (e : GrowsAs (with_more_free s count) k count more
     (with_slots_if (k == 1) count (with_change (with_slots s (m ∷ [])) k (with_linked m more (new_blocks (k == 1) count)))))
     × (e.grows.added ≡ 1)
 linked-grown s k count more m may some few full least =
-    let linked = linked-adds s k count more m (new_blocks (k == 1) count) may.places some few full least in
-    (record { grown = with_change (with_slots s (m ∷ [])) k (with_linked m more (new_blocks (k == 1) count)); grows = linked.0; store_is = refl }, linked.1)
+    let linked = linked-adds s k count more m (new_blocks (k == 1) count) may.places some few full least in (
+      record {
+        grown = with_change (with_slots s (m ∷ [])) k (with_linked m more (new_blocks (k == 1) count));
+        grows = linked.0;
+        store_is = refl;
+      },
+      linked.1,
+    )

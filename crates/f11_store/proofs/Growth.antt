@@ -1,12 +1,15 @@
 -- A file that grows, in one go and part by part.
-use Rattle.std.proofs.Common.{◌≡◌, ◌≢◌, ℕ, zero, suc, ◌+◌, ◌-◌, ◌*◌, ◌≤◌, ◌==◌, ◌||◌, Bool, true, false, not, List, [], ◌∷◌, ◌++◌, Option, Some, None, length, replicate, unwrap_or, option_map, if◌then◌else◌, refl, sym, ◌∙◌, ap, subst, arith, inl, inr, ◌⊎◌, append_assoc}
+use Rattle.std.proofs.Common.{◌≡◌, ◌≢◌, ℕ, zero, suc, ◌+◌, ◌-◌, ◌*◌, ◌≤◌, ◌==◌, ◌||◌, Bool, true, false, not, List, [], ◌∷◌, ◌++◌, Option}
+use Rattle.std.proofs.Common.{Some, None, length, replicate, unwrap_or, option_map, if◌then◌else◌, refl, sym, ◌∙◌, ap, subst, arith, inl}
+use Rattle.std.proofs.Common.{inr, ◌⊎◌, append_assoc}
 use Rattle.std.proofs.lemmas.List.{append-nil}
 use Rattle.std.proofs.lemmas.Bool.Decides.{eqb_tells}
 use Rattle.f11_store.specs.declared.files.FileId.{FileId}
 use Rattle.f11_store.specs.File.{File, no_file, zero_blocks, zero_block}
 use Rattle.f11_store.specs.Store.{Store, file_named, free_slots, free_headers}
 use Rattle.f11_store.specs.Directory.{with_record, with_end}
-use Rattle.f11_store.specs.Changes.{with_change, is_in, next_sequence, grown_file, with_grown_file, with_entry, with_end_after, with_entry_at_end}
+use Rattle.f11_store.specs.Changes.{with_change, is_in, next_sequence, grown_file, with_grown_file, with_entry, with_end_after}
+use Rattle.f11_store.specs.Changes.{with_entry_at_end}
 use Rattle.f11_store.specs.Lags.{file_changes, slot_appears, with_no_mark, with_zero_block, extend_parts, with_parts, AreLike}
 use Rattle.f11_store.proofs.StoreLemmas.{same_number}
 use Rattle.f11_store.proofs.SlotLemmas.{filter_but, filter_more}
@@ -14,7 +17,8 @@ use Rattle.f11_store.proofs.SlotLemmas.{filter_but, filter_more}
 -- a file is like itself
 pub alike : (o : Option File) → AreLike o o
 alike None = tt
-alike (Some f) = record { sequence = refl; owner = refl; protection = refl; characteristics = refl; ident = refl; attr = refl; blocks = refl }
+alike (Some f) =
+    record { sequence = refl; owner = refl; protection = refl; characteristics = refl; ident = refl; attr = refl; blocks = refl }
 
 -- as many fewer headers are free as slots come into use
 pub headers_taken :
@@ -94,7 +98,8 @@ grown_alike s k n f added pointers room was m = by_number (eqb_tells m k)
     by_number : ((m == k) ≡ true) × (m ≡ k) ⊎ ((m == k) ≡ false) × (m ≢ k) →
         AreLike ((with_grown_file s k f n (zero_blocks n) added pointers room).file m) ((with_parts s (extend_parts k n)).file m)
     by_number (inl w) =
-        subst (λ (i : ℕ). AreLike ((with_grown_file s k f n (zero_blocks n) added pointers room).file i) ((with_parts s (extend_parts k n)).file i)) (sym w.1) at_k
+        subst (λ (i : ℕ). AreLike ((with_grown_file s k f n (zero_blocks n) added pointers room).file i)
+        ((with_parts s (extend_parts k n)).file i)) (sym w.1) at_k
     by_number (inr w) =
         subst (λ (o : Option File). AreLike ((with_grown_file s k f n (zero_blocks n) added pointers room).file m) o) (sym (elsewhere w.0))
         (rw w.0 (alike (s.file m)))

@@ -6,8 +6,10 @@ use Rattle.f11_store.specs.declared.files.FileId.{FileId}
 use Rattle.f11_store.specs.Store.{Store, Access, file_named, free_slots, free_headers}
 use Rattle.f11_store.specs.Causes.{contiguous_causes, create_causes, extend_causes, growth_causes}
 use Rattle.f11_store.specs.Headroom.{lacks_headers, slots_first}
-use Rattle.f11_store.specs.Changes.{AfterSlots, Extends, GetsSlots, LaysOut, Lengthens, MakesFile, with_slots_first, with_slots_added, Grows, GrowsIndex, Truncates, after_create}
-use Rattle.f11_store.specs.Lags.{after_slots, extend_work, lengthen_work, make_work, new_file_work, with_headers_first, Part, file_changes, file_appears, file_goes, slot_appears, with_part, with_parts, Work, LagsBy}
+use Rattle.f11_store.specs.Changes.{AfterSlots, Extends, GetsSlots, LaysOut, Lengthens, MakesFile, with_slots_first, with_slots_added}
+use Rattle.f11_store.specs.Changes.{Grows, GrowsIndex, Truncates, after_create}
+use Rattle.f11_store.specs.Lags.{after_slots, extend_work, lengthen_work, make_work, new_file_work, with_headers_first, Part, file_changes}
+use Rattle.f11_store.specs.Lags.{file_appears, file_goes, slot_appears, with_part, with_parts, Work, LagsBy}
 use Rattle.f11_store.specs.Accesses.{with_accesses}
 
 module _ (a : ℕ → ℕ → Option Access) where
@@ -29,7 +31,8 @@ module _ (a : ℕ → ℕ → Option Access) where
   unfolding free_slots
   growth-held s f n = refl
 
-  pub grows-held : (s s' : Store) (k n : ℕ) (blocks : List (List ℕ)) → Grows s k n blocks s' → Grows (with_accesses a s) k n blocks (with_accesses a s')
+  pub grows-held : (s s' : Store) (k n : ℕ) (blocks : List (List ℕ)) → Grows s k n blocks s'
+      → Grows (with_accesses a s) k n blocks (with_accesses a s')
   unfolding free_slots
   grows-held s s' k n blocks grows = record {
     before = grows.before;
@@ -48,7 +51,8 @@ module _ (a : ℕ → ℕ → Option Access) where
 
   pub laid-out-held : (s s' : Store) (k n : ℕ) → LaysOut s k n s' → LaysOut (with_accesses a s) k n (with_accesses a s')
   unfolding free_slots
-  laid-out-held s s' k n laid = record { before = laid.before; was = laid.was; empty = laid.empty; store_is = ap (with_accesses a) laid.store_is }
+  laid-out-held s s' k n laid =
+      record { before = laid.before; was = laid.was; empty = laid.empty; store_is = ap (with_accesses a) laid.store_is }
 
   pub cut-held : (s s' : Store) (k to : ℕ) → Truncates s k to s' → Truncates (with_accesses a s) k to (with_accesses a s')
   cut-held s s' k to cut = record {
@@ -70,7 +74,8 @@ module _ (a : ℕ → ℕ → Option Access) where
     store_is = ap (with_accesses a) grew.store_is;
   }
 
-  pub created-held : (s : Store) (caller : Uic) (word : ℕ) (ident attr : List ℕ) → after_create (with_accesses a s) caller word ident attr ≡ with_accesses a (after_create s caller word ident attr)
+  pub created-held : (s : Store) (caller : Uic) (word : ℕ) (ident attr : List ℕ)
+      → after_create (with_accesses a s) caller word ident attr ≡ with_accesses a (after_create s caller word ident attr)
   unfolding free_slots
   created-held s caller word ident attr = refl
 
@@ -84,7 +89,11 @@ module _ (a : ℕ → ℕ → Option Access) where
     headers = rw (free-held s) lags.headers;
     last = lags.last;
     no_header = lags.no_header;
-    limits = record { bitmap_blocks = lags.limits.bitmap_blocks; index_bitmap_blocks = lags.limits.index_bitmap_blocks; limit = lags.limits.limit };
+    limits = record {
+      bitmap_blocks = lags.limits.bitmap_blocks;
+      index_bitmap_blocks = lags.limits.index_bitmap_blocks;
+      limit = lags.limits.limit;
+    };
   }
 
   -- the slots that come first
@@ -109,7 +118,8 @@ module _ (a : ℕ → ℕ → Option Access) where
       AfterSlots s headers Makes → AfterSlots (with_accesses a s) headers Holds
   after-slots-held s headers Makes Holds holds h = record {
     ready = with_accesses a h.ready;
-    gains = subst (λ (n : ℕ). GetsSlots n (with_accesses a s) (with_accesses a h.ready)) (sym (slots-held s headers)) (gains-held s h.ready _ h.gains);
+    gains = subst (λ (n : ℕ). GetsSlots n (with_accesses a s) (with_accesses a h.ready)) (sym (slots-held s headers))
+        (gains-held s h.ready _ h.gains);
     enough = omega (arith, h.enough, free-held h.ready);
     makes = holds h.ready h.makes;
   }
@@ -120,10 +130,12 @@ module _ (a : ℕ → ℕ → Option Access) where
   work-after (suc n) s w = refl
 
   first-work-held : (s : Store) (headers : ℕ) (w : Work) → with_headers_first (with_accesses a s) headers w ≡ with_headers_first s headers w
-  first-work-held s headers w = ap (λ (n : ℕ). after_slots n (with_accesses a s) w) (slots-held s headers) ∙ work-after (slots_first s headers) s w
+  first-work-held s headers w =
+      ap (λ (n : ℕ). after_slots n (with_accesses a s) w) (slots-held s headers) ∙ work-after (slots_first s headers) s w
 
   new-file-after : (n : ℕ) (s : Store) (caller : Uic) (word : ℕ) (ident attr : List ℕ) →
-      new_file_work (with_slots_added n (with_accesses a s)) caller word ident attr ≡ new_file_work (with_slots_added n s) caller word ident attr
+      new_file_work (with_slots_added n (with_accesses a s)) caller word ident attr ≡ new_file_work (with_slots_added n s) caller word ident
+      attr
   unfolding free_slots
   new-file-after zero s caller word ident attr = refl
   new-file-after (suc n) s caller word ident attr = refl
@@ -131,14 +143,16 @@ module _ (a : ℕ → ℕ → Option Access) where
   pub make-work-held : (s : Store) (caller : Uic) (word : ℕ) (ident attr : List ℕ) →
       make_work (with_accesses a s) caller word ident attr ≡ make_work s caller word ident attr
   make-work-held s caller word ident attr =
-      ap (λ (n : ℕ). with_headers_first (with_accesses a s) 1 (new_file_work (with_slots_added n (with_accesses a s)) caller word ident attr)) (slots-held s 1)
+      ap (λ (n : ℕ). with_headers_first (with_accesses a s) 1
+      (new_file_work (with_slots_added n (with_accesses a s)) caller word ident attr)) (slots-held s 1)
       ∙ ap (with_headers_first (with_accesses a s) 1) (new-file-after (slots_first s 1) s caller word ident attr)
       ∙ first-work-held s 1 (new_file_work (with_slots_first s 1) caller word ident attr)
 
   pub makes-held : (s s' : Store) (caller : Uic) (word : ℕ) (ident attr : List ℕ) → MakesFile s caller word ident attr s' →
       MakesFile (with_accesses a s) caller word ident attr (with_accesses a s')
   makes-held s s' caller word ident attr =
-      after-slots-held s 1 (λ t. s' ≡ after_create t caller word ident attr) (λ t. with_accesses a s' ≡ after_create t caller word ident attr)
+      after-slots-held s 1 (λ t. s' ≡ after_create t caller word ident attr)
+      (λ t. with_accesses a s' ≡ after_create t caller word ident attr)
       (λ t e. ap (with_accesses a) e ∙ sym (created-held t caller word ident attr))
 
   pub lengthens-held : (s s' : Store) (f : FileId) (n : ℕ) → Lengthens s f n s' → Lengthens (with_accesses a s) f n (with_accesses a s')

@@ -1,5 +1,6 @@
 -- What stands while the index file of the plain store grows piece by piece lags the store before.
-use Rattle.std.proofs.Common.{◌≡◌, ◌≢◌, ℕ, ◌+◌, ◌-◌, ◌≤◌, ◌==◌, ◌⊎◌, inl, inr, Bool, true, false, [], Option, Some, take, replicate, unwrap_or, refl, sym, ◌∙◌, ap, subst, arith, if◌then◌else◌}
+use Rattle.std.proofs.Common.{◌≡◌, ◌≢◌, ℕ, ◌+◌, ◌-◌, ◌≤◌, ◌==◌, ◌⊎◌, inl, inr, Bool, true, false, [], Option, Some, take, replicate}
+use Rattle.std.proofs.Common.{unwrap_or, refl, sym, ◌∙◌, ap, subst, arith, if◌then◌else◌}
 use Rattle.std.proofs.lemmas.Bool.Decides.{eqb_tells}
 use Rattle.std.proofs.lemmas.List.{append-nil, take-replicate}
 use Rattle.f11_store.proofs.Frees.{same_limits, same_limits_then}
@@ -27,7 +28,8 @@ given-new used v (inl e) = inl e
 given-new used v (inr (free, e)) = inr e
 
 -- the index file got longer, and then some was taken for more
-module _ (s : Store) (n most a p b q : ℕ) (f : File) (added pointers room : ℕ) (may : MayGrow f p added pointers room) (few : a + b ≤ n) (fewer : p + q ≤ most) where
+module _ (s : Store) (n most a p b q : ℕ) (f : File) (added pointers room : ℕ) (may : MayGrow f p added pointers room) (few : a + b ≤ n)
+    (fewer : p + q ≤ most) where
   abbrev grown : Store
   grown = with_longer_file s 1 f a [] added pointers room
 
@@ -41,10 +43,20 @@ module _ (s : Store) (n most a p b q : ℕ) (f : File) (added pointers room : �
   after-alike was m = by_number (eqb_tells m 1)
     where
       longer : AreLike (Some (longer_file s f [] added pointers room)) (Some f)
-      longer = record { sequence = refl; owner = refl; protection = refl; characteristics = refl; ident = refl; attr = refl; blocks = append-nil f.blocks }
+      longer =
+          record {
+            sequence = refl;
+            owner = refl;
+            protection = refl;
+            characteristics = refl;
+            ident = refl;
+            attr = refl;
+            blocks = append-nil f.blocks;
+          }
 
       by_number : ((m == 1) ≡ true) × (m ≡ 1) ⊎ ((m == 1) ≡ false) × (m ≢ 1) → AreLike (after.file m) (s.file m)
-      by_number (inl w) = rw w.0 (subst (λ (o : Option File). AreLike (Some (longer_file s f [] added pointers room)) o) (sym (ap s.file w.1 ∙ was)) longer)
+      by_number (inl w) =
+          rw w.0 (subst (λ (o : Option File). AreLike (Some (longer_file s f [] added pointers room)) o) (sym (ap s.file w.1 ∙ was)) longer)
       by_number (inr w) = rw w.0 (alike (s.file m))
 
   after-lags : (u : Store) → s.file 1 ≡ Some f → TakesSome b (need room q) after u → LagsBy (piece_work true 1 f.room n most) u s
@@ -57,21 +69,25 @@ module _ (s : Store) (n most a p b q : ℕ) (f : File) (added pointers room : �
             subst (λ (o : Option File). AreLike o ((with_parts s (take a (replicate n slot_appears))).file m)) (sym (takes.files m))
             (subst (λ (x : Store). AreLike (after.file m) (x.file m)) (sym parts) (after-alike was m));
         slots = takes.slots ∙ sym (ap (λ (x : Store). x.slots) parts);
-        others = λ m out. takes.files m ∙ ap (λ (here : Bool). if here then Some (longer_file s f [] added pointers room) else s.file m) out;
+        others = λ m out. takes.files m
+            ∙ ap (λ (here : Bool). if here then Some (longer_file s f [] added pointers room) else s.file m) out;
         free_blocks = omega (arith, takes.free, few);
         headers = omega (arith, takes.slots_free, need_less, left, more-headers grown a);
         last = λ m h held.
             last_after_growth (GivenOnce (grown.in_use m) (u.last m)) s.slots a m (grown.last m) (s.last m) (omega (arith, h, takes.slots))
-            (once (is_in (take added (free_slots s)) m) (s.in_use m) (s.last m) (u.last m)) (given-new (grown.in_use m) (u.last m)) (takes.last m);
+            (once (is_in (take added (free_slots s)) m) (s.in_use m) (s.last m) (u.last m)) (given-new (grown.in_use m) (u.last m))
+            (takes.last m);
         no_header = λ e m h.
             takes.no_header (omega (arith, need_less, e)) m
             ∙ last_after_growth (λ x y. x ≡ y) s.slots a m (grown.last m) (s.last m) (omega (arith, h, takes.slots))
-            (ap (λ (i : ℕ). if is_in (take i (free_slots s)) m then next_sequence (s.last m) else s.last m) {x = added} {y = 0} (omega (arith, need_less, e))) refl;
+            (ap (λ (i : ℕ). if is_in (take i (free_slots s)) m then next_sequence (s.last m) else s.last m) {x = added} {y = 0}
+            (omega (arith, need_less, e))) refl;
         limits = same_limits_then s after u (same_limits refl refl refl) takes.limits;
       }
 
 pub taken-index-lags :
-    (s t u : Store) (n most a p b q : ℕ) → GrowsIf true s 1 a p t → a + b ≤ n → p + q ≤ most → TakesSome b (need (index_file t).room q) t u →
+    (s t u : Store) (n most a p b q : ℕ) → GrowsIf true s 1 a p t → a + b ≤ n → p + q ≤ most → TakesSome b (need (index_file t).room q) t u
+    →
     LagsBy (piece_work true 1 (index_file s).room n most) u s
 taken-index-lags s t u n most a p b q e few fewer takes =
     let same : f ≡ index_file s = sym (ap (λ (o : Option File). unwrap_or o no_file) e.grows.was) in
@@ -84,6 +100,7 @@ taken-index-lags s t u n most a p b q e few fewer takes =
     f : File
     f = e.grows.before
 
-pub cleared-grow-lags : (s t : Store) (room n : ℕ) → LagsBy (piece_work true 1 room n n) t (with_change s 1 with_no_mark) → LagsBy (grow_work room n) t s
+pub cleared-grow-lags : (s t : Store) (room n : ℕ) → LagsBy (piece_work true 1 room n n) t (with_change s 1 with_no_mark)
+    → LagsBy (grow_work room n) t s
 unfolding grow_parts
 cleared-grow-lags s t room n lags = cleared-work s t 1 (replicate n slot_appears) n (need room n) lags

@@ -1,5 +1,6 @@
 -- Laws of what a request leaves behind.
-use Rattle.std.proofs.Common.{◌≡◌, ℕ, ◌+◌, ◌-◌, ◌<◌, ◌≤◌, ◌==◌, ◌&&◌, Bool, true, false, not, List, [], ◌∷◌, ◌++◌, Option, Some, None, length, take, if◌then◌else◌, refl, sym, ◌∙◌, ap, subst, arith, inl, ◌⊎◌, nat_lt, nat_le}
+use Rattle.std.proofs.Common.{◌≡◌, ℕ, ◌+◌, ◌-◌, ◌<◌, ◌≤◌, ◌==◌, ◌&&◌, Bool, true, false, not, List, [], ◌∷◌, ◌++◌, Option, Some, None}
+use Rattle.std.proofs.Common.{length, take, if◌then◌else◌, refl, sym, ◌∙◌, ap, subst, arith, inl, ◌⊎◌, nat_lt, nat_le}
 use Rattle.std.proofs.lemmas.List.{length-take, append-nil}
 use Rattle.std.proofs.Math.Seq.{take-length}
 use Rattle.std.proofs.lemmas.Bool.{le-ltb, le-leb}
@@ -11,12 +12,19 @@ use Rattle.f11_store.specs.File.{File, need, zero_blocks, without_contiguous}
 use Rattle.f11_store.specs.Store.{Store, file_named, index_file, least_free, free_slots, free_headers}
 use Rattle.f11_store.specs.Causes.{first_refusal}
 use Rattle.std.specs.List.{range_with_len}
-use Rattle.f11_store.specs.Changes.{Changes, with_marked_file, is_in, next_sequence, file_created, after_create, with_first_blocks, with_cut_file, with_grown_file, MayGrow, GrowsIndex, with_more_slots, with_delete_mark, with_end_after, with_entry_at_end, Extends, EntersAtEnd, EntersAt, with_change, with_block, with_entry, with_replacement, with_access, is_due, without_file_at, after_giving_up, after_deaccess, after_release}
-use Rattle.f11_store.specs.Lags.{file_changes, with_parts, with_part, SameLimits, Work, and_then, no_work, one_part, create_work, extend_work, grow_work, go_work, mark_work, end_work, append_work, enter_work, give_up_work, deaccess_work, release_work, served_work, work_if, work_of, with_no_mark, grow_parts, extend_parts, AreLike, last_of, LagsBy}
+use Rattle.f11_store.specs.Changes.{Changes, with_marked_file, is_in, next_sequence, file_created, after_create, with_first_blocks}
+use Rattle.f11_store.specs.Changes.{with_cut_file, with_grown_file, MayGrow, GrowsIndex, with_more_slots, with_delete_mark, with_end_after}
+use Rattle.f11_store.specs.Changes.{with_entry_at_end, Extends, EntersAtEnd, EntersAt, with_change, with_block, with_entry}
+use Rattle.f11_store.specs.Changes.{with_replacement, with_access, is_due, without_file_at, after_giving_up, after_deaccess, after_release}
+use Rattle.f11_store.specs.Lags.{file_changes, with_parts, with_part, SameLimits, Work, and_then, no_work, one_part, create_work}
+use Rattle.f11_store.specs.Lags.{extend_work, grow_work, go_work, mark_work, end_work, append_work, enter_work, give_up_work, deaccess_work}
+use Rattle.f11_store.specs.Lags.{release_work, served_work, work_if, work_of, with_no_mark, grow_parts, extend_parts, AreLike, last_of}
+use Rattle.f11_store.specs.Lags.{LagsBy}
 use Rattle.f11_store.specs.Laws.{LagsItself, StepLags}
 use Rattle.f11_store.specs.Moments.{Did, DidLags}
 use Rattle.f11_store.proofs.Frees.{Frees, same_limits, frees_change, frees_access, frees_without_file, frees_deaccess, frees_release}
-use Rattle.f11_store.proofs.Growth.{alike, headers_taken, last_or_next, stays_unused, grown_alike, extend_and_slots, slots_one_by_one, room-file_named, StoresAlike, entry_at_end_alike}
+use Rattle.f11_store.proofs.Growth.{alike, headers_taken, last_or_next, stays_unused, grown_alike, extend_and_slots, slots_one_by_one}
+use Rattle.f11_store.proofs.Growth.{room-file_named, StoresAlike, entry_at_end_alike}
 use Rattle.f11_store.proofs.SlotLemmas.{filter_no_less}
 
 -- a slot that is there was last given what it was last given
@@ -147,7 +155,8 @@ taken_lags work s t files takes = record {
   others = takes.others;
   free_blocks = takes.free;
   headers = takes.slots_free;
-  last = λ n h k. subst (λ (q : ℕ). (t.last n ≡ q) ⊎ (t.last n ≡ next_sequence q)) (sym (last_there s n (omega (arith, h, takes.slots)))) (takes.last n);
+  last = λ n h k. subst (λ (q : ℕ). (t.last n ≡ q) ⊎ (t.last n ≡ next_sequence q)) (sym (last_there s n (omega (arith, h, takes.slots))))
+      (takes.last n);
   no_header = λ e n h. takes.no_header e n ∙ sym (last_there s n (omega (arith, h, takes.slots)));
   limits = takes.same;
 }
@@ -192,7 +201,8 @@ cut_lags s k to f headers pointers room was =
     by_test : (b : Bool) (o : Option File) →
         AreLike (if b then Some (record (with_first_blocks to f) { held = take headers f.held; pointers = pointers; room = room }) else o)
         (if b then Some (with_first_blocks to f) else o)
-    by_test true o = record { sequence = refl; owner = refl; protection = refl; characteristics = refl; ident = refl; attr = refl; blocks = refl }
+    by_test true o =
+        record { sequence = refl; owner = refl; protection = refl; characteristics = refl; ident = refl; attr = refl; blocks = refl }
     by_test false o = alike o
 
     out_of_use : (b c : Bool) → c ≡ false → (b && c) ≡ false
@@ -282,7 +292,8 @@ grown_lags s t n grew =
         headers_taken s (with_more_slots after n) (take grew.grows.added (free_slots s))
             (λ m out unused. stays_unused (is_in (take grew.grows.added (free_slots s)) m) (s.in_use m) out unused) (omega arith),
       );
-      last = λ m h l. last_after_growth (λ x y. (x ≡ y) ⊎ (x ≡ next_sequence y)) s.slots n m (after.last m) (s.last m) h (takes.last m) (inl refl);
+      last = λ m h l. last_after_growth (λ x y. (x ≡ y) ⊎ (x ≡ next_sequence y)) s.slots n m (after.last m) (s.last m) h (takes.last m)
+          (inl refl);
       no_header = λ e m h. last_after_growth (λ x y. x ≡ y) s.slots n m (after.last m) (s.last m) h (takes.no_header e m) refl;
       limits = same_limits refl refl refl;
     })
@@ -312,5 +323,14 @@ grown_lags s t n grew =
           blocks = grew.grows.before.blocks ++ [];
         }) else o)
         (if b then Some (with_no_mark grew.grows.before) else o)
-    by_test true o = record { sequence = refl; owner = refl; protection = refl; characteristics = refl; ident = refl; attr = refl; blocks = append-nil grew.grows.before.blocks }
+    by_test true o =
+        record {
+          sequence = refl;
+          owner = refl;
+          protection = refl;
+          characteristics = refl;
+          ident = refl;
+          attr = refl;
+          blocks = append-nil grew.grows.before.blocks;
+        }
     by_test false o = alike o

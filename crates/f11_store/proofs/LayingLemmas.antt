@@ -1,5 +1,6 @@
 -- Blocks of one run that come to a file of the plain store, header by header.
-use Rattle.std.proofs.Common.{◌≡◌, ℕ, zero, suc, ◌+◌, ◌-◌, ◌*◌, ◌<◌, ◌≤◌, ◌⊎◌, inl, inr, Bool, List, ◌++◌, Option, Some, None, length, nat_lt, min, unwrap_or, if◌then◌else◌, refl, sym, ◌∙◌, ap, subst, arith}
+use Rattle.std.proofs.Common.{◌≡◌, ℕ, zero, suc, ◌+◌, ◌-◌, ◌*◌, ◌<◌, ◌≤◌, ◌⊎◌, inl, inr, Bool, List, ◌++◌, Option, Some, None, length}
+use Rattle.std.proofs.Common.{nat_lt, min, unwrap_or, if◌then◌else◌, refl, sym, ◌∙◌, ap, subst, arith}
 use Rattle.f11_store.specs.Causes.{contiguous_causes, first_of}
 use Rattle.f11_store.specs.Changes.{MayGrow}
 use Rattle.f11_store.specs.Contiguous.{next_blocks, RunGoesOn, RunUnderWay}
@@ -16,7 +17,8 @@ use Rattle.f11_store.proofs.StoreLemmas.{none_first, none_rest, other_number, sa
 -- blocks that are free besides stay so
 longer-freed :
     (s : Store) (k n : ℕ) (f : File) (blocks : List (List ℕ)) (added pointers room c : ℕ) → n ≤ s.free →
-    with_more_free (with_longer_file s k f n blocks added pointers room) c ≡ with_longer_file (with_more_free s c) k f n blocks added pointers room
+    with_more_free (with_longer_file s k f n blocks added pointers room) c ≡ with_longer_file (with_more_free s c) k f n blocks added
+    pointers room
 unfolding free_slots
 longer-freed s k n f blocks added pointers room c few =
     same-store
@@ -35,7 +37,8 @@ adds-freed s t k n most c blocks few one = (
     room = one.room;
     was = one.was;
     may_grow = one.may_grow;
-    store_is = ap (λ (x : Store). with_more_free x c) one.store_is ∙ longer-freed s k n one.before blocks one.added one.pointers one.room c few;
+    store_is = ap (λ (x : Store). with_more_free x c) one.store_is
+        ∙ longer-freed s k n one.before blocks one.added one.pointers one.room c few;
   },
   refl,
 )
@@ -52,7 +55,11 @@ Next room left count = ((room ≡ 0) × (count ≡ min left (256 * 102))) ⊎ ((
 pub next-cases : (room left count : ℕ) → count ≡ next_blocks room left → Next room left count
 next-cases zero left count is = inl (refl, is)
 next-cases (suc room) left count is =
-    inr (omega arith, is ∙ ap (λ (b : Bool). min left (256 * (if b then 102 else suc room))) (other_number (suc room) 0 (λ none. omega (arith, none))))
+    inr (
+      omega arith,
+      is ∙ ap (λ (b : Bool). min left (256 * (if b then 102 else suc room)))
+          (other_number (suc room) 0 (λ none. omega (arith, none))),
+    )
 
 pub some-count : (room left count : ℕ) → 0 < left → Next room left count → 0 < count
 some-count room left count some (inl is) = let size = is.1 in omega (arith, size, some)
@@ -63,13 +70,16 @@ in-left room left count (inl is) = let size = is.1 in omega (arith, size)
 in-left room left count (inr is) = let size = is.1 in omega (arith, size)
 
 -- each pointer but the last is full
-pub pointers-add : (come count places : ℕ) → (come ≡ 0) ⊎ (come ≡ 256 * places) → run_pointers come + run_pointers count ≤ run_pointers (come + count)
+pub pointers-add : (come count places : ℕ) → (come ≡ 0) ⊎ (come ≡ 256 * places)
+    → run_pointers come + run_pointers count ≤ run_pointers (come + count)
 pointers-add come count places (inl is) = omega (arith, is)
 pointers-add come count places (inr is) = omega (arith, is)
 
 -- the numbers: what was there, what has come, and what comes
-module _ (r0 come left count pointers room added more_pointers more_room more : ℕ) (some : 0 < left) (few_pointers : pointers ≤ run_pointers come) (places : pointers + room ≡ r0 + 102 * added)
-    (few_added : added ≤ need r0 (run_pointers come)) (enough : come ≤ 256 * pointers) (full : (come ≡ 0) ⊎ (come ≡ 256 * (r0 + 102 * added)))
+module _ (r0 come left count pointers room added more_pointers more_room more : ℕ) (some : 0 < left)
+    (few_pointers : pointers ≤ run_pointers come) (places : pointers + room ≡ r0 + 102 * added)
+    (few_added : added ≤ need r0 (run_pointers come)) (enough : come ≤ 256 * pointers)
+    (full : (come ≡ 0) ⊎ (come ≡ 256 * (r0 + 102 * added)))
     (next : Next room left count) (few_more : more ≤ need room (run_pointers count))
     (then_places : more_pointers + more_room ≡ pointers + room + 102 * more) (then_enough : come + count ≤ 256 * more_pointers) where
   exact-pointers : pointers ≡ run_pointers come
@@ -119,7 +129,8 @@ run-goes-on s t u k come left count none some is so_far piece enough then_enough
   next = record { adds = made.0; full = λ rest. inr (full-then rest ∙ ap (λ (x : ℕ). 256 * (r0 + 102 * x)) (sym made.1)) };
   headers = made.1;
   header = λ has.
-      a-header r0 come left count e.pointers e.room e.added piece.pointers piece.room piece.added some few-pointers places few-added enough-now full next few-more
+      a-header r0 come left count e.pointers e.room e.added piece.pointers piece.room piece.added some few-pointers places few-added
+      enough-now full next few-more
       then-places then-enough has;
 }
   where
@@ -146,7 +157,9 @@ run-goes-on s t u k come left count none some is so_far piece enough then_enough
     after : (file_numbered u k).pointers ≡ piece.pointers
     after =
         ap (λ (x : Store). (unwrap_or (x.file k) no_file).pointers) piece.store_is
-        ∙ ap (λ (b : Bool). (unwrap_or (if b then Some (longer_file (with_more_free t count) piece.before (zero_blocks count) piece.added piece.pointers piece.room) else t.file k) no_file).pointers)
+        ∙ ap (λ (b : Bool). (unwrap_or
+        (if b then Some (longer_file (with_more_free t count) piece.before (zero_blocks count) piece.added piece.pointers piece.room)
+        else t.file k) no_file).pointers)
         (same_number k)
 
     may : MayGrow (file_numbered s k) (run_pointers come) e.added e.pointers e.room
@@ -184,7 +197,8 @@ run-goes-on s t u k come left count none some is so_far piece enough then_enough
 
     full-then : 0 < left - count → come + count ≡ 256 * (r0 + 102 * (e.added + piece.added))
     full-then rest =
-        still-full r0 come left count e.pointers e.room e.added piece.pointers piece.room piece.added some few-pointers places few-added enough-now full next few-more
+        still-full r0 come left count e.pointers e.room e.added piece.pointers piece.room piece.added some few-pointers places few-added
+        enough-now full next few-more
         then-places then-enough rest
 
     fits : count ≤ left
@@ -193,31 +207,41 @@ run-goes-on s t u k come left count none some is so_far piece enough then_enough
     fewer : run_pointers come + run_pointers count ≤ run_pointers (come + count)
     fewer = pointers-add come count (r0 + 102 * e.added) full
 
-    freed : (more : AddsBlocks (with_more_free t left) k count (run_pointers count) (zero_blocks count) (with_more_free u (left - count))) × (more.added ≡ piece.added)
+    freed : (more : AddsBlocks (with_more_free t left) k count (run_pointers count) (zero_blocks count) (with_more_free u (left - count)))
+        × (more.added ≡ piece.added)
     freed =
-        subst (λ (x : Store). (more : AddsBlocks x k count (run_pointers count) (zero_blocks count) (with_more_free u (left - count))) × (more.added ≡ piece.added))
+        subst (λ (x : Store). (more : AddsBlocks x k count (run_pointers count) (zero_blocks count) (with_more_free u (left - count)))
+        × (more.added ≡ piece.added))
         (free-both t count (left - count) left (omega (arith, fits)))
         (adds-freed (with_more_free t count) u k count (run_pointers count) (left - count) (zero_blocks count) (omega arith) piece)
 
-    both : (whole : AddsBlocks s k (come + count) (run_pointers come + run_pointers count) (zero_blocks come ++ zero_blocks count) (with_more_free u (left - count)))
+    both : (whole : AddsBlocks s k (come + count) (run_pointers come + run_pointers count) (zero_blocks come ++ zero_blocks count)
+        (with_more_free u (left - count)))
         × (whole.added ≡ e.added + freed.0.added)
-    both = adds-twice s (with_more_free t left) (with_more_free u (left - count)) k come count (run_pointers come) (run_pointers count) (zero_blocks come) (zero_blocks count) e freed.0
+    both =
+        adds-twice s (with_more_free t left) (with_more_free u (left - count)) k come count (run_pointers come) (run_pointers count)
+        (zero_blocks come) (zero_blocks count) e freed.0
 
-    within : AddsBlocks s k (come + count) (run_pointers (come + count)) (zero_blocks come ++ zero_blocks count) (with_more_free u (left - count))
+    within : AddsBlocks s k (come + count) (run_pointers (come + count)) (zero_blocks come ++ zero_blocks count)
+        (with_more_free u (left - count))
     within = record {
       before = both.0.before;
       added = both.0.added;
       pointers = both.0.pointers;
       room = both.0.room;
       was = both.0.was;
-      may_grow = may-within both.0.before (run_pointers come + run_pointers count) (run_pointers (come + count)) both.0.added both.0.pointers both.0.room fewer both.0.may_grow;
+      may_grow = may-within both.0.before (run_pointers come + run_pointers count) (run_pointers (come + count)) both.0.added
+          both.0.pointers both.0.room fewer both.0.may_grow;
       store_is = both.0.store_is;
     }
 
-    made : (whole : AddsBlocks s k (come + count) (run_pointers (come + count)) (zero_blocks (come + count)) (with_more_free u (left - count)))
+    made : (whole : AddsBlocks s k (come + count) (run_pointers (come + count)) (zero_blocks (come + count))
+        (with_more_free u (left - count)))
         × (whole.added ≡ e.added + piece.added)
     made =
-        subst (λ (bs : List (List ℕ)). (whole : AddsBlocks s k (come + count) (run_pointers (come + count)) bs (with_more_free u (left - count))) × (whole.added ≡ e.added + piece.added))
+        subst (λ (bs : List (List ℕ)).
+        (whole : AddsBlocks s k (come + count) (run_pointers (come + count)) bs (with_more_free u (left - count)))
+        × (whole.added ≡ e.added + piece.added))
         (zeros-add come count) (within, both.1 ∙ ap (λ (x : ℕ). e.added + x) freed.1)
 
 -- blocks that are free besides were taken
@@ -252,26 +276,33 @@ run-under-way s t u k n come left count some sum is so_far stage = by_stage stag
     fits = in-left e.room left count (next-cases e.room left count (is ∙ ap (λ (f : File). next_blocks f.room left) now))
 
     fewer : run_pointers come + run_pointers count ≤ run_pointers n
-    fewer = let both = pointers-add come count ((file_numbered s k).room + 102 * e.added) (so_far.full some) in omega (arith, both, sum, fits)
+    fewer =
+        let both = pointers-add come count ((file_numbered s k).room + 102 * e.added) (so_far.full some) in omega (arith, both, sum, fits)
 
-    by_stage : TakesSome 0 (need (file_numbered t k).room (run_pointers count)) t u ⊎ AddsBlocks (with_more_free t count) k count (run_pointers count) (zero_blocks count) u
+    by_stage : TakesSome 0 (need (file_numbered t k).room (run_pointers count)) t u
+        ⊎ AddsBlocks (with_more_free t count) k count (run_pointers count) (zero_blocks count) u
         → LagsBy (blocks_work k n (run_need (file_numbered s k).room n)) u s
     by_stage (inl takes) =
-        taken-lags s (with_more_free t left) u k n (run_pointers n) come (run_pointers come) left (run_pointers count) e (omega (arith, sum)) fewer
+        taken-lags s (with_more_free t left) u k n (run_pointers n) come (run_pointers come) left (run_pointers count) e
+        (omega (arith, sum)) fewer
         (takes-freed t u (need (file_numbered t k).room (run_pointers count)) left takes)
     by_stage (inr piece) =
         let freed =
         subst (λ (x : Store). AddsBlocks x k count (run_pointers count) (zero_blocks count) (with_more_free u (left - count)))
         (free-both t count (left - count) left (omega (arith, fits)))
         (adds-freed (with_more_free t count) u k count (run_pointers count) (left - count) (zero_blocks count) (omega arith) piece).0 in
-        let both = (adds-twice s (with_more_free t left) (with_more_free u (left - count)) k come count (run_pointers come) (run_pointers count) (zero_blocks come) (zero_blocks count) e freed).0 in
-        let all = subst (λ (bs : List (List ℕ)). AddsBlocks s k (come + count) (run_pointers come + run_pointers count) bs (with_more_free u (left - count))) (zeros-add come count) both in
-        taken-lags s (with_more_free u (left - count)) u k n (run_pointers n) (come + count) (run_pointers come + run_pointers count) (left - count) 0 all
+        let both = (adds-twice s (with_more_free t left) (with_more_free u (left - count)) k come count (run_pointers come)
+        (run_pointers count) (zero_blocks come) (zero_blocks count) e freed).0 in
+        let all = subst (λ (bs : List (List ℕ)). AddsBlocks s k (come + count) (run_pointers come + run_pointers count) bs
+        (with_more_free u (left - count))) (zeros-add come count) both in
+        taken-lags s (with_more_free u (left - count)) u k n (run_pointers n) (come + count) (run_pointers come + run_pointers count)
+        (left - count) 0 all
         (omega (arith, sum, fits)) (omega (arith, fewer))
         (takes-freed u u (need (file_numbered u k).room 0) (left - count) (takes-none u (need (file_numbered u k).room 0)))
 
 -- a file against which nothing stands has no block, and room for the run
-pub has-run-room : (s : Store) (f : File) (n : ℕ) → first_of (contiguous_causes s f n) ≡ None → HasRoom s f n (run_pointers n) × (length f.blocks ≤ 0)
+pub has-run-room : (s : Store) (f : File) (n : ℕ) → first_of (contiguous_causes s f n) ≡ None
+    → HasRoom s f n (run_pointers n) × (length f.blocks ≤ 0)
 has-run-room s f n none =
     let first = none_rest (nat_lt 0 (length_of f)) NotEmpty _ none in
     let second = none_rest (nat_lt 256 (length f.held + run_need f.room n)) TooManySegments _ first in

@@ -1,5 +1,7 @@
 -- Laws of what is no lag.
-use Rattle.std.proofs.Common.{◌≡◌, ◌≢◌, ℕ, zero, suc, ◌+◌, ◌*◌, ◌/◌, ◌<◌, ◌==◌, ◌||◌, nat_lt, replicate, Bool, true, false, List, [], ◌∷◌, ◌++◌, Option, Some, None, length, append_assoc, take, map, fold, refl, sym, ◌∙◌, ap, subst, arith, nat_le, length-append}
+use Rattle.std.proofs.Common.{◌≡◌, ◌≢◌, ℕ, zero, suc, ◌+◌, ◌*◌, ◌/◌, ◌<◌, ◌==◌, ◌||◌, nat_lt, replicate, Bool, true, false, List, [], ◌∷◌}
+use Rattle.std.proofs.Common.{◌++◌, Option, Some, None, length, append_assoc, take, map, fold, refl, sym, ◌∙◌, ap, subst, arith, nat_le}
+use Rattle.std.proofs.Common.{length-append}
 use Rattle.std.specs.Prelude.{All}
 use Rattle.std.proofs.lemmas.Bool.Decides.{nat_tests}
 use Rattle.std.proofs.lemmas.List.{take-map}
@@ -14,7 +16,9 @@ use Rattle.f11_store.specs.Causes.{first_refusal, is_bad}
 use Rattle.f11_store.specs.Headroom.{slots_first}
 use Rattle.f11_store.specs.File.{need}
 use Rattle.f11_store.specs.Changes.{with_change, with_entry, with_end_after}
-use Rattle.f11_store.specs.Lags.{file_changes, after_slots, and_then, extend_work, grow_parts, slot_appears, with_part, Part, no_work, work_if, served_work, end_work, append_work, enter_work, with_no_mark, with_zero_block, extend_parts, with_parts, IsLike, AreLike, LagsBy}
+use Rattle.f11_store.specs.Lags.{file_changes, after_slots, and_then, extend_work, grow_parts, slot_appears, with_part, Part, no_work}
+use Rattle.f11_store.specs.Lags.{work_if, served_work, end_work, append_work, enter_work, with_no_mark, with_zero_block, extend_parts}
+use Rattle.f11_store.specs.Lags.{with_parts, IsLike, AreLike, LagsBy}
 use Rattle.f11_store.specs.Laws.{OthersAreEqual, NoPartsNoChange, RefusedIsStill, EndComesLast, IsStill, IsWhole}
 use Rattle.f11_store.proofs.StoreLemmas.{none_first, none_rest, same_number}
 use Rattle.f11_store.proofs.SlotsFirst.{no_index}
@@ -28,7 +32,8 @@ others_are_equal work t s n lags out = lags.others n out
 pub no_parts_no_change : NoPartsNoChange
 no_parts_no_change work t s lags none = by_number lags.done (λ n. rw none at (lags.files n)) (rw none at lags.slots)
   where
-    by_number : (done : ℕ) → ((n : ℕ) → AreLike (t.file n) ((with_parts s (take done [])).file n)) → t.slots ≡ (with_parts s (take done [])).slots →
+    by_number : (done : ℕ) → ((n : ℕ) → AreLike (t.file n) ((with_parts s (take done [])).file n))
+        → t.slots ≡ (with_parts s (take done [])).slots →
         ((n : ℕ) → AreLike (t.file n) (s.file n)) × (t.slots ≡ s.slots)
     by_number zero files slots = (files, slots)
     by_number (suc done) files slots = (files, slots)
@@ -51,10 +56,12 @@ refused_is_still t s task caller r block e refused lags =
     no_work_is_still t s (subst (λ o. LagsBy (work_if o (served_work s task caller r block)) t s) refused lags)
 
 -- the record that was put at the end of the blocks, where there is room, or in one more block
-put_at_end : (blocks : List (List ℕ)) (i : ℕ) (r : List ℕ) → All (λ b. length b ≡ 512) blocks → 16 * i < 512 * length blocks → length r ≡ 16 →
+put_at_end : (blocks : List (List ℕ)) (i : ℕ) (r : List ℕ) → All (λ b. length b ≡ 512) blocks → 16 * i < 512 * length blocks → length r ≡ 16
+    →
     record_at (with_record blocks i r) i ≡ r
 put_at_end blocks i r whole room sixteen =
-    record_at-same blocks i r (omega (arith, room)) (All-get_or (λ b. length b ≡ 512) blocks (i / 32) [] (omega (arith, room)) whole) sixteen
+    record_at-same blocks i r (omega (arith, room)) (All-get_or (λ b. length b ≡ 512) blocks (i / 32) [] (omega (arith, room)) whole)
+    sixteen
 
 -- a file after changes
 abbrev after_changes : File → List (File → File) → File
@@ -91,8 +98,11 @@ changes_behind :
     (front : List Part) (changes : List (File → File)) (done : ℕ) (s : Store) (k : ℕ) (g : File) → Leave k front → s.file k ≡ Some g →
     (m : ℕ) × ((with_parts s (take done (front ++ map (file_changes k) changes))).file k ≡ Some (after_changes g (take m changes)))
 unfolding Leave
-changes_behind [] changes done s k g leave there =
-    (done, ap (λ (ps : List Part). (with_parts s ps).file k) (take-map (file_changes k) done changes) ∙ file_after (take done changes) s k g there)
+changes_behind [] changes done s k g leave there = (
+  done,
+  ap (λ (ps : List Part). (with_parts s ps).file k) (take-map (file_changes k) done changes)
+      ∙ file_after (take done changes) s k g there,
+)
 changes_behind (p ∷ front) changes zero s k g leave there = (0, there)
 changes_behind (p ∷ front) changes (suc done) s k g leave there =
     changes_behind front changes done (with_part s p) k g leave.1 (leave.0 s ∙ there)
@@ -132,7 +142,8 @@ ends_in_new_block f g i r (suc (suc (suc (suc zero)))) like moved = like.blocks
 ends_in_new_block f g i r (suc (suc (suc (suc (suc n))))) like moved = like.blocks
 
 -- the parts of one more block and a record in it
-new_block_parts : (k : ℕ) (i : ℕ) (r : List ℕ) → extend_parts k 1 ++ (end_work k i r).parts ≡ map (file_changes k) (with_no_mark ∷ with_zero_block ∷ end_changes i r)
+new_block_parts : (k : ℕ) (i : ℕ) (r : List ℕ)
+    → extend_parts k 1 ++ (end_work k i r).parts ≡ map (file_changes k) (with_no_mark ∷ with_zero_block ∷ end_changes i r)
 unfolding extend_parts
 new_block_parts k i r = refl
 
@@ -152,7 +163,8 @@ length-and_zeros blocks = length-append blocks (zero_block ∷ [])
 
 -- the work of a block more and a record in it, after slots or without
 in_block_lags :
-    (more : ℕ) (t s : Store) (k : ℕ) (f g : File) (r : List ℕ) → IsWhole g → length r ≡ 16 → (k == 1) ≡ false → s.file k ≡ Some g → t.file k ≡ Some f →
+    (more : ℕ) (t s : Store) (k : ℕ) (f g : File) (r : List ℕ) → IsWhole g → length r ≡ 16 → (k == 1) ≡ false → s.file k ≡ Some g
+    → t.file k ≡ Some f →
     f.attr ≢ g.attr → LagsBy (and_then (after_slots more s (extend_work k g.room 1)) (end_work k (entry_count g) r)) t s →
     record_at f.blocks (entry_count g) ≡ r
 in_block_lags more t s k f g r whole sixteen other there is moved lags = ap (λ bs. record_at bs (entry_count g)) (put more lags) ∙ at_end
@@ -182,12 +194,15 @@ in_block_lags more t s k f g r whole sixteen other there is moved lags = ap (λ 
         (rw (length-and_zeros g.blocks) (omega arith)) sixteen
 
 appended_lags :
-    (b : Bool) (t s : Store) (d : FileId) (f : File) (r : List ℕ) → needs_block (file_named s d) ≡ b → index_of_empty (file_named s d) ≡ None →
-    IsWhole (file_named s d) → length r ≡ 16 → (d.number == 1) ≡ false → s.file d.number ≡ Some (file_named s d) → t.file d.number ≡ Some f →
+    (b : Bool) (t s : Store) (d : FileId) (f : File) (r : List ℕ) → needs_block (file_named s d) ≡ b
+    → index_of_empty (file_named s d) ≡ None →
+    IsWhole (file_named s d) → length r ≡ 16 → (d.number == 1) ≡ false → s.file d.number ≡ Some (file_named s d) → t.file d.number ≡ Some f
+    →
     f.attr ≢ (file_named s d).attr → LagsBy (append_work b s d (entry_count (file_named s d)) r) t s →
     record_at f.blocks (entry_count (file_named s d)) ≡ r
 appended_lags false t s d f r needs none whole sixteen other there is moved lags =
-    let made = some_changes t s d.number f g [] (end_changes (entry_count g) r) lags.done (leaves_none d.number) there is (lags.files d.number) in
+    let made = some_changes t s d.number f g [] (end_changes (entry_count g) r) lags.done (leaves_none d.number) there is
+    (lags.files d.number) in
     ap (λ bs. record_at bs (entry_count g)) (ends_in_place f g (entry_count g) r made.0 made.1 moved)
     ∙ put_at_end g.blocks (entry_count g) r whole.blocks room sixteen
   where
@@ -195,7 +210,9 @@ appended_lags false t s d f r needs none whole sixteen other there is moved lags
     g = file_named s d
 
     room : 16 * entry_count g < 512 * length g.blocks
-    room = let past : nat_le (512 * length g.blocks) (16 * entry_count g) ≡ false = sym (needs_block-full g none) ∙ needs in grind (arith, nat_tests)
+    room =
+        let past : nat_le (512 * length g.blocks) (16 * entry_count g) ≡ false = sym (needs_block-full g none) ∙ needs in
+        grind (arith, nat_tests)
 appended_lags true t s d f r needs none whole sixteen other there is moved lags =
     in_block_lags (slots_first s (need (file_named s d).room 1)) t s d.number f (file_named s d) r whole sixteen other there is moved lags
 
@@ -210,7 +227,8 @@ end_comes_last t s task caller d name id block f whole five there none is moved 
         (length-record_bytes id name five) other there is moved
         (subst (λ o. LagsBy (enter_work o s d (record_bytes id name)) t s) none h)
 
-    by_refusal : (o : Option Refusal) → first_refusal s task caller (request.Enter d name id) ≡ o → LagsBy (work_if o (served_work s task caller (request.Enter d name id) block)) t s →
+    by_refusal : (o : Option Refusal) → first_refusal s task caller (request.Enter d name id) ≡ o
+        → LagsBy (work_if o (served_work s task caller (request.Enter d name id) block)) t s →
         record_at f.blocks (entry_count (file_named s d)) ≡ record_bytes id name
     by_refusal None e h = served (no_index d (none_first (nat_lt d.number 4) _ _ (none_rest (is_bad d || is_bad id) _ _ e))) h
     by_refusal (Some x) e h =

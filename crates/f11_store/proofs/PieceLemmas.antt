@@ -1,5 +1,7 @@
 -- A file of the plain store that grows piece by piece.
-use Rattle.std.proofs.Common.{◌≡◌, ◌≢◌, ℕ, zero, suc, ◌+◌, ◌-◌, ◌*◌, ◌<◌, ◌≤◌, ◌==◌, ◌||◌, ◌⊎◌, inl, inr, Bool, true, false, List, [], ◌∷◌, ◌++◌, Option, Some, None, length, take, drop, slice_index, unwrap_or, option_map, refl, sym, ◌∙◌, ap, subst, arith, append_assoc, if◌then◌else◌, nat_lt}
+use Rattle.std.proofs.Common.{◌≡◌, ◌≢◌, ℕ, zero, suc, ◌+◌, ◌-◌, ◌*◌, ◌<◌, ◌≤◌, ◌==◌, ◌||◌, ◌⊎◌, inl, inr, Bool, true, false, List, [], ◌∷◌}
+use Rattle.std.proofs.Common.{◌++◌, Option, Some, None, length, take, drop, slice_index, unwrap_or, option_map, refl, sym, ◌∙◌, ap, subst}
+use Rattle.std.proofs.Common.{arith, append_assoc, if◌then◌else◌, nat_lt}
 use Rattle.std.proofs.Math.Bool.{or-true}
 use Rattle.std.proofs.Math.Seq.{take-add}
 use Rattle.std.proofs.lemmas.Bool.{cases_eq, eq-eqb, ne_eqb}
@@ -14,7 +16,8 @@ use Rattle.f11_store.specs.File.{File, need, no_file, without_contiguous, zero_b
 use Rattle.f11_store.specs.Lags.{with_no_mark}
 use Rattle.f11_store.specs.Store.{Store, free_headers, free_slots, least_free}
 use Rattle.f11_store.specs.declared.refusals.Refusal.TheVariants.{DeviceFull, NoHeader, TooManySegments}
-use Rattle.f11_store.specs.Pieces.{with_more_free, with_more_blocks, file_numbered, longer_file, with_longer_file, AddsBlocks, HasPlaces, HasRoom, TakingAdds}
+use Rattle.f11_store.specs.Pieces.{with_more_free, with_more_blocks, file_numbered, longer_file, with_longer_file, AddsBlocks, HasPlaces}
+use Rattle.f11_store.specs.Pieces.{HasRoom, TakingAdds}
 use Rattle.f11_store.proofs.TakenSlotLemmas.{both-in, free-left, used-none}
 
 -- the contiguous mark that was cleared is clear
@@ -44,10 +47,12 @@ free-longer s k n f blocks added pointers room = free-left s (with_longer_file s
 pub headers-longer :
     (s : Store) (k n : ℕ) (f : File) (blocks : List (List ℕ)) (added pointers room : ℕ) →
     free_headers (with_longer_file s k f n blocks added pointers room) ≡ free_headers s - added
-headers-longer s k n f blocks added pointers room = ap length (free-longer s k n f blocks added pointers room) ∙ length-drop added (free_slots s)
+headers-longer s k n f blocks added pointers room =
+    ap length (free-longer s k n f blocks added pointers room) ∙ length-drop added (free_slots s)
 
 -- n pointers need no fewer headers than some of them and the others
-pub needs-add : (f : File) (n a b added pointers room : ℕ) → MayGrow f a added pointers room → a + b ≤ n → added + need room b ≤ need f.room n
+pub needs-add : (f : File) (n a b added pointers room : ℕ) → MayGrow f a added pointers room → a + b ≤ n
+    → added + need room b ≤ need f.room n
 needs-add f n a b zero pointers room may h = omega (arith, may.no_more, may.no_fewer, may.places, h)
 needs-add f n a b (suc m) pointers room may h =
     let filled : room ≤ 101 = may.filled (omega arith) in
@@ -58,15 +63,17 @@ file-twice :
     (s : Store) (k a : ℕ) (f : File) (one two : List (List ℕ)) (added pointers room more pointers' room' : ℕ) →
     longer_file (with_longer_file s k f a one added pointers room) (longer_file s f one added pointers room) two more pointers' room'
     ≡ longer_file s f (one ++ two) (added + more) pointers' room'
-file-twice s k a f one two added pointers room more pointers' room' = λ i. record (longer_file s f (one ++ two) (added + more) pointers' room') {
-  held = held i;
-  blocks = append_assoc f.blocks one two i;
-}
+file-twice s k a f one two added pointers room more pointers' room' = λ i.
+    record (longer_file s f (one ++ two) (added + more) pointers' room') {
+      held = held i;
+      blocks = append_assoc f.blocks one two i;
+    }
   where
     free : List ℕ
     free = free_slots s
 
-    held : (f.held ++ take added free) ++ take more (free_slots (with_longer_file s k f a one added pointers room)) ≡ f.held ++ take (added + more) free
+    held : (f.held ++ take added free) ++ take more (free_slots (with_longer_file s k f a one added pointers room)) ≡ f.held ++ take
+        (added + more) free
     held =
         append_assoc f.held (take added free) _
         ∙ ap (λ (l : List ℕ). f.held ++ (take added free ++ take more l)) (free-longer s k a f one added pointers room)
@@ -75,7 +82,8 @@ file-twice s k a f one two added pointers room more pointers' room' = λ i. reco
 -- and the store
 longer-twice :
     (s : Store) (k a b : ℕ) (f : File) (one two : List (List ℕ)) (added pointers room more pointers' room' : ℕ) →
-    with_longer_file (with_longer_file s k f a one added pointers room) k (longer_file s f one added pointers room) b two more pointers' room'
+    with_longer_file (with_longer_file s k f a one added pointers room) k (longer_file s f one added pointers room) b two more pointers'
+    room'
     ≡ with_longer_file s k f (a + b) (one ++ two) (added + more) pointers' room'
 longer-twice s k a b f one two added pointers room more pointers' room' =
     same-store
@@ -140,7 +148,14 @@ none-adds s k n most may = record {
   pointers = (file_numbered s k).pointers;
   room = (file_numbered s k).room;
   was = may.is_file;
-  may_grow = record { headers = omega arith; no_fewer = omega arith; no_more = omega arith; places = omega arith; filled = λ some. omega (arith, some) };
+  may_grow = record {
+    headers = omega arith;
+    no_fewer = omega arith;
+    no_more = omega arith;
+    places = omega arith;
+    filled = λ some.
+        omega (arith, some);
+  };
   store_is = longer-none s k (file_numbered s k) may.is_file;
 }
 
@@ -167,10 +182,12 @@ fewer-may s k n m p q may few fewer =
 
 -- what has room for n blocks more has, after some of them, for the others
 room-then :
-    (s : Store) (k n a most p : ℕ) (f : File) (blocks : List (List ℕ)) (added pointers room : ℕ) → HasRoom s f n most → MayGrow f p added pointers room → a ≤ n →
+    (s : Store) (k n a most p : ℕ) (f : File) (blocks : List (List ℕ)) (added pointers room : ℕ) → HasRoom s f n most
+    → MayGrow f p added pointers room → a ≤ n →
     p ≤ most → HasRoom (with_longer_file s k f a blocks added pointers room) (longer_file s f blocks added pointers room) (n - a) (most - p)
 room-then s k n a most p f blocks added pointers room has may few fewer =
-    let need_less : added + need room (most - p) ≤ need f.room most = needs-add f most p (most - p) added pointers room may (omega (arith, fewer)) in
+    let need_less : added + need room (most - p) ≤ need f.room most = needs-add f most p (most - p) added pointers room may
+    (omega (arith, fewer)) in
     record {
       segments = omega (arith, has.segments, need_less, length-append f.held (take added (free_slots s)), length-take added (free_slots s));
       blocks = omega (arith, has.blocks, few);
@@ -201,7 +218,8 @@ may-within f p q added pointers room few may = record {
 
 -- two pieces are one
 may-twice :
-    (f g : File) (a b added pointers room more pointers' room' : ℕ) → MayGrow f a added pointers room → g.pointers ≡ pointers → g.room ≡ room →
+    (f g : File) (a b added pointers room more pointers' room' : ℕ) → MayGrow f a added pointers room → g.pointers ≡ pointers
+    → g.room ≡ room →
     MayGrow g b more pointers' room' → MayGrow f (a + b) (added + more) pointers' room'
 may-twice f g a b added pointers room more pointers' room' one pointers_are room_is two = record {
   headers = by_number (added + more) refl;
@@ -219,7 +237,8 @@ may-twice f g a b added pointers room more pointers' room' one pointers_are room
       where
         by_more : (m : ℕ) → more ≡ m → 0 < added + more → room' ≤ 101
         by_more zero e some =
-            let first : room ≤ 101 = one.filled (omega (arith, some, e)) in omega (arith, first, e, two.places, two.no_fewer, pointers_are, room_is)
+            let first : room ≤ 101 = one.filled (omega (arith, some, e)) in
+            omega (arith, first, e, two.places, two.no_fewer, pointers_are, room_is)
         by_more (suc m) e some = two.filled (omega (arith, e))
 
     by_number : (n : ℕ) → added + more ≡ n → added + more ≤ need f.room (a + b)
@@ -273,7 +292,8 @@ changed-is : (s : Store) (k : ℕ) (change : File → File) (f : File) → s.fil
 changed-is s k change f was =
     ap (λ (b : Bool). if b then option_map change (s.file k) else s.file k) (same_number k) ∙ ap (option_map change) was
 
-pub cleared-may : (s : Store) (k n : ℕ) → s.file k ≡ Some (file_numbered s k) → first_of (growth_causes s (file_numbered s k) n) ≡ None → HasPlaces (with_change s k with_no_mark) k n n
+pub cleared-may : (s : Store) (k n : ℕ) → s.file k ≡ Some (file_numbered s k) → first_of (growth_causes s (file_numbered s k) n) ≡ None
+    → HasPlaces (with_change s k with_no_mark) k n n
 cleared-may s k n was h =
     let f = file_numbered s k in
     let has = has-room s f n h in
@@ -287,7 +307,8 @@ cleared-may s k n was h =
 -- a file that grows once its mark was cleared is like one that grows at once
 longer-cleared :
     (s : Store) (k n : ℕ) (f : File) (blocks : List (List ℕ)) (added pointers room : ℕ) →
-    with_longer_file (with_change s k with_no_mark) k (with_no_mark f) n blocks added pointers room ≡ with_grown_file s k f n blocks added pointers room
+    with_longer_file (with_change s k with_no_mark) k (with_no_mark f) n blocks added pointers room ≡ with_grown_file s k f n blocks added
+    pointers room
 unfolding free_slots
 longer-cleared s k n f blocks added pointers room =
     same-store
@@ -303,19 +324,28 @@ longer-cleared s k n f blocks added pointers room =
     two_writes false o = refl
 
 pub cleared-then :
-    (s t : Store) (k n : ℕ) (blocks : List (List ℕ)) → s.file k ≡ Some (file_numbered s k) → (one : AddsBlocks (with_change s k with_no_mark) k n n blocks t) →
+    (s t : Store) (k n : ℕ) (blocks : List (List ℕ)) → s.file k ≡ Some (file_numbered s k)
+    → (one : AddsBlocks (with_change s k with_no_mark) k n n blocks t) →
     (whole : Grows s k n blocks t) × (whole.added ≡ one.added)
 cleared-then s t k n blocks was one =
     let f = file_numbered s k in
-    let same : one.before ≡ with_no_mark f = ap (λ (o : Option File). unwrap_or o no_file) (sym one.was ∙ changed-is s k with_no_mark f was) in
-    let may : MayGrow (with_no_mark f) n one.added one.pointers one.room = subst (λ (g : File). MayGrow g n one.added one.pointers one.room) same one.may_grow in (
+    let same : one.before ≡ with_no_mark f = ap (λ (o : Option File). unwrap_or o no_file) (sym one.was ∙ changed-is s k with_no_mark f was)
+    in
+    let may : MayGrow (with_no_mark f) n one.added one.pointers one.room = subst (λ (g : File). MayGrow g n one.added one.pointers one.room)
+    same one.may_grow in (
       record {
         before = f;
         added = one.added;
         pointers = one.pointers;
         room = one.room;
         was = was;
-        may_grow = record { headers = may.headers; no_fewer = may.no_fewer; no_more = may.no_more; places = may.places; filled = may.filled };
+        may_grow = record {
+          headers = may.headers;
+          no_fewer = may.no_fewer;
+          no_more = may.no_more;
+          places = may.places;
+          filled = may.filled;
+        };
         store_is =
             one.store_is
             ∙ ap (λ (g : File). with_longer_file (with_change s k with_no_mark) k g n blocks one.added one.pointers one.room) same
@@ -331,7 +361,8 @@ changed-as s k m change f g was is = ap (λ (o : Option File). if m == k then o 
 
 -- a file whose last header names n blocks more
 pub named-adds :
-    (s : Store) (k count more most : ℕ) (blocks : List (List ℕ)) → HasPlaces (with_more_free s count) k count most → more ≤ most → more ≤ (file_numbered s k).room →
+    (s : Store) (k count more most : ℕ) (blocks : List (List ℕ)) → HasPlaces (with_more_free s count) k count most → more ≤ most
+    → more ≤ (file_numbered s k).room →
     (e : AddsBlocks (with_more_free s count) k count most blocks (with_change s k (with_more_blocks more blocks))) × (e.added ≡ 0)
 named-adds s k count more most blocks may few fits = (
   record {
@@ -340,9 +371,16 @@ named-adds s k count more most blocks may few fits = (
     pointers = f.pointers + more;
     room = f.room - more;
     was = may.is_file;
-    may_grow = record { headers = omega arith; no_fewer = omega arith; no_more = omega (arith, few); places = omega (arith, fits); filled = λ none. omega (arith, none) };
+    may_grow = record {
+      headers = omega arith;
+      no_fewer = omega arith;
+      no_more = omega (arith, few);
+      places = omega (arith, fits);
+      filled = λ none. omega (arith, none);
+    };
     store_is =
-        same-store (with_change s k (with_more_blocks more blocks)) (with_longer_file (with_more_free s count) k f count blocks 0 (f.pointers + more) (f.room - more))
+        same-store (with_change s k (with_more_blocks more blocks))
+        (with_longer_file (with_more_free s count) k f count blocks 0 (f.pointers + more) (f.room - more))
         (λ m. changed-as s k m (with_more_blocks more blocks) f _ may.is_file same)
         (omega arith) refl (λ m. refl) (λ m. refl) refl refl refl refl;
   },
@@ -362,11 +400,14 @@ first-is (n ∷ ns) h = refl
 
 -- a file with header m more, which names these blocks by so many pointers
 abbrev pub with_linked : ℕ → ℕ → List (List ℕ) → File → File
-with_linked m more blocks f = record f { held = f.held ++ m ∷ []; pointers = f.pointers + more; room = 102 - more; blocks = f.blocks ++ blocks }
+with_linked m more blocks f =
+    record f { held = f.held ++ m ∷ []; pointers = f.pointers + more; room = 102 - more; blocks = f.blocks ++ blocks }
 
 pub linked-adds :
-    (s : Store) (k count more m : ℕ) (blocks : List (List ℕ)) → HasPlaces (with_more_free s count) k count more → 0 < more → more ≤ 102 → (file_numbered s k).room ≡ 0 → m ≡ least_free s →
-    (e : AddsBlocks (with_more_free s count) k count more blocks (with_change (with_slots s (m ∷ [])) k (with_linked m more blocks))) × (e.added ≡ 1)
+    (s : Store) (k count more m : ℕ) (blocks : List (List ℕ)) → HasPlaces (with_more_free s count) k count more → 0 < more → more ≤ 102
+    → (file_numbered s k).room ≡ 0 → m ≡ least_free s →
+    (e : AddsBlocks (with_more_free s count) k count more blocks (with_change (with_slots s (m ∷ [])) k (with_linked m more blocks)))
+    × (e.added ≡ 1)
 unfolding free_slots
 linked-adds s k count more m blocks may some few full least = (
   record {
@@ -375,7 +416,13 @@ linked-adds s k count more m blocks may some few full least = (
     pointers = f.pointers + more;
     room = 102 - more;
     was = may.is_file;
-    may_grow = record { headers = omega (arith, some, full); no_fewer = omega arith; no_more = omega arith; places = omega (arith, full, few); filled = λ added. omega (arith, some) };
+    may_grow = record {
+      headers = omega (arith, some, full);
+      no_fewer = omega arith;
+      no_more = omega arith;
+      places = omega (arith, full, few);
+      filled = λ added. omega (arith, some);
+    };
     store_is =
         same-store (with_change (with_slots s (m ∷ [])) k (with_linked m more blocks))
         (with_longer_file (with_more_free s count) k f count blocks 1 (f.pointers + more) (102 - more))

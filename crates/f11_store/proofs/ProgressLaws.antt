@@ -1,5 +1,6 @@
 -- Exact progress, and what lags after it.
-use Rattle.std.proofs.Common.{◌≡◌, ◌⊎◌, ℕ, ◌+◌, ◌≤◌, ◌==◌, Bool, true, false, List, [], ◌∷◌, ◌++◌, zero, suc, length, take, min, Option, Some, None, option_map, if◌then◌else◌, refl, sym, ◌∙◌, ap, subst, arith, nat_le, inl}
+use Rattle.std.proofs.Common.{◌≡◌, ◌⊎◌, ℕ, ◌+◌, ◌≤◌, ◌==◌, Bool, true, false, List, [], ◌∷◌, ◌++◌, zero, suc, length, take, min, Option}
+use Rattle.std.proofs.Common.{Some, None, option_map, if◌then◌else◌, refl, sym, ◌∙◌, ap, subst, arith, nat_le, inl}
 use Rattle.std.proofs.lemmas.Bool.{leb-true, or_parts}
 use Rattle.std.proofs.lemmas.Bool.Decides.{nat_tests}
 use Rattle.std.proofs.lemmas.List.{take-append-le, take_min}
@@ -9,7 +10,8 @@ use Rattle.f11_store.specs.declared.files.FileId.{FileId}
 use Rattle.f11_store.specs.File.{File, zero_blocks}
 use Rattle.f11_store.specs.Store.{Store, file_named, free_slots, free_headers}
 use Rattle.f11_store.specs.Changes.{next_sequence, with_change, with_grown_file, Extends}
-use Rattle.f11_store.specs.Lags.{Part, file_changes, file_appears, file_goes, slot_appears, with_part, with_parts, Work, no_work, extend_work, AreLike, last_of, LagsBy}
+use Rattle.f11_store.specs.Lags.{Part, file_changes, file_appears, file_goes, slot_appears, with_part, with_parts, Work, no_work}
+use Rattle.f11_store.specs.Lags.{extend_work, AreLike, last_of, LagsBy}
 use Rattle.f11_store.proofs.Frees.{Frees, same_limits, same_limits_then}
 use Rattle.f11_store.proofs.Growth.{alike, StoresAlike, grown_alike, extend_and_slots, room-file_named}
 use Rattle.f11_store.proofs.LagLaws.{did_taking, free_headers_grow, grown_takes, last_there}
@@ -18,7 +20,8 @@ use Rattle.f11_store.specs.Moments.{IsRespectful, AreRespectful, Did, MoreWorkLa
 pub more_work_lags : MoreWorkLags
 more_work_lags t s w v rest is meant blocks headers lags =
     with_done (min lags.done (length w.parts))
-    (ap (take (min lags.done (length w.parts))) is ∙ take-append-le (min lags.done (length w.parts)) w.parts rest (omega arith) ∙ take_min lags.done w.parts)
+    (ap (take (min lags.done (length w.parts))) is ∙ take-append-le (min lags.done (length w.parts)) w.parts rest (omega arith)
+    ∙ take_min lags.done w.parts)
   where
     with_done : (n : ℕ) → take n v.parts ≡ take lags.done w.parts → LagsBy v t s
     with_done n e = record {
@@ -34,7 +37,8 @@ more_work_lags t s w v rest is meant blocks headers lags =
     }
 
 -- the files after one of two changes that do the same to a file
-pub same_change : (s : Store) (k : ℕ) (f : File) (c e : File → File) → s.file k ≡ Some f → c f ≡ e f → (m : ℕ) → (with_change s k c).file m ≡ (with_change s k e).file m
+pub same_change : (s : Store) (k : ℕ) (f : File) (c e : File → File) → s.file k ≡ Some f → c f ≡ e f → (m : ℕ)
+    → (with_change s k c).file m ≡ (with_change s k e).file m
 same_change s k f c e was same m = rw was (ap (λ (g : File). if m == k then Some g else s.file m) same)
 
 pub same_change_lags : SameChangeLags
@@ -50,12 +54,14 @@ same_change_lags t s k f c e was same lags = record {
   limits = lags.limits;
 }
   where
-    at : (m n : ℕ) → AreLike (t.file m) ((with_parts s (take n (file_changes k c ∷ []))).file m) → AreLike (t.file m) ((with_parts s (take n (file_changes k e ∷ []))).file m)
+    at : (m n : ℕ) → AreLike (t.file m) ((with_parts s (take n (file_changes k c ∷ []))).file m)
+        → AreLike (t.file m) ((with_parts s (take n (file_changes k e ∷ []))).file m)
     at m zero h = h
     at m (suc zero) h = subst (λ (o : Option File). AreLike (t.file m) o) (same_change s k f c e was same m) h
     at m (suc (suc n)) h = subst (λ (o : Option File). AreLike (t.file m) o) (same_change s k f c e was same m) h
 
-    slots_at : (n : ℕ) → t.slots ≡ (with_parts s (take n (file_changes k c ∷ []))).slots → t.slots ≡ (with_parts s (take n (file_changes k e ∷ []))).slots
+    slots_at : (n : ℕ) → t.slots ≡ (with_parts s (take n (file_changes k c ∷ []))).slots
+        → t.slots ≡ (with_parts s (take n (file_changes k e ∷ []))).slots
     slots_at zero h = h
     slots_at (suc zero) h = h
     slots_at (suc (suc n)) h = h
@@ -84,7 +90,8 @@ pub record AreAlike (a b : Store) : Type 0 where
 
 -- and so they do after a part, and after parts
 part_alike : (p : Part) (a b : Store) → IsRespectful p → AreAlike a b → AreAlike (with_part a p) (with_part b p)
-part_alike (file_changes k change) a b respects h = record { files = λ n. at (n == k) (a.file k) (b.file k) (h.files k) (a.file n) (b.file n) (h.files n); slots = h.slots }
+part_alike (file_changes k change) a b respects h =
+    record { files = λ n. at (n == k) (a.file k) (b.file k) (h.files k) (a.file n) (b.file n) (h.files n); slots = h.slots }
   where
     mapped : (o p : Option File) → AreLike o p → AreLike (option_map change o) (option_map change p)
     mapped None None l = tt
@@ -122,10 +129,12 @@ taken_respectful (suc n) (p ∷ ps) h = (h.0, taken_respectful n ps h.1)
 pub take-both : (xs ys : List Part) (n : ℕ) → take (length xs + n) (xs ++ ys) ≡ xs ++ take n ys
 take-both [] ys n = ap (λ k. take k ys) (let e : 0 + n ≡ n = omega arith in e)
 take-both (x ∷ xs) ys n =
-    ap (λ k. take k (x ∷ (xs ++ ys))) (let e : length (x ∷ xs) + n ≡ suc (length xs + n) = omega arith in e) ∙ ap (λ zs. x ∷ zs) (take-both xs ys n)
+    ap (λ k. take k (x ∷ (xs ++ ys))) (let e : length (x ∷ xs) + n ≡ suc (length xs + n) = omega arith in e)
+    ∙ ap (λ zs. x ∷ zs) (take-both xs ys n)
 
 -- after the first work's parts, some of the second's
-pub some_more : (s u : Store) (w : Work) (ps : List Part) → StoresAlike u (with_parts s w.parts) → u.slots ≡ (with_parts s w.parts).slots → AreRespectful ps →
+pub some_more : (s u : Store) (w : Work) (ps : List Part) → StoresAlike u (with_parts s w.parts) → u.slots ≡ (with_parts s w.parts).slots
+    → AreRespectful ps →
     AreAlike (with_parts u ps) (with_parts s (w.parts ++ ps))
 some_more s u w ps files slots respects =
     subst (λ (x : Store). AreAlike (with_parts u ps) x) (sym (fold-append with_part s w.parts ps))
@@ -155,12 +164,15 @@ pub lags_after : LagsAfter
 lags_after w v t u s did none respects lags = record {
   done = length w.parts + lags.done;
   files = λ n. subst (λ (ps : List Part). AreLike (t.file n) ((with_parts s ps).file n)) (sym split)
-      (alike_then (t.file n) ((with_parts u (take lags.done v.parts)).file n) ((with_parts s (w.parts ++ take lags.done v.parts)).file n) (lags.files n) (more.files n));
+      (alike_then (t.file n) ((with_parts u (take lags.done v.parts)).file n) ((with_parts s (w.parts ++ take lags.done v.parts)).file n)
+      (lags.files n) (more.files n));
   slots = lags.slots ∙ more.slots ∙ ap (λ (ps : List Part). (with_parts s ps).slots) (sym split);
-  others = λ n out. lags.others n (or_parts (w.is_meant n) (v.is_meant n) out).1 ∙ did.others n (or_parts (w.is_meant n) (v.is_meant n) out).0;
+  others = λ n out. lags.others n (or_parts (w.is_meant n) (v.is_meant n) out).1
+      ∙ did.others n (or_parts (w.is_meant n) (v.is_meant n) out).0;
   free_blocks = omega (arith, lags.free_blocks, did.free_blocks);
   headers = omega (arith, lags.headers, did.headers);
-  last = λ n low fileless. subst (λ (q : ℕ). (q ≡ last_of s n) ⊎ (q ≡ next_sequence (last_of s n))) (sym (lags.no_header none n low)) (last-done w u s n did);
+  last = λ n low fileless. subst (λ (q : ℕ). (q ≡ last_of s n) ⊎ (q ≡ next_sequence (last_of s n))) (sym (lags.no_header none n low))
+      (last-done w u s n did);
   no_header = λ e n low. lags.no_header none n low ∙ last-kept w u s n did (omega (arith, e));
   limits = same_limits_then s u t did.limits lags.limits;
 }
@@ -173,13 +185,16 @@ lags_after w v t u s did none respects lags = record {
 
 pub did_both : DidBoth
 did_both w v t u s did none respects next = record {
-  files = λ n. alike_then (t.file n) ((with_parts u v.parts).file n) ((with_parts s (w.parts ++ v.parts)).file n) (next.files n) (more.files n);
+  files = λ n. alike_then (t.file n) ((with_parts u v.parts).file n) ((with_parts s (w.parts ++ v.parts)).file n) (next.files n)
+      (more.files n);
   slots = next.slots ∙ more.slots;
   no_fewer = omega (arith, next.no_fewer, did.no_fewer);
-  others = λ n out. next.others n (or_parts (w.is_meant n) (v.is_meant n) out).1 ∙ did.others n (or_parts (w.is_meant n) (v.is_meant n) out).0;
+  others = λ n out. next.others n (or_parts (w.is_meant n) (v.is_meant n) out).1
+      ∙ did.others n (or_parts (w.is_meant n) (v.is_meant n) out).0;
   free_blocks = omega (arith, next.free_blocks, did.free_blocks);
   headers = omega (arith, next.headers, did.headers);
-  last = λ n low. subst (λ (q : ℕ). (q ≡ last_of s n) ⊎ (q ≡ next_sequence (last_of s n))) (sym (next.no_header none n low)) (last-done w u s n did);
+  last = λ n low. subst (λ (q : ℕ). (q ≡ last_of s n) ⊎ (q ≡ next_sequence (last_of s n))) (sym (next.no_header none n low))
+      (last-done w u s n did);
   no_header = λ e n low. next.no_header none n low ∙ last-kept w u s n did (omega (arith, e));
   limits = same_limits_then s u t did.limits next.limits;
 }
@@ -191,7 +206,8 @@ did_both w v t u s did none respects next = record {
 pub extends_did : (u s : Store) (d : FileId) (n : ℕ) → Extends s d.number n u → Did (extend_work d.number (file_named s d).room n) u s
 extends_did u s d n grows =
     subst (λ (x : Store). Did (extend_work d.number (file_named s d).room n) x s) (sym grows.store_is)
-    (did_taking (extend_work d.number (file_named s d).room n) s (with_grown_file s d.number grows.before n (zero_blocks n) grows.added grows.pointers grows.room)
+    (did_taking (extend_work d.number (file_named s d).room n) s
+    (with_grown_file s d.number grows.before n (zero_blocks n) grows.added grows.pointers grows.room)
     (grown_alike s d.number n grows.before grows.added grows.pointers grows.room grows.was)
     (sym (extend_and_slots s d.number n))
     (grown_takes s d.number n grows.before (zero_blocks n) grows.added grows.pointers grows.room (file_named s d).room
@@ -231,7 +247,8 @@ change_did s k change = record {
 
 -- what takes nothing, and makes the files
 pub frees_did :
-    (w : Work) (u s : Store) → StoresAlike u (with_parts s w.parts) → u.slots ≡ (with_parts s w.parts).slots → Frees s w.is_meant u → Did w u s
+    (w : Work) (u s : Store) → StoresAlike u (with_parts s w.parts) → u.slots ≡ (with_parts s w.parts).slots → Frees s w.is_meant u
+    → Did w u s
 frees_did w u s files slots frees = record {
   files = files;
   slots = slots;

@@ -3,7 +3,8 @@ use Rattle.std.proofs.Common.{◌≡◌, ℕ, zero, suc, ◌+◌, List, ◌∷�
 use Rattle.std.specs.List.{range_with_len}
 
 -- two runs of blocks, one behind the other
-pub range_with_len-append : (from few more : ℕ) → range_with_len from (few + more) ≡ range_with_len from few ++ range_with_len (from + few) more
+pub range_with_len-append : (from few more : ℕ)
+    → range_with_len from (few + more) ≡ range_with_len from few ++ range_with_len (from + few) more
 range_with_len-append from zero more = rw (zero-add, add-zero) refl
 range_with_len-append from (suc few) more =
     let counts : suc few + more ≡ suc (few + more) = omega arith in

@@ -1,8 +1,11 @@
 -- Records of a directory, read after one was written.
-use Rattle.std.proofs.Common.{◌≡◌, ◌≢◌, ℕ, zero, suc, ◌+◌, ◌-◌, ◌*◌, ◌/◌, ◌%◌, ◌<◌, ◌≤◌, ◌==◌, ◌||◌, Bool, true, false, List, [], ◌∷◌, ◌++◌, Some, length, take, drop, get_or, set, map, find, if◌then◌else◌, refl, sym, ◌∙◌, ap, subst, arith, inl, inr, ◌⊎◌, append_assoc, length-append, nat_lt}
+use Rattle.std.proofs.Common.{◌≡◌, ◌≢◌, ℕ, zero, suc, ◌+◌, ◌-◌, ◌*◌, ◌/◌, ◌%◌, ◌<◌, ◌≤◌, ◌==◌, ◌||◌, Bool, true, false, List, [], ◌∷◌, ◌++◌}
+use Rattle.std.proofs.Common.{Some, length, take, drop, get_or, set, map, find, if◌then◌else◌, refl, sym, ◌∙◌, ap, subst, arith, inl, inr}
+use Rattle.std.proofs.Common.{◌⊎◌, append_assoc, length-append, nat_lt}
 use Rattle.std.specs.List.{range_with_len, list_any}
 use Rattle.std.proofs.lemmas.Bool.Decides.{eqb_tells, nat_tests}
-use Rattle.std.proofs.lemmas.List.{length-take-le, length-drop, drop-append-le, take-append-le, drop-take, take-take, get_or-set_same, get_or-set_other}
+use Rattle.std.proofs.lemmas.List.{length-take-le, length-drop, drop-append-le, take-append-le, drop-take, take-take, get_or-set_same}
+use Rattle.std.proofs.lemmas.List.{get_or-set_other}
 use Rattle.std.proofs.lemmas.Slice.{drop-append-drop}
 use Rattle.std.proofs.Math.Seq.{drop-append_seam, take-append_seam}
 use Rattle.f11_store.specs.Directory.{record_in, record_at, with_bytes, with_record}
@@ -33,7 +36,8 @@ record_before b r p q before within =
     taken = length-take-le p b within
 
 -- a record behind it
-record_behind : (b r : List ℕ) (p q : ℕ) → p + 16 ≤ q → p ≤ length b → length r ≡ 16 → take 16 (drop q (with_bytes b p r)) ≡ take 16 (drop q b)
+record_behind : (b r : List ℕ) (p q : ℕ) → p + 16 ≤ q → p ≤ length b → length r ≡ 16
+    → take 16 (drop q (with_bytes b p r)) ≡ take 16 (drop q b)
 record_behind b r p q behind within sixteen =
     ap (λ l. take 16 (drop q l)) (sym (append_assoc (take p b) r (drop (p + length r) b)))
     ∙ ap (take 16) (drop-append-drop (p + length r) b (take p b ++ r) q (omega arith) long)
@@ -69,7 +73,8 @@ record_at-same blocks i r there whole sixteen =
 
 -- another record
 pub record_at-other :
-    (blocks : List (List ℕ)) (i j : ℕ) (r : List ℕ) → j ≢ i → i / 32 < length blocks → length (get_or blocks (i / 32) []) ≡ 512 → length r ≡ 16 →
+    (blocks : List (List ℕ)) (i j : ℕ) (r : List ℕ) → j ≢ i → i / 32 < length blocks → length (get_or blocks (i / 32) []) ≡ 512
+    → length r ≡ 16 →
     record_at (with_record blocks i r) j ≡ record_at blocks j
 unfolding record_at with_record
 record_at-other blocks i j r differs there whole sixteen = by_block (eqb_tells (j / 32) (i / 32))
@@ -93,7 +98,9 @@ neither true c h = absurd (cc)
 pub none_passes :
     (p : List ℕ → Bool) (g : ℕ → List ℕ) (a m j : ℕ) → list_any p (map g (range_with_len a m)) ≡ false → a ≤ j → j < a + m → p (g j) ≡ false
 none_passes p g a zero j h low high = absurd (omega arith)
-none_passes p g a (suc m) j h low high = by_number (eqb_tells j a) (neither (p (g a)) _ h) (λ above. none_passes p g (a + 1) m j (neither (p (g a)) _ h).1 (omega arith) (omega arith))
+none_passes p g a (suc m) j h low high =
+    by_number (eqb_tells j a) (neither (p (g a)) _ h)
+    (λ above. none_passes p g (a + 1) m j (neither (p (g a)) _ h).1 (omega arith) (omega arith))
   where
     by_number : ((j == a) ≡ true) × (j ≡ a) ⊎ ((j == a) ≡ false) × (j ≢ a) →
         (p (g a) ≡ false) × (list_any p (map g (range_with_len (a + 1) m)) ≡ false) → (a + 1 ≤ j → p (g j) ≡ false) → p (g j) ≡ false
@@ -119,6 +126,7 @@ pub some_passes : (p : List ℕ → Bool) (xs : List (List ℕ)) (x : List ℕ) 
 some_passes p [] x h = absurd (cc)
 some_passes p (y ∷ ys) x h = by_test (p y) h (λ e. some_passes p ys x e)
   where
-    by_test : (b : Bool) → (if b then Some y else find p ys) ≡ Some x → (find p ys ≡ Some x → list_any p ys ≡ true) → (b || list_any p ys) ≡ true
+    by_test : (b : Bool) → (if b then Some y else find p ys) ≡ Some x → (find p ys ≡ Some x → list_any p ys ≡ true)
+        → (b || list_any p ys) ≡ true
     by_test true e rest = refl
     by_test false e rest = rest e

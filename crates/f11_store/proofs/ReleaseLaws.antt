@@ -1,5 +1,6 @@
 -- Accesses that are given up one after another.
-use Rattle.std.proofs.Common.{◌≡◌, ℕ, zero, suc, ◌+◌, ◌≤◌, ◌==◌, Bool, true, false, List, [], ◌∷◌, ◌++◌, Option, Some, None, fold, if◌then◌else◌, refl, sym, ◌∙◌, ap, arith, append_assoc}
+use Rattle.std.proofs.Common.{◌≡◌, ℕ, zero, suc, ◌+◌, ◌≤◌, ◌==◌, Bool, true, false, List, [], ◌∷◌, ◌++◌, Option, Some, None, fold}
+use Rattle.std.proofs.Common.{if◌then◌else◌, refl, sym, ◌∙◌, ap, arith, append_assoc}
 use Rattle.std.specs.List.{range_with_len}
 use Rattle.std.proofs.lemmas.Bool.{or_parts}
 use Rattle.std.proofs.lemmas.List.Sums.{fold-append}
@@ -11,7 +12,8 @@ use Rattle.f11_store.proofs.Frees.{Frees, frees_given_up}
 use Rattle.f11_store.proofs.Growth.{alike}
 use Rattle.f11_store.specs.Moments.{AreRespectful, Did}
 use Rattle.f11_store.proofs.Respects.{both_respectful}
-use Rattle.f11_store.specs.Release.{released, DeaccessDid, ReleasedDid, ReleaseLags, ReleaseGoesOn, ReleaseEnds, released_cost, ReleaseCostGoesOn, ReleaseFits}
+use Rattle.f11_store.specs.Release.{released, DeaccessDid, ReleasedDid, ReleaseLags, ReleaseGoesOn, ReleaseEnds, released_cost}
+use Rattle.f11_store.specs.Release.{ReleaseCostGoesOn, ReleaseFits}
 use Rattle.f11_store.proofs.ProgressLaws.{frees_did, more_work_lags, lags_after, did_both, nothing_did}
 
 -- what is given up
@@ -33,18 +35,21 @@ pub deaccess_did : DeaccessDid
 deaccess_did s task lun = given_up_did s task lun (s.access task lun)
 
 -- its parts do alike to files that are alike, and it takes no header
-plain : (s : Store) (task lun : ℕ) (o : Option Access) → AreRespectful (give_up_work s task lun o).parts × ((give_up_work s task lun o).headers ≡ 0)
+plain : (s : Store) (task lun : ℕ) (o : Option Access)
+    → AreRespectful (give_up_work s task lun o).parts × ((give_up_work s task lun o).headers ≡ 0)
 plain s task lun None = (tt, refl)
 plain s task lun (Some a) = by_test (is_due (with_access s task lun None) a.file)
   where
-    by_test : (b : Bool) → AreRespectful (if b then go_work a.file.number else no_work).parts × ((if b then go_work a.file.number else no_work).headers ≡ 0)
+    by_test : (b : Bool) → AreRespectful (if b then go_work a.file.number else no_work).parts
+        × ((if b then go_work a.file.number else no_work).headers ≡ 0)
     by_test true = ((tt, tt), refl)
     by_test false = (tt, refl)
 
 plain_deaccess : (s : Store) (task lun : ℕ) → AreRespectful (deaccess_work s task lun).parts × ((deaccess_work s task lun).headers ≡ 0)
 plain_deaccess s task lun = plain s task lun (s.access task lun)
 
-plain_release : (luns : List ℕ) (s : Store) (task : ℕ) → AreRespectful (release_work s task luns).parts × ((release_work s task luns).headers ≡ 0)
+plain_release : (luns : List ℕ) (s : Store) (task : ℕ)
+    → AreRespectful (release_work s task luns).parts × ((release_work s task luns).headers ≡ 0)
 plain_release [] s task = (tt, refl)
 plain_release (lun ∷ luns) s task = (
   both_respectful (deaccess_work s task lun).parts (release_work (after_deaccess s task lun) task luns).parts (plain_deaccess s task lun).0
@@ -57,7 +62,8 @@ released_did s task [] = nothing_did s
 released_did s task (lun ∷ luns) =
     did_both (deaccess_work s task lun) (release_work (after_deaccess s task lun) task luns)
     (fold (λ t l. after_deaccess t task l) (after_deaccess s task lun) luns) (after_deaccess s task lun) s
-    (deaccess_did s task lun) (plain_release luns (after_deaccess s task lun) task).1 (plain_release luns (after_deaccess s task lun) task).0
+    (deaccess_did s task lun) (plain_release luns (after_deaccess s task lun) task).1
+    (plain_release luns (after_deaccess s task lun) task).0
     (released_did (after_deaccess s task lun) task luns)
 
 -- one work is the first of another
@@ -91,7 +97,8 @@ first_luns :
 first_luns [] s task lun rest = record {
   rest = (release_work (after_deaccess s task lun) task rest).parts;
   parts = refl;
-  meant = λ n out. (or_parts ((deaccess_work s task lun).is_meant n) ((release_work (after_deaccess s task lun) task rest).is_meant n) out).0;
+  meant = λ n out. (or_parts ((deaccess_work s task lun).is_meant n) ((release_work (after_deaccess s task lun) task rest).is_meant n)
+      out).0;
   blocks = omega arith;
   headers = omega arith;
 }
@@ -143,7 +150,8 @@ release_ends s task = refl
 
 -- costs add up
 cost_more : (before luns : List ℕ) (s : Store) (task : ℕ) →
-    release_cost s task (before ++ luns) ≡ release_cost s task before + release_cost (fold (λ t l. after_deaccess t task l) s before) task luns
+    release_cost s task (before ++ luns) ≡ release_cost s task before + release_cost (fold (λ t l. after_deaccess t task l) s before) task
+    luns
 cost_more [] luns s task = let e : release_cost s task luns ≡ 0 + release_cost s task luns = omega arith in e
 cost_more (l ∷ ls) luns s task = omega (arith, cost_more ls luns (after_deaccess s task l) task)
 
@@ -152,7 +160,8 @@ release_cost_goes_on s task k =
     let e : 0 + k ≡ k = omega arith in
     ap (release_cost s task) (one_more 0 k ∙ ap (λ n. range_with_len 0 k ++ n ∷ []) e)
     ∙ cost_more (range_with_len 0 k) (k ∷ []) s task
-    ∙ (let z : deaccess_cost (released s task k) task k + 0 ≡ deaccess_cost (released s task k) task k = omega arith in ap (λ n. released_cost s task k + n) z)
+    ∙ (let z : deaccess_cost (released s task k) task k + 0 ≡ deaccess_cost (released s task k) task k = omega arith in
+    ap (λ n. released_cost s task k + n) z)
 
 pub release_fits : ReleaseFits
 release_fits s task zero few = omega arith

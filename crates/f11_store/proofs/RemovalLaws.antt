@@ -1,5 +1,6 @@
 -- What Find answers after a name was removed.
-use Rattle.std.proofs.Common.{◌≡◌, ◌≢◌, ℕ, ◌+◌, ◌<◌, ◌||◌, Bool, true, false, not, List, [], ◌∷◌, Some, None, Result, Ok, Err, length, get_or, nat_lt, unwrap_or, if◌then◌else◌, refl, sym, ◌∙◌, ap, subst, inl, inr, ◌⊎◌, ◌==◌, arith}
+use Rattle.std.proofs.Common.{◌≡◌, ◌≢◌, ℕ, ◌+◌, ◌<◌, ◌||◌, Bool, true, false, not, List, [], ◌∷◌, Some, None, Result, Ok, Err, length}
+use Rattle.std.proofs.Common.{get_or, nat_lt, unwrap_or, if◌then◌else◌, refl, sym, ◌∙◌, ap, subst, inl, inr, ◌⊎◌, ◌==◌, arith}
 use Rattle.std.specs.Prelude.{position}
 use Rattle.std.specs.List.{list_any, position_or_len}
 use Rattle.std.proofs.lemmas.Bool.{ltb-true, lt-ltb}
@@ -10,14 +11,16 @@ use Rattle.std.proofs.lemmas.List.FromFn.{get_or-map-range_with_len}
 use Rattle.f11_store.specs.declared.callers.Uic.{Uic}
 use Rattle.f11_store.specs.declared.files.FileId.{FileId}
 use Rattle.f11_store.specs.declared.refusals.Refusal.{Refusal}
-use Rattle.f11_store.specs.declared.refusals.Refusal.TheVariants.{BadArgument, SystemFile, NoSuchFile, Marked, NoPrivilege, NotDirectory, NoSuchEntry}
+use Rattle.f11_store.specs.declared.refusals.Refusal.TheVariants.{BadArgument, SystemFile, NoSuchFile, Marked, NoPrivilege, NotDirectory}
+use Rattle.f11_store.specs.declared.refusals.Refusal.TheVariants.{NoSuchEntry}
 use Rattle.f11_store.specs.declared.protection.Right.TheVariants as right
 use Rattle.f11_store.specs.declared.requests.Reply.{Reply}
 use Rattle.f11_store.specs.declared.requests.Reply.TheVariants as reply
 use Rattle.f11_store.specs.declared.requests.Request.TheVariants as request
 use Rattle.f11_store.specs.File.{File, is_marked}
 use Rattle.f11_store.specs.Store.{Store, file_named}
-use Rattle.f11_store.specs.Directory.{is_directory, record_at, entry_count, entries_of, record_id, has_name, index_of_name, record_of, is_entered, empty_record}
+use Rattle.f11_store.specs.Directory.{is_directory, record_at, entry_count, entries_of, record_id, has_name, index_of_name, record_of}
+use Rattle.f11_store.specs.Directory.{is_entered, empty_record}
 use Rattle.f11_store.specs.Causes.{◌⇐◌, first_of, is_bad, is_missing, lacks, first_refusal}
 use Rattle.f11_store.specs.Step.{Step}
 use Rattle.f11_store.specs.Laws.{IsFoundElsewhere, RemovedThenFound}
@@ -40,7 +43,8 @@ none_placed p xs h = by_test (nat_lt (position_or_len p xs) (length xs)) refl
   where
     by_test : (b : Bool) → nat_lt (position_or_len p xs) (length xs) ≡ b → (if b then Some (position_or_len p xs) else None) ≡ None
     by_test false e = refl
-    by_test true e = let none = list_any_at p xs (position_or_len p xs) [] (ltb-true _ _ e) (passes_at_first p xs [] (ltb-true _ _ e)) in absurd (cc)
+    by_test true e =
+        let none = list_any_at p xs (position_or_len p xs) [] (ltb-true _ _ e) (passes_at_first p xs [] (ltb-true _ _ e)) in absurd (cc)
 
 -- what a served Find tells: the name stands
 entered_where_found :
@@ -77,7 +81,8 @@ has_name-empty_record name = refl
 -- a record before the first with the name hasn't got it
 earlier_lacks : (f : File) (name : List ℕ) (i j : ℕ) → index_of_name name f ≡ Some i → j < i → has_name name (record_at f.blocks j) ≡ false
 earlier_lacks f name i j first before =
-    ap (has_name name) (sym (entry_at f j within)) ∙ fails_before_first (has_name name) (entries_of f) j [] (rw (first_place (has_name name) (entries_of f) i first) before)
+    ap (has_name name) (sym (entry_at f j within))
+    ∙ fails_before_first (has_name name) (entries_of f) j [] (rw (first_place (has_name name) (entries_of f) i first) before)
   where
     inside : i < length (entries_of f)
     inside = placed (has_name name) (entries_of f) i first
@@ -98,8 +103,11 @@ first_of_name f name h = record {
   within = within;
   has = has;
   place = rw (lt-ltb _ _ inside) refl;
-  found = ap (λ o. unwrap_or o []) (first_found (has_name name) (record_at f.blocks) 0 (entry_count f) j (omega arith) (omega (arith, within)) has
-      (λ k low below. ap (has_name name) (sym (entry_at f k (omega (arith, below, within)))) ∙ fails_before_first (has_name name) (entries_of f) k [] below));
+  found =
+      ap (λ o. unwrap_or o [])
+      (first_found (has_name name) (record_at f.blocks) 0 (entry_count f) j (omega arith) (omega (arith, within)) has
+      (λ k low below. ap (has_name name) (sym (entry_at f k (omega (arith, below, within))))
+      ∙ fails_before_first (has_name name) (entries_of f) k [] below));
 }
   where
     j : ℕ
@@ -127,7 +135,8 @@ stands_behind f f' name i j first went now = by_order (eqb_tells j i) (nat_lt j 
     by_order : ((j == i) ≡ true) × (j ≡ i) ⊎ ((j == i) ≡ false) × (j ≢ i) → (b : Bool) → nat_lt j i ≡ b → i < j
     by_order (inl w) b e =
         let gone : has_name name (record_at f'.blocks j) ≡ false =
-        ap (λ n. has_name name (record_at f'.blocks n)) w.1 ∙ ap (has_name name) went.emptied ∙ has_name-empty_record name in absurd (cc (gone, now.has))
+        ap (λ n. has_name name (record_at f'.blocks n)) w.1 ∙ ap (has_name name) went.emptied ∙ has_name-empty_record name in
+        absurd (cc (gone, now.has))
     by_order (inr w) true e =
         let lacks : has_name name (record_at f'.blocks j) ≡ false =
         ap (has_name name) (went.others j w.1) ∙ earlier_lacks f name i j first (ltb-true _ _ e) in absurd (cc (lacks, now.has))
@@ -135,27 +144,34 @@ stands_behind f f' name i j first went now = by_order (eqb_tells j i) (nat_lt j 
 
 -- what Find then answers
 found_elsewhere :
-    (s : Store) (f : File) (other : ℕ) (reader : Uic) (d : FileId) (name : List ℕ) (i : ℕ) (before : List ℕ) (result : Result Reply Refusal) (s' : Store) (after : List ℕ) →
+    (s : Store) (f : File) (other : ℕ) (reader : Uic) (d : FileId) (name : List ℕ) (i : ℕ) (before : List ℕ) (result : Result Reply Refusal)
+    (s' : Store) (after : List ℕ) →
     index_of_name name f ≡ Some i → IsEmptied f (file_named s d) i → Step s other reader (request.Find d name) before result s' after →
     IsFoundElsewhere i name (file_named s d) result
 found_elsewhere s f other reader d name i before (Ok a) s' after first went k =
-    let now : IsFirst name (file_named s d) (position_or_len (has_name name) (entries_of (file_named s d))) = first_of_name (file_named s d) name stands in
+    let now : IsFirst name (file_named s d) (position_or_len (has_name name) (entries_of (file_named s d))) =
+    first_of_name (file_named s d) name stands in
     (_, stands_behind f (file_named s d) name i _ first went now, now.place, k.reply_is ∙ ap (λ r. reply.Found (record_id r)) now.found)
   where
     stands : is_entered name (file_named s d) ≡ true
-    stands = entered_where_found (is_bad d) (nat_lt d.number 4) (is_missing s d) (is_marked (file_named s d)) (lacks right.Read reader (file_named s d))
+    stands =
+        entered_where_found (is_bad d) (nat_lt d.number 4) (is_missing s d) (is_marked (file_named s d))
+        (lacks right.Read reader (file_named s d))
         (not (is_directory (file_named s d))) (is_entered name (file_named s d)) k.no_cause
-found_elsewhere s f other reader d name i before (Err e) s' after first went k = λ missing. by_test (is_entered name (file_named s d)) refl missing
+found_elsewhere s f other reader d name i before (Err e) s' after first went k =
+    λ missing. by_test (is_entered name (file_named s d)) refl missing
   where
     by_test : (b : Bool) → is_entered name (file_named s d) ≡ b → e ≡ NoSuchEntry → index_of_name name (file_named s d) ≡ None
     by_test false h missing = none_placed (has_name name) (entries_of (file_named s d)) h
     by_test true h missing =
         absurd (refused_otherwise (first_refusal s other reader (request.Find d name)) e
-        (λ x refused. found_causes (is_bad d) (nat_lt d.number 4) (is_missing s d) (is_marked (file_named s d)) (lacks right.Read reader (file_named s d))
+        (λ x refused. found_causes (is_bad d) (nat_lt d.number 4) (is_missing s d) (is_marked (file_named s d))
+        (lacks right.Read reader (file_named s d))
         (not (is_directory (file_named s d))) (is_entered name (file_named s d)) x h refused)
         k.may_refuse missing)
 
 pub removed_then_found : RemovedThenFound
 removed_then_found s task caller d name block a s' block' i other reader before result s'' after whole after_remove first found =
     let left = removed_is_empty s task caller d name block a s' block' i whole after_remove first in
-    found_elsewhere s' (file_named s d) other reader d name i before result s'' after first (record { emptied = left.1; others = left.2 }) found
+    found_elsewhere s' (file_named s d) other reader d name i before result s'' after first (record { emptied = left.1; others = left.2 })
+    found

@@ -1,5 +1,6 @@
 -- How many slots are free where some come into use.
-use Rattle.std.proofs.Common.{◌≡◌, ◌≢◌, ℕ, zero, suc, ◌+◌, ◌≤◌, ◌==◌, ◌&&◌, ◌||◌, Bool, true, false, not, List, [], ◌∷◌, length, refl, sym, arith, filter, if◌then◌else◌, ◌⊎◌, inl, inr}
+use Rattle.std.proofs.Common.{◌≡◌, ◌≢◌, ℕ, zero, suc, ◌+◌, ◌≤◌, ◌==◌, ◌&&◌, ◌||◌, Bool, true, false, not, List, [], ◌∷◌, length, refl, sym}
+use Rattle.std.proofs.Common.{arith, filter, if◌then◌else◌, ◌⊎◌, inl, inr}
 use Rattle.std.specs.List.{range_with_len}
 use Rattle.std.proofs.lemmas.Bool.Decides.{eqb_tells}
 use Rattle.f11_store.specs.Changes.{is_in}
@@ -102,7 +103,8 @@ filter_but (x ∷ xs) p q a m h =
       arith,
       filter_but xs p (λ n. p n && not (is_in xs n)) a m (λ n out t. both_true (p n) (not (is_in xs n)) t (not_of_false (is_in xs n) out)),
       filter_but_one (λ n. p n && not (is_in xs n)) q x a m
-          (λ n differs t. h n (none_of_two (x == n) (is_in xs n) (other_number x n (λ e. differs (sym e))) (second_false (p n) (is_in xs n) t)) (first_true (p n) (not (is_in xs n)) t)),
+          (λ n differs t. h n (none_of_two (x == n) (is_in xs n) (other_number x n (λ e. differs (sym e)))
+          (second_false (p n) (is_in xs n) t)) (first_true (p n) (not (is_in xs n)) t)),
     )
 
 -- more pass among more numbers

@@ -1,9 +1,12 @@
 -- The index file of the plain store grows before headers are taken.
-use Rattle.std.proofs.Common.{◌≡◌, ℕ, zero, suc, ◌+◌, ◌-◌, ◌≤◌, ◌<◌, ◌==◌, ◌&&◌, ◌⊎◌, ◌∷◌, ◌++◌, Bool, true, false, not, nat_le, nat_lt, List, [], Option, Some, None, length, take, unwrap_or, filter, slice_index, option_map, option_and_then, refl, sym, ◌∙◌, ap, subst, arith, if◌then◌else◌}
+use Rattle.std.proofs.Common.{◌≡◌, ℕ, zero, suc, ◌+◌, ◌-◌, ◌≤◌, ◌<◌, ◌==◌, ◌&&◌, ◌⊎◌, ◌∷◌, ◌++◌, Bool, true, false, not, nat_le, nat_lt}
+use Rattle.std.proofs.Common.{List, [], Option, Some, None, length, take, unwrap_or, filter, slice_index, option_map, option_and_then, refl}
+use Rattle.std.proofs.Common.{sym, ◌∙◌, ap, subst, arith, if◌then◌else◌}
 use Rattle.std.proofs.lemmas.Bool.Decides.{nat_tests}
 use Rattle.std.proofs.lemmas.List.Elements.{filter-append}
 use Rattle.f11_store.proofs.RangeLemmas.{range_with_len-append}
-use Rattle.f11_store.specs.Changes.{next_sequence, GetsSlots, Grows, GrowsIndex, MayGrow, grown_file, with_grown_file, with_more_slots, with_slots_added}
+use Rattle.f11_store.specs.Changes.{next_sequence, GetsSlots, Grows, GrowsIndex, MayGrow, grown_file, with_grown_file, with_more_slots}
+use Rattle.f11_store.specs.Changes.{with_slots_added}
 use Rattle.f11_store.specs.File.{File, no_file, need}
 use Rattle.f11_store.specs.Headroom.{lacking, lacks_headers, may_get_slots, slots_first}
 use Rattle.f11_store.specs.Store.{Store, free_headers, free_slots, index_file}
@@ -13,7 +16,8 @@ use Rattle.f11_store.specs.declared.callers.Uic.{Uic}
 use Rattle.f11_store.specs.Changes.{new_file}
 use Rattle.f11_store.specs.Lags.{create_work, extend_work, new_file_work}
 use Rattle.f11_store.specs.declared.files.FileId.{FileId}
-use Rattle.f11_store.specs.Lags.{and_then, after_slots, grow_parts, grow_work, last_of, with_no_mark, with_parts, AreLike, LagsBy, Part, Work}
+use Rattle.f11_store.specs.Lags.{and_then, after_slots, grow_parts, grow_work, last_of, with_no_mark, with_parts, AreLike, LagsBy, Part}
+use Rattle.f11_store.specs.Lags.{Work}
 use Rattle.f11_store.specs.Changes.{with_change}
 use Rattle.f11_store.specs.Moments.{AreRespectful, Did, LengthensDid}
 use Rattle.f11_store.proofs.Respects.{extend_respectful}
@@ -60,7 +64,8 @@ gains-no-header : (s t : Store) (n : ℕ) → n ≤ (index_file s).room → (e :
     t ≡ grown-store s n e.grows.before e.grows.pointers e.grows.room
 gains-no-header s t n fits e =
     e.store_is ∙ ap (λ (x : Store). with_more_slots x n) e.grows.store_is
-    ∙ ap (λ (i : ℕ). with_more_slots (with_grown_file s 1 e.grows.before n [] i e.grows.pointers e.grows.room) n) {x = e.grows.added} {y = 0} none
+    ∙ ap (λ (i : ℕ). with_more_slots (with_grown_file s 1 e.grows.before n [] i e.grows.pointers e.grows.room) n) {x = e.grows.added}
+    {y = 0} none
   where
     same : index_file s ≡ e.grows.before
     same = ap (λ (o : Option File). unwrap_or o no_file) e.grows.was
@@ -83,7 +88,8 @@ gained-is-ready s t headers gains = by_count (slots_first s headers) (first-fit 
     })
     by_count (suc n) fits e =
         subst (IsReady s (suc n)) (sym (gains-no-header s t (suc n) fits.places e)) (record {
-          others = λ m other. ap (λ (b : Bool). if b then Some (grown_file s e.grows.before [] 0 e.grows.pointers e.grows.room) else s.file m) other;
+          others = λ m other. ap (λ (b : Bool). if b then Some (grown_file s e.grows.before [] 0 e.grows.pointers e.grows.room) else s.file
+              m) other;
           free = refl;
           slots = refl;
           in_use = refl;
@@ -101,14 +107,16 @@ gaining-lags s t headers n work is lags =
 
 -- what a slot was last given stays: those that are added were given none
 pub last-stays : (s t : Store) (n m : ℕ) → IsReady s n t → last_of t m ≡ last_of s m
-last-stays s t zero m ready = ap (λ (k : ℕ). if nat_le m k then t.last m else 0) ready.slots ∙ ap (λ (l : ℕ → ℕ). if nat_le m s.slots then l m else 0) ready.last
+last-stays s t zero m ready =
+    ap (λ (k : ℕ). if nat_le m k then t.last m else 0) ready.slots ∙ ap (λ (l : ℕ → ℕ). if nat_le m s.slots then l m else 0) ready.last
 last-stays s t (suc n) m ready =
     ap (λ (k : ℕ). if nat_le m k then t.last m else 0) ready.slots
     ∙ ap (λ (l : ℕ → ℕ). if nat_le m (s.slots + suc n) then l m else 0) ready.last
     ∙ by_number s.slots (suc n) (s.last m)
   where
     by_number : (slots more l : ℕ) →
-        (if nat_le m (slots + more) then (if nat_lt slots m && nat_le m (slots + more) then 0 else l) else 0) ≡ (if nat_le m slots then l else 0)
+        (if nat_le m (slots + more) then (if nat_lt slots m && nat_le m (slots + more) then 0 else l) else 0)
+        ≡ (if nat_le m slots then l else 0)
     by_number slots more l = grind (arith, nat_tests)
 
 -- no fewer headers are free then
@@ -121,16 +129,28 @@ no-fewer-headers s t n ready =
 gained-alike : (s t : Store) (n : ℕ) → GrowsIndex s n t → StoresAlike t (with_parts s (grow_parts n))
 gained-alike s t n e m =
     subst (λ (x : Store). AreLike (t.file m) (x.file m)) (sym (parts_of_growth s n))
-    (subst (λ (x : Store). AreLike (x.file m) ((with_change s 1 with_no_mark).file m)) (sym (e.store_is ∙ ap (λ (x : Store). with_more_slots x n) e.grows.store_is))
-    (subst (λ (o : Option File). AreLike (if m == 1 then Some (grown_file s f [] e.grows.added e.grows.pointers e.grows.room) else s.file m) (if m == 1 then option_map with_no_mark o else s.file m)) (sym e.grows.was)
+    (subst (λ (x : Store). AreLike (x.file m) ((with_change s 1 with_no_mark).file m))
+    (sym (e.store_is ∙ ap (λ (x : Store). with_more_slots x n) e.grows.store_is))
+    (subst (λ (o : Option File). AreLike (if m == 1 then Some (grown_file s f [] e.grows.added e.grows.pointers e.grows.room) else s.file m)
+    (if m == 1 then option_map with_no_mark o else s.file m)) (sym e.grows.was)
     (by_test (m == 1) (s.file m))))
   where
     f : File
     f = e.grows.before
 
     by_test : (here : Bool) (o : Option File)
-        → AreLike (if here then Some (grown_file s f [] e.grows.added e.grows.pointers e.grows.room) else o) (if here then Some (with_no_mark f) else o)
-    by_test true o = record { sequence = refl; owner = refl; protection = refl; characteristics = refl; ident = refl; attr = refl; blocks = append-nil f.blocks }
+        → AreLike (if here then Some (grown_file s f [] e.grows.added e.grows.pointers e.grows.room) else o)
+        (if here then Some (with_no_mark f) else o)
+    by_test true o =
+        record {
+          sequence = refl;
+          owner = refl;
+          protection = refl;
+          characteristics = refl;
+          ident = refl;
+          attr = refl;
+          blocks = append-nil f.blocks;
+        }
     by_test false o = alike o
 
 -- after slots were added, what lags by the rest
@@ -139,12 +159,14 @@ gained-then : (s u t : Store) (n : ℕ) (v : Work) → GrowsIndex s (suc n) u �
 gained-then s u t n v e ready respects lags = record {
   done = length w.parts + lags.done;
   files = λ m. subst (λ (ps : List Part). AreLike (t.file m) ((with_parts s ps).file m)) (sym split)
-      (alike_then (t.file m) ((with_parts u (take lags.done v.parts)).file m) ((with_parts s (w.parts ++ take lags.done v.parts)).file m) (lags.files m) (more.files m));
+      (alike_then (t.file m) ((with_parts u (take lags.done v.parts)).file m) ((with_parts s (w.parts ++ take lags.done v.parts)).file m)
+      (lags.files m) (more.files m));
   slots = lags.slots ∙ more.slots ∙ ap (λ (ps : List Part). (with_parts s ps).slots) (sym split);
   others = λ m out. lags.others m (or_parts (m == 1) (v.is_meant m) out).1 ∙ ready.others m (or_parts (m == 1) (v.is_meant m) out).0;
   free_blocks = omega (arith, lags.free_blocks, ready.free);
   headers = omega (arith, lags.headers, no-fewer-headers s u n ready);
-  last = λ m low fileless. subst (λ (q : ℕ). (t.last m ≡ q) ⊎ (t.last m ≡ next_sequence q)) (last-stays s u (suc n) m ready) (lags.last m low fileless);
+  last = λ m low fileless. subst (λ (q : ℕ). (t.last m ≡ q) ⊎ (t.last m ≡ next_sequence q)) (last-stays s u (suc n) m ready)
+      (lags.last m low fileless);
   no_header = λ none m low. lags.no_header (omega (arith, none)) m low ∙ last-stays s u (suc n) m ready;
   limits = same_limits_then s u t ready.limits lags.limits;
 }
@@ -194,7 +216,8 @@ new-file-stays s t n caller word ident attr ready = λ i.
 
 -- a file has the blocks that it had: the index file has none
 pub gained-blocks : (s t : Store) (n k : ℕ) (f g : File) → GetsSlots n s t → s.file k ≡ Some f → t.file k ≡ Some g → g.blocks ≡ f.blocks
-gained-blocks s t zero k f g e was now = let o : Some g ≡ Some f = sym now ∙ ap (λ (x : Store). x.file k) e ∙ was in let same : g ≡ f = cc in ap (λ (x : File). x.blocks) same
+gained-blocks s t zero k f g e was now =
+    let o : Some g ≡ Some f = sym now ∙ ap (λ (x : Store). x.file k) e ∙ was in let same : g ≡ f = cc in ap (λ (x : File). x.blocks) same
 gained-blocks s t (suc n) k f g e was now = by_test (k == 1) refl
   where
     after : File
@@ -222,7 +245,8 @@ no_index id h = grind (arith, nat_tests, h)
 gained-did : (s u t : Store) (n : ℕ) (v : Work) → GrowsIndex s (suc n) u → IsReady s (suc n) u → AreRespectful v.parts → Did v t u
     → Did (and_then (grow_work (index_file s).room (suc n)) v) t s
 gained-did s u t n v e ready respects did = record {
-  files = λ m. alike_then (t.file m) ((with_parts u v.parts).file m) ((with_parts s (w.parts ++ v.parts)).file m) (did.files m) (more.files m);
+  files = λ m. alike_then (t.file m) ((with_parts u v.parts).file m) ((with_parts s (w.parts ++ v.parts)).file m) (did.files m)
+      (more.files m);
   slots = did.slots ∙ more.slots;
   no_fewer = omega (arith, did.no_fewer, ready.slots);
   others = λ m out. did.others m (or_parts (m == 1) (v.is_meant m) out).1 ∙ ready.others m (or_parts (m == 1) (v.is_meant m) out).0;
@@ -253,7 +277,9 @@ lengthens-did t s f n other h = by_count (slots_first s headers) ready h.gains
     ready = gained-is-ready s h.ready headers h.gains
 
     rest : Did work t h.ready
-    rest = subst (λ (g : File). Did (extend_work f.number g.room n) t h.ready) (named-stays s h.ready _ f ready other) (extends_did t h.ready f n h.makes)
+    rest =
+        subst (λ (g : File). Did (extend_work f.number g.room n) t h.ready) (named-stays s h.ready _ f ready other)
+        (extends_did t h.ready f n h.makes)
 
     by_count : (m : ℕ) → IsReady s m h.ready → GetsSlots m s h.ready → Did (after_slots m s work) t s
     by_count zero is e = subst (λ (x : Store). Did work t x) e rest
@@ -263,11 +289,13 @@ lengthens-did t s f n other h = by_count (slots_first s headers) ready h.gains
 all-unused : (used : ℕ → Bool) (a m : ℕ) → ((n : ℕ) → a ≤ n → used n ≡ false) → length (filter (λ n. not (used n)) (range_with_len a m)) ≡ m
 all-unused used a zero h = refl
 all-unused used a (suc m) h =
-    let rest : length (filter (λ n. not (used n)) (range_with_len (a + 1) m)) ≡ m = all-unused used (a + 1) m (λ n low. h n (omega (arith, low))) in
+    let rest : length (filter (λ n. not (used n)) (range_with_len (a + 1) m)) ≡ m =
+    all-unused used (a + 1) m (λ n low. h n (omega (arith, low))) in
     by_test (used a) (h a (omega arith)) rest
   where
     by_test : (b : Bool) → b ≡ false → length (filter (λ n. not (used n)) (range_with_len (a + 1) m)) ≡ m →
-        length (if not b then a ∷ filter (λ n. not (used n)) (range_with_len (a + 1) m) else filter (λ n. not (used n)) (range_with_len (a + 1) m)) ≡ suc m
+        length (if not b then a ∷ filter (λ n. not (used n)) (range_with_len (a + 1) m) else filter (λ n. not (used n))
+        (range_with_len (a + 1) m)) ≡ suc m
     by_test false e rest = omega (arith, rest)
     by_test true e rest = absurd (cc)
 
@@ -280,7 +308,8 @@ added-free s n has =
     ap (λ (m : ℕ). length (filter (λ k. not (s.in_use k)) (range_with_len 6 m))) counts
     ∙ ap (λ (l : List ℕ). length (filter (λ k. not (s.in_use k)) l)) (range_with_len-append 6 (s.slots - 5) n)
     ∙ ap length (filter-append (λ k. not (s.in_use k)) (range_with_len 6 (s.slots - 5)) (range_with_len (6 + (s.slots - 5)) n))
-    ∙ length-append (filter (λ k. not (s.in_use k)) (range_with_len 6 (s.slots - 5))) (filter (λ k. not (s.in_use k)) (range_with_len (6 + (s.slots - 5)) n))
+    ∙ length-append (filter (λ k. not (s.in_use k)) (range_with_len 6 (s.slots - 5)))
+    (filter (λ k. not (s.in_use k)) (range_with_len (6 + (s.slots - 5)) n))
     ∙ ap (λ (m : ℕ). length (filter (λ k. not (s.in_use k)) (range_with_len 6 (s.slots - 5))) + m)
     (all-unused s.in_use (6 + (s.slots - 5)) n (λ k low. has.none_behind k (omega (arith, low, first))))
 

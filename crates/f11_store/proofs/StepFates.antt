@@ -1,5 +1,6 @@
 -- What each request makes of the files: none that somebody accesses goes, and none gets another mark but by its deletion.
-use Rattle.std.proofs.Common.{◌≡◌, ℕ, ◌==◌, Bool, true, false, List, Some, None, Result, Ok, Err, refl, sym, ◌∙◌, ◌≤◌, ap, subst, if◌then◌else◌}
+use Rattle.std.proofs.Common.{◌≡◌, ℕ, ◌==◌, Bool, true, false, List, Some, None, Result, Ok, Err, refl, sym, ◌∙◌, ◌≤◌, ap, subst}
+use Rattle.std.proofs.Common.{if◌then◌else◌}
 use Rattle.std.proofs.lemmas.Bool.{eqb-true}
 use Rattle.std.specs.Int.{bit_at}
 use Rattle.f11_store.specs.declared.callers.Uic.{Uic}
@@ -12,7 +13,8 @@ use Rattle.f11_store.specs.declared.requests.Request.TheVariants as request
 use Rattle.f11_store.specs.File.{File}
 use Rattle.f11_store.specs.Store.{Store, least_free, free_headers, id_held, is_accessed}
 use Rattle.f11_store.specs.Causes.{first_refusal, is_missing}
-use Rattle.f11_store.specs.Changes.{Changes, GetsSlots, MakesFile, with_block, with_replacement, after_delete, without_file_at, with_marked_file}
+use Rattle.f11_store.specs.Changes.{Changes, GetsSlots, MakesFile, with_block, with_replacement, after_delete, without_file_at}
+use Rattle.f11_store.specs.Changes.{with_marked_file}
 use Rattle.f11_store.proofs.FileLaws.{least_free_is_free, IsFreeSlot}
 use Rattle.f11_store.specs.Headroom.{slots_first}
 use Rattle.f11_store.specs.SlotsFirst.{IsReady}
@@ -20,10 +22,12 @@ use Rattle.f11_store.proofs.SlotsFirst.{gained-is-ready}
 use Rattle.f11_store.specs.Step.{Step}
 use Rattle.f11_store.specs.declared.requests.Reply.{Reply}
 use Rattle.f11_store.specs.Accesses.{FreeIsEmpty}
-use Rattle.f11_store.proofs.FateLaws.{Fate, Keeps, kept, changed, fate-after, fate-grows-index, gained-keeps, stays, new, fate-none, fate-change, fate-grows, fate-cut, fate-gone, fate-given-up, fate-laid, fate-set, mark-of-cleared}
+use Rattle.f11_store.proofs.FateLaws.{Fate, Keeps, kept, changed, fate-after, fate-grows-index, gained-keeps, stays, new, fate-none}
+use Rattle.f11_store.proofs.FateLaws.{fate-change, fate-grows, fate-cut, fate-gone, fate-given-up, fate-laid, fate-set, mark-of-cleared}
 
 -- a file that is made
-fate-made : (s : Store) (slot n : ℕ) (f : File) (s' : Store) → s.file slot ≡ None → s'.file n ≡ (if n == slot then Some f else s.file n) → Fate s s' n
+fate-made : (s : Store) (slot n : ℕ) (f : File) (s' : Store) → s.file slot ≡ None → s'.file n ≡ (if n == slot then Some f else s.file n)
+    → Fate s s' n
 fate-made s slot n f s' empty is = by_test (n == slot) refl is
   where
     by_test : (b : Bool) → (n == slot) ≡ b → s'.file n ≡ (if b then Some f else s.file n) → Fate s s' n
@@ -71,15 +75,18 @@ may-be-made s t gains enough empty = record {
   free = least_free_is_free t enough;
 }
 
-pub fate-create : (s s' : Store) (caller : Uic) (word : ℕ) (ident attr : List ℕ) (n : ℕ) → FreeIsEmpty s → MakesFile s caller word ident attr s' → Fate s s' n
+pub fate-create : (s s' : Store) (caller : Uic) (word : ℕ) (ident attr : List ℕ) (n : ℕ) → FreeIsEmpty s
+    → MakesFile s caller word ident attr s' → Fate s s' n
 fate-create s s' caller word ident attr n empty h =
     let may = may-be-made s h.ready h.gains h.enough empty in
     fate-after s h.ready s' n (may.keeps n)
     (fate-made h.ready (least_free h.ready) n _ s' (may.empty (least_free h.ready) may.free.unused) (ap (λ (x : Store). x.file n) h.makes))
 
-pub fate-delete : (s s' : Store) (id : FileId) (n : ℕ) → is_missing s id ≡ false → is_accessed s id ≡ false → s' ≡ after_delete s id → Fate s s' n
+pub fate-delete : (s s' : Store) (id : FileId) (n : ℕ) → is_missing s id ≡ false → is_accessed s id ≡ false → s' ≡ after_delete s id
+    → Fate s s' n
 fate-delete s s' id n there nobody is =
-    subst (λ (x : Store). Fate s x n) (sym (is ∙ ap (λ b. if b then with_marked_file s id.number else without_file_at s id.number) nobody)) (fate-gone s id n there nobody)
+    subst (λ (x : Store). Fate s x n) (sym (is ∙ ap (λ b. if b then with_marked_file s id.number else without_file_at s id.number) nobody))
+    (fate-gone s id n there nobody)
 
 -- where a file is made, no file is in a slot that isn't in use
 abbrev pub IsEmptyFor : Store → Request → Type 0
@@ -87,7 +94,8 @@ IsEmptyFor s (request.Create word ident attr) = FreeIsEmpty s
 IsEmptyFor s _ = Unit {0}
 
 -- a request that is served, but for those of which more is said
-pub fate-served : (s : Store) (task : ℕ) (caller : Uic) (r : Request) (block : List ℕ) (s' : Store) (n : ℕ) → IsEmptyFor s r → Changes s task caller r block s' → Simple s r → Fate s s' n
+pub fate-served : (s : Store) (task : ℕ) (caller : Uic) (r : Request) (block : List ℕ) (s' : Store) (n : ℕ) → IsEmptyFor s r
+    → Changes s task caller r block s' → Simple s r → Fate s s' n
 fate-served s task caller (request.Create word ident attr) block s' n empty h k = fate-create s s' caller word ident attr n empty h
 fate-served s task caller (request.Extend lun q) block s' n empty h k =
     fate-after s h.ready s' n (gained-keeps s h.ready _ n h.gains) (fate-grows h.ready s' (id_held s task lun).number q n _ h.makes)
@@ -96,7 +104,8 @@ fate-served s task caller (request.Truncate lun to) block s' n empty h k = fate-
 fate-served s task caller (request.Delete id) block s' n empty h k = fate-delete s s' id n k.0 k.1 h
 fate-served s task caller (request.GrowIndex q) block s' n empty h k = fate-grows-index s s' q n h
 fate-served s task caller (request.Access id m lun) block s' n empty h k = stays (ap (λ (x : Store). x.file n) h)
-fate-served s task caller (request.Deaccess lun) block s' n empty h k = subst (λ (x : Store). Fate s x n) (sym h) (fate-given-up s task lun n (s.access task lun))
+fate-served s task caller (request.Deaccess lun) block s' n empty h k =
+    subst (λ (x : Store). Fate s x n) (sym h) (fate-given-up s task lun n (s.access task lun))
 fate-served s task caller request.Release block s' n empty h k = absurd k
 fate-served s task caller (request.ReadBlock lun vbn) block s' n empty h k = fate-none s s' n h
 fate-served s task caller (request.WriteBlock lun vbn) block s' n empty h k =
@@ -106,7 +115,8 @@ fate-served s task caller (request.Enter d name id) block s' n empty h k = absur
 fate-served s task caller (request.Remove d name) block s' n empty h k = fate-change s s' d.number n _ (λ f. refl) (λ f. refl) h
 fate-served s task caller (request.ReadAttr id) block s' n empty h k = fate-none s s' n h
 fate-served s task caller (request.WriteAttr id c) block s' n empty h k =
-    fate-change s s' id.number n (with_replacement c) (replacement-sequence c) (λ f. ap (λ c. bit_at c 15 == 1) (replacement-characteristics c f)) h
+    fate-change s s' id.number n (with_replacement c) (replacement-sequence c)
+    (λ f. ap (λ c. bit_at c 15 == 1) (replacement-characteristics c f)) h
 fate-served s task caller request.Space block s' n empty h k = fate-none s s' n h
 
 -- and so much is asked of a request that is served alone
@@ -115,9 +125,11 @@ SimpleIf (Ok a) s r = Simple s r
 SimpleIf (Err e) s r = Unit {0}
 
 -- a step
-pub fate-step : (s : Store) (task : ℕ) (caller : Uic) (r : Request) (block : List ℕ) (result : Result Reply Refusal) (s' : Store) (block' : List ℕ) → FreeIsEmpty s → SimpleIf result s r
+pub fate-step : (s : Store) (task : ℕ) (caller : Uic) (r : Request) (block : List ℕ) (result : Result Reply Refusal) (s' : Store)
+    (block' : List ℕ) → FreeIsEmpty s → SimpleIf result s r
     → Step s task caller r block result s' block' → (n : ℕ) → Fate s s' n
-fate-step s task caller r block (Ok a) s' block' empty simple h n = fate-served s task caller r block s' n (at r h.no_cause) h.changes simple
+fate-step s task caller r block (Ok a) s' block' empty simple h n =
+    fate-served s task caller r block s' n (at r h.no_cause) h.changes simple
   where
     at : (r : Request) → first_refusal s task caller r ≡ None → IsEmptyFor s r
     at (request.Create word ident attr) none = empty

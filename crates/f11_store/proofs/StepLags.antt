@@ -1,5 +1,6 @@
 -- The store after a step lags the one before it.
-use Rattle.std.proofs.Common.{◌≡◌, ℕ, ◌==◌, ◌||◌, Bool, true, false, List, [], ◌∷◌, Option, Some, None, Ok, Err, fold, unwrap_or, if◌then◌else◌, refl, sym, ap, subst, nat_lt}
+use Rattle.std.proofs.Common.{◌≡◌, ℕ, ◌==◌, ◌||◌, Bool, true, false, List, [], ◌∷◌, Option, Some, None, Ok, Err, fold, unwrap_or}
+use Rattle.std.proofs.Common.{if◌then◌else◌, refl, sym, ap, subst, nat_lt}
 use Rattle.std.proofs.lemmas.List.Sums.{fold-append}
 use Rattle.f11_store.specs.declared.callers.Uic.{Uic}
 use Rattle.f11_store.specs.declared.files.FileId.{FileId}
@@ -10,8 +11,11 @@ use Rattle.f11_store.specs.Store.{Store, Access, file_named, id_held, is_accesse
 use Rattle.f11_store.specs.Directory.{index_of_name, index_of_empty, empty_record, entry_count, needs_block, record_bytes}
 use Rattle.f11_store.specs.Causes.{first_refusal}
 use Rattle.std.specs.List.{range_with_len}
-use Rattle.f11_store.specs.Changes.{Changes, with_marked_file, with_delete_mark, with_end_after, with_entry_at_end, EntersAtEnd, EntersAt, with_block, with_entry, with_replacement, with_access, is_due, without_file_at, after_giving_up, after_deaccess, after_release}
-use Rattle.f11_store.specs.Lags.{file_changes, with_parts, with_part, Work, no_work, one_part, go_work, mark_work, end_work, append_work, enter_work, give_up_work, deaccess_work, release_work, served_work, work_of, LagsBy}
+use Rattle.f11_store.specs.Changes.{Changes, with_marked_file, with_delete_mark, with_end_after, with_entry_at_end, EntersAtEnd, EntersAt}
+use Rattle.f11_store.specs.Changes.{with_block, with_entry, with_replacement, with_access, is_due, without_file_at, after_giving_up}
+use Rattle.f11_store.specs.Changes.{after_deaccess, after_release}
+use Rattle.f11_store.specs.Lags.{file_changes, with_parts, with_part, Work, no_work, one_part, go_work, mark_work, end_work, append_work}
+use Rattle.f11_store.specs.Lags.{enter_work, give_up_work, deaccess_work, release_work, served_work, work_of, LagsBy}
 use Rattle.f11_store.specs.Laws.{NoneHoldsIndex, StepLags}
 use Rattle.f11_store.specs.Causes.{is_bad}
 use Rattle.f11_store.specs.Changes.{MakesFile, with_slots_first}
@@ -20,7 +24,8 @@ use Rattle.f11_store.proofs.ContiguousLaws.{laid-out-lags}
 use Rattle.f11_store.proofs.ProgressLaws.{did_both, frees_did}
 use Rattle.f11_store.specs.Headroom.{slots_first}
 use Rattle.f11_store.specs.Lags.{lengthen_work, make_work, new_file_work}
-use Rattle.f11_store.proofs.LagLaws.{change_lags, created_lags, cut_lags, did_lags, entered_behind, frees_lags, gone_lags, grown_lags, unchanged_lags, work_served}
+use Rattle.f11_store.proofs.LagLaws.{change_lags, created_lags, cut_lags, did_lags, entered_behind, frees_lags, gone_lags, grown_lags}
+use Rattle.f11_store.proofs.LagLaws.{unchanged_lags, work_served}
 use Rattle.f11_store.proofs.Respects.{end_respectful}
 use Rattle.f11_store.proofs.SlotsFirst.{gained-is-ready, lengthens-did, new-file-stays, no_index, ready-lags}
 use Rattle.f11_store.proofs.StoreLemmas.{none_first, none_rest}
@@ -75,8 +80,10 @@ created_first_lags :
     LagsBy (make_work s caller word ident attr) t s
 created_first_lags s t caller word ident attr h =
     ready-lags s h.ready t 1 (new_file_work (with_slots_first s 1) caller word ident attr) h.gains (tt, tt)
-    (subst (λ (w : Work). LagsBy w t h.ready) (new-file-stays s h.ready (slots_first s 1) caller word ident attr (gained-is-ready s h.ready 1 h.gains))
-    (subst (λ (x : Store). LagsBy (new_file_work h.ready caller word ident attr) x h.ready) (sym h.makes) (created_lags h.ready caller word ident attr)))
+    (subst (λ (w : Work). LagsBy w t h.ready)
+    (new-file-stays s h.ready (slots_first s 1) caller word ident attr (gained-is-ready s h.ready 1 h.gains))
+    (subst (λ (x : Store). LagsBy (new_file_work h.ready caller word ident attr) x h.ready) (sym h.makes)
+    (created_lags h.ready caller word ident attr)))
 
 -- a record that is entered
 entered_lags :
@@ -91,7 +98,8 @@ entered_lags None s t d r other h = at_end (needs_block (file_named s d)) h
 
     behind : (u : Store) → Did (end_work d.number i r) (with_entry_at_end u d.number i r) u
     behind u = frees_did (end_work d.number i r) (with_entry_at_end u d.number i r) u
-        (entry_at_end_alike u u d.number i r (λ m. alike (u.file m))) refl (frees_change u d.number (λ f. with_end_after i (with_entry i r f)))
+        (entry_at_end_alike u u d.number i r (λ m. alike (u.file m))) refl
+        (frees_change u d.number (λ f. with_end_after i (with_entry i r f)))
 
     at_end : (b : Bool) → EntersAtEnd b s d i r t → LagsBy (append_work b s d i r) t s
     at_end false e = entered_behind s t d i r e
@@ -106,7 +114,8 @@ served_lags :
     (s : Store) (task : ℕ) (caller : Uic) (r : Request) (block : List ℕ) (t : Store) → NoneHoldsIndex s →
     first_refusal s task caller r ≡ None → Changes s task caller r block t → LagsBy (served_work s task caller r block) t s
 served_lags s task caller (request.Create word ident attr) block t apart none h = created_first_lags s t caller word ident attr h
-served_lags s task caller (request.Extend lun n) block t apart none h = did_lags (lengthen_work s (id_held s task lun) n) t s (lengthens-did t s (id_held s task lun) n (apart task lun) h)
+served_lags s task caller (request.Extend lun n) block t apart none h =
+    did_lags (lengthen_work s (id_held s task lun) n) t s (lengthens-did t s (id_held s task lun) n (apart task lun) h)
 served_lags s task caller (request.Contiguous lun n) block t apart none h = laid-out-lags s t (id_held s task lun) n h
 served_lags s task caller (request.Truncate lun to) block t apart none h =
     subst (λ (x : Store). LagsBy (served_work s task caller (request.Truncate lun to) block) x s) (sym h.store_is)
@@ -115,7 +124,8 @@ served_lags s task caller (request.Delete id) block t apart none h =
     subst (λ (x : Store). LagsBy (served_work s task caller (request.Delete id) block) x s) (sym h) (by_test (is_accessed s id))
   where
     by_test : (b : Bool) →
-        LagsBy (if b then mark_work id.number else go_work id.number) (if b then with_marked_file s id.number else without_file_at s id.number) s
+        LagsBy (if b then mark_work id.number else go_work id.number)
+        (if b then with_marked_file s id.number else without_file_at s id.number) s
     by_test true = change_lags s id.number with_delete_mark
     by_test false = gone_lags s id.number
 served_lags s task caller (request.GrowIndex n) block t apart none h = grown_lags s t n h

@@ -21,7 +21,8 @@ pub refusal_is_one : RefusalIsOne
 refusal_is_one s task caller r block e f s' t' block' other h k = may_refuse_one _ _ _ e f h.may_refuse k.may_refuse
 
 -- where no cause holds the refusal is want of memory, or of a run
-no_cause_refuses : (o : Option Refusal) (wants run : Bool) (e : Refusal) → o ≡ None → MayRefuse o wants run e → (e ≡ NoMemory) ⊎ ((run ≡ true) × (e ≡ NoRun))
+no_cause_refuses : (o : Option Refusal) (wants run : Bool) (e : Refusal) → o ≡ None → MayRefuse o wants run e
+    → (e ≡ NoMemory) ⊎ ((run ≡ true) × (e ≡ NoRun))
 no_cause_refuses (Some x) wants run e h k = absurd (cc)
 no_cause_refuses None true run e h k = inl k
 no_cause_refuses None false true e h k = inr (refl, k)

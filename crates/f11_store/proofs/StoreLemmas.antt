@@ -1,5 +1,6 @@
 -- Files of a store that was changed.
-use Rattle.std.proofs.Common.{◌≡◌, ◌≢◌, ℕ, ◌<◌, ◌≤◌, ◌==◌, Bool, true, false, Option, Some, None, length, refl, sym, ◌∙◌, ap, arith, is_none, unwrap_or, option_map, if◌then◌else◌}
+use Rattle.std.proofs.Common.{◌≡◌, ◌≢◌, ℕ, ◌<◌, ◌≤◌, ◌==◌, Bool, true, false, Option, Some, None, length, refl, sym, ◌∙◌, ap, arith}
+use Rattle.std.proofs.Common.{is_none, unwrap_or, option_map, if◌then◌else◌}
 use Rattle.std.specs.Option.{option_and_then}
 use Rattle.std.proofs.lemmas.Bool.{eq-eqb}
 use Rattle.std.proofs.lemmas.Bool.Decides.{nat_tests}
@@ -108,7 +109,8 @@ file_named-changed s id change keeps h =
     by_file (Some f) e = refl
 
 -- the file that has the number of one that is there is that one
-pub file_named-there : (s : Store) (id : FileId) (f : File) → s.file id.number ≡ Some f → is_none (file_of s id) ≡ false → file_named s id ≡ f
+pub file_named-there : (s : Store) (id : FileId) (f : File) → s.file id.number ≡ Some f → is_none (file_of s id) ≡ false
+    → file_named s id ≡ f
 file_named-there s id f h there = rw h (by_test (f.sequence == id.sequence) (rw h at there))
   where
     by_test : (b : Bool) → is_none (if b then Some f else None) ≡ false → unwrap_or (if b then Some f else None) no_file ≡ f
@@ -130,7 +132,8 @@ agreeing_are_one s t h = λ i. record {
 }
 
 -- two stores with the same in each field are one
-pub same-store : (s t : Store) → ((n : ℕ) → s.file n ≡ t.file n) → s.free ≡ t.free → s.slots ≡ t.slots → ((n : ℕ) → s.in_use n ≡ t.in_use n) → ((n : ℕ) → s.last n ≡ t.last n)
+pub same-store : (s t : Store) → ((n : ℕ) → s.file n ≡ t.file n) → s.free ≡ t.free → s.slots ≡ t.slots → ((n : ℕ) → s.in_use n ≡ t.in_use n)
+    → ((n : ℕ) → s.last n ≡ t.last n)
     → s.access ≡ t.access → s.bitmap_blocks ≡ t.bitmap_blocks → s.index_bitmap_blocks ≡ t.index_bitmap_blocks → s.limit ≡ t.limit → s ≡ t
 same-store s t file free slots in_use last access bitmap_blocks index_bitmap_blocks limit = λ i. record {
   file = λ n. file n i;

@@ -1,5 +1,6 @@
 -- The least free slots come into use, and the others stay free.
-use Rattle.std.proofs.Common.{◌≡◌, ◌≢◌, ℕ, zero, suc, ◌+◌, ◌-◌, ◌<◌, ◌≤◌, ◌==◌, ◌||◌, Bool, true, false, not, cond, List, ◌∷◌, ◌++◌, length, take, drop, refl, ap, sym, subst, ◌∙◌, arith, filter, ne_eqb}
+use Rattle.std.proofs.Common.{◌≡◌, ◌≢◌, ℕ, zero, suc, ◌+◌, ◌-◌, ◌<◌, ◌≤◌, ◌==◌, ◌||◌, Bool, true, false, not, cond, List, ◌∷◌, ◌++◌, length}
+use Rattle.std.proofs.Common.{take, drop, refl, ap, sym, subst, ◌∙◌, arith, filter, ne_eqb}
 use Rattle.std.specs.List.{All, range_with_len}
 use Rattle.std.proofs.Math.Bool.{or-true}
 use Rattle.std.proofs.Math.Seq.{take-add}
@@ -28,7 +29,8 @@ filter-agree : (p q : ℕ → Bool) (a m : ℕ) → ((n : ℕ) → a ≤ n → p
 filter-agree p q a zero h = refl
 filter-agree p q a (suc m) h =
     let here : p a ≡ q a = h a (omega arith) in
-    let rest : filter p (range_with_len (a + 1) m) ≡ filter q (range_with_len (a + 1) m) = filter-agree p q (a + 1) m (λ n le. h n (omega arith)) in
+    let rest : filter p (range_with_len (a + 1) m) ≡ filter q (range_with_len (a + 1) m) =
+    filter-agree p q (a + 1) m (λ n le. h n (omega arith)) in
     λ i. cond (here i) (a ∷ rest i) (rest i)
 
 -- once the first k come into use, the others are left
@@ -65,7 +67,8 @@ unused-left used (suc k) a (suc m) = by_test (used a) refl (unused-left used (su
         ∙ one)
 
 -- the free slots of a store in which the first k of these came into use
-pub free-left : (s t : Store) (k : ℕ) → t.slots ≡ s.slots → t.in_use ≡ (with_slots s (take k (free_slots s))).in_use → free_slots t ≡ drop k (free_slots s)
+pub free-left : (s t : Store) (k : ℕ) → t.slots ≡ s.slots → t.in_use ≡ (with_slots s (take k (free_slots s))).in_use
+    → free_slots t ≡ drop k (free_slots s)
 unfolding free_slots
 free-left s t k slots used = (λ i. free_among (slots i) (used i)) ∙ unused-left s.in_use k 6 (s.slots - 5)
 
@@ -116,4 +119,5 @@ more-headers s a = let more = free-more s a in omega (arith, ap length more.1, l
 
 -- the first k, and then the first j of the others
 pub both-in : (slots : List ℕ) (k j n : ℕ) → is_in (take (k + j) slots) n ≡ (is_in (take k slots) n || is_in (take j (drop k slots)) n)
-both-in slots k j n = ap (λ (l : List ℕ). is_in l n) (take-add k j slots) ∙ list_any-append (λ m. m == n) (take k slots) (take j (drop k slots))
+both-in slots k j n =
+    ap (λ (l : List ℕ). is_in l n) (take-add k j slots) ∙ list_any-append (λ m. m == n) (take k slots) (take j (drop k slots))

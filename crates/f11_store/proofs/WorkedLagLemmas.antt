@@ -7,7 +7,9 @@ use Rattle.f11_store.specs.Store.{free_slots, is_held}
 use Rattle.f11_store.specs.Changes.{with_delete_mark}
 use Rattle.f11_store.specs.Lags.{Part, LagsBy, AreLike, IsLike, work_of, with_parts, extend_parts, grow_parts, grow_work}
 use Rattle.f11_store.specs.Worked.{first_user, crowded_volume, create}
-use Rattle.f11_store.specs.WorkedLags.{CreateTakesOneHeader, ExtendTakesWhatItAsks, GrowIndexClearsFirst, DeleteLeavesOthers, ReleaseFreesOnce, CreateGetsSlotFirst, ExtendGetsSlotFirst, a_file, contiguous_index, file_without_slot, block_without_slot}
+use Rattle.f11_store.specs.WorkedLags.{CreateTakesOneHeader, ExtendTakesWhatItAsks, GrowIndexClearsFirst, DeleteLeavesOthers}
+use Rattle.f11_store.specs.WorkedLags.{ReleaseFreesOnce, CreateGetsSlotFirst, ExtendGetsSlotFirst, a_file, contiguous_index}
+use Rattle.f11_store.specs.WorkedLags.{file_without_slot, block_without_slot}
 
 -- pointers that differ in two files said to be one
 pub no_pointers : {f g : File} → Some f ≡ Some g → f.pointers ≡ g.pointers
@@ -88,7 +90,8 @@ no_block_yet lags = by_number lags.done lags.slots (lags.files 6)
     parts = (work_of crowded_volume 0 first_user (request.Extend 0 1) []).parts
 
     no_blocks : {f g : File} → IsLike f g → length f.blocks ≡ 1 → length g.blocks ≡ 0 → ⊥
-    no_blocks {f} {g} like one none = let same : length f.blocks ≡ length g.blocks = ap (λ (bs : List (List ℕ)). length bs) like.blocks in omega (arith, same, one, none)
+    no_blocks {f} {g} like one none =
+        let same : length f.blocks ≡ length g.blocks = ap (λ (bs : List (List ℕ)). length bs) like.blocks in omega (arith, same, one, none)
 
     by_number : (done : ℕ) → 16 ≡ (with_parts crowded_volume (take done parts)).slots →
         AreLike (block_without_slot.file 6) ((with_parts crowded_volume (take done parts)).file 6) → ⊥

@@ -10,7 +10,9 @@ use Rattle.f11_store.specs.Directory.{is_directory, record_at, entries_of, has_n
 use Rattle.f11_store.specs.Causes.{first_refusal}
 use Rattle.f11_store.specs.Changes.{Changes, MayGrow, Grows, with_grown_file}
 use Rattle.f11_store.specs.Step.{MayRefuse, Refuses, Serves, reply_of, block_after}
-use Rattle.f11_store.specs.Worked.{own_records, mfd_block, crowded_block, SequenceNumbers, FullVolume, TooLong, DeferredDelete, TruncatedUnderAReader, Conflicts, EnteredAndRemoved, EnteredInNewBlock, EnteredBehindSlot, EndMoves, HeadersRunOut, SlotsRunOut, RefusedForSlotsAlone, Bounds, BoundsBehindSlots}
+use Rattle.f11_store.specs.Worked.{own_records, mfd_block, crowded_block, SequenceNumbers, FullVolume, TooLong, DeferredDelete}
+use Rattle.f11_store.specs.Worked.{TruncatedUnderAReader, Conflicts, EnteredAndRemoved, EnteredInNewBlock, EnteredBehindSlot, EndMoves}
+use Rattle.f11_store.specs.Worked.{HeadersRunOut, SlotsRunOut, RefusedForSlotsAlone, Bounds, BoundsBehindSlots}
 use Rattle.f11_store.specs.Changes.{AfterSlots, GetsSlots, GrowsIndex, with_more_slots}
 use Rattle.f11_store.specs.Headroom.{lacks_headers, slots_first}
 use Rattle.f11_store.specs.Store.{free_headers}
@@ -45,8 +47,10 @@ grows added pointers room h may = record {
 
 -- enough headers are free
 at_once :
-    {s : Store} {headers : ℕ} {Makes : Store → Type 0} → slots_first s headers ≡ 0 → headers ≤ free_headers s → Makes s → AfterSlots s headers Makes
-at_once {s} {headers} {Makes} none enough makes = record { ready = s; gains = subst (λ (n : ℕ). GetsSlots n s s) (sym none) refl; enough = enough; makes = makes }
+    {s : Store} {headers : ℕ} {Makes : Store → Type 0} → slots_first s headers ≡ 0 → headers ≤ free_headers s → Makes s
+    → AfterSlots s headers Makes
+at_once {s} {headers} {Makes} none enough makes =
+    record { ready = s; gains = subst (λ (n : ℕ). GetsSlots n s s) (sym none) refl; enough = enough; makes = makes }
 
 -- a slot more, which takes a pointer more, of an index file with so many pointers and so much room
 slot_more :
@@ -63,46 +67,266 @@ after_slot {s} {headers} {Makes} {ready} some gains enough makes =
 
 pub sequence_numbers : SequenceNumbers
 unfolding free_slots is_held zero_blocks lacks_headers slots_first
-sequence_numbers =
-    (_, (_, served refl (at_once refl (omega arith) refl), (_, served refl refl, (_, served refl (at_once refl (omega arith) refl), (_, refused refl, (_, served refl refl, refl))))))
+sequence_numbers = (
+  _,
+  (
+    _,
+    served refl (at_once refl (omega arith) refl),
+    (_, served refl refl, (_, served refl (at_once refl (omega arith) refl), (_, refused refl, (_, served refl refl, refl)))),
+  ),
+)
 
 pub full_volume : FullVolume
 unfolding free_slots is_held zero_blocks lacks_headers slots_first
-full_volume =
-    (_, (_, served refl (at_once refl (omega arith) refl), (_, served refl refl, (_, served refl (at_once refl (omega arith) (grows 0 2 100 refl (record { headers = omega arith; no_fewer = omega arith; no_more = omega arith; places = refl; filled = λ h. omega arith }))), (_, refused refl, (_, served refl refl, refl))))))
+full_volume = (
+  _,
+  (
+    _,
+    served refl (at_once refl (omega arith) refl),
+    (
+      _,
+      served refl refl,
+      (
+        _,
+        served refl (at_once refl (omega arith)
+            (grows 0 2 100 refl (record {
+              headers = omega arith;
+              no_fewer = omega arith;
+              no_more = omega arith;
+              places = refl;
+              filled = λ h. omega arith;
+            }))),
+        (_, refused refl, (_, served refl refl, refl)),
+      ),
+    ),
+  ),
+)
 
 pub too_long : TooLong
 unfolding free_slots is_held zero_blocks lacks_headers slots_first
-too_long =
-    (_, (_, served refl (at_once refl (omega arith) refl), (_, served refl refl, (_, refused refl, (_, refused refl, (_, refused refl, refl))))))
+too_long = (
+  _,
+  (
+    _,
+    served refl (at_once refl (omega arith) refl),
+    (_, served refl refl, (_, refused refl, (_, refused refl, (_, refused refl, refl)))),
+  ),
+)
 
 pub deferred_delete : DeferredDelete
 unfolding free_slots is_held zero_blocks lacks_headers slots_first
-deferred_delete =
-    (_, (_, served refl (at_once refl (omega arith) refl), (_, served refl refl, (_, served refl (at_once refl (omega arith) (grows 0 1 101 refl (record { headers = omega arith; no_fewer = omega arith; no_more = omega arith; places = refl; filled = λ h. omega arith }))), (_, served refl refl, (_, served refl refl, (_, served refl refl, (_, served refl refl, (_, refused refl, (_, refused refl, (_, served refl refl, (_, served refl refl, (_, served refl refl, refl)))))))))))))
+deferred_delete = (
+  _,
+  (
+    _,
+    served refl (at_once refl (omega arith) refl),
+    (
+      _,
+      served refl refl,
+      (
+        _,
+        served refl (at_once refl (omega arith)
+            (grows 0 1 101 refl (record {
+              headers = omega arith;
+              no_fewer = omega arith;
+              no_more = omega arith;
+              places = refl;
+              filled = λ h. omega arith;
+            }))),
+        (
+          _,
+          served refl refl,
+          (
+            _,
+            served refl refl,
+            (
+              _,
+              served refl refl,
+              (
+                _,
+                served refl refl,
+                (_, refused refl, (_, refused refl, (_, served refl refl, (_, served refl refl, (_, served refl refl, refl))))),
+              ),
+            ),
+          ),
+        ),
+      ),
+    ),
+  ),
+)
 
 pub truncated_under_a_reader : TruncatedUnderAReader
 unfolding free_slots is_held zero_blocks lacks_headers slots_first
-truncated_under_a_reader =
-    (_, (_, served refl (at_once refl (omega arith) refl), (_, served refl refl, (_, served refl (at_once refl (omega arith) (grows 0 1 101 refl (record { headers = omega arith; no_fewer = omega arith; no_more = omega arith; places = refl; filled = λ h. omega arith }))), (_, served refl refl, (_, served refl refl, (_, served refl (record { before = _; headers = 1; pointers = 1; room = 101; was = refl; some_header = omega arith; no_more_headers = omega arith; no_more_pointers = omega arith; store_is = refl }), (_, served refl (at_once refl (omega arith) refl), (_, served refl refl, (_, served refl (at_once refl (omega arith) (grows 0 1 101 refl (record { headers = omega arith; no_fewer = omega arith; no_more = omega arith; places = refl; filled = λ h. omega arith }))), (_, served refl refl, (_, refused refl, refl))))))))))))
+truncated_under_a_reader = (
+  _,
+  (
+    _,
+    served refl (at_once refl (omega arith) refl),
+    (
+      _,
+      served refl refl,
+      (
+        _,
+        served refl (at_once refl (omega arith)
+            (grows 0 1 101 refl (record {
+              headers = omega arith;
+              no_fewer = omega arith;
+              no_more = omega arith;
+              places = refl;
+              filled = λ h. omega arith;
+            }))),
+        (
+          _,
+          served refl refl,
+          (
+            _,
+            served refl refl,
+            (
+              _,
+              served refl (record {
+                before = _;
+                headers = 1;
+                pointers = 1;
+                room = 101;
+                was = refl;
+                some_header = omega arith;
+                no_more_headers = omega arith;
+                no_more_pointers = omega arith;
+                store_is = refl;
+              }),
+              (
+                _,
+                served refl (at_once refl (omega arith) refl),
+                (
+                  _,
+                  served refl refl,
+                  (
+                    _,
+                    served refl (at_once refl (omega arith)
+                        (grows 0 1 101 refl (record {
+                          headers = omega arith;
+                          no_fewer = omega arith;
+                          no_more = omega arith;
+                          places = refl;
+                          filled = λ h. omega arith;
+                        }))),
+                    (_, served refl refl, (_, refused refl, refl)),
+                  ),
+                ),
+              ),
+            ),
+          ),
+        ),
+      ),
+    ),
+  ),
+)
 
 pub conflicts : Conflicts
 unfolding free_slots is_held zero_blocks lacks_headers slots_first
-conflicts =
-    (_, (_, served refl (at_once refl (omega arith) refl), (_, served refl refl, (_, refused refl, (_, served refl refl, (_, served refl refl, (_, refused refl, (_, refused refl, (_, refused refl, (_, refused refl, refl))))))))))
+conflicts = (
+  _,
+  (
+    _,
+    served refl (at_once refl (omega arith) refl),
+    (
+      _,
+      served refl refl,
+      (
+        _,
+        refused refl,
+        (
+          _,
+          served refl refl,
+          (_, served refl refl, (_, refused refl, (_, refused refl, (_, refused refl, (_, refused refl, refl))))),
+        ),
+      ),
+    ),
+  ),
+)
 
 pub headers_run_out : HeadersRunOut
 unfolding free_slots is_held zero_blocks lacks_headers slots_first
-headers_run_out =
-    (_, (_, served refl (after_slot refl (slot_more 2 100 refl (record { headers = omega arith; no_fewer = omega arith; no_more = omega arith; places = refl; filled = λ h. omega arith })) (omega arith) refl), (_, served refl (after_slot refl (slot_more 3 99 refl (record { headers = omega arith; no_fewer = omega arith; no_more = omega arith; places = refl; filled = λ h. omega arith })) (omega arith) (grows 1 103 101 refl (record { headers = omega arith; no_fewer = omega arith; no_more = omega arith; places = refl; filled = λ h. omega arith }))), (_, served refl (at_once refl (omega arith) (grows 0 1 101 refl (record { headers = omega arith; no_fewer = omega arith; no_more = omega arith; places = refl; filled = λ h. omega arith }))), (_, served refl refl, (_, served refl (after_slot refl (slot_more 4 98 refl (record { headers = omega arith; no_fewer = omega arith; no_more = omega arith; places = refl; filled = λ h. omega arith })) (omega arith) (grows 0 2 100 refl (record { headers = omega arith; no_fewer = omega arith; no_more = omega arith; places = refl; filled = λ h. omega arith }))), (_, served refl refl, (_, served refl (record { grown = _; grows = grows 0 5 97 refl (record { headers = omega arith; no_fewer = omega arith; no_more = omega arith; places = refl; filled = λ h. omega arith }); store_is = refl }), (_, refused refl, (_, refused refl, (_, refused refl, refl)))))))))))
+headers_run_out = (
+  _,
+  (
+    _,
+    served refl (after_slot refl
+        (slot_more 2 100 refl
+        (record { headers = omega arith; no_fewer = omega arith; no_more = omega arith; places = refl; filled = λ h. omega arith }))
+        (omega arith) refl),
+    (
+      _,
+      served refl (after_slot refl
+          (slot_more 3 99 refl
+          (record { headers = omega arith; no_fewer = omega arith; no_more = omega arith; places = refl; filled = λ h. omega arith }))
+          (omega arith) (grows 1 103 101 refl
+          (record { headers = omega arith; no_fewer = omega arith; no_more = omega arith; places = refl; filled = λ h. omega arith }))),
+      (
+        _,
+        served refl (at_once refl (omega arith)
+            (grows 0 1 101 refl (record {
+              headers = omega arith;
+              no_fewer = omega arith;
+              no_more = omega arith;
+              places = refl;
+              filled = λ h. omega arith;
+            }))),
+        (
+          _,
+          served refl refl,
+          (
+            _,
+            served refl (after_slot refl
+                (slot_more 4 98 refl
+                (record { headers = omega arith; no_fewer = omega arith; no_more = omega arith; places = refl; filled = λ h. omega arith }))
+                (omega arith) (grows 0 2 100 refl
+                (record {
+                  headers = omega arith;
+                  no_fewer = omega arith;
+                  no_more = omega arith;
+                  places = refl;
+                  filled = λ h. omega arith;
+                }))),
+            (
+              _,
+              served refl refl,
+              (
+                _,
+                served refl (record {
+                  grown = _;
+                  grows = grows 0 5 97 refl
+                      (record {
+                        headers = omega arith;
+                        no_fewer = omega arith;
+                        no_more = omega arith;
+                        places = refl;
+                        filled = λ h. omega arith;
+                      });
+                  store_is = refl;
+                }),
+                (_, refused refl, (_, refused refl, (_, refused refl, refl))),
+              ),
+            ),
+          ),
+        ),
+      ),
+    ),
+  ),
+)
 
 pub slots_run_out : SlotsRunOut
 unfolding free_slots is_held zero_blocks lacks_headers slots_first
-slots_run_out =
-    ((_, (_, refused refl, (_, refused refl, refl))), (_, (_, refused refl, (_, refused refl, refl))), (_, (_, refused refl, refl)), (_, (_, refused refl, (_, refused refl, refl))))
+slots_run_out = (
+  (_, (_, refused refl, (_, refused refl, refl))),
+  (_, (_, refused refl, (_, refused refl, refl))),
+  (_, (_, refused refl, refl)),
+  (_, (_, refused refl, (_, refused refl, refl))),
+)
 
 pub refused_for_slots_alone : RefusedForSlotsAlone
-unfolding free_slots is_held zero_blocks lacks_headers slots_first stated_end is_directory record_at entries_of has_name record_bytes with_end own_records mfd_block
+unfolding free_slots is_held zero_blocks lacks_headers slots_first stated_end is_directory record_at entries_of has_name record_bytes
+    with_end own_records mfd_block
 refused_for_slots_alone = record {
   free_header = λ s' block' h. h.may_refuse;
   room_left = λ s' block' h. h.may_refuse;
@@ -112,19 +336,71 @@ refused_for_slots_alone = record {
 }
 
 pub entered_and_removed : EnteredAndRemoved
-unfolding free_slots is_held zero_blocks lacks_headers slots_first stated_end is_directory record_at entries_of has_name record_bytes with_record with_end own_records mfd_block
-entered_and_removed =
-    (_, (_, refused refl, (_, served refl refl, (_, served refl refl, (_, refused refl, (_, served refl refl, (_, refused refl, (_, served refl refl, (_, refused refl, (_, refused refl, refl))))))))))
+unfolding free_slots is_held zero_blocks lacks_headers slots_first stated_end is_directory record_at entries_of has_name record_bytes
+    with_record with_end own_records mfd_block
+entered_and_removed = (
+  _,
+  (
+    _,
+    refused refl,
+    (
+      _,
+      served refl refl,
+      (
+        _,
+        served refl refl,
+        (_, refused refl, (_, served refl refl, (_, refused refl, (_, served refl refl, (_, refused refl, (_, refused refl, refl)))))),
+      ),
+    ),
+  ),
+)
 
 pub entered_in_new_block : EnteredInNewBlock
-unfolding free_slots is_held zero_blocks lacks_headers slots_first zero_block stated_end is_directory record_at entries_of has_name record_bytes with_record with_end own_records crowded_block
-entered_in_new_block =
-    (_, (_, refused refl, (_, served refl (_, at_once refl (omega arith) (grows 0 2 100 refl (record { headers = omega arith; no_fewer = omega arith; no_more = omega arith; places = refl; filled = λ h. omega arith })), refl), (_, served refl refl, (_, served refl refl, (_, served refl refl, refl))))))
+unfolding free_slots is_held zero_blocks lacks_headers slots_first zero_block stated_end is_directory record_at entries_of has_name
+    record_bytes with_record with_end own_records crowded_block
+entered_in_new_block = (
+  _,
+  (
+    _,
+    refused refl,
+    (
+      _,
+      served refl (
+        _,
+        at_once refl (omega arith)
+            (grows 0 2 100 refl (record {
+              headers = omega arith;
+              no_fewer = omega arith;
+              no_more = omega arith;
+              places = refl;
+              filled = λ h. omega arith;
+            })),
+        refl,
+      ),
+      (_, served refl refl, (_, served refl refl, (_, served refl refl, refl))),
+    ),
+  ),
+)
 
 pub entered_behind_slot : EnteredBehindSlot
-unfolding free_slots is_held zero_blocks lacks_headers slots_first zero_block stated_end is_directory record_at entries_of has_name record_bytes with_record with_end own_records crowded_block
-entered_behind_slot =
-    (_, (_, served refl (_, after_slot refl (slot_more 2 100 refl (record { headers = omega arith; no_fewer = omega arith; no_more = omega arith; places = refl; filled = λ h. omega arith })) (omega arith) (grows 1 103 101 refl (record { headers = omega arith; no_fewer = omega arith; no_more = omega arith; places = refl; filled = λ h. omega arith })), refl), (_, served refl refl, (_, served refl refl, (_, served refl refl, refl)))))
+unfolding free_slots is_held zero_blocks lacks_headers slots_first zero_block stated_end is_directory record_at entries_of has_name
+    record_bytes with_record with_end own_records crowded_block
+entered_behind_slot = (
+  _,
+  (
+    _,
+    served refl (
+      _,
+      after_slot refl
+          (slot_more 2 100 refl
+          (record { headers = omega arith; no_fewer = omega arith; no_more = omega arith; places = refl; filled = λ h. omega arith }))
+          (omega arith) (grows 1 103 101 refl
+          (record { headers = omega arith; no_fewer = omega arith; no_more = omega arith; places = refl; filled = λ h. omega arith })),
+      refl,
+    ),
+    (_, served refl refl, (_, served refl refl, (_, served refl refl, refl))),
+  ),
+)
 
 pub end_moves : EndMoves
 unfolding with_end

@@ -33,8 +33,10 @@ marked-last f mark few lags = by_number lags.done (lags.files 6)
     by_number zero like = let same : f.characteristics ≡ 0 = like.characteristics in omega (arith, same, mark)
     by_number (suc zero) like = let same : f.characteristics ≡ 0 = like.characteristics in omega (arith, same, mark)
     by_number (suc (suc zero)) like = let same : f.characteristics ≡ 0 = like.characteristics in omega (arith, same, mark)
-    by_number (suc (suc (suc zero))) like = let long : length f.blocks ≡ 2 = ap (λ (bs : List (List ℕ)). length bs) like.blocks in omega (arith, long, few)
-    by_number (suc (suc (suc (suc n)))) like = let long : length f.blocks ≡ 2 = ap (λ (bs : List (List ℕ)). length bs) like.blocks in omega (arith, long, few)
+    by_number (suc (suc (suc zero))) like =
+        let long : length f.blocks ≡ 2 = ap (λ (bs : List (List ℕ)). length bs) like.blocks in omega (arith, long, few)
+    by_number (suc (suc (suc (suc n)))) like =
+        let long : length f.blocks ≡ 2 = ap (λ (bs : List (List ℕ)). length bs) like.blocks in omega (arith, long, few)
 
 pub run-marks-last : RunMarksLast
 unfolding free_slots

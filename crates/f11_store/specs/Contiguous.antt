@@ -46,7 +46,8 @@ pub record MoreCome (s : Store) (k come left count : ℕ) (t u : Store) (so_far 
 
 abbrev pub RunGoesOn : Type 0
 RunGoesOn =
-    (s t u : Store) (k come left count : ℕ) → (file_numbered s k).pointers ≡ 0 → 0 < left → count ≡ next_blocks (file_numbered t k).room left →
+    (s t u : Store) (k come left count : ℕ) → (file_numbered s k).pointers ≡ 0 → 0 < left
+    → count ≡ next_blocks (file_numbered t k).room left →
     (so_far : HaveCome s k come left t)
     (piece : AddsBlocks (with_more_free t count) k count (run_pointers count) (zero_blocks count) u) →
     come ≤ 256 * (file_numbered t k).pointers → come + count ≤ 256 * (file_numbered u k).pointers →

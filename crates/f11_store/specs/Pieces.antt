@@ -4,7 +4,8 @@ use Rattle.std.specs.Prelude.{List, ◌++◌, [], length, take, replicate, if◌
 use Rattle.f11_store.specs.Causes.{first_of, growth_causes}
 use Rattle.f11_store.specs.Changes.{next_sequence, with_change, with_file, with_more_slots, with_slots, Extends, Grows, GrowsIndex, MayGrow}
 use Rattle.f11_store.specs.File.{File, no_file, need, zero_blocks}
-use Rattle.f11_store.specs.Lags.{SameLimits, LagsBy, Work, extend_parts, file_changes, grow_parts, slot_appears, with_no_mark, with_zero_block}
+use Rattle.f11_store.specs.Lags.{SameLimits, LagsBy, Work, extend_parts, file_changes, grow_parts, slot_appears, with_no_mark}
+use Rattle.f11_store.specs.Lags.{with_zero_block}
 use Rattle.f11_store.specs.Store.{Store, free_headers, free_slots}
 
 -- the file with this number, or an empty one

@@ -23,7 +23,8 @@ counted_more (Some xs) None c n m k given h t = absurd h
 counted_more (Some xs) (Some ys) None n m k given h t = absurd t.first
 counted_more (Some xs) (Some ys) (Some zs) n m k given h t = omega (arith, h, ap length t.first)
 
-pub counted_all : (a b c : Option (List ℕ)) (n m k : ℕ) (given : List ℕ) → Counted a b n → TakesNone b c m k given → IfSome a (λ xs. n ≡ length (lines xs))
+pub counted_all : (a b c : Option (List ℕ)) (n m k : ℕ) (given : List ℕ) → Counted a b n → TakesNone b c m k given
+    → IfSome a (λ xs. n ≡ length (lines xs))
 counted_all None b c n m k given h t = tt
 counted_all (Some xs) None c n m k given h t = absurd h
 counted_all (Some xs) (Some ys) c n m k given h t = omega (arith, h, ap (λ ys. length (lines ys)) t.at_end)

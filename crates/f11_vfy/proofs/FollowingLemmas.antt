@@ -16,7 +16,8 @@ next-none : (t : Table) (n : ℕ) (o : Option ℕ) → ((m : ℕ) → o ≢ Some
 next-none t n None never = refl
 next-none t n (Some m) never = absurd (never m refl)
 
-pub next-kept : (t : Table) (nexts : List ℕ) (n : ℕ) → KnowsNexts t nexts → IsLive t n → (m : ℕ) → m ≡ get_or nexts (n - 1) 0 → next_of t n ≡ numbered m
+pub next-kept : (t : Table) (nexts : List ℕ) (n : ℕ) → KnowsNexts t nexts → IsLive t n → (m : ℕ) → m ≡ get_or nexts (n - 1) 0
+    → next_of t n ≡ numbered m
 next-kept t nexts n knows live zero is =
     let low : 1 ≤ n = knows.fit.low n live.in_use in
     let high : n ≤ t.slots = knows.fit.high n live.in_use in

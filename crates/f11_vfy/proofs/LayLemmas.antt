@@ -1,5 +1,6 @@
 -- A fresh volume's blocks, written one after another, the home block last.
-use Rattle.std.proofs.Common.{◌≡◌, ◌≢◌, ◌<◌, ◌≤◌, ◌+◌, ◌-◌, inl, inr, ℕ, zero, suc, List, refl, sym, ap, subst, ◌∙◌, arith, length, slice_set}
+use Rattle.std.proofs.Common.{◌≡◌, ◌≢◌, ◌<◌, ◌≤◌, ◌+◌, ◌-◌, inl, inr, ℕ, zero, suc, List, refl, sym, ap, subst, ◌∙◌, arith, length}
+use Rattle.std.proofs.Common.{slice_set}
 use Rattle.std.proofs.lemmas.Bool.{cases_eq}
 use Rattle.std.proofs.lemmas.List.{length-set}
 use Rattle.f11_dev.specs.Disk.{Disk}
@@ -32,7 +33,8 @@ LaysUpTo-none l disk = record {
   went = went_looked _ (looked_none disk);
 }
 
-keeps-more : (l : Layout) (old now : Image) (lbn : ℕ) (block : List ℕ) → lbn < used_by l → KeepsBehind l old now → KeepsBehind l old (slice_set now lbn block)
+keeps-more : (l : Layout) (old now : Image) (lbn : ℕ) (block : List ℕ) → lbn < used_by l → KeepsBehind l old now
+    → KeepsBehind l old (slice_set now lbn block)
 keeps-more l old now lbn block below keeps = record {
   size = length-set now lbn block ∙ keeps.size;
   behind = λ k from. slice_get-set_other now lbn k block (λ same. omega (arith, same, from, below)) ∙ keeps.behind k from;

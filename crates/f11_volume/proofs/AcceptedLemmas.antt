@@ -1,5 +1,6 @@
 -- An image is accepted exactly where it is sound.
-use Rattle.std.proofs.Common.{◌≡◌, ◌≤◌, ◌<◌, ◌+◌, ◌⊎◌, inl, inr, ℕ, zero, suc, refl, sym, subst, ◌∙◌, arith, List, length, Option, Some, None, ◌↔◌}
+use Rattle.std.proofs.Common.{◌≡◌, ◌≤◌, ◌<◌, ◌+◌, ◌⊎◌, inl, inr, ℕ, zero, suc, refl, sym, subst, ◌∙◌, arith, List, length, Option, Some}
+use Rattle.std.proofs.Common.{None, ◌↔◌}
 use Rattle.std.specs.Prelude.{All, Contains, slice_range, codes}
 use Rattle.std.proofs.lemmas.Bool.{cases_eq}
 use Rattle.std.proofs.lemmas.Option.{none-some}
@@ -19,7 +20,9 @@ use Rattle.f11_chain.specs.FileHeaders.{file_blocks}
 use Rattle.f11_index.proofs.SegmentLemmas.{segment_number-byte}
 use Rattle.f11_index.specs.Headers.{next_of}
 use Rattle.f11_volume.specs.Earlier.{IsNamedIn}
-use Rattle.f11_volume.specs.Faults.{EarlierAreNamed, IsOwnFile, IsBitmapFile, HasIndexFile, HasOwnFiles, HasBitmapFile, HasControlBlock, IsFramed, IsFaultBehindHome, index_misplaced, own_file_bad, bitmap_file_bad, control_block_wrong, bit_past_slots, no_home, behind_home}
+use Rattle.f11_volume.specs.Faults.{EarlierAreNamed, IsOwnFile, IsBitmapFile, HasIndexFile, HasOwnFiles, HasBitmapFile, HasControlBlock}
+use Rattle.f11_volume.specs.Faults.{IsFramed, IsFaultBehindHome, index_misplaced, own_file_bad, bitmap_file_bad, control_block_wrong}
+use Rattle.f11_volume.specs.Faults.{bit_past_slots, no_home, behind_home}
 use Rattle.f11_volume.specs.Sound.{IsSoundVolume, HasSoundVolume, IsSoundImage}
 use Rattle.f11_volume.specs.Space.{IsControlBlock}
 use Rattle.f11_volume.specs.Verdict.{of_frame, of_volume, IsAccepted}
@@ -42,8 +45,11 @@ home-fields b blocks = like
       format = is.1.1.1.1.1.1;
     })
     (λ is. (is.some_bitmap, (is.small_bitmap, (is.index_placed, (is.index_within, (is.cluster, (is.level, is.format)))))))
-    (both (less 0 (index_blocks b)) (both (at-most (index_blocks b) 16) (both (less 0 (index_lbn b)) (both (at-most (index_lbn b + index_blocks b + 16) blocks)
-    (both (cases_eq (word b 8) 1) (both (either (cases_eq (word b 12) 257) (cases_eq (word b 12) 258)) (same-list (slice_range b 496 508) (codes "DECFILE11A  "))))))))
+    (both (less 0 (index_blocks b))
+    (both (at-most (index_blocks b) 16) (both (less 0 (index_lbn b)) (both (at-most (index_lbn b + index_blocks b + 16) blocks)
+    (both (cases_eq (word b 8) 1)
+    (both (either (cases_eq (word b 12) 257) (cases_eq (word b 12) 258))
+    (same-list (slice_range b 496 508) (codes "DECFILE11A  "))))))))
 
 home-block : (b : List ℕ) (blocks : ℕ) → Decided (IsHomeBlock b blocks)
 home-block b blocks = like
@@ -60,7 +66,10 @@ home-candidate image k = like
 -- the home block of an image, or that it has none
 home-found : (image : Image) → ¬ HasNoHome image → (home : HomeFields) × IsHomeOf image home
 home-found image some = elim (least (IsCandidate image) (home-candidate image) (candidates (length image))) [
-  | inl found ↦ (fields_of (candidate found.0) (image_block image (candidate found.0)), record { place = found.0; found = found.2.at; first = found.2.first; fields = refl })
+  | inl found ↦ (
+    fields_of (candidate found.0) (image_block image (candidate found.0)),
+    record { place = found.0; found = found.2.at; first = found.2.first; fields = refl },
+  )
   | inr none ↦ absurd (some (HasNoHome-all image none))
 ]
 
@@ -101,21 +110,27 @@ index-stable image home q = record {
 module _ (t : Table) (f lbn : ℕ) where
   -- no header of the file names it, of this segment on and before another
   abbrev NotFrom : ℕ → ℕ → Type 0
-  NotFrom from most = (m : ℕ) → IsHeaderOf t f m → from ≤ segment_number (t.header m) → segment_number (t.header m) < from + most → ¬ Contains (blocks_named (t.header m)) lbn
+  NotFrom from most =
+      (m : ℕ) → IsHeaderOf t f m → from ≤ segment_number (t.header m) → segment_number (t.header m) < from + most
+      → ¬ Contains (blocks_named (t.header m)) lbn
 
-  not-last : (n most : ℕ) → IsHeaderOf t f n → ((m : ℕ) → ¬ IsNext t n m) → ¬ Contains (blocks_named (t.header n)) lbn → NotFrom (segment_number (t.header n)) (suc most)
+  not-last : (n most : ℕ) → IsHeaderOf t f n → ((m : ℕ) → ¬ IsNext t n m) → ¬ Contains (blocks_named (t.header n)) lbn
+      → NotFrom (segment_number (t.header n)) (suc most)
   not-last n most of last not m also from below names = elim (cases_eq (segment_number (t.header m)) (segment_number (t.header n))) [
     | inl same ↦ not (subst (λ (k : ℕ). Contains (blocks_named (t.header k)) lbn) (same-segment also of same) names)
     | inr differ ↦
-        let before : Links t f (segment_number (t.header n)) = links-before (segment_number (t.header n)) also (omega (arith, from, differ)) in
+        let before : Links t f (segment_number (t.header n)) = links-before (segment_number (t.header n)) also (omega (arith, from, differ))
+        in
         last before.to (subst (λ (k : ℕ). IsNext t k before.to) (same-segment before.of of before.number) before.goes)
   ]
 
-  not-before : (n to most : ℕ) → IsHeaderOf t f n → IsNext t n to → ¬ Contains (blocks_named (t.header n)) lbn → NotFrom (segment_number (t.header to)) most → NotFrom (segment_number (t.header n)) (suc most)
-  not-before n to most of goes not rest m also from below names = elim (cases_eq (segment_number (t.header m)) (segment_number (t.header n))) [
-    | inl same ↦ not (subst (λ (k : ℕ). Contains (blocks_named (t.header k)) lbn) (same-segment also of same) names)
-    | inr differ ↦ rest m also (omega (arith, from, differ, goes.segment)) (omega (arith, below, goes.segment)) names
-  ]
+  not-before : (n to most : ℕ) → IsHeaderOf t f n → IsNext t n to → ¬ Contains (blocks_named (t.header n)) lbn
+      → NotFrom (segment_number (t.header to)) most → NotFrom (segment_number (t.header n)) (suc most)
+  not-before n to most of goes not rest m also from below names =
+      elim (cases_eq (segment_number (t.header m)) (segment_number (t.header n))) [
+        | inl same ↦ not (subst (λ (k : ℕ). Contains (blocks_named (t.header k)) lbn) (same-segment also of same) names)
+        | inr differ ↦ rest m also (omega (arith, from, differ, goes.segment)) (omega (arith, below, goes.segment)) names
+      ]
 
   search-from : (most n : ℕ) → IsHeaderOf t f n → IsNamedIn t f lbn ⊎ NotFrom (segment_number (t.header n)) most
   search-from zero n of = inr (λ m also from below. absurd (omega (arith, from, below)))
@@ -138,7 +153,10 @@ module _ (t : Table) (f lbn : ℕ) where
 
 is-file : (t : Table) (n : ℕ) → Decided (IsFile t n)
 is-file t n = like
-    (λ is. record { live = record { in_use = is.0; valid = record { number = is.1.0; holds = is.1.1.0; sum = is.1.1.1.0 } }; first = is.1.1.1.1 })
+    (λ is. record {
+      live = record { in_use = is.0; valid = record { number = is.1.0; holds = is.1.1.0; sum = is.1.1.1.0 } };
+      first = is.1.1.1.1;
+    })
     (λ is. (is.live.in_use, (is.live.valid.number, (is.live.valid.holds, (is.live.valid.sum, is.first)))))
     (both (truth (t.in_use n)) (both (cases_eq (file_number (t.header n)) n) (both (truth (holds_header (t.header n)))
     (both (cases_eq (check_word (t.header n)) (word_sum (t.header n) 255)) (cases_eq (segment_number (t.header n)) 0)))))
@@ -149,7 +167,8 @@ small-segments image index is n = segment_number-byte image (header_lbn index n)
 
 earlier-stable : (image : Image) (home : HomeFields) → IsImage image → ¬ (¬ EarlierAreNamed image home) → EarlierAreNamed image home
 earlier-stable image home is q = λ k below.
-    stable (named-decided (table_of image home) 3 (candidate k) (small-segments image (index_of image home) is) (is-file _ 3)) (λ not. q (λ earlier. not (earlier k below)))
+    stable (named-decided (table_of image home) 3 (candidate k) (small-segments image (index_of image home) is) (is-file _ 3))
+    (λ not. q (λ earlier. not (earlier k below)))
 
 -- what can't fail of a frame
 own-stable : (t : Table) (n : ℕ) → ¬ (¬ IsOwnFile t n) → IsOwnFile t n
@@ -178,7 +197,8 @@ control-stable control file device q = record {
 }
 
 past-decided : (index : Index) (n : ℕ) → Decided (IsPastSlots index n)
-past-decided index n = like (λ is. record { past = is.0; bit = is.1 }) (λ is. (is.past, is.bit)) (both (less (slots index) n) (truth (slot_bit index n)))
+past-decided index n =
+    like (λ is. record { past = is.0; bit = is.1 }) (λ is. (is.past, is.bit)) (both (less (slots index) n) (truth (slot_bit index n)))
 
 -- where no bit past the slots is the first, there is none
 none-past : (index : Index) → ((n : ℕ) → ¬ IsFirstPast index n) → HasNonePast index
@@ -195,11 +215,13 @@ module _ (image : Image) (home : HomeFields) (is : IsImage image) (none : (code 
   }
 
   own : (n : ℕ) → 2 ≤ n → n ≤ 4 → ((m : ℕ) → 2 ≤ m → m < n → IsOwnFile (table_of image home) m) → IsOwnFile (table_of image home) n
-  own n low high before = own-stable _ n (λ not. none 3 n (own_file_bad n indexed (record { low = low; high = high; no_file = not; first = before })))
+  own n low high before =
+      own-stable _ n (λ not. none 3 n (own_file_bad n indexed (record { low = low; high = high; no_file = not; first = before })))
 
   own-below : (k n : ℕ) → n ≤ k → 2 ≤ n → n ≤ 4 → IsOwnFile (table_of image home) n
   own-below zero n few low high = absurd (omega (arith, few, low))
-  own-below (suc k) n few low high = own n low high (λ m least less. own-below k m (omega (arith, few, less)) least (omega (arith, less, high)))
+  own-below (suc k) n few low high =
+      own n low high (λ m least less. own-below k m (omega (arith, few, less)) least (omega (arith, less, high)))
 
   own-files : HasOwnFiles image home
   own-files n low high = own-below 4 n high low high
@@ -223,21 +245,30 @@ module _ (image : Image) (home : HomeFields) (is : IsImage image) (none : (code 
 sound-from : (image : Image) → IsImage image → IsAccepted image → IsSoundImage image
 sound-from image is accepted =
     let found = home-found image (λ none. accepted 1 0 0 (of_frame 1 0 (no_home none))) in
-    let framed : IsFramed image found.0 = framed-from image found.0 is (λ code a fault. accepted code a 0 (of_frame code a (behind_home found.0 code a found.1 fault))) found.1 in
+    let framed : IsFramed image found.0 =
+    framed-from image found.0 is (λ code a fault. accepted code a 0 (of_frame code a (behind_home found.0 code a found.1 fault)))
+    found.1 in
     record {
       home = found.0;
-      volume = record { framed = framed; sound = (no-fault-sound (volume_of image found.0)).0 (λ code a b fault. accepted code a b (of_volume found.0 code a b framed fault)) };
+      volume = record {
+        framed = framed;
+        sound = (no-fault-sound (volume_of image found.0)).0
+            (λ code a b fault. accepted code a b (of_volume found.0 code a b framed fault));
+      };
     }
 
 accepted-from : (image : Image) → IsSoundImage image → IsAccepted image
 accepted-from image sound code a b (of_frame c d fault) = frame-none image sound.home c d sound.framed fault
 accepted-from image sound code a b (of_volume home c d e framed fault) =
-    (no-fault-sound (volume_of image home)).1 (subst (λ (h : HomeFields). IsSoundVolume (volume_of image h)) (home-unique image sound.home home sound.framed.home_is framed.home_is) sound.sound) c d e fault
+    (no-fault-sound (volume_of image home)).1
+    (subst (λ (h : HomeFields). IsSoundVolume (volume_of image h))
+    (home-unique image sound.home home sound.framed.home_is framed.home_is) sound.sound) c d e fault
 
 pub accepted-sound : (image : Image) → IsImage image → IsAccepted image ↔ IsSoundImage image
 accepted-sound image is = (sound-from image is, accepted-from image)
 
-pub accepted-volume : (image : Image) (home : HomeFields) → IsImage image → IsHomeOf image home → IsAccepted image ↔ HasSoundVolume image home
+pub accepted-volume : (image : Image) (home : HomeFields) → IsImage image → IsHomeOf image home
+    → IsAccepted image ↔ HasSoundVolume image home
 accepted-volume image home is is_home = (
   λ accepted.
       let sound = sound-from image is accepted in

@@ -19,28 +19,41 @@ stands-contiguous k (lbn ∷ more) stands =
 
 -- the blocks of a run are contiguous, and so are those of a run behind it
 pub run-contiguous : (first count : ℕ) → AreContiguous (range_with_len first count)
-run-contiguous first count = stands-contiguous first (range_with_len first count) (λ i below. get_or-range_with_len first count i 0 (omega (arith, below, length-range_with_len first count)))
+run-contiguous first count =
+    stands-contiguous first (range_with_len first count)
+    (λ i below. get_or-range_with_len first count i 0 (omega (arith, below, length-range_with_len first count)))
 
-pub runs-join : (first count more : ℕ) → range_with_len first count ++ range_with_len (first + count) more ≡ range_with_len first (count + more)
-runs-join first zero more = let same : first + 0 ≡ first = omega arith in let plain : 0 + more ≡ more = omega arith in ap (λ k. range_with_len k more) same ∙ ap (range_with_len first) (sym plain)
+pub runs-join : (first count more : ℕ)
+    → range_with_len first count ++ range_with_len (first + count) more ≡ range_with_len first (count + more)
+runs-join first zero more =
+    let same : first + 0 ≡ first = omega arith in let plain : 0 + more ≡ more = omega arith in ap (λ k. range_with_len k more) same
+    ∙ ap (range_with_len first) (sym plain)
 runs-join first (suc count) more =
     let on : first + suc count ≡ first + 1 + count = omega arith in
     let all : suc count + more ≡ suc (count + more) = omega arith in
-    ap (λ k. first ∷ (range_with_len (first + 1) count ++ range_with_len k more)) on ∙ ap (λ l. first ∷ l) (runs-join (first + 1) count more) ∙ ap (range_with_len first) (sym all)
+    ap (λ k. first ∷ (range_with_len (first + 1) count ++ range_with_len k more)) on
+    ∙ ap (λ l. first ∷ l) (runs-join (first + 1) count more) ∙ ap (range_with_len first) (sym all)
 
 -- of contiguous blocks those in front are, and those behind them
 pub contiguous-front : (front behind : List ℕ) → AreContiguous (front ++ behind) → AreContiguous front
 contiguous-front front behind is =
     stands-contiguous (get_or (front ++ behind) 0 0) front
-    (λ i below. sym (get_or_append_left front behind 0 i below) ∙ contiguous-stands (front ++ behind) is i (omega (arith, below, length-append front behind)))
+    (λ i below. sym (get_or_append_left front behind 0 i below) ∙ contiguous-stands (front ++ behind) is i
+    (omega (arith, below, length-append front behind)))
 
 pub contiguous-behind : (front behind : List ℕ) → AreContiguous (front ++ behind) → AreContiguous behind
 contiguous-behind front behind is =
     stands-contiguous (get_or (front ++ behind) 0 0 + length front) behind
-    (λ i below. omega (arith, get_or-append-add front behind i 0, contiguous-stands (front ++ behind) is (length front + i) (omega (arith, below, length-append front behind))))
+    (λ i below. omega (
+      arith,
+      get_or-append-add front behind i 0,
+      contiguous-stands (front ++ behind) is (length front + i)
+          (omega (arith, below, length-append front behind)),
+    ))
 
 -- a run behind another is where that one ends
-pub contiguous-seam : (first count next more : ℕ) → 0 < count → 0 < more → AreContiguous (range_with_len first count ++ range_with_len next more) → next ≡ first + count
+pub contiguous-seam : (first count next more : ℕ) → 0 < count → 0 < more
+    → AreContiguous (range_with_len first count ++ range_with_len next more) → next ≡ first + count
 contiguous-seam first count next more some others is =
     let one = range_with_len first count in
     let other = range_with_len next more in
@@ -52,5 +65,6 @@ contiguous-seam first count next more some others is =
       get_or-range_with_len first count 0 0 some,
       get_or-append-add one other 0 0,
       get_or-range_with_len next more 0 0 others,
-      contiguous-stands (one ++ other) is (length one + 0) (omega (arith, others, length-append one other, length-range_with_len next more)),
+      contiguous-stands (one ++ other) is (length one + 0)
+          (omega (arith, others, length-append one other, length-range_with_len next more)),
     )

@@ -1,5 +1,6 @@
 -- Whether something holds, found out; and what can't fail holds.
-use Rattle.std.proofs.Common.{◌≡◌, ◌≢◌, ◌≤◌, ◌<◌, ◌⊎◌, inl, inr, ℕ, zero, suc, refl, sym, subst, ap, arith, List, [], ◌∷◌, length, Option, Some, None, Bool, true, false}
+use Rattle.std.proofs.Common.{◌≡◌, ◌≢◌, ◌≤◌, ◌<◌, ◌⊎◌, inl, inr, ℕ, zero, suc, refl, sym, subst, ap, arith, List, [], ◌∷◌, length, Option}
+use Rattle.std.proofs.Common.{Some, None, Bool, true, false}
 use Rattle.std.specs.Prelude.{IsTrue, Contains, slice_index_or}
 use Rattle.std.proofs.lemmas.Bool.{cases_eq, cases_lt}
 use Rattle.std.proofs.lemmas.Option.{same_Some}
@@ -77,4 +78,5 @@ least P test (suc n) = elim (least P test n) [
 ]
   where
     last : (n : ℕ) → ((j : ℕ) → j < n → ¬ P j) → ¬ P n → (j : ℕ) → j < suc n → ¬ P j
-    last n none not j below = elim (cases_eq j n) [ inl same ↦ subst (λ (k : ℕ). ¬ P k) (sym same) not | inr differ ↦ none j (omega (arith, below, differ)) ]
+    last n none not j below =
+        elim (cases_eq j n) [ inl same ↦ subst (λ (k : ℕ). ¬ P k) (sym same) not | inr differ ↦ none j (omega (arith, below, differ)) ]

@@ -1,5 +1,6 @@
 -- The files of a sound volume.
-use Rattle.std.proofs.Common.{map, drop, slice_index, zero, Option, None, ◌≡◌, ◌<◌, ◌≤◌, ◌+◌, ◌-◌, ℕ, suc, List, [], ◌∷◌, length, take, Some, refl, sym, ap, subst, ◌∙◌, inl, inr, arith}
+use Rattle.std.proofs.Common.{map, drop, slice_index, zero, Option, None, ◌≡◌, ◌<◌, ◌≤◌, ◌+◌, ◌-◌, ℕ, suc, List, [], ◌∷◌, length, take}
+use Rattle.std.proofs.Common.{Some, refl, sym, ap, subst, ◌∙◌, inl, inr, arith}
 use Rattle.std.specs.List.{slice_get, flat_map}
 use Rattle.std.proofs.lemmas.Bool.{cases_eq, cases_lt}
 use Rattle.std.proofs.lemmas.List.{length-append, length-take, length-drop}
@@ -58,7 +59,8 @@ piece f (y ∷ xs) i x at = elim (cases_lt i (length (f y))) [
         here ∙ sym (slice_get-append_front (f y) (flat_map f xs) i _ here) ∙ at;
     sum = omega arith;
   }
-  | inr behind ↦ later f y xs i x behind (piece f xs (i - length (f y)) x (sym (slice_get-append_back (f y) (flat_map f xs) i (length (f y)) refl behind) ∙ at))
+  | inr behind ↦ later f y xs i x behind
+      (piece f xs (i - length (f y)) x (sym (slice_get-append_back (f y) (flat_map f xs) i (length (f y)) refl behind) ∙ at))
 ]
 
 -- Block i of file f is the one that this header of it names, at this place.
@@ -145,7 +147,8 @@ place-at image home i within =
     let t = table_of image home in
     slice_get-header (bitmap_file t) 1 (bitmap_count (control_block image t)) i _ 0 within refl
 
-pub bitmap-is : (image : Image) (home : HomeFields) → HasSoundVolume image home → IsBitmap (storage_bitmap image home) × LiesWithin (storage_bitmap image home) (length image)
+pub bitmap-is : (image : Image) (home : HomeFields) → HasSoundVolume image home
+    → IsBitmap (storage_bitmap image home) × LiesWithin (storage_bitmap image home) (length image)
 unfolding storage_bitmap
 bitmap-is image home is =
     let t = table_of image home in
@@ -153,12 +156,18 @@ bitmap-is image home is =
     let two = is.framed.bitmap.sound.whole.file in
     let control = is.framed.control in
     let count : length (storage_bitmap image home).places ≡ bitmap_count (control_block image t) =
-    omega (arith, control.in_file, length-take (bitmap_count (control_block image t)) (drop 1 (bitmap_file t)), length-drop 1 (bitmap_file t)) in (
+    omega (
+      arith,
+      control.in_file,
+      length-take (bitmap_count (control_block image t)) (drop 1 (bitmap_file t)),
+      length-drop 1 (bitmap_file t),
+    ) in (
       record {
         some = omega (arith, count, control.some_bitmap);
         few = omega (arith, count, control.few_bitmap);
         apart = λ i j one other same.
-            let there : slice_get (bitmap_file t) (1 + j) ≡ Some (slice_index (storage_bitmap image home).places i) = place-at image home j other ∙ ap Some (sym same) in
+            let there : slice_get (bitmap_file t) (1 + j) ≡ Some (slice_index (storage_bitmap image home).places i) =
+            place-at image home j other ∙ ap Some (sym same) in
             let places = (files.one_owner 2 2 (1 + i) (1 + j) _ two two (place-at image home i one) there).1 in
             omega (arith, places);
         sized = control.some_blocks;
@@ -186,14 +195,16 @@ following-some : (most : ℕ) (t : Table) (n : ℕ) → following (suc most) t (
 unfolding following
 following-some most t n = refl
 
-pub reached-are : (most : ℕ) (t : Table) (f : ℕ) {n : ℕ} → IsWholeFile t f → IsHeaderOf t f n → following most t (Some n) ≡ headers_from most t n
+pub reached-are : (most : ℕ) (t : Table) (f : ℕ) {n : ℕ} → IsWholeFile t f → IsHeaderOf t f n
+    → following most t (Some n) ≡ headers_from most t n
 unfolding following headers_from
 reached-are zero t f {n} whole of = refl
 reached-are (suc most) t f {n} whole of =
     let to = (link_of (t.header n)).number in
     let some : 0 < n = live-some (live_of-header of) in
     let rest : following most t (next_of t n) ≡ headers_from most t to = elim (whole.links n of) [
-      | inl none ↦ ap (following most t) (next-none t n none) ∙ following-none t most ∙ sym (ap (headers_from most t) none ∙ headers_from-none most t)
+      | inl none ↦ ap (following most t) (next-none t n none) ∙ following-none t most
+          ∙ sym (ap (headers_from most t) none ∙ headers_from-none most t)
       | inr goes ↦ ap (following most t) ((next-found t n to).1 goes) ∙ reached-are most t f whole (next of goes)
     ] in
     ap (λ hs. n ∷ hs) rest ∙ sym (headers_from-some most t n some)
@@ -202,7 +213,8 @@ pub file-headers-are : (image : Image) (t : Table) (f : ℕ) → IsWholeFile t f
 unfolding file_of
 file-headers-are image t f whole = reached-are 256 t f whole (first whole.file)
 
-pub file-blocks-are : (image : Image) (t : Table) (f : ℕ) → IsWholeFile t f → (file_of image t f).blocks ≡ map (block_or_zeros image) (file_blocks t f)
+pub file-blocks-are : (image : Image) (t : Table) (f : ℕ) → IsWholeFile t f
+    → (file_of image t f).blocks ≡ map (block_or_zeros image) (file_blocks t f)
 unfolding file_of file_blocks
 file-blocks-are image t f whole =
     ap (λ (hs : List ℕ). map (block_or_zeros image) (blocks_by t hs)) (reached-are 256 t f whole (first whole.file))

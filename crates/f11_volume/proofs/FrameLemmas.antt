@@ -6,7 +6,8 @@ use Rattle.f11_home.specs.Home.{HomeFields}
 use Rattle.f11_home.proofs.HomeLemmas.{home-unique, home-some}
 use Rattle.f11_index.specs.IndexFile.{Index, IsFirstPast}
 use Rattle.f11_index.specs.Table.{Table}
-use Rattle.f11_volume.specs.Faults.{IsFramed, IsFirstNoFile, IsFaultBehindHome, index_misplaced, own_file_bad, bitmap_file_bad, control_block_wrong, bit_past_slots, IsFrameFault, no_home, behind_home}
+use Rattle.f11_volume.specs.Faults.{IsFramed, IsFirstNoFile, IsFaultBehindHome, index_misplaced, own_file_bad, bitmap_file_bad}
+use Rattle.f11_volume.specs.Faults.{control_block_wrong, bit_past_slots, IsFrameFault, no_home, behind_home}
 use Rattle.f11_volume.specs.Laws.{IsFramedBefore, FrameFaultIsFirst}
 use Rattle.f11_volume.specs.Verdict.{IsFault, of_frame, of_volume}
 
@@ -27,7 +28,8 @@ frame-none image home code a framed (behind_home other c b is fault) =
 first-file : (t : Table) (n m : ℕ) → IsFirstNoFile t n → IsFirstNoFile t m → n ≡ m
 first-file t n m one other = elim (cases_lt n m) [
   | inl below ↦ absurd (one.no_file (other.first n one.low below))
-  | inr least ↦ elim (cases_lt m n) [ inl above ↦ absurd (other.no_file (one.first m other.low above)) | inr same ↦ omega (arith, least, same) ]
+  | inr least ↦ elim (cases_lt m n)
+      [ inl above ↦ absurd (other.no_file (one.first m other.low above)) | inr same ↦ omega (arith, least, same) ]
 ]
 
 first-past : (index : Index) (n m : ℕ) → IsFirstPast index n → IsFirstPast index m → n ≡ m
@@ -37,7 +39,8 @@ first-past index n m one other = elim (cases_lt n m) [
 ]
 
 -- of two faults behind the home block each comes before the other
-one-behind : {image : Image} {home : HomeFields} {code a other b : ℕ} → IsFaultBehindHome image home code a → IsFaultBehindHome image home other b → (code ≡ other) × (a ≡ b)
+one-behind : {image : Image} {home : HomeFields} {code a other b : ℕ} → IsFaultBehindHome image home code a
+    → IsFaultBehindHome image home other b → (code ≡ other) × (a ≡ b)
 one-behind (index_misplaced x) (index_misplaced y) = (refl, refl)
 one-behind (index_misplaced x) (own_file_bad yn yi yf) = absurd (x yi)
 one-behind (index_misplaced x) (bitmap_file_bad yi yo y) = absurd (x yi)
@@ -71,16 +74,32 @@ frame-one image (behind_home home c b is fault) (no_home none) = absurd (home-so
 frame-one image (behind_home home c b is fault) (behind_home other d e also second) =
     one-behind fault (subst (λ (h : HomeFields). IsFaultBehindHome image h d e) (home-unique image other home also is) second)
 
-pub frame-only : (image : Image) (code a other b c : ℕ) → IsFrameFault image code a → IsFault image other b c → (code ≡ other) × (a ≡ b) × (c ≡ 0)
+pub frame-only : (image : Image) (code a other b c : ℕ) → IsFrameFault image code a → IsFault image other b c
+    → (code ≡ other) × (a ≡ b) × (c ≡ 0)
 frame-only image code a other b c fault (of_frame d e second) = let one = frame-one image fault second in (one.0, one.1, refl)
 frame-only image code a other b c fault (of_volume home d e f framed second) = absurd (frame-none image home code a framed fault)
 
 -- what comes before it is as it should be
 first-behind : {image : Image} {home : HomeFields} {code a : ℕ} → IsFaultBehindHome image home code a → IsFramedBefore image home code
-first-behind (index_misplaced x) = record { indexed = λ h. absurd (omega (arith, h)); own_files = λ h. absurd (omega (arith, h)); bitmap = λ h. absurd (omega (arith, h)); control = λ h. absurd (omega (arith, h)) }
-first-behind (own_file_bad n i f) = record { indexed = λ h. i; own_files = λ h. absurd (omega (arith, h)); bitmap = λ h. absurd (omega (arith, h)); control = λ h. absurd (omega (arith, h)) }
-first-behind (bitmap_file_bad i o x) = record { indexed = λ h. i; own_files = λ h. o; bitmap = λ h. absurd (omega (arith, h)); control = λ h. absurd (omega (arith, h)) }
-first-behind (control_block_wrong i o b x) = record { indexed = λ h. i; own_files = λ h. o; bitmap = λ h. b; control = λ h. absurd (omega (arith, h)) }
+first-behind (index_misplaced x) =
+    record {
+      indexed = λ h. absurd (omega (arith, h));
+      own_files = λ h. absurd (omega (arith, h));
+      bitmap = λ h. absurd (omega (arith, h));
+      control = λ h. absurd (omega (arith, h));
+    }
+first-behind (own_file_bad n i f) =
+    record {
+      indexed = λ h. i;
+      own_files = λ h. absurd (omega (arith, h));
+      bitmap = λ h. absurd (omega (arith, h));
+      control = λ h.
+          absurd (omega (arith, h));
+    }
+first-behind (bitmap_file_bad i o x) =
+    record { indexed = λ h. i; own_files = λ h. o; bitmap = λ h. absurd (omega (arith, h)); control = λ h. absurd (omega (arith, h)) }
+first-behind (control_block_wrong i o b x) =
+    record { indexed = λ h. i; own_files = λ h. o; bitmap = λ h. b; control = λ h. absurd (omega (arith, h)) }
 first-behind (bit_past_slots n i o b c f) = record { indexed = λ h. i; own_files = λ h. o; bitmap = λ h. b; control = λ h. c }
 
 pub frame-first : FrameFaultIsFirst

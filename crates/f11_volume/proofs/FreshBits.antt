@@ -1,5 +1,6 @@
 -- The bits of a fresh index bitmap.
-use Rattle.std.proofs.Common.{◌≡◌, ◌≢◌, ◌<◌, ◌≤◌, ◌+◌, ◌*◌, ◌/◌, ◌%◌, ℕ, zero, suc, true, false, List, [], refl, ap, ◌∙◌, inl, inr, arith, slice_index}
+use Rattle.std.proofs.Common.{◌≡◌, ◌≢◌, ◌<◌, ◌≤◌, ◌+◌, ◌*◌, ◌/◌, ◌%◌, ℕ, zero, suc, true, false, List, [], refl, ap, ◌∙◌, inl, inr, arith}
+use Rattle.std.proofs.Common.{slice_index}
 use Rattle.std.specs.Prelude.{slice_set, replicate, ◌==◌}
 use Rattle.std.specs.Int.{bit_at}
 use Rattle.std.proofs.lemmas.Bool.{cases_eq, cases_lt, cond-false, ne_eqb}
@@ -45,7 +46,9 @@ low-bit (suc (suc (suc (suc zero)))) past low = absurd (omega (arith, past))
 
 high-bit : (k : ℕ) → 8 ≤ k → bit (fresh_index_bitmap 0) k ≡ false
 unfolding fresh_index_bitmap
-high-bit k high = no-bit (slice_set zero_block 0 31) k (get_or-set_other zero_block 0 (k / 8) 31 0 (λ same. omega (arith, same, high)) ∙ zero-byte (k / 8))
+high-bit k high =
+    no-bit (slice_set zero_block 0 31) k (get_or-set_other zero_block 0 (k / 8) 31 0 (λ same. omega (arith, same, high))
+    ∙ zero-byte (k / 8))
 
 later-block : (i : ℕ) → i ≢ 0 → fresh_index_bitmap i ≡ zero_block
 unfolding fresh_index_bitmap

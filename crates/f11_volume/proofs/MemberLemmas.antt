@@ -1,5 +1,6 @@
 -- What is among the elements of a list.
-use Rattle.std.proofs.Common.{◌≡◌, ◌≤◌, ◌<◌, ◌+◌, ◌-◌, ◌⊎◌, inl, inr, ℕ, refl, ap, sym, ◌∙◌, subst, arith, List, ◌++◌, Some, length, get_or, take}
+use Rattle.std.proofs.Common.{◌≡◌, ◌≤◌, ◌<◌, ◌+◌, ◌-◌, ◌⊎◌, inl, inr, ℕ, refl, ap, sym, ◌∙◌, subst, arith, List, ◌++◌, Some, length, get_or}
+use Rattle.std.proofs.Common.{take}
 use Rattle.std.specs.Prelude.{All, Contains}
 use Rattle.std.specs.List.{slice_get, range_with_len}
 use Rattle.std.proofs.lemmas.Bool.{cases_lt}
@@ -27,7 +28,8 @@ in-either xs ys x has = elim (cases_lt has.0 (length xs)) [
   | inl inside ↦
       let here = slice_get-get_or xs has.0 x inside in
       inl (contained xs has.0 x (here ∙ sym (slice_get-append_front xs ys has.0 (get_or xs has.0 x) here) ∙ at-place (xs ++ ys) x has))
-  | inr past ↦ inr (contained ys (has.0 - length xs) x (sym (slice_get-append_back xs ys has.0 (length xs) refl past) ∙ at-place (xs ++ ys) x has))
+  | inr past ↦ inr (contained ys (has.0 - length xs) x
+      (sym (slice_get-append_back xs ys has.0 (length xs) refl past) ∙ at-place (xs ++ ys) x has))
 ]
 
 pub in-range : (lbn n x : ℕ) → Contains (range_with_len lbn n) x → (lbn ≤ x) × (x < lbn + n)
@@ -38,7 +40,8 @@ in-range lbn n x has =
     )
 
 pub range-has : (lbn n x : ℕ) → lbn ≤ x → x < lbn + n → Contains (range_with_len lbn n) x
-range-has lbn n x low high = contained (range_with_len lbn n) (x - lbn) x (range-slice_get lbn n (x - lbn) (omega (arith, low, high)) ∙ ap Some (omega (arith, low)))
+range-has lbn n x low high =
+    contained (range_with_len lbn n) (x - lbn) x (range-slice_get lbn n (x - lbn) (omega (arith, low, high)) ∙ ap Some (omega (arith, low)))
 
 -- what holds of each element
 pub all-from : (P : ℕ → Type 0) (xs : List ℕ) → ((x : ℕ) → Contains xs x → P x) → All P xs
@@ -66,5 +69,6 @@ all-take P n xs all = λ k d below.
 -- each block of a run is below an end where its last is
 pub run-below : (lbn count end : ℕ) → 0 < count → All (λ l. l < end) (range_with_len lbn count) → lbn + count ≤ end
 run-below lbn count end some all =
-    let last = all-each (λ l. l < end) (range_with_len lbn count) all (lbn + count - 1) (range-has lbn count (lbn + count - 1) (omega (arith, some)) (omega (arith, some))) in
+    let last = all-each (λ l. l < end) (range_with_len lbn count) all (lbn + count - 1)
+    (range-has lbn count (lbn + count - 1) (omega (arith, some)) (omega (arith, some))) in
     omega (arith, last, some)

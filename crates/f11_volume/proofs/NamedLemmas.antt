@@ -26,10 +26,14 @@ pub named-by : (runs : List (ℕ × ℕ)) (place lbn : ℕ) → slice_get (block
 named-by [] place lbn is = cc
 named-by (run ∷ runs) place lbn is = elim (cases_lt place run.1) [
   | inl front ↦
-      let here : slice_get (blocks_in (run ∷ runs)) place ≡ Some (run.0 + place) = slice_get-append_front (range_with_len run.0 run.1) (blocks_in runs) place (run.0 + place) (range-slice_get run.0 run.1 place front) in
+      let here : slice_get (blocks_in (run ∷ runs)) place ≡ Some (run.0 + place) = slice_get-append_front (range_with_len run.0 run.1)
+      (blocks_in runs) place (run.0 + place) (range-slice_get run.0 run.1 place front) in
       let same : run.0 + place ≡ lbn = same_Some _ lbn (sym here ∙ is) in
       record { pointer = 0; run = run; at = refl; low = omega (arith, same); high = omega (arith, same, front) }
-  | inr behind ↦ later runs run lbn (named-by runs (place - run.1) lbn (sym (slice_get-append_back (range_with_len run.0 run.1) (blocks_in runs) place run.1 (sym (length-range_with_len run.0 run.1)) behind) ∙ is))
+  | inr behind ↦ later runs run lbn
+      (named-by runs (place - run.1) lbn
+      (sym (slice_get-append_back (range_with_len run.0 run.1) (blocks_in runs) place run.1 (sym (length-range_with_len run.0 run.1))
+      behind) ∙ is))
 ]
 
 -- each block of a pointer is named

@@ -6,8 +6,10 @@ use Rattle.f11_map.specs.HeaderBlock.{segment_number}
 use Rattle.f11_index.specs.Headers.{IsInFile}
 use Rattle.f11_index.specs.Table.{first}
 use Rattle.f11_volume.specs.Contents.{blocks_reached}
-use Rattle.f11_volume.specs.Notes.{IsLost, IsLostRun, IsEntered, AreContiguous, IsVolumeNote, blocks_lost, orphan, in_no_directory, not_contiguous}
-use Rattle.f11_volume.specs.NoteLaws.{LostRunsAreApart, IsInNoRun, LostRunsHaveTheLost, OrphansAreNoFiles, OthersAreEntered, StandsFrom, OthersAreContiguous}
+use Rattle.f11_volume.specs.Notes.{IsLost, IsLostRun, IsEntered, AreContiguous, IsVolumeNote, blocks_lost, orphan, in_no_directory}
+use Rattle.f11_volume.specs.Notes.{not_contiguous}
+use Rattle.f11_volume.specs.NoteLaws.{LostRunsAreApart, IsInNoRun, LostRunsHaveTheLost, OrphansAreNoFiles, OthersAreEntered, StandsFrom}
+use Rattle.f11_volume.specs.NoteLaws.{OthersAreContiguous}
 use Rattle.f11_volume.specs.Volume.{Volume}
 use Rattle.f11_volume.proofs.ContiguousLemmas.{contiguous-stands, stands-contiguous}
 
@@ -79,7 +81,8 @@ alone : (v : Volume) (n : ℕ) → IsLost v n → (lbn : ℕ) → n ≤ lbn → 
 alone v n lost lbn low high = let same : n ≡ lbn = omega (arith, low, high) in subst (IsLost v) same lost
 
 begins : (v : Volume) (n : ℕ) → IsLost v n → ¬ (¬ Begins v n)
-begins v zero lost nowhere = nowhere (record { low = 0; some = omega arith; each = alone v 0 lost; before = λ above. absurd (omega (arith, above)) })
+begins v zero lost nowhere =
+    nowhere (record { low = 0; some = omega arith; each = alone v 0 lost; before = λ above. absurd (omega (arith, above)) })
 begins v (suc n) lost nowhere = nowhere (record {
   low = suc n;
   some = omega arith;
@@ -147,5 +150,6 @@ others-are image v n file = (lonely-noted, λ (none : ¬ IsEntered image v.table
 pub contiguous-are : OthersAreContiguous
 contiguous-are image v n file mark = (
   λ note. λ k stands. apart-noted note (stands-contiguous k (blocks_reached v.table n) stands),
-  λ (nowhere : (k : ℕ) → ¬ StandsFrom k (blocks_reached v.table n)). not_contiguous n file mark (λ is. nowhere _ (contiguous-stands (blocks_reached v.table n) is)),
+  λ (nowhere : (k : ℕ) → ¬ StandsFrom k (blocks_reached v.table n)).
+      not_contiguous n file mark (λ is. nowhere _ (contiguous-stands (blocks_reached v.table n) is)),
 )

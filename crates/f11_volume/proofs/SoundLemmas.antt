@@ -9,7 +9,8 @@ use Rattle.f11_map.specs.HeaderBlock.{segment_number, blocks_named}
 use Rattle.f11_index.specs.Table.{Table, IsLive, IsNext}
 use Rattle.f11_map.specs.MapArea.{runs_of}
 use Rattle.f11_map.proofs.RunLemmas.{AreSome-runs_of}
-use Rattle.f11_volume.specs.Faults.{IsVolumeFault, header_bad, pointer_outside, named_twice, named_free, wrong_link, linked_twice, link_past_last, link_to_volume}
+use Rattle.f11_volume.specs.Faults.{IsVolumeFault, header_bad, pointer_outside, named_twice, named_free, wrong_link, linked_twice}
+use Rattle.f11_volume.specs.Faults.{link_past_last, link_to_volume}
 use Rattle.f11_volume.specs.Sound.{LinksOn, IsSoundVolume}
 use Rattle.f11_volume.specs.Volume.{Volume, IsCell, HasPointer, IsLinked}
 use Rattle.f11_volume.proofs.NamedLemmas.{named-by, names}
@@ -66,7 +67,8 @@ module _ (v : Volume) (none : HasNoFault v) where
   unfolding blocks_named
   inside n place lbn cell =
       let is = named-by (runs_of (map_area (v.table.header n))) place lbn cell.names in
-      less-stable _ _ (λ out. none 8 n is.pointer (pointer_outside n is.pointer is.run (record { live = cell.live; pointer = is.at }) (omega (arith, out, is.high))))
+      less-stable _ _ (λ out. none 8 n is.pointer
+      (pointer_outside n is.pointer is.run (record { live = cell.live; pointer = is.at }) (omega (arith, out, is.high))))
 
   apart : (n place m other lbn : ℕ) → IsCell v.table n place lbn → IsCell v.table m other lbn → (n ≡ m) × (place ≡ other)
   apart n place m other lbn one two =
@@ -82,11 +84,13 @@ module _ (v : Volume) (none : HasNoFault v) where
       (same-stable _ _ (λ not. twice (inl not)), same-stable _ _ (λ not. twice (inr not)))
 
   taken : (n place lbn : ℕ) → IsCell v.table n place lbn → v.free lbn ≡ false
-  taken n place lbn cell = false_from_ne_true _ (λ free. none 10 lbn 0 (named_free lbn (record { header = n; place = place; cell = cell }) free))
+  taken n place lbn cell =
+      false_from_ne_true _ (λ free. none 10 lbn 0 (named_free lbn (record { header = n; place = place; cell = cell }) free))
 
   links : (n : ℕ) → IsLinked v.table n → LinksOn v.table n
   links n linked =
-      let not_last : segment_number (v.table.header n) < 255 = less-stable _ _ (λ last. none 13 n 0 (link_past_last n linked (omega (arith, last)))) in
+      let not_last : segment_number (v.table.header n) < 255 =
+      less-stable _ _ (λ last. none 13 n 0 (link_past_last n linked (omega (arith, last)))) in
       record {
         not_last = not_last;
         here = same-stable _ _ (λ away. none 14 n 0 (link_to_volume n linked away));
@@ -107,7 +111,8 @@ outside : (v : Volume) → IsSoundVolume v → (n i : ℕ) (run : ℕ × ℕ) �
 unfolding blocks_named
 outside v sound n i run has out =
     let m : List ℕ = map_area (v.table.header n) in
-    let some : 0 < run.1 = subst (λ (r : ℕ × ℕ). 0 < r.1) (get_or_from_slice_get (runs_of m) i run (0, 0) has.pointer) (AreSome-runs_of m i (0, 0) (slice_get_within (runs_of m) i run has.pointer)) in
+    let some : 0 < run.1 = subst (λ (r : ℕ × ℕ). 0 < r.1) (get_or_from_slice_get (runs_of m) i run (0, 0) has.pointer)
+    (AreSome-runs_of m i (0, 0) (slice_get_within (runs_of m) i run has.pointer)) in
     let named = names (runs_of m) i (run.1 - 1) run has.pointer (omega (arith, some)) in
     let low = sound.inside n named.0 (run.0 + (run.1 - 1)) (record { live = has.live; names = named.1 }) in
     omega (arith, out, low, some)
@@ -117,7 +122,8 @@ none-sound : (v : Volume) → IsSoundVolume v → HasNoFault v
 none-sound v sound code a b (header_bad n used alive bad) = elim (sound.headers n used) [ inl dead ↦ alive dead | inr valid ↦ bad valid ]
 none-sound v sound code a b (pointer_outside n i run has out) = outside v sound n i run has out
 none-sound v sound code a b (named_twice lbn twice) =
-    let one = sound.apart _ _ _ _ lbn twice.cell twice.other_cell in elim twice.apart [ inl differ ↦ differ one.0 | inr differ ↦ differ one.1 ]
+    let one = sound.apart _ _ _ _ lbn twice.cell twice.other_cell in
+    elim twice.apart [ inl differ ↦ differ one.0 | inr differ ↦ differ one.1 ]
 none-sound v sound code a b (named_free lbn named free) = let used = sound.taken _ _ lbn named.cell in cc
 none-sound v sound code a b (wrong_link n linked few wrong) = wrong (sound.links n linked).next
 none-sound v sound code a b (linked_twice n one other differ of also goes comes) = differ (sound.once n one other of also goes comes)

@@ -35,7 +35,8 @@ use Rattle.f11_writes.proofs.NameLemmas.{taken-unreferenced, more-names}
 use Rattle.f11_writes.proofs.OtherLemmas.{unnamed-keeps}
 use Rattle.f11_writes.proofs.OtherSlotLemmas.{file-kept, stay-before, stay-up-to}
 
-module _ (old marked : Image) (home : HomeFields) (f n lbn : ℕ) (header : List ℕ) (is : HasSoundVolume old home) (may : NamesOneMore (table_of old home) f n lbn header)
+module _ (old marked : Image) (home : HomeFields) (f n lbn : ℕ) (header : List ℕ) (is : HasSoundVolume old home)
+    (may : NamesOneMore (table_of old home) f n lbn header)
     (free : is_free old (storage_bitmap old home) lbn ≡ true) (marks : Marks false (storage_bitmap old home) lbn 1 old marked) where
   abbrev t : Table
   t = table_of old home
@@ -129,7 +130,8 @@ module _ (old marked : Image) (home : HomeFields) (f n lbn : ℕ) (header : List
       let file = file_of-header fits.last.of in
       let was = subst (λ (w : Table). IsFile w f) headers-same file in
       let before = sym (file-blocks-are second t2 f (whole-before f file))
-      ∙ ap (λ (x : File). x.blocks) (two.files f (subst (λ (w : Table). IsFile w f) (sym one.index_file.table) was) ∙ one.files f was (λ same. omega (arith, same, may.late))) in
+      ∙ ap (λ (x : File). x.blocks) (two.files f (subst (λ (w : Table). IsFile w f) (sym one.index_file.table) was)
+      ∙ one.files f was (λ same. omega (arith, same, may.late))) in
       three.slot.contents f (file_of-header of-now) (λ same. omega (arith, same, may.late))
       ∙ ap (map (block_or_zeros second)) more.blocks
       ∙ map-append (block_or_zeros second) (file_blocks t2 f) (range_with_len lbn 1)

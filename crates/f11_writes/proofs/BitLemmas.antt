@@ -32,7 +32,8 @@ use Rattle.f11_writes.proofs.OtherSlotLemmas.{own-first}
 use Rattle.f11_writes.proofs.SlotLemmas.{SparesOwn, IsPlacedAt, slot-keeps}
 
 -- the bit of a slot that had no live header
-module _ (image : Image) (home : HomeFields) (is : HasSoundVolume image home) (value : Bool) (n : ℕ) (after : Index) (some : 0 < n) (few : n ≤ slots (index_of image home))
+module _ (image : Image) (home : HomeFields) (is : HasSoundVolume image home) (value : Bool) (n : ℕ) (after : Index) (some : 0 < n)
+    (few : n ≤ slots (index_of image home))
     (bit : SetsBit value n (index_of image home) after) (no_header : ¬ IsLive (table_of image home) n) where
   abbrev t : Table
   t = table_of image home
@@ -125,7 +126,8 @@ module _ (image : Image) (home : HomeFields) (is : HasSoundVolume image home) (v
 
   writes : IsSoundVolume with-table → WritesSlotBit n after home image new
   writes sound = record {
-    slot = slot-keeps image home is lbn block placed n spares indexed past (ap (λ (xs : List ℕ). slice_get xs placed.place) keeps.file ∙ placed.at) sound;
+    slot = slot-keeps image home is lbn block placed n spares indexed past
+        (ap (λ (xs : List ℕ). slice_get xs placed.place) keeps.file ∙ placed.at) sound;
     index_file = keeps;
   }
 
@@ -142,7 +144,8 @@ module _ (image : Image) (home : HomeFields) (is : HasSoundVolume image home) (v
   clear : value ≡ false → WritesSlotBit n after home image new
   unfolding volume_of
   clear off =
-      let away : (m : ℕ) → u.in_use m ≡ true → m ≢ n = λ m used here. let no_use = sym (in-use-here ∙ off) ∙ subst (λ (k : ℕ). u.in_use k ≡ true) here used in cc in
+      let away : (m : ℕ) → u.in_use m ≡ true → m ≢ n = λ m used here. let no_use = sym (in-use-here ∙ off)
+      ∙ subst (λ (k : ℕ). u.in_use k ≡ true) here used in cc in
       let was : (m : ℕ) → u.in_use m ≡ true → t.in_use m ≡ true = λ m used. sym (in-use-other m (away m used)) ∙ used in
       let shrinks : Shrinks (volume_of image home) with-table = record {
         size = refl;
@@ -154,14 +157,18 @@ module _ (image : Image) (home : HomeFields) (is : HasSoundVolume image home) (v
       } in
       writes (shrunk-sound (volume_of image home) with-table shrinks is.sound)
 
-pub set-keeps : (image : Image) (home : HomeFields) (n : ℕ) (after : Index) → HasSoundVolume image home → 0 < n → n ≤ slots (index_of image home) → is_in_use (index_of image home) n ≡ false
-    → MayBecome (volume_of image home) n ((table_of image home).header n) → SetsBit true n (index_of image home) after → WritesSlotBit n after home image (with_bitmap_block image after n)
+pub set-keeps : (image : Image) (home : HomeFields) (n : ℕ) (after : Index) → HasSoundVolume image home → 0 < n
+    → n ≤ slots (index_of image home) → is_in_use (index_of image home) n ≡ false
+    → MayBecome (volume_of image home) n ((table_of image home).header n) → SetsBit true n (index_of image home) after
+    → WritesSlotBit n after home image (with_bitmap_block image after n)
 unfolding table_in
 set-keeps image home n after is some few unused may bit =
     set image home is true n after some few bit (λ live. let used = sym unused ∙ live.in_use in cc) refl may
 
-pub clear-keeps : (image : Image) (home : HomeFields) (n : ℕ) (after : Index) → HasSoundVolume image home → IsDeadSlot (table_of image home) n → SetsBit false n (index_of image home) after
+pub clear-keeps : (image : Image) (home : HomeFields) (n : ℕ) (after : Index) → HasSoundVolume image home
+    → IsDeadSlot (table_of image home) n → SetsBit false n (index_of image home) after
     → WritesSlotBit n after home image (with_bitmap_block image after n)
 clear-keeps image home n after is dead bit =
     let slot = in_use-within image home n dead.in_use in
-    clear image home is false n after slot.0 slot.1 bit (λ live. let number = sym live.valid.number ∙ dead.dead in omega (arith, number, live-some live)) refl
+    clear image home is false n after slot.0 slot.1 bit (λ live. let number = sym live.valid.number ∙ dead.dead in
+    omega (arith, number, live-some live)) refl

@@ -1,5 +1,6 @@
 -- A write of blocks of the storage bitmap.
-use Rattle.std.proofs.Common.{◌≡◌, ◌≢◌, ◌⊎◌, ℕ, ◌+◌, ◌<◌, ◌≤◌, Bool, true, false, [], length, slice_index, Some, refl, sym, ap, subst, ◌∙◌, inl, inr, arith}
+use Rattle.std.proofs.Common.{◌≡◌, ◌≢◌, ◌⊎◌, ℕ, ◌+◌, ◌<◌, ◌≤◌, Bool, true, false, [], length, slice_index, Some, refl, sym, ap, subst, ◌∙◌}
+use Rattle.std.proofs.Common.{inl, inr, arith}
 use Rattle.std.proofs.lemmas.Bool.{cases_eq, cases_lt}
 use Rattle.f11_bits.specs.Bitmap.{Bitmap, is_free, KeepsOthers, Marks}
 use Rattle.f11_dev.specs.Image.{Image, image_block}
@@ -42,7 +43,8 @@ module _ (old new : Image) (home : HomeFields) (is : HasSoundVolume old home) (o
       let files = image-files old home is in
       let two = is.framed.bitmap.sound.whole.file in
       stays _ (λ i within same.
-      let place = (files.one_owner 2 2 (1 + i) 0 _ two two (place-at old home i within ∙ ap Some same) (control-at old home is)).1 in omega (arith, place))
+      let place = (files.one_owner 2 2 (1 + i) 0 _ two two (place-at old home i within ∙ ap Some same) (control-at old home is)).1 in
+      omega (arith, place))
 
   candidates : CandidatesStay home old new
   candidates k low = elim (cases_eq (candidate k) home.lbn) [
@@ -53,7 +55,9 @@ module _ (old new : Image) (home : HomeFields) (is : HasSoundVolume old home) (o
   ]
 
   keeps : KeepsIndexFile home old new
-  keeps = other_images old home is.framed.indexed.file new others.size (λ i lbn at. stays-of 1 lbn (λ same. omega (arith, same)) (in-index-file old home is i lbn at))
+  keeps =
+      other_images old home is.framed.indexed.file new others.size
+      (λ i lbn at. stays-of 1 lbn (λ same. omega (arith, same)) (in-index-file old home is i lbn at))
 
   -- no block that is named becomes free
   abbrev OnlyUnnamed : Type 0
@@ -95,7 +99,8 @@ module _ (old new : Image) (home : HomeFields) (is : HasSoundVolume old home) (o
         files = λ f file other.
             let sound = (image-files old home is).each f file in
             ap (λ (u : Table). file_of new u f) keeps.table
-            ∙ file-stays-in old new t f sound.whole others.size sound (λ i lbn at. stays-of f lbn other (in-file old home is f i lbn file at));
+            ∙ file-stays-in old new t f sound.whole others.size sound
+            (λ i lbn at. stays-of f lbn other (in-file old home is f i lbn file at));
       }
 
 -- a block outside those that are marked is free where it was
@@ -109,15 +114,19 @@ outside free b lbn count k old new marks is = elim (cases_lt k lbn) [
   ]
 ]
 
-pub used-keeps : (old new : Image) (home : HomeFields) (lbn count : ℕ) → HasSoundVolume old home → Marks false (storage_bitmap old home) lbn count old new → KeepsButFree home old new
-used-keeps old new home lbn count is marks = bitmap-keeps old new home is marks.keeps (λ k free. elim (outside false (storage_bitmap old home) lbn count k old new marks free) [
-  | inl was ↦ inl was
-  | inr here ↦ let used = sym (marks.inside k here.0 here.1) ∙ free in cc
-])
+pub used-keeps : (old new : Image) (home : HomeFields) (lbn count : ℕ) → HasSoundVolume old home
+    → Marks false (storage_bitmap old home) lbn count old new → KeepsButFree home old new
+used-keeps old new home lbn count is marks =
+    bitmap-keeps old new home is marks.keeps (λ k free. elim (outside false (storage_bitmap old home) lbn count k old new marks free) [
+      | inl was ↦ inl was
+      | inr here ↦ let used = sym (marks.inside k here.0 here.1) ∙ free in cc
+    ])
 
-pub free-keeps : (old new : Image) (home : HomeFields) (lbn count : ℕ) → HasSoundVolume old home → Marks true (storage_bitmap old home) lbn count old new
+pub free-keeps : (old new : Image) (home : HomeFields) (lbn count : ℕ) → HasSoundVolume old home
+    → Marks true (storage_bitmap old home) lbn count old new
     → ((k : ℕ) → lbn ≤ k → k < lbn + count → ¬ IsNamed (table_of old home) k) → KeepsButFree home old new
-free-keeps old new home lbn count is marks none = bitmap-keeps old new home is marks.keeps (λ k free. elim (outside true (storage_bitmap old home) lbn count k old new marks free) [
-  | inl was ↦ inl was
-  | inr here ↦ inr (none k here.0 here.1)
-])
+free-keeps old new home lbn count is marks none =
+    bitmap-keeps old new home is marks.keeps (λ k free. elim (outside true (storage_bitmap old home) lbn count k old new marks free) [
+      | inl was ↦ inl was
+      | inr here ↦ inr (none k here.0 here.1)
+    ])

@@ -1,5 +1,6 @@
 -- What a file is, in an image in which its headers are as they were.
-use Rattle.std.proofs.Common.{Contains, All, ◌+◌, ◌-◌, ◌≡◌, ◌≢◌, ℕ, zero, suc, ◌<◌, List, [], ◌∷◌, length, map, Some, refl, sym, ap, ◌∙◌, arith}
+use Rattle.std.proofs.Common.{Contains, All, ◌+◌, ◌-◌, ◌≡◌, ◌≢◌, ℕ, zero, suc, ◌<◌, List, [], ◌∷◌, length, map, Some, refl, sym, ap, ◌∙◌}
+use Rattle.std.proofs.Common.{arith}
 use Rattle.std.proofs.Math.ListN.{set}
 use Rattle.std.specs.List.{slice_get, sum_by}
 use Rattle.std.proofs.lemmas.List.{get_or-set_same, get_or-set_other}
@@ -24,10 +25,12 @@ use Rattle.f11_writes.proofs.ImageLemmas.{same-read, same-or}
 map-alike : (f g : ℕ → List ℕ) (xs : List ℕ) → ((i x : ℕ) → slice_get xs i ≡ Some x → f x ≡ g x) → map f xs ≡ map g xs
 map-alike f g [] same = refl
 map-alike f g (x ∷ xs) same =
-    ap (λ (b : List ℕ). b ∷ map f xs) (same 0 x refl) ∙ ap (λ (bs : List (List ℕ)). g x ∷ bs) (map-alike f g xs (λ i y at. same (suc i) y at))
+    ap (λ (b : List ℕ). b ∷ map f xs) (same 0 x refl)
+    ∙ ap (λ (bs : List (List ℕ)). g x ∷ bs) (map-alike f g xs (λ i y at. same (suc i) y at))
 
 -- and one that isn't, which stands at one place only
-map-but : (f g : ℕ → List ℕ) (lbn : ℕ) (block : List ℕ) (xs : List ℕ) (i : ℕ) → slice_get xs i ≡ Some lbn → ((j : ℕ) → slice_get xs j ≡ Some lbn → j ≡ i)
+map-but : (f g : ℕ → List ℕ) (lbn : ℕ) (block : List ℕ) (xs : List ℕ) (i : ℕ) → slice_get xs i ≡ Some lbn
+    → ((j : ℕ) → slice_get xs j ≡ Some lbn → j ≡ i)
     → f lbn ≡ block → ((x : ℕ) → x ≢ lbn → f x ≡ g x) → map f xs ≡ set (map g xs) i block
 map-but f g lbn block [] i at once here others = cc
 map-but f g lbn block (x ∷ xs) zero at once here others =
@@ -37,7 +40,8 @@ map-but f g lbn block (x ∷ xs) zero at once here others =
 map-but f g lbn block (x ∷ xs) (suc i) at once here others =
     let front = others x (λ same. let place = once 0 (ap Some same) in omega (arith, place)) in
     ap (λ (b : List ℕ). b ∷ map f xs) front
-    ∙ ap (λ (bs : List (List ℕ)). g x ∷ bs) (map-but f g lbn block xs i at (λ j there. let place = once (suc j) there in omega (arith, place)) here others)
+    ∙ ap (λ (bs : List (List ℕ)). g x ∷ bs)
+    (map-but f g lbn block xs i at (λ j there. let place = once (suc j) there in omega (arith, place)) here others)
 
 -- what a sum is made of
 sum-alike : (f g : ℕ → ℕ) (xs : List ℕ) → ((i x : ℕ) → slice_get xs i ≡ Some x → f x ≡ g x) → sum_by f xs ≡ sum_by g xs
@@ -47,7 +51,8 @@ sum-alike f g (x ∷ xs) same =
     ∙ ap (λ (k : ℕ). g x + k) (sum-alike f g xs (λ i y at. same (suc i) y at)) ∙ sym (sum_by-cons g x xs)
 
 -- two tables in which a file has the same headers
-module _ (old new : Image) (t u : Table) (f : ℕ) (whole : IsWholeFile t f) (also : IsWholeFile u f) (headers : headers_of u f ≡ headers_of t f)
+module _ (old new : Image) (t u : Table) (f : ℕ) (whole : IsWholeFile t f) (also : IsWholeFile u f)
+    (headers : headers_of u f ≡ headers_of t f)
     (each : (n : ℕ) → Contains (headers_of t f) n → u.header n ≡ t.header n) where
   abbrev hs : List ℕ
   hs = headers_reached t f
@@ -60,7 +65,9 @@ module _ (old new : Image) (t u : Table) (f : ℕ) (whole : IsWholeFile t f) (al
   reached = reached-are 256 u f also (first also.file) ∙ headers ∙ sym (reached-are 256 t f whole (first whole.file))
 
   same-at : (i n : ℕ) → slice_get hs i ≡ Some n → u.header n ≡ t.header n
-  same-at i n at = each n (contained (headers_of t f) i n (ap (λ (xs : List ℕ). slice_get xs i) (sym (reached-are 256 t f whole (first whole.file))) ∙ at))
+  same-at i n at =
+      each n (contained (headers_of t f) i n (ap (λ (xs : List ℕ). slice_get xs i) (sym (reached-are 256 t f whole (first whole.file)))
+      ∙ at))
 
   own : u.header f ≡ t.header f
   own = each f (contained (headers_of t f) 0 f first-listed)
@@ -72,7 +79,8 @@ module _ (old new : Image) (t u : Table) (f : ℕ) (whole : IsWholeFile t f) (al
 
   left : room_left u (headers_reached u f) ≡ room_left t hs
   left =
-      let some : 0 < length hs = slice_get_within hs 0 f (ap (λ (xs : List ℕ). slice_get xs 0) (reached-are 256 t f whole (first whole.file)) ∙ first-listed) in
+      let some : 0 < length hs =
+      slice_get_within hs 0 f (ap (λ (xs : List ℕ). slice_get xs 0) (reached-are 256 t f whole (first whole.file)) ∙ first-listed) in
       let last = slice_get-get_or hs (length hs - 1) 0 (omega (arith, some)) in
       ap (room_left u) reached ∙ ap (λ (b : List ℕ). places (map_area b) - length (runs_of (map_area b))) (same-at (length hs - 1) _ last)
 
@@ -97,21 +105,24 @@ module _ (old new : Image) (t u : Table) (f : ℕ) (whole : IsWholeFile t f) (al
   file-alike blocks = λ i. record (said-alike i) { blocks = blocks i }
 
 -- blocks that are alike
-pub blocks-alike : (old new : Image) (blocks : List ℕ) → length new ≡ length old → All (λ lbn. lbn < length old) blocks → BlocksStay blocks old new
+pub blocks-alike : (old new : Image) (blocks : List ℕ) → length new ≡ length old → All (λ lbn. lbn < length old) blocks
+    → BlocksStay blocks old new
     → map (block_or_zeros new) blocks ≡ map (block_or_zeros old) blocks
 blocks-alike old new blocks size within stay = map-alike (block_or_zeros new) (block_or_zeros old) blocks (λ i lbn at.
     let below = all-each (λ l. l < length old) blocks within lbn (contained blocks i lbn at) in
     same-or old new lbn zero_block (same-read old new lbn size below (stay i lbn at)))
 
 -- an image in which a file's blocks are as they were
-pub file-stays-in : (old new : Image) (t : Table) (f : ℕ) → IsWholeFile t f → length new ≡ length old → IsSoundFile t f (length old) → BlocksStay (file_blocks t f) old new
+pub file-stays-in : (old new : Image) (t : Table) (f : ℕ) → IsWholeFile t f → length new ≡ length old → IsSoundFile t f (length old)
+    → BlocksStay (file_blocks t f) old new
     → file_of new t f ≡ file_of old t f
 file-stays-in old new t f whole size sound stay =
     file-alike old new t t f whole whole refl (λ n listed. refl)
     (file-blocks-are new t f whole ∙ blocks-alike old new (file_blocks t f) size sound.within stay ∙ sym (file-blocks-are old t f whole))
 
 -- one of its blocks was written
-pub file-written : (image : Image) (t : Table) (f i lbn : ℕ) (block : List ℕ) → IsWholeFile t f → lbn < length image → slice_get (file_blocks t f) i ≡ Some lbn
+pub file-written : (image : Image) (t : Table) (f i lbn : ℕ) (block : List ℕ) → IsWholeFile t f → lbn < length image
+    → slice_get (file_blocks t f) i ≡ Some lbn
     → ((j : ℕ) → slice_get (file_blocks t f) j ≡ Some lbn → j ≡ i)
     → file_of (set image lbn block) t f ≡ record (file_of image t f) { blocks = set (file_of image t f).blocks i block }
 unfolding file_of

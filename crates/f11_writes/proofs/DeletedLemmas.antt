@@ -26,7 +26,8 @@ use Rattle.f11_writes.proofs.NameLemmas.{lost-unnamed}
 use Rattle.f11_writes.proofs.OtherSlotLemmas.{file-kept}
 
 module _ (old freed : Image) (home : HomeFields) (n lbn count : ℕ) (dead : List ℕ) (after : Index) (is : HasSoundVolume old home)
-    (short : MayDelete (table_of old home) n lbn count dead) (marks : Marks true (storage_bitmap old home) lbn count (with_header old home n dead) freed)
+    (short : MayDelete (table_of old home) n lbn count dead)
+    (marks : Marks true (storage_bitmap old home) lbn count (with_header old home n dead) freed)
     (bit : SetsBit false n (index_of old home) after) where
   abbrev t : Table
   t = table_of old home
@@ -53,20 +54,25 @@ module _ (old freed : Image) (home : HomeFields) (n lbn count : ℕ) (dead : Lis
       lost-unnamed (volume_of old home) (volume_of killed home) n (k - lbn) k is.sound one.slot.others
       (record {
         live = short.file.live;
-        names = ap (λ (xs : List ℕ). slice_get xs (k - lbn)) short.blocks ∙ range-slice_get lbn count (k - lbn) (omega (arith, low, high)) ∙ ap Some place;
+        names = ap (λ (xs : List ℕ). slice_get xs (k - lbn)) short.blocks ∙ range-slice_get lbn count (k - lbn) (omega (arith, low, high))
+            ∙ ap Some place;
       })
       (λ i cell. not-live cell.live)
 
   -- they were marked free
   two : KeepsButFree home killed freed
-  two = free-keeps killed freed home lbn count one.slot.sound (subst (λ (b : Bitmap). Marks true b lbn count killed freed) (sym one.slot.bitmap) marks) unnamed
+  two =
+      free-keeps killed freed home lbn count one.slot.sound
+      (subst (λ (b : Bitmap). Marks true b lbn count killed freed) (sym one.slot.bitmap) marks) unnamed
 
   -- the bit was cleared
   abbrev cleared : Image
   cleared = with_bitmap_block freed after n
 
   dead-slot : IsDeadSlot (table_of freed home) n
-  dead-slot = subst (λ (u : Table). IsDeadSlot u n) (sym two.index_file.table) (record { in_use = (λ i. one.in_use i n) ∙ short.file.live.in_use; dead = dead-now })
+  dead-slot =
+      subst (λ (u : Table). IsDeadSlot u n) (sym two.index_file.table)
+      (record { in_use = (λ i. one.in_use i n) ∙ short.file.live.in_use; dead = dead-now })
 
   three : WritesSlotBit n after home freed cleared
   three = clear-keeps freed home n after two.sound dead-slot
@@ -78,8 +84,10 @@ module _ (old freed : Image) (home : HomeFields) (n lbn count : ℕ) (dead : Lis
       let kept = file-kept t (table_of killed home) n g one.slot.others ((image-files old home is).each g was).whole away in
       let away-now : ¬ IsHeaderOf (table_of killed home) g n = λ of. away ((kept.1 n).0 of) in
       let in-freed : IsFile (table_of freed home) g = subst (λ (u : Table). IsFile u g) (sym two.index_file.table) kept.0.file in
-      let away-freed : ¬ IsHeaderOf (table_of freed home) g n = λ of. away-now (subst (λ (u : Table). IsHeaderOf u g n) two.index_file.table of) in
-      let last = file-kept (table_of freed home) (table_of cleared home) n g three.slot.others ((image-files freed home two.sound).each g in-freed).whole away-freed in
+      let away-freed : ¬ IsHeaderOf (table_of freed home) g n = λ of.
+      away-now (subst (λ (u : Table). IsHeaderOf u g n) two.index_file.table of) in
+      let last = file-kept (table_of freed home) (table_of cleared home) n g three.slot.others
+      ((image-files freed home two.sound).each g in-freed).whole away-freed in
       let not_one : g ≢ 1 = λ same. omega (arith, same, late) in
       three.slot.files g last.0.file not_one (λ of. away-freed ((last.1 n).0 of))
       ∙ two.files g kept.0.file (λ same. omega (arith, same, late))
@@ -91,4 +99,12 @@ module _ (old freed : Image) (home : HomeFields) (n lbn count : ℕ) (dead : Lis
       (λ i. (three.index_file.table i).in_use n) ∙ SetsBit-in_use false n (index_of old home) after slot.0 slot.1 bit
 
   pub deletes-file : DeletesFile n dead after home old freed
-  deletes-file = record { killed = one.slot.sound; given = two.sound; cleared = three.slot.sound; gone = λ file. let used = sym not-in-use ∙ file.live.in_use in cc; others = others-same }
+  deletes-file =
+      record {
+        killed = one.slot.sound;
+        given = two.sound;
+        cleared = three.slot.sound;
+        gone = λ file. let used = sym not-in-use
+            ∙ file.live.in_use in cc;
+        others = others-same;
+      }

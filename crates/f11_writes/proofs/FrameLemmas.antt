@@ -36,13 +36,15 @@ module _ (old new : Image) (home : HomeFields) (size : length new ≡ length old
   candidate-was : (k : ℕ) → candidate k ≤ home.lbn → IsCandidate new k → IsCandidate old k
   candidate-was k low is = record {
     within = subst (λ (n : ℕ). candidate k < n) size is.within;
-    valid = subst (λ (b : List ℕ). IsHomeBlock b (length old)) (candidates k low) (subst (IsHomeBlock (image_block new (candidate k))) size is.valid);
+    valid = subst (λ (b : List ℕ). IsHomeBlock b (length old)) (candidates k low)
+        (subst (IsHomeBlock (image_block new (candidate k))) size is.valid);
   }
 
   candidate-is : (k : ℕ) → candidate k ≤ home.lbn → IsCandidate old k → IsCandidate new k
   candidate-is k low is = record {
     within = subst (λ (n : ℕ). candidate k < n) (sym size) is.within;
-    valid = subst (λ (b : List ℕ). IsHomeBlock b (length new)) (sym (candidates k low)) (subst (IsHomeBlock (image_block old (candidate k))) (sym size) is.valid);
+    valid = subst (λ (b : List ℕ). IsHomeBlock b (length new)) (sym (candidates k low))
+        (subst (IsHomeBlock (image_block old (candidate k))) (sym size) is.valid);
   }
 
   pub home-stays : IsHomeOf old home → IsHomeOf new home
@@ -62,7 +64,8 @@ pub free-stays : (old new : Image) (home : HomeFields) → HasSoundVolume old ho
 free-stays old new home is blocks = λ i lbn. is_free-kept (storage_bitmap old home) old new lbn (bitmap-is old home is).0 blocks i
 
 -- an image whose headers may be others
-module _ (old new : Image) (home : HomeFields) (is : HasSoundVolume old home) (size : length new ≡ length old) (control : ControlStays home old new)
+module _ (old new : Image) (home : HomeFields) (is : HasSoundVolume old home) (size : length new ≡ length old)
+    (control : ControlStays home old new)
     (file : bitmap_file (table_of new home) ≡ bitmap_file (table_of old home)) where
   control-same : control_block new (table_of new home) ≡ control_block old (table_of old home)
   unfolding control_block
@@ -72,12 +75,14 @@ module _ (old new : Image) (home : HomeFields) (is : HasSoundVolume old home) (s
   unfolding storage_bitmap
   bitmap-stays = λ i. record { places = take (bitmap_count (control-same i)) (drop 1 (file i)); size = stated_size (control-same i) }
 
-  pub volume-with-headers : volume_of new home ≡ record (volume_of old home) { table = table_of new home; free = is_free new (storage_bitmap old home) }
+  pub volume-with-headers : volume_of new home ≡ record (volume_of old home)
+      { table = table_of new home; free = is_free new (storage_bitmap old home) }
   unfolding volume_of
   volume-with-headers = λ i. record { table = table_of new home; size = (bitmap-stays i).size; free = is_free new (bitmap-stays i) }
 
   pub framed : CandidatesStay home old new → IsIndexFile new home → AreNamedBefore (table_of new home) home.lbn
-      → ((n : ℕ) → 2 ≤ n → n ≤ 4 → IsOwnFile (table_of new home) n) → IsWholeFile (table_of new home) 2 → HasNonePast (index_of new home) → IsFramed new home
+      → ((n : ℕ) → 2 ≤ n → n ≤ 4 → IsOwnFile (table_of new home) n) → IsWholeFile (table_of new home) 2 → HasNonePast (index_of new home)
+      → IsFramed new home
   framed candidates indexed earlier own whole past =
       let was = is.framed in
       record {
@@ -94,12 +99,14 @@ module _ (old new : Image) (home : HomeFields) (is : HasSoundVolume old home) (s
         };
         control = subst (λ (b : List ℕ). IsControlBlock b (length (bitmap_file (table_of new home))) (length new)) (sym control-same)
             (subst (λ (xs : List ℕ). IsControlBlock (control_block old (table_of old home)) (length xs) (length new)) (sym file)
-            (subst (IsControlBlock (control_block old (table_of old home)) (length (bitmap_file (table_of old home)))) (sym size) was.control));
+            (subst (IsControlBlock (control_block old (table_of old home)) (length (bitmap_file (table_of old home)))) (sym size)
+            was.control));
         none_past = past;
       }
 
 -- an image that keeps the index file, and with it the headers
-module _ (old new : Image) (home : HomeFields) (is : HasSoundVolume old home) (size : length new ≡ length old) (control : ControlStays home old new)
+module _ (old new : Image) (home : HomeFields) (is : HasSoundVolume old home) (size : length new ≡ length old)
+    (control : ControlStays home old new)
     (keeps : KeepsIndexFile home old new) where
   file-kept : bitmap_file (table_of new home) ≡ bitmap_file (table_of old home)
   file-kept = ap (λ (t : Table). bitmap_file t) keeps.table
@@ -118,7 +125,9 @@ module _ (old new : Image) (home : HomeFields) (is : HasSoundVolume old home) (s
 
   pub volume-with-free : volume_of new home ≡ record (volume_of old home) { free = is_free new (storage_bitmap old home) }
   unfolding volume_of
-  volume-with-free = volume-with-headers old new home is size control file-kept ∙ (λ i. record (volume_of old home) { table = keeps.table i; free = is_free new (storage_bitmap old home) })
+  volume-with-free =
+      volume-with-headers old new home is size control file-kept
+      ∙ (λ i. record (volume_of old home) { table = keeps.table i; free = is_free new (storage_bitmap old home) })
 
   pub volume-kept : KeepsBitmap (storage_bitmap old home) old new → volume_of new home ≡ volume_of old home
   unfolding volume_of

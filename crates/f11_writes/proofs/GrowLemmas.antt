@@ -24,7 +24,8 @@ use Rattle.f11_writes.proofs.SetLemmas.{set-sound}
 use Rattle.f11_writes.proofs.OtherSlotLemmas.{own-first}
 use Rattle.f11_writes.proofs.SlotLemmas.{SparesOwn, header-placed-at, slot-keeps}
 
-module _ (image : Image) (home : HomeFields) (is : HasSoundVolume image home) (n : ℕ) (block : List ℕ) (lbn count : ℕ) (of : IsHeaderOf (table_of image home) 1 n)
+module _ (image : Image) (home : HomeFields) (is : HasSoundVolume image home) (n : ℕ) (block : List ℕ) (lbn count : ℕ)
+    (of : IsHeaderOf (table_of image home) 1 n)
     (grows : AddsIndexBlocks home n block lbn count image (with_header image home n block)) where
   abbrev t : Table
   t = table_of image home
@@ -65,7 +66,8 @@ module _ (image : Image) (home : HomeFields) (is : HasSoundVolume image home) (n
       own-first t u n 4 others (λ here. not-of 4 (λ same. omega (arith, same)) (subst (IsHeaderOf t 4) here (first own.file))) own
 
   spares : SparesOwn n t u
-  spares = record { others = others; two = not-of 2 (λ same. omega (arith, same)); three = not-of 3 (λ same. omega (arith, same)); four = four }
+  spares =
+      record { others = others; two = not-of 2 (λ same. omega (arith, same)); three = not-of 3 (λ same. omega (arith, same)); four = four }
 
   abbrev with-table : Volume
   with-table = record (volume_of image home) { table = u }
@@ -89,12 +91,18 @@ module _ (image : Image) (home : HomeFields) (is : HasSoundVolume image home) (n
         index_file = grows;
       }
 
-pub names-keep : (image : Image) (home : HomeFields) (n : ℕ) (block : List ℕ) (lbn count : ℕ) → HasSoundVolume image home → MayNameMore (table_of image home) n block lbn count
-    → lbn + count ≤ length image → MayBecome (volume_of image home) n block → WritesGrowth n block lbn count home image (with_header image home n block)
+pub names-keep : (image : Image) (home : HomeFields) (n : ℕ) (block : List ℕ) (lbn count : ℕ) → HasSoundVolume image home
+    → MayNameMore (table_of image home) n block lbn count
+    → lbn + count ≤ length image → MayBecome (volume_of image home) n block
+    → WritesGrowth n block lbn count home image (with_header image home n block)
 names-keep image home n block lbn count is more within =
-    growth-keeps image home is n block lbn count more.last.of (grows-at image home is.framed.indexed.file n block lbn count (index-apart image home is) more within)
+    growth-keeps image home is n block lbn count more.last.of
+    (grows-at image home is.framed.indexed.file n block lbn count (index-apart image home is) more within)
 
-pub links-keep : (image : Image) (home : HomeFields) (n m : ℕ) (block : List ℕ) (lbn count : ℕ) → HasSoundVolume image home → MayLinkOn (table_of image home) n m block lbn count
-    → lbn + count ≤ length image → MayBecome (volume_of image home) n block → WritesGrowth n block lbn count home image (with_header image home n block)
+pub links-keep : (image : Image) (home : HomeFields) (n m : ℕ) (block : List ℕ) (lbn count : ℕ) → HasSoundVolume image home
+    → MayLinkOn (table_of image home) n m block lbn count
+    → lbn + count ≤ length image → MayBecome (volume_of image home) n block
+    → WritesGrowth n block lbn count home image (with_header image home n block)
 links-keep image home n m block lbn count is on within =
-    growth-keeps image home is n block lbn count on.last.of (grows-by image home is.framed.indexed.file n m block lbn count (index-apart image home is) on within)
+    growth-keeps image home is n block lbn count on.last.of
+    (grows-by image home is.framed.indexed.file n m block lbn count (index-apart image home is) on within)

@@ -33,15 +33,16 @@ use Rattle.f11_writes.proofs.ShrinkLemmas.{shrunk-sound}
 use Rattle.f11_writes.proofs.OtherSlotLemmas.{own-first}
 use Rattle.f11_writes.proofs.SlotLemmas.{SparesOwn, IsPlacedAt, header-placed-at, slot-keeps}
 
--- What a block must be in order to become header n where that is one of the volume's own files: none of file 2's or 3's, as good as a header of
--- file 1 that leads to the same, or as good as the first of file 4.
+-- What a block must be in order to become header n where that is one of the volume's own files: none of file 2's or 3's, as good as a
+-- header of file 1 that leads to the same, or as good as the first of file 4.
 pub record FitsOwn (t : Table) (n : ℕ) (block : List ℕ) : Type 0 where
   pub two : ¬ IsHeaderOf t 2 n
   pub three : ¬ IsHeaderOf t 3 n
   pub one : IsHeaderOf t 1 n → IsGoodFor t n block × LeadsAlike (t.header n) block
   pub four : n ≡ 4 → IsGoodFor t n block
 
-module _ (image : Image) (home : HomeFields) (is : HasSoundVolume image home) (n : ℕ) (block : List ℕ) (some : 0 < n) (few : n ≤ slots (index_of image home))
+module _ (image : Image) (home : HomeFields) (is : HasSoundVolume image home) (n : ℕ) (block : List ℕ) (some : 0 < n)
+    (few : n ≤ slots (index_of image home))
     (fits : FitsOwn (table_of image home) n block) where
   abbrev t : Table
   t = table_of image home
@@ -114,7 +115,11 @@ module _ (image : Image) (home : HomeFields) (is : HasSoundVolume image home) (n
             let was = subst (IsOwnFile t) here own in
             subst (IsOwnFile u) (sym here) (record {
               file = record {
-                live = record { in_use = in-use-at n ∙ was.file.live.in_use; valid = subst (λ (b : List ℕ). IsHeader b n) (sym keeps.header) fit.valid };
+                live = record {
+                  in_use = in-use-at n ∙ was.file.live.in_use;
+                  valid = subst (λ (b : List ℕ). IsHeader b n) (sym keeps.header)
+                      fit.valid;
+                };
                 first = ap segment_number keeps.header ∙ fit.segment ∙ was.file.first;
               };
               sequence = ap file_sequence keeps.header ∙ fit.sequence ∙ was.sequence;
@@ -153,9 +158,11 @@ module _ (image : Image) (home : HomeFields) (is : HasSoundVolume image home) (n
     headers : (m : ℕ) → u.in_use m ≡ true → IsDead (u.header m) ⊎ IsHeader (u.header m) m
     unfolding volume_of
     headers m used = elim (cases_eq m n) [
-      | inl here ↦ inl (ap (λ (k : ℕ). file_number (u.header k)) here ∙ ap file_number keeps.header ∙ dead (subst (λ (k : ℕ). t.in_use k ≡ true) here (used-before m used)))
+      | inl here ↦ inl (ap (λ (k : ℕ). file_number (u.header k)) here ∙ ap file_number keeps.header
+          ∙ dead (subst (λ (k : ℕ). t.in_use k ≡ true) here (used-before m used)))
       | inr away ↦
-          subst (λ (b : List ℕ). IsDead b ⊎ IsHeader b m) (sym (others.header m away (used-before m used))) (is.sound.headers m (used-before m used))
+          subst (λ (b : List ℕ). IsDead b ⊎ IsHeader b m) (sym (others.header m away (used-before m used)))
+          (is.sound.headers m (used-before m used))
     ]
 
     shrinks : Shrinks (volume_of image home) with-table
@@ -163,7 +170,11 @@ module _ (image : Image) (home : HomeFields) (is : HasSoundVolume image home) (n
     shrinks = record {
       size = refl;
       headers = headers;
-      live = λ m live. record { in_use = used-before m live.in_use; valid = subst (λ (b : List ℕ). IsHeader b m) (header-same m live) live.valid };
+      live = λ m live. record {
+        in_use = used-before m live.in_use;
+        valid = subst (λ (b : List ℕ). IsHeader b m) (header-same m live)
+            live.valid;
+      };
       same = header-same;
       next = λ k m in_file live goes.
           let away : m ≢ n = λ here. unlinked k in_file (subst (IsNext t k) here goes) in
@@ -195,7 +206,8 @@ module _ (image : Image) (home : HomeFields) (is : HasSoundVolume image home) (n
   abbrev table : Table
   table = table_of image home
 
-  pub unused-keeps : 0 < n → n ≤ slots (index_of image home) → is_in_use (index_of image home) n ≡ false → WritesHeader n block home image (with_header image home n block)
+  pub unused-keeps : 0 < n → n ≤ slots (index_of image home) → is_in_use (index_of image home) n ≡ false
+      → WritesHeader n block home image (with_header image home n block)
   unfolding table_in
   unused-keeps some few unused =
       let no_header : (f : ℕ) → ¬ IsHeaderOf table f n = λ f of. let used = sym unused ∙ (live_of-header of).in_use in cc in
@@ -203,17 +215,20 @@ module _ (image : Image) (home : HomeFields) (is : HasSoundVolume image home) (n
         two = no_header 2;
         three = no_header 3;
         one = λ of. absurd (no_header 1 of);
-        four = λ here. absurd (no_header 4 (subst (IsHeaderOf table 4) (sym here) (first (is.framed.own_files 4 (omega arith) (omega arith)).file)));
+        four = λ here. absurd (no_header 4
+            (subst (IsHeaderOf table 4) (sym here) (first (is.framed.own_files 4 (omega arith) (omega arith)).file)));
       } in
       drops image home is n block some few fits
       (λ live. let used = sym unused ∙ sym (in-use-at image home is n block some few fits n) ∙ live.in_use in cc)
       (λ used. let no_use = sym unused ∙ used in cc)
       (λ m in_file goes. let used = sym unused ∙ goes.to.in_use in cc)
 
-  pub kill-keeps : 5 ≤ n → n ≤ slots (index_of image home) → IsDead block → ((m : ℕ) → IsInFile table m → ¬ IsNext table m n) → WritesHeader n block home image (with_header image home n block)
+  pub kill-keeps : 5 ≤ n → n ≤ slots (index_of image home) → IsDead block → ((m : ℕ) → IsInFile table m → ¬ IsNext table m n)
+      → WritesHeader n block home image (with_header image home n block)
   kill-keeps late few dead unlinked =
       let some : 0 < n = omega (arith, late) in
-      let no_header : (f : ℕ) → f < 5 → ¬ IsHeaderOf table f n = λ f low of. let same = only-first unlinked of in omega (arith, same, low, late) in
+      let no_header : (f : ℕ) → f < 5 → ¬ IsHeaderOf table f n = λ f low of. let same = only-first unlinked of in
+      omega (arith, same, low, late) in
       let fits : FitsOwn table n block = record {
         two = no_header 2 (omega arith);
         three = no_header 3 (omega arith);
@@ -221,19 +236,25 @@ module _ (image : Image) (home : HomeFields) (is : HasSoundVolume image home) (n
         four = λ here. absurd (omega (arith, here, late));
       } in
       drops image home is n block some few fits
-      (λ live. let zero_is = sym live.valid.number ∙ ap file_number (keeps image home is n block some few fits).header ∙ dead in omega (arith, zero_is, some))
+      (λ live. let zero_is = sym live.valid.number ∙ ap file_number (keeps image home is n block some few fits).header ∙ dead in
+      omega (arith, zero_is, some))
       (λ used. dead) unlinked
 
   -- a live header, as good and not of file 2 or 3
-  pub rewrite-keeps : IsLive table n → MayBecome (volume_of image home) n block → SparesOwnFiles table n block → WritesHeader n block home image (with_header image home n block)
+  pub rewrite-keeps : IsLive table n → MayBecome (volume_of image home) n block → SparesOwnFiles table n block
+      → WritesHeader n block home image (with_header image home n block)
   unfolding volume_of
   rewrite-keeps live may spares =
       let slot = in_use-within image home n live.in_use in
       let good = may.good live in
-      sets image home is n block slot.0 slot.1 (record { two = spares.two; three = spares.three; one = λ of. (good, spares.one of); four = λ here. good }) live may
+      sets image home is n block slot.0 slot.1
+      (record { two = spares.two; three = spares.three; one = λ of. (good, spares.one of); four = λ here. good }) live may
 
-  pub file-rewrite-keeps : (f : ℕ) → 4 ≤ f → IsHeaderOf table f n → MayBecome (volume_of image home) n block → WritesHeader n block home image (with_header image home n block)
+  pub file-rewrite-keeps : (f : ℕ) → 4 ≤ f → IsHeaderOf table f n → MayBecome (volume_of image home) n block
+      → WritesHeader n block home image (with_header image home n block)
   file-rewrite-keeps f late of may =
       let chained = (image-files image home is).chained in
-      let away : (g : ℕ) → g < 4 → ¬ IsHeaderOf table g n = λ g low also. let same = chained-apart chained of also in omega (arith, same, low, late) in
-      rewrite-keeps (live_of-header of) may (record { two = away 2 (omega arith); three = away 3 (omega arith); one = λ also. absurd (away 1 (omega arith) also) })
+      let away : (g : ℕ) → g < 4 → ¬ IsHeaderOf table g n = λ g low also. let same = chained-apart chained of also in
+      omega (arith, same, low, late) in
+      rewrite-keeps (live_of-header of) may
+      (record { two = away 2 (omega arith); three = away 3 (omega arith); one = λ also. absurd (away 1 (omega arith) also) })

@@ -31,7 +31,8 @@ use Rattle.f11_writes.proofs.MadeLemmas.{unused, not-in, one, two, here-now, liv
 use Rattle.f11_writes.proofs.NameLemmas.{own-names}
 use Rattle.f11_writes.proofs.OtherSlotLemmas.{entered-unlinked, stay-before, stay-up-to}
 
-module _ (old : Image) (home : HomeFields) (f n m : ℕ) (last header : List ℕ) (after : Index) (is : HasSoundVolume old home) (new : IsNewHeader (index_of old home) m header)
+module _ (old : Image) (home : HomeFields) (f n m : ℕ) (last header : List ℕ) (after : Index) (is : HasSoundVolume old home)
+    (new : IsNewHeader (index_of old home) m header)
     (links : LinksToNew (table_of old home) f n m last header) (bit : SetsBit true m (index_of old home) after) where
   abbrev t : Table
   t = table_of old home
@@ -78,7 +79,8 @@ module _ (old : Image) (home : HomeFields) (f n m : ℕ) (last header : List ℕ
   unlinked : (k : ℕ) → IsInFile t2 k → ¬ IsNext t2 k m
   unfolding volume_of
   unlinked k = entered-unlinked (volume_of first home) (volume_of second home) m k (one old home m header after is new bit).slot.sound.sound
-      (two old home m header after is new bit).slot.others (in-use-first ∙ unused old home m header after is new bit) (ap (λ (b : List ℕ). (link_of b).number) new-there ∙ new.no_link)
+      (two old home m header after is new bit).slot.others (in-use-first ∙ unused old home m header after is new bit)
+      (ap (λ (b : List ℕ). (link_of b).number) new-there ∙ new.no_link)
     where
       in-use-first : (table_of first home).in_use m ≡ t.in_use m
       in-use-first = λ i. (one old home m header after is new bit).in_use i m
@@ -94,14 +96,18 @@ module _ (old : Image) (home : HomeFields) (f n m : ℕ) (last header : List ℕ
           sequence = links.good.sequence ∙ ap file_sequence (sym same-n);
           segment = links.good.segment ∙ sym same-segment;
         };
-        names = subst (MayName v n) (ap blocks_named same-n ∙ sym links.names) (own-names v n three-before.sound (live_of-header of-second));
+        names = subst (MayName v n) (ap blocks_named same-n ∙ sym links.names)
+            (own-names v n three-before.sound (live_of-header of-second));
         link = links_anew (record {
           not_last = subst (λ (s : ℕ). s < 255) (sym links.good.segment) links.few;
           here = ap (λ (i : FileId). i.volume) links.link;
           to = subst (IsLive t2) (sym number-is) (live-now old home m header after is new bit);
-          sequence = ap (λ (i : FileId). i.sequence) links.link ∙ ap file_sequence (sym new-there) ∙ ap (λ (k : ℕ). file_sequence (t2.header k)) (sym number-is);
-          segment = ap (λ (k : ℕ). segment_number (t2.header k)) number-is ∙ ap segment_number new-there ∙ links.segment ∙ ap (λ (s : ℕ). s + 1) (sym links.good.segment);
-          no_link = ap (λ (k : ℕ). (link_of (t2.header k)).number) number-is ∙ ap (λ (b : List ℕ). (link_of b).number) new-there ∙ new.no_link;
+          sequence = ap (λ (i : FileId). i.sequence) links.link ∙ ap file_sequence (sym new-there)
+              ∙ ap (λ (k : ℕ). file_sequence (t2.header k)) (sym number-is);
+          segment = ap (λ (k : ℕ). segment_number (t2.header k)) number-is ∙ ap segment_number new-there ∙ links.segment
+              ∙ ap (λ (s : ℕ). s + 1) (sym links.good.segment);
+          no_link = ap (λ (k : ℕ). (link_of (t2.header k)).number) number-is ∙ ap (λ (b : List ℕ). (link_of b).number) new-there
+              ∙ new.no_link;
           no_other = λ k in_file goes. unlinked k in_file (subst (IsNext t2 k) number-is goes);
         });
       }
@@ -124,8 +130,10 @@ module _ (old : Image) (home : HomeFields) (f n m : ℕ) (last header : List ℕ
 
   more : HasHeaderMore f m t2 u
   more =
-      has-header t2 u f n of-second (subst (λ (s : ℕ). s < 256) (sym same-segment) (omega (arith, links.few))) (stay-before t2 u f n three.slot.others)
-      (ap (λ (b : List ℕ). (link_of b).number) same-n ∙ links.is_last.no_link) m (subst (λ (s : ℕ). s < 255) (sym same-segment) links.few) new.some
+      has-header t2 u f n of-second (subst (λ (s : ℕ). s < 256) (sym same-segment) (omega (arith, links.few)))
+      (stay-before t2 u f n three.slot.others)
+      (ap (λ (b : List ℕ). (link_of b).number) same-n ∙ links.is_last.no_link) m (subst (λ (s : ℕ). s < 255) (sym same-segment) links.few)
+      new.some
       (ap (λ (b : List ℕ). (link_of b).number) here ∙ number-is) (ap blocks_named here ∙ links.names ∙ ap blocks_named (sym same-n))
       (ap (λ (b : List ℕ). (link_of b).number) new-stays ∙ new.no_link)
 
@@ -147,7 +155,9 @@ module _ (old : Image) (home : HomeFields) (f n m : ℕ) (last header : List ℕ
   same-blocks =
       let whole = ((image-files second home three-before).each f (file_of-header of-second)).whole in
       three.slot.contents f (file_of-header of-third) not-one
-      ∙ ap (map (block_or_zeros second)) (more.blocks ∙ ap (λ (bs : List ℕ). file_blocks t2 f ++ bs) (ap blocks_named new-stays ∙ new.no_blocks) ∙ append-nil (file_blocks t2 f))
+      ∙ ap (map (block_or_zeros second))
+      (more.blocks ∙ ap (λ (bs : List ℕ). file_blocks t2 f ++ bs) (ap blocks_named new-stays ∙ new.no_blocks)
+      ∙ append-nil (file_blocks t2 f))
       ∙ sym (file-blocks-are second t2 f whole)
       ∙ ap (λ (x : File). x.blocks) (file-stays old home m header after is new bit f file-was not-one)
 
@@ -155,7 +165,8 @@ module _ (old : Image) (home : HomeFields) (f n m : ℕ) (last header : List ℕ
   same-headers =
       let now = ((image-files second home three-before).each f (file_of-header of-second)).whole in
       let was = ((image-files old home is).each f file-was).whole in
-      sym (file-headers-are second t2 f now) ∙ ap (λ (x : File). x.held) (file-stays old home m header after is new bit f file-was not-one) ∙ file-headers-are old t f was
+      sym (file-headers-are second t2 f now) ∙ ap (λ (x : File). x.held) (file-stays old home m header after is new bit f file-was not-one)
+      ∙ file-headers-are old t f was
 
   pub links-header : LinksHeader f m header after home old third
   links-header = record {

@@ -25,7 +25,8 @@ use Rattle.f11_writes.proofs.HeaderLemmas.{unused-keeps}
 use Rattle.f11_writes.proofs.NameLemmas.{unreferenced-names}
 use Rattle.f11_writes.proofs.OtherSlotLemmas.{file-kept}
 
-module _ (old : Image) (home : HomeFields) (n : ℕ) (header : List ℕ) (after : Index) (is : HasSoundVolume old home) (new : IsNewHeader (index_of old home) n header)
+module _ (old : Image) (home : HomeFields) (n : ℕ) (header : List ℕ) (after : Index) (is : HasSoundVolume old home)
+    (new : IsNewHeader (index_of old home) n header)
     (bit : SetsBit true n (index_of old home) after) where
   abbrev t : Table
   t = table_of old home
@@ -103,7 +104,8 @@ module _ (old : Image) (home : HomeFields) (n : ℕ) (header : List ℕ) (after 
 
     pub file-stays : g ≢ 1 → file_in home g second ≡ file_in home g old
     file-stays other =
-        two.slot.files g kept-second.0.file other (λ of. not-in-first ((kept-second.1 n).0 of)) ∙ one.slot.files g kept-first.0.file other not-in-first
+        two.slot.files g kept-second.0.file other (λ of. not-in-first ((kept-second.1 n).0 of))
+        ∙ one.slot.files g kept-first.0.file other not-in-first
 
   -- it is a file's first
   module _ (starts : segment_number header ≡ 0) where

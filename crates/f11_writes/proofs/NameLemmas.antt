@@ -1,5 +1,6 @@
 -- The blocks that a header may name, and those that none names.
-use Rattle.std.proofs.Common.{◌≡◌, ◌≢◌, ◌⊎◌, ℕ, ◌+◌, ◌-◌, ◌<◌, ◌≤◌, true, false, List, ◌++◌, length, take, Some, refl, sym, ap, subst, ◌∙◌, inl, inr, arith}
+use Rattle.std.proofs.Common.{◌≡◌, ◌≢◌, ◌⊎◌, ℕ, ◌+◌, ◌-◌, ◌<◌, ◌≤◌, true, false, List, ◌++◌, length, take, Some, refl, sym, ap, subst, ◌∙◌}
+use Rattle.std.proofs.Common.{inl, inr, arith}
 use Rattle.std.specs.List.{slice_get, range_with_len}
 use Rattle.std.proofs.lemmas.Bool.{cases_eq, cases_lt}
 use Rattle.std.proofs.lemmas.List.{length-take, get_or-take}
@@ -24,8 +25,10 @@ use Rattle.f11_writes.proofs.BitmapLemmas.{used-keeps}
 pub free-unnamed : (v : Volume) (lbn : ℕ) → IsSoundVolume v → v.free lbn ≡ true → ¬ IsNamed v.table lbn
 free-unnamed v lbn sound free named = let used = sym free ∙ sound.taken named.header named.place lbn named.cell in cc
 
-pub taken-unreferenced : (old new : Image) (home : HomeFields) (lbn count : ℕ) → HasSoundVolume old home → Marks false (storage_bitmap old home) lbn count old new
-    → lbn + count ≤ (storage_bitmap old home).size → ((k : ℕ) → lbn ≤ k → k < lbn + count → is_free old (storage_bitmap old home) k ≡ true) → AreUnreferenced (volume_of new home) lbn count
+pub taken-unreferenced : (old new : Image) (home : HomeFields) (lbn count : ℕ) → HasSoundVolume old home
+    → Marks false (storage_bitmap old home) lbn count old new
+    → lbn + count ≤ (storage_bitmap old home).size → ((k : ℕ) → lbn ≤ k → k < lbn + count → is_free old (storage_bitmap old home) k ≡ true)
+    → AreUnreferenced (volume_of new home) lbn count
 unfolding volume_of
 taken-unreferenced old new home lbn count is marks inside free =
     let kept : KeepsButFree home old new = used-keeps old new home lbn count is marks in
@@ -43,13 +46,16 @@ pub unreferenced-names : (v : Volume) (n lbn count : ℕ) → AreUnreferenced v 
 unreferenced-names v n lbn count unreferenced = record {
   inside = λ i k at. let row = in-row lbn count i k at in omega (arith, row.1, unreferenced.inside);
   used = λ i k at. let row = in-row lbn count i k at in unreferenced.used k row.0 row.1;
-  alone = λ i k m place at away cell. let row = in-row lbn count i k at in unreferenced.unnamed k row.0 row.1 (record { header = m; place = place; cell = cell });
-  apart = λ i j k one other. let here = slice_get-range lbn count i k one in let there = slice_get-range lbn count j k other in omega (arith, here.1, there.1);
+  alone = λ i k m place at away cell. let row = in-row lbn count i k at in
+      unreferenced.unnamed k row.0 row.1 (record { header = m; place = place; cell = cell });
+  apart = λ i j k one other. let here = slice_get-range lbn count i k one in let there = slice_get-range lbn count j k other in
+      omega (arith, here.1, there.1);
 }
 
 pub own-names : (v : Volume) (n : ℕ) → IsSoundVolume v → IsLive v.table n → MayName v n (blocks_named (v.table.header n))
 own-names v n sound live =
-    let cell : (i k : ℕ) → slice_get (blocks_named (v.table.header n)) i ≡ Some k → IsCell v.table n i k = λ i k at. record { live = live; names = at } in
+    let cell : (i k : ℕ) → slice_get (blocks_named (v.table.header n)) i ≡ Some k
+    → IsCell v.table n i k = λ i k at. record { live = live; names = at } in
     record {
       inside = λ i k at. sound.inside n i k (cell i k at);
       used = λ i k at. sound.taken n i k (cell i k at);
@@ -58,7 +64,8 @@ own-names v n sound live =
     }
 
 -- what stands in two lists, one behind the other
-either-at : (xs ys : List ℕ) (i x : ℕ) → slice_get (xs ++ ys) i ≡ Some x → (slice_get xs i ≡ Some x) ⊎ (length xs ≤ i) × (slice_get ys (i - length xs) ≡ Some x)
+either-at : (xs ys : List ℕ) (i x : ℕ) → slice_get (xs ++ ys) i ≡ Some x
+    → (slice_get xs i ≡ Some x) ⊎ (length xs ≤ i) × (slice_get ys (i - length xs) ≡ Some x)
 either-at xs ys i x at = elim (cases_lt i (length xs)) [
   | inl front ↦
       let here = slice_get-get_or xs i x front in
@@ -66,11 +73,13 @@ either-at xs ys i x at = elim (cases_lt i (length xs)) [
   | inr behind ↦ inr (behind, sym (slice_get-append_back xs ys i (length xs) refl behind) ∙ at)
 ]
 
-both-names : (v : Volume) (n : ℕ) (xs ys : List ℕ) → MayName v n xs → MayName v n ys → ((i j k : ℕ) → slice_get xs i ≡ Some k → ¬ (slice_get ys j ≡ Some k)) → MayName v n (xs ++ ys)
+both-names : (v : Volume) (n : ℕ) (xs ys : List ℕ) → MayName v n xs → MayName v n ys
+    → ((i j k : ℕ) → slice_get xs i ≡ Some k → ¬ (slice_get ys j ≡ Some k)) → MayName v n (xs ++ ys)
 both-names v n xs ys one other away = record {
   inside = λ i k at. elim (either-at xs ys i k at) [ inl here ↦ one.inside i k here | inr there ↦ other.inside _ k there.1 ];
   used = λ i k at. elim (either-at xs ys i k at) [ inl here ↦ one.used i k here | inr there ↦ other.used _ k there.1 ];
-  alone = λ i k m place at. elim (either-at xs ys i k at) [ inl here ↦ one.alone i k m place here | inr there ↦ other.alone _ k m place there.1 ];
+  alone = λ i k m place at.
+      elim (either-at xs ys i k at) [ inl here ↦ one.alone i k m place here | inr there ↦ other.alone _ k m place there.1 ];
   apart = λ i j k at too. go i j k (either-at xs ys i k at) (either-at xs ys j k too);
 }
   where
@@ -81,9 +90,11 @@ both-names v n xs ys one other away = record {
     go i j k (inr there) (inl here) = absurd (away j _ k here there.1)
     go i j k (inr here) (inr there) = let same = other.apart _ _ k here.1 there.1 in omega (arith, same, here.0, there.0)
 
-pub more-names : (v : Volume) (n lbn count : ℕ) → IsSoundVolume v → IsLive v.table n → AreUnreferenced v lbn count → MayName v n (blocks_named (v.table.header n) ++ range_with_len lbn count)
+pub more-names : (v : Volume) (n lbn count : ℕ) → IsSoundVolume v → IsLive v.table n → AreUnreferenced v lbn count
+    → MayName v n (blocks_named (v.table.header n) ++ range_with_len lbn count)
 more-names v n lbn count sound live unreferenced =
-    both-names v n (blocks_named (v.table.header n)) (range_with_len lbn count) (own-names v n sound live) (unreferenced-names v n lbn count unreferenced) (λ i j k at there.
+    both-names v n (blocks_named (v.table.header n)) (range_with_len lbn count) (own-names v n sound live)
+    (unreferenced-names v n lbn count unreferenced) (λ i j k at there.
     let row = in-row lbn count j k there in
     unreferenced.unnamed k row.0 row.1 (record { header = n; place = i; cell = record { live = live; names = at } }))
 
@@ -115,40 +126,48 @@ cell-was old new n m place lbn others away cell =
       names = ap (λ (b : List ℕ). slice_get (blocks_named b) place) (sym same) ∙ cell.names;
     }
 
-pub lost-unnamed : (old new : Volume) (n place lbn : ℕ) → IsSoundVolume old → KeepsOtherSlots n old.table new.table → IsCell old.table n place lbn
+pub lost-unnamed : (old new : Volume) (n place lbn : ℕ) → IsSoundVolume old → KeepsOtherSlots n old.table new.table
+    → IsCell old.table n place lbn
     → ((i : ℕ) → ¬ IsCell new.table n i lbn) → ¬ IsNamed new.table lbn
 lost-unnamed old new n place lbn sound others was gone named = elim (cases_eq named.header n) [
   | inl here ↦ gone named.place (subst (λ (m : ℕ). IsCell new.table m named.place lbn) here named.cell)
-  | inr away ↦ away (sound.apart named.header named.place n place lbn (cell-was old.table new.table n named.header named.place lbn others away named.cell) was).0
+  | inr away ↦ away (sound.apart named.header named.place n place lbn
+      (cell-was old.table new.table n named.header named.place lbn others away named.cell) was).0
 ]
 
-pub part-unreferenced : (v : Volume) (lbn count from some : ℕ) → AreUnreferenced v lbn count → lbn ≤ from → from + some ≤ lbn + count → AreUnreferenced v from some
+pub part-unreferenced : (v : Volume) (lbn count from some : ℕ) → AreUnreferenced v lbn count → lbn ≤ from → from + some ≤ lbn + count
+    → AreUnreferenced v from some
 part-unreferenced v lbn count from some unreferenced low high = record {
   inside = omega (arith, high, unreferenced.inside);
   used = λ k above below. unreferenced.used k (omega (arith, low, above)) (omega (arith, high, below));
   unnamed = λ k above below. unreferenced.unnamed k (omega (arith, low, above)) (omega (arith, high, below));
 }
 
-pub unreferenced-stay : (old new : Image) (home : HomeFields) (lbn count : ℕ) → KeepsVolume home old new → AreUnreferenced (volume_of old home) lbn count → AreUnreferenced (volume_of new home) lbn count
-unreferenced-stay old new home lbn count keeps unreferenced = subst (λ (v : Volume). AreUnreferenced v lbn count) (sym keeps.volume) unreferenced
+pub unreferenced-stay : (old new : Image) (home : HomeFields) (lbn count : ℕ) → KeepsVolume home old new
+    → AreUnreferenced (volume_of old home) lbn count → AreUnreferenced (volume_of new home) lbn count
+unreferenced-stay old new home lbn count keeps unreferenced =
+    subst (λ (v : Volume). AreUnreferenced v lbn count) (sym keeps.volume) unreferenced
 
-pub other-unreferenced : (old new : Image) (home : HomeFields) (n lbn count : ℕ) → KeepsButSlot n home old new → AreUnreferenced (volume_of old home) lbn count
+pub other-unreferenced : (old new : Image) (home : HomeFields) (n lbn count : ℕ) → KeepsButSlot n home old new
+    → AreUnreferenced (volume_of old home) lbn count
     → ((place k : ℕ) → lbn ≤ k → k < lbn + count → ¬ IsCell (table_of new home) n place k) → AreUnreferenced (volume_of new home) lbn count
 unfolding volume_of
-other-unreferenced old new home n lbn count slot unreferenced none = subst (λ (v : Volume). AreUnreferenced v lbn count) (sym slot.volume) (record {
-  inside = unreferenced.inside;
-  used = unreferenced.used;
-  unnamed = λ k low high named. elim (cases_eq named.header n) [
-    | inl here ↦ none named.place k low high (subst (λ (m : ℕ). IsCell (table_of new home) m named.place k) here named.cell)
-    | inr away ↦ unreferenced.unnamed k low high (record {
-      header = named.header;
-      place = named.place;
-      cell = cell-was (table_of old home) (table_of new home) n named.header named.place k slot.others away named.cell;
+other-unreferenced old new home n lbn count slot unreferenced none = subst (λ (v : Volume). AreUnreferenced v lbn count) (sym slot.volume)
+    (record {
+      inside = unreferenced.inside;
+      used = unreferenced.used;
+      unnamed = λ k low high named. elim (cases_eq named.header n) [
+        | inl here ↦ none named.place k low high (subst (λ (m : ℕ). IsCell (table_of new home) m named.place k) here named.cell)
+        | inr away ↦ unreferenced.unnamed k low high (record {
+          header = named.header;
+          place = named.place;
+          cell = cell-was (table_of old home) (table_of new home) n named.header named.place k slot.others away named.cell;
+        })
+      ];
     })
-  ];
-})
 
-pub unentered-unreferenced : (old new : Image) (home : HomeFields) (n lbn count : ℕ) → KeepsButSlot n home old new → AreUnreferenced (volume_of old home) lbn count
+pub unentered-unreferenced : (old new : Image) (home : HomeFields) (n lbn count : ℕ) → KeepsButSlot n home old new
+    → AreUnreferenced (volume_of old home) lbn count
     → (table_of new home).in_use n ≡ false → AreUnreferenced (volume_of new home) lbn count
 unentered-unreferenced old new home n lbn count slot unreferenced unused =
     other-unreferenced old new home n lbn count slot unreferenced (λ place k low high cell. let used = sym unused ∙ cell.live.in_use in cc)

@@ -47,7 +47,8 @@ module _ (image : Image) (home : HomeFields) (is : HasSoundVolume image home) (l
   other l apart = image_block-other image lbn l block apart
 
   -- a file of the table that stays
-  file-kept-in : (f : ℕ) → table_of new home ≡ t → IsFile t f → BlocksStay (file_blocks t f) image new → file_in home f new ≡ file_in home f image
+  file-kept-in : (f : ℕ) → table_of new home ≡ t → IsFile t f → BlocksStay (file_blocks t f) image new
+      → file_in home f new ≡ file_in home f image
   file-kept-in f same file stay =
       let sound = (image-files image home is).each f file in
       ap (λ (u : Table). file_of new u f) same ∙ file-stays-in image new t f sound.whole size sound stay
@@ -66,13 +67,18 @@ module _ (image : Image) (home : HomeFields) (is : HasSoundVolume image home) (l
     keeps = other_write image home is.framed.indexed.file lbn block away.index_file
 
     blocks : KeepsBitmap (storage_bitmap image home) image new
-    blocks = KeepsBitmap-write (storage_bitmap image home) image lbn block (λ i within same. away.bitmap_file (1 + i) (place-at image home i within ∙ ap Some same))
+    blocks =
+        KeepsBitmap-write (storage_bitmap image home) image lbn block
+        (λ i within same. away.bitmap_file (1 + i) (place-at image home i within ∙ ap Some same))
 
     pub unread-keeps : KeepsVolume home image new
     unread-keeps =
         let volume = volume-kept image new home is size control keeps blocks in
         record {
-          sound = record { framed = framed-kept image new home is size control keeps candidates; sound = subst IsSoundVolume (sym volume) is.sound };
+          sound = record {
+            framed = framed-kept image new home is size control keeps candidates;
+            sound = subst IsSoundVolume (sym volume) is.sound;
+          };
           index_file = keeps;
           bitmap = bitmap-kept image new home is size control keeps;
           bitmap_blocks = blocks;
@@ -90,17 +96,21 @@ module _ (image : Image) (home : HomeFields) (is : HasSoundVolume image home) (l
       }
 
   -- a block of a file
-  pub file-keeps : (f vbn : ℕ) → IsFile t f → 4 ≤ f → slice_get (file_blocks t f) (vbn - 1) ≡ Some lbn → WritesBlock f vbn block home image new
+  pub file-keeps : (f vbn : ℕ) → IsFile t f → 4 ≤ f → slice_get (file_blocks t f) (vbn - 1) ≡ Some lbn
+      → WritesBlock f vbn block home image new
   file-keeps f vbn file late at =
       let owned : IsNamedIn t f lbn = in-file image home is f (vbn - 1) lbn file at in
-      let volume = unread-keeps (unread image home is lbn (λ g low named. let same = owned-once image home is f g lbn owned named in omega (arith, same, late, low))) in
+      let volume = unread-keeps
+      (unread image home is lbn (λ g low named. let same = owned-once image home is f g lbn owned named in
+      omega (arith, same, late, low))) in
       let files = image-files image home is in
       let sound = files.each f file in
       let within = all-each (λ l. l < length image) (file_blocks t f) sound.within lbn (contained (file_blocks t f) (vbn - 1) lbn at) in
       record {
         keeps = volume;
         file = ap (λ (u : Table). file_of new u f) volume.index_file.table
-            ∙ file-written image t f (vbn - 1) lbn block sound.whole within at (λ j there. (files.one_owner f f j (vbn - 1) lbn file file there at).1);
+            ∙ file-written image t f (vbn - 1) lbn block sound.whole within at
+            (λ j there. (files.one_owner f f j (vbn - 1) lbn file file there at).1);
         others = λ g also apart. file-kept-in g volume.index_file.table also (λ i l there.
             other l (λ same. apart (files.one_owner g f i (vbn - 1) lbn also file (there ∙ ap Some same) at).0));
       }

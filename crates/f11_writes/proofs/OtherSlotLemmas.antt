@@ -90,7 +90,8 @@ module _ (t u : Table) (n f : ℕ) (others : KeepsOtherSlots n t u) (whole : IsW
   own-kept own = own-first t u n f others (λ here. away (subst (IsHeaderOf t f) here (first whole.file))) own
 
   pub named-kept : (lbn : ℕ) → IsNamedIn t f lbn → IsNamedIn u f lbn
-  named-kept lbn (m, of, has) = (m, (file-kept.1 m).1 of, subst (λ (b : List ℕ). Contains (blocks_named b) lbn) (sym (same-header m of)) has)
+  named-kept lbn (m, of, has) =
+      (m, (file-kept.1 m).1 of, subst (λ (b : List ℕ). Contains (blocks_named b) lbn) (sym (same-header m of)) has)
 
 -- the other way round
 pub turned : (t u : Table) (n : ℕ) → KeepsOtherSlots n t u → KeepsOtherSlots n u t
@@ -115,7 +116,8 @@ module _ (t u : Table) (n : ℕ) (others : KeepsOtherSlots n t u) where
   }
 
   pub file-was : (f : ℕ) → f ≢ n → IsFile u f → IsFile t f
-  file-was f away file = record { live = live-was f away file.live; first = ap segment_number (sym (same-now f away file.live.in_use)) ∙ file.first }
+  file-was f away file =
+      record { live = live-was f away file.live; first = ap segment_number (sym (same-now f away file.live.in_use)) ∙ file.first }
 
   pub next-was : (a b : ℕ) → a ≢ n → b ≢ n → IsNext u a b → IsNext t a b
   next-was a b away too goes =
@@ -144,12 +146,14 @@ module _ (t u : Table) (n : ℕ) (others : KeepsOtherSlots n t u) where
       let was = in-file-was f none before of in
       record { file = was.file; of = next was.of (next-was a b before away goes) }
 
-pub entered-unlinked : (old new : Volume) (n m : ℕ) → IsSoundVolume old → KeepsOtherSlots n old.table new.table → old.table.in_use n ≡ false → link_number new.table n ≡ 0
+pub entered-unlinked : (old new : Volume) (n m : ℕ) → IsSoundVolume old → KeepsOtherSlots n old.table new.table → old.table.in_use n ≡ false
+    → link_number new.table n ≡ 0
     → IsInFile new.table m → ¬ IsNext new.table m n
 entered-unlinked old new n m sound others unused none in_file goes =
     let away : m ≢ n = λ here. nowhere (ap (link_number new.table) here ∙ none) goes in
     let was = in-file-was old.table new.table n others in_file.file none away in_file.of in
-    let to : link_number old.table m ≡ n = ap (λ (b : List ℕ). (link_of b).number) (sym (same-now old.table new.table n others m away goes.from.in_use)) ∙ goes.number in
+    let to : link_number old.table m ≡ n =
+    ap (λ (b : List ℕ). (link_of b).number) (sym (same-now old.table new.table n others m away goes.from.in_use)) ∙ goes.number in
     let on = sound.links m (record { in_file = was; link = λ zero_is. omega (arith, zero_is, to, live-some goes.to) }) in
     let used : old.table.in_use n ≡ true = subst (λ (k : ℕ). old.table.in_use k ≡ true) to on.next.to.in_use in
     let no_use = sym unused ∙ used in cc

@@ -72,7 +72,8 @@ module _ (old new : Volume) (s : Shrinks old new) where
         let live = live_of-header linked.in_file.of in
         let same = s.same n live in
         let was = in-file-was n linked.in_file in
-        let on = sound.links n (record { in_file = was; link = λ none. linked.link (ap (λ (b : List ℕ). (link_of b).number) same ∙ none) }) in
+        let on = sound.links n (record { in_file = was; link = λ none. linked.link (ap (λ (b : List ℕ). (link_of b).number) same ∙ none) })
+        in
         record {
           not_last = subst (λ (b : List ℕ). segment_number b < 255) (sym same) on.not_last;
           here = ap (λ (b : List ℕ). (link_of b).volume) same ∙ on.here;
@@ -87,5 +88,6 @@ module _ (old new : Volume) (s : Shrinks old new) where
       taken = λ n place lbn cell. false_from_ne_true _ (λ free.
           let was = sym (s.taken n place lbn cell free) ∙ sound.taken n place lbn (cell-was n place lbn cell) in cc);
       links = links-on;
-      once = λ n one other of also goes comes. sound.once n one other (in-file-was one of) (in-file-was other also) (next-was one n goes) (next-was other n comes);
+      once = λ n one other of also goes comes. sound.once n one other (in-file-was one of) (in-file-was other also) (next-was one n goes)
+          (next-was other n comes);
     }

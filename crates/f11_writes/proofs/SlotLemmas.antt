@@ -50,7 +50,8 @@ header-placed-at image home n good some few = record {
   not_home = λ same. omega (arith, same);
 }
 
-module _ (image : Image) (home : HomeFields) (is : HasSoundVolume image home) (lbn : ℕ) (block : List ℕ) (placed : IsPlacedAt image home lbn) where
+module _ (image : Image) (home : HomeFields) (is : HasSoundVolume image home) (lbn : ℕ) (block : List ℕ)
+    (placed : IsPlacedAt image home lbn) where
   abbrev new : Image
   new = set image lbn block
 
@@ -79,7 +80,8 @@ module _ (image : Image) (home : HomeFields) (is : HasSoundVolume image home) (l
   candidates : CandidatesStay home image new
   candidates k low = elim (cases_eq (candidate k) home.lbn) [
     | inl here ↦ image_block-other image lbn (candidate k) block (λ same.
-        placed.not_home (index-apart image home is placed.place 1 lbn placed.at (is.framed.indexed.file.placed.home_block ∙ ap Some (sym here ∙ same))))
+        placed.not_home (index-apart image home is placed.place 1 lbn placed.at
+        (is.framed.indexed.file.placed.home_block ∙ ap Some (sym here ∙ same))))
     | inr before ↦ stays-of 3 (candidate k) (λ same. omega (arith, same)) (is.framed.indexed.earlier k (omega (arith, low, before)))
   ]
 
@@ -96,9 +98,11 @@ module _ (image : Image) (home : HomeFields) (is : HasSoundVolume image home) (l
 
     own-files : (m : ℕ) → 2 ≤ m → m ≤ 4 → IsOwnFile u m
     own-files m low high = elim (cases_eq m 2) [
-      | inl two ↦ subst (IsOwnFile u) (sym two) (own-kept t u n 2 spares.others is.framed.bitmap.sound.whole spares.two (is.framed.own_files 2 (omega arith) (omega arith)))
+      | inl two ↦ subst (IsOwnFile u) (sym two)
+          (own-kept t u n 2 spares.others is.framed.bitmap.sound.whole spares.two (is.framed.own_files 2 (omega arith) (omega arith)))
       | inr more ↦ elim (cases_eq m 3) [
-        | inl three ↦ subst (IsOwnFile u) (sym three) (own-kept t u n 3 spares.others three-whole spares.three (is.framed.own_files 3 (omega arith) (omega arith)))
+        | inl three ↦ subst (IsOwnFile u) (sym three)
+            (own-kept t u n 3 spares.others three-whole spares.three (is.framed.own_files 3 (omega arith) (omega arith)))
         | inr last ↦ let four : m ≡ 4 = omega (arith, low, high, more, last) in subst (IsOwnFile u) (sym four) spares.four
       ]
     ]
@@ -129,7 +133,8 @@ module _ (image : Image) (home : HomeFields) (is : HasSoundVolume image home) (l
             file-blocks-are new u f now-whole
             ∙ blocks-alike image new (file_blocks u f) size (subst (λ (k : ℕ). All (λ l. l < k) (file_blocks u f)) size within) (λ i l here.
             image_block-other image lbn l block (λ same.
-            other (owned-once new home sound f 1 lbn (subst (IsNamedIn u f) same (in-file new home sound f i l is_file here)) (in-index-file new home sound placed.place lbn there))))
+            other (owned-once new home sound f 1 lbn (subst (IsNamedIn u f) same (in-file new home sound f i l is_file here))
+            (in-index-file new home sound placed.place lbn there))))
 
         module _ (away : ¬ IsHeaderOf u f n) where
           back : KeepsOtherSlots n u t
@@ -139,12 +144,15 @@ module _ (image : Image) (home : HomeFields) (is : HasSoundVolume image home) (l
           was-whole = (file-kept u t n f back now-whole away).0
 
           said : said_of home f new ≡ said_of home f image
-          said = sym (said-alike new image u t f now-whole was-whole (headers-kept u t n f back now-whole away) (listed-same u t n f back now-whole away))
+          said =
+              sym (said-alike new image u t f now-whole was-whole (headers-kept u t n f back now-whole away)
+              (listed-same u t n f back now-whole away))
 
           same-file : f ≢ 1 → file_in home f new ≡ file_in home f image
           same-file other =
               let was = file-blocks-are image t f was-whole ∙ ap (map (block_or_zeros image)) (blocks-kept u t n f back now-whole away) in
-              sym (file-alike new image u t f now-whole was-whole (headers-kept u t n f back now-whole away) (listed-same u t n f back now-whole away) (was ∙ sym (contents other)))
+              sym (file-alike new image u t f now-whole was-whole (headers-kept u t n f back now-whole away)
+              (listed-same u t n f back now-whole away) (was ∙ sym (contents other)))
 
       slot-kept : KeepsButSlot n home image new
       slot-kept = record {
@@ -162,7 +170,8 @@ module _ (image : Image) (home : HomeFields) (is : HasSoundVolume image home) (l
     abbrev pub with-table : Volume
     with-table = record (volume_of image home) { table = u }
 
-    pub slot-keeps : IsIndexFile new home → HasNonePast (index_of new home) → slice_get (index_file_blocks new home) placed.place ≡ Some lbn → IsSoundVolume with-table
+    pub slot-keeps : IsIndexFile new home → HasNonePast (index_of new home) → slice_get (index_file_blocks new home) placed.place ≡ Some lbn
+        → IsSoundVolume with-table
         → KeepsButSlot n home image new
     slot-keeps indexed past there sound =
         slot-kept (record { framed = framed-slot indexed past; sound = subst IsSoundVolume (sym volume-slot) sound }) there

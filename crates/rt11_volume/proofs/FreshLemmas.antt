@@ -1,5 +1,6 @@
 -- A fresh volume is accepted, and has one empty area.
-use Rattle.std.proofs.Common.{◌≡◌, ◌⊎◌, inl, inr, ⊎_elim, ℕ, ◌+◌, ◌*◌, ◌/◌, ◌%◌, ◌<◌, ◌≤◌, true, false, List, [], ◌∷◌, ◌++◌, length, get_or, map, slice_index, Some, refl, sym, ◌∙◌, ap, subst, arith, Result, Ok, Err, OnErr}
+use Rattle.std.proofs.Common.{◌≡◌, ◌⊎◌, inl, inr, ⊎_elim, ℕ, ◌+◌, ◌*◌, ◌/◌, ◌%◌, ◌<◌, ◌≤◌, true, false, List, [], ◌∷◌, ◌++◌, length, get_or}
+use Rattle.std.proofs.Common.{map, slice_index, Some, refl, sym, ◌∙◌, ap, subst, arith, Result, Ok, Err, OnErr}
 use Rattle.std.specs.Prelude.{slice_set}
 use Rattle.std.specs.List.{slice_get}
 use Rattle.std.proofs.lemmas.Bool.{cases_eq}
@@ -14,7 +15,8 @@ use Rattle.f11_dev.proofs.ImageLemmas.{image_block-written, image_block-other}
 use Rattle.rt11_volume.specs.Directory.{count_of, IsSized, next_of, visited, segment_of, is_extra_wrong, are_extra_wrong, end_before}
 use Rattle.rt11_volume.specs.Entry.{status, area_length, is_end, is_one_kind, empty_entry}
 use Rattle.rt11_volume.specs.Verifying.Faults.{IsDirectoryFault, IsHighestBelow, IsHighestAbove}
-use Rattle.rt11_volume.specs.Verifying.Faults.IsDirectoryFault.{links_outside, links_back, extra_wrong, no_end, status_wrong, area_outside, begins_early, highest_wrong}
+use Rattle.rt11_volume.specs.Verifying.Faults.IsDirectoryFault.{links_outside, links_back, extra_wrong, no_end, status_wrong, area_outside}
+use Rattle.rt11_volume.specs.Verifying.Faults.IsDirectoryFault.{begins_early, highest_wrong}
 use Rattle.rt11_volume.specs.Fresh.{HasRoom, start_of, space_of, fresh_block, IsFreshDirectory, MayStand, IsFreshStore}
 use Rattle.rt11_volume.specs.Segment.{segment_words, words_in, extra_bytes, entry_place, entry_words, entries, HasEnd, area_start}
 use Rattle.rt11_volume.specs.Store.{rt_store_of}
@@ -43,7 +45,9 @@ ClearsUpTo-more upto old now next low within is clears = subst (ClearsUpTo (upto
         (arith, clears.size))
     | inr apart ↦ image_block-other now upto lbn zero_block apart ∙ clears.rest lbn above (omega arith)
   ];
-  others = λ lbn place. image_block-other now upto lbn zero_block (λ same. ⊎_elim (λ before. omega (arith, before)) (λ behind. omega (arith, behind)) place)
+  others =
+      λ lbn place. image_block-other now upto lbn zero_block
+      (λ same. ⊎_elim (λ before. omega (arith, before)) (λ behind. omega (arith, behind)) place)
       ∙ clears.others lbn (⊎_elim (λ before. inl before) (λ behind. inr (omega (arith, behind))) place);
 }
 
@@ -108,7 +112,8 @@ fresh_words n blocks high = record {
   name = at 6 (omega arith);
   name_more = at 7 (omega arith);
   type = at 8 (omega arith);
-  space_is = at 9 (omega arith) ∙ (let e : space_of n blocks % 256 + 256 * (space_of n blocks / 256) ≡ space_of n blocks = omega arith in e);
+  space_is = at 9 (omega arith)
+      ∙ (let e : space_of n blocks % 256 + 256 * (space_of n blocks / 256) ≡ space_of n blocks = omega arith in e);
   job = at 10 (omega arith);
   date = at 11 (omega arith);
   end = at 12 (omega arith);
@@ -127,25 +132,31 @@ is_fresh : (n : ℕ) (old new : Image) → IsFreshDirectory n old new → IsFres
 unfolding segment_words
 is_fresh n old new fresh =
     let words : HasFreshWords n (space_of n (length old)) (words_in (image_block new 6 ++ image_block new 7)) =
-    subst (λ (b : List ℕ). HasFreshWords n (space_of n (length old)) (words_in (b ++ image_block new 7))) (sym fresh.first) (fresh_words n (length old) (image_block new 7)) in
+    subst (λ (b : List ℕ). HasFreshWords n (space_of n (length old)) (words_in (b ++ image_block new 7))) (sym fresh.first)
+    (fresh_words n (length old) (image_block new 7)) in
     record {
       words = words;
       visits = visited-one new words.next;
       one = ap (λ x. length (entries x (segment_words new 1))) words.extra
           ∙ entries-count 0 (segment_words new 1) 1 (let few : 1 ≤ 72 = omega arith in few)
-          (λ k before. let none : k ≡ 0 = omega arith in ap (λ j. is_end (slice_index (segment_words new 1) (entry_place 0 j))) none ∙ ap is_end words.status)
+          (λ k before. let none : k ≡ 0 = omega arith in ap (λ j. is_end (slice_index (segment_words new 1) (entry_place 0 j))) none
+          ∙ ap is_end words.status)
           (λ less. ap is_end words.end);
     }
 
 -- its one entry
-fresh_entry : (n space : ℕ) (image : Image) → IsFresh n space image → get_or (segment_of image 1).entries 0 [] ≡ entry_words 0 (segment_words image 1) 0
+fresh_entry : (n space : ℕ) (image : Image) → IsFresh n space image
+    → get_or (segment_of image 1).entries 0 [] ≡ entry_words 0 (segment_words image 1) 0
 fresh_entry n space image fresh =
     ap (λ x. get_or (entries x (segment_words image 1)) 0 []) fresh.words.extra
-    ∙ entries-at 0 (segment_words image 1) 0 [] (omega (arith, ap (λ x. length (entries x (segment_words image 1))) (sym fresh.words.extra), fresh.one))
+    ∙ entries-at 0 (segment_words image 1) 0 []
+    (omega (arith, ap (λ x. length (entries x (segment_words image 1))) (sym fresh.words.extra), fresh.one))
 
 -- a word of it
-fresh_entry-at : (n space : ℕ) (image : Image) → IsFresh n space image → (k : ℕ) → k < 7 → slice_index (get_or (segment_of image 1).entries 0 []) k ≡ slice_index (segment_words image 1) (5 + k)
-fresh_entry-at n space image fresh k within = ap (λ (e : List ℕ). slice_index e k) (fresh_entry n space image fresh) ∙ entry_words-at 0 (segment_words image 1) 0 k within
+fresh_entry-at : (n space : ℕ) (image : Image) → IsFresh n space image → (k : ℕ) → k < 7
+    → slice_index (get_or (segment_of image 1).entries 0 []) k ≡ slice_index (segment_words image 1) (5 + k)
+fresh_entry-at n space image fresh k within =
+    ap (λ (e : List ℕ). slice_index e k) (fresh_entry n space image fresh) ∙ entry_words-at 0 (segment_words image 1) 0 k within
 
 -- segment 1 alone is visited
 only_first : (image : Image) (place k : ℕ) → visited image ≡ 1 ∷ [] → slice_get (visited image) place ≡ Some k → (place ≡ 0) × (k ≡ 1)
@@ -179,7 +190,8 @@ unfolding end_before
 end_first image = refl
 
 -- a fresh directory has no fault
-fresh_sound : (n blocks : ℕ) (image : Image) → HasRoom n blocks → length image ≡ blocks → IsFresh n (space_of n blocks) image → (code a b : ℕ) → ¬ IsDirectoryFault image code a b
+fresh_sound : (n blocks : ℕ) (image : Image) → HasRoom n blocks → length image ≡ blocks → IsFresh n (space_of n blocks) image
+    → (code a b : ℕ) → ¬ IsDirectoryFault image code a b
 fresh_sound n blocks image room size fresh _ _ _ (links_outside place k judged outside) =
     let is = only_first image place k fresh.visits judged.visited_at in
     omega (arith, outside, ap (next_of image) is.1, fresh.words.next, fresh.words.count)
@@ -195,7 +207,8 @@ fresh_sound n blocks image room size fresh _ _ _ (extra_wrong k wrong) =
 fresh_sound n blocks image room size fresh _ _ _ (no_end place k judged none) =
     let is = only_first image place k fresh.visits judged.visited_at in
     let ends : HasEnd 0 (segment_words image 1) = record { place = 1; within = omega arith; end = ap is_end fresh.words.end } in
-    none (subst (λ j. HasEnd (extra_bytes (segment_words image j)) (segment_words image j)) (sym is.1) (subst (λ x. HasEnd x (segment_words image 1)) (sym fresh.words.extra) ends))
+    none (subst (λ j. HasEnd (extra_bytes (segment_words image j)) (segment_words image j)) (sym is.1)
+    (subst (λ x. HasEnd x (segment_words image 1)) (sym fresh.words.extra) ends))
 fresh_sound n blocks image room size fresh _ _ _ (status_wrong place k i entry is wrong) =
     let at = only_first image place k fresh.visits is.judged.visited_at in
     let es : List (List ℕ) = (segment_of image 1).entries in
@@ -209,14 +222,17 @@ fresh_sound n blocks image room size fresh _ _ _ (area_outside place k i entry i
     let es : List (List ℕ) = (segment_of image 1).entries in
     let here : slice_get es i ≡ Some entry = ap (λ j. slice_get (segment_of image j).entries i) (sym at.1) ∙ is.entry_is in
     let first : i ≡ 0 = omega (arith, slice_get_within es i entry here, fresh.one) in
-    let end : area_start (segment_of image k) (i + 1) ≡ start_of n + space_of n blocks = ap (λ j. area_start (segment_of image j) (i + 1)) at.1 ∙ ap (λ j. area_start (segment_of image 1) (j + 1)) first ∙ fresh_end n (space_of n blocks) image fresh in
+    let end : area_start (segment_of image k) (i + 1) ≡ start_of n + space_of n blocks = ap (λ j. area_start (segment_of image j) (i + 1))
+    at.1 ∙ ap (λ j. area_start (segment_of image 1) (j + 1)) first ∙ fresh_end n (space_of n blocks) image fresh in
     omega (arith, outside, end, size, room.room, room.few)
 fresh_sound n blocks image room size fresh _ _ _ (begins_early place k judged early) =
     let is = only_first image place k fresh.visits judged.visited_at in
-    let less : (segment_of image 1).first < end_before image 0 = subst (λ j. (segment_of image 1).first < end_before image j) is.0 (subst (λ j. (segment_of image j).first < end_before image place) is.1 early) in
+    let less : (segment_of image 1).first < end_before image 0 = subst (λ j. (segment_of image 1).first < end_before image j) is.0
+    (subst (λ j. (segment_of image j).first < end_before image place) is.1 early) in
     omega (arith, less, end_first image, fresh.words.first, fresh.words.count)
 fresh_sound n blocks image room size fresh _ _ _ (highest_wrong none wrong) = ⊎_elim
-    (λ (below : IsHighestBelow image). let is = only_first image below.place below.segment fresh.visits below.visited_at in omega (arith, below.below, is.1, fresh.words.highest))
+    (λ (below : IsHighestBelow image). let is = only_first image below.place below.segment fresh.visits below.visited_at in
+    omega (arith, below.below, is.1, fresh.words.highest))
     (λ (above : IsHighestAbove image). omega (arith, above, fresh.words.highest, fresh.words.count, room.some)) wrong
 
 -- so the image is accepted
@@ -264,11 +280,15 @@ length-entry s size = length-between s 5 12 (omega arith)
 fresh_entry_is : (n space : ℕ) (image : Image) → IsFresh n space image → (segment_of image 1).entries ≡ empty_entry 0 space ∷ []
 fresh_entry_is n space image fresh =
     let e : List ℕ = get_or (segment_of image 1).entries 0 [] in
-    let long : length e ≡ 7 = ap (λ (w : List ℕ). length w) (fresh_entry n space image fresh) ∙ length-entry (segment_words image 1) (length-segment image 1) in
-    let zero_word = λ (k : ℕ) (within : k < 7) (is : slice_index (segment_words image 1) (5 + k) ≡ 0). fresh_entry-at n space image fresh k within ∙ is in
+    let long : length e ≡ 7 = ap (λ (w : List ℕ). length w) (fresh_entry n space image fresh)
+    ∙ length-entry (segment_words image 1) (length-segment image 1) in
+    let zero_word = λ (k : ℕ) (within : k < 7) (is : slice_index (segment_words image 1) (5 + k) ≡ 0).
+    fresh_entry-at n space image fresh k within ∙ is in
     let words : e ≡ empty_entry 0 space =
-    seven_words e long ∙ (λ i. fresh_status n space image fresh i ∷ zero_word 1 (omega arith) fresh.words.name i ∷ zero_word 2 (omega arith) fresh.words.name_more i ∷ zero_word 3 (omega arith) fresh.words.type i
-    ∷ fresh_length n space image fresh i ∷ zero_word 5 (omega arith) fresh.words.job i ∷ zero_word 6 (omega arith) fresh.words.date i ∷ []) in
+    seven_words e long ∙ (λ i. fresh_status n space image fresh i ∷ zero_word 1 (omega arith) fresh.words.name i ∷ zero_word 2 (omega arith)
+    fresh.words.name_more i ∷ zero_word 3 (omega arith) fresh.words.type i
+    ∷ fresh_length n space image fresh i ∷ zero_word 5 (omega arith) fresh.words.job i ∷ zero_word 6 (omega arith) fresh.words.date i ∷ [])
+    in
     one_entry (segment_of image 1).entries fresh.one ∙ ap (λ (w : List ℕ). w ∷ []) words
 
 -- and the store has that area alone
@@ -282,7 +302,8 @@ fresh_store n old new room written =
       highest = fresh.words.highest;
       extra = fresh.words.extra;
       one_area = ap (map (segment_of new)) fresh.visits
-          ∙ (λ i. record { number = 1; first = fresh.words.first i; entries = fresh_entry_is n (space_of n (length old)) new fresh i } ∷ []);
+          ∙ (λ i. record { number = 1; first = fresh.words.first i; entries = fresh_entry_is n (space_of n (length old)) new fresh i } ∷
+          []);
     }
 
 -- how many segments there are stands in the first block

@@ -1,5 +1,7 @@
 -- The names of files: their words, and what they spell.
-use Rattle.std.proofs.Common.{◌+◌, zero, suc, ◌≡◌, ◌≢◌, ◌↔◌, ℕ, ◌<◌, ◌≤◌, ◌==◌, ◌&&◌, not, Bool, true, false, IsTrue, Option, Some, None, is_some, SomeIff, Result, Ok, Err, is_ok, OnErr, IsNone, slice_index_or, List, [], ◌∷◌, length, drop, get_or, refl, sym, ◌∙◌, ap, subst, arith}
+use Rattle.std.proofs.Common.{◌+◌, zero, suc, ◌≡◌, ◌≢◌, ◌↔◌, ℕ, ◌<◌, ◌≤◌, ◌==◌, ◌&&◌, not, Bool, true, false, IsTrue, Option, Some, None}
+use Rattle.std.proofs.Common.{is_some, SomeIff, Result, Ok, Err, is_ok, OnErr, IsNone, slice_index_or, List, [], ◌∷◌, length, drop, get_or}
+use Rattle.std.proofs.Common.{refl, sym, ◌∙◌, ap, subst, arith}
 use Rattle.std.specs.List.{AllPass, All}
 use Rattle.std.proofs.lemmas.Bool.{and_parts, and_from}
 use Rattle.f11_rad50.proofs.Spelled.{is_name-true, IsName-from_test}
@@ -50,7 +52,11 @@ third_none name short = go (drop 6 name) (omega (arith, length-drop 6 name))
 pub rt_name_of-words : (name type : List ℕ) → IsRtProper name type → rt_name_of (rt_words_of name type) ≡ name
 unfolding rt_name_of rt_words_of
 rt_name_of-words name type p =
-    rw (characters_of-part name p.name_characters, characters_of-part (drop 3 name) (All-drop (λ c. is_name_character c ≡ true) 3 name p.name_characters), padded-append 3 3 name)
+    rw (
+      characters_of-part name p.name_characters,
+      characters_of-part (drop 3 name) (All-drop (λ c. is_name_character c ≡ true) 3 name p.name_characters),
+      padded-append 3 3 name,
+    )
     (unpadded-padded 6 name p.name_characters p.name_length)
 
 pub rt_type_of-words : (name type : List ℕ) → IsRtProper name type → rt_type_of (rt_words_of name type) ≡ type
@@ -87,8 +93,11 @@ IsName-from_rt a b c is =
       not_empty = omega (arith, p.name_some);
       version_from = omega arith;
       version_to = omega arith;
-    } in
-    (λ zero_word. omega arith, IsName-from_parts (a ∷ b ∷ 0 ∷ c ∷ 1 ∷ []) name type 1 proper (λ i. first i ∷ second i ∷ none i ∷ third i ∷ 1 ∷ []))
+    } in (
+      λ zero_word. omega arith,
+      IsName-from_parts (a ∷ b ∷ 0 ∷ c ∷ 1 ∷ []) name type 1 proper
+          (λ i. first i ∷ second i ∷ none i ∷ third i ∷ 1 ∷ []),
+    )
 
 pub IsRtName-from_name : (a b c : ℕ) → a ≢ 0 → IsName (a ∷ b ∷ 0 ∷ c ∷ 1 ∷ []) → IsRtName (a ∷ b ∷ c ∷ [])
 unfolding rt_words_of words_of
@@ -100,7 +109,8 @@ IsRtName-from_name a b c some is =
     let second : radix50 (drop 3 name) ≡ b = ap (λ (ws : List ℕ). get_or ws 1 0) is.same_words in
     let none : radix50 (drop 6 name) ≡ 0 = ap (λ (ws : List ℕ). get_or ws 2 0) is.same_words in
     let third : radix50 type ≡ c = ap (λ (ws : List ℕ). get_or ws 3 0) is.same_words in
-    let short : drop 6 name ≡ [] = none_from_word (drop 6 name) (All-drop (λ x. is_name_character x ≡ true) 6 name p.name_characters) none in
+    let short : drop 6 name ≡ [] = none_from_word (drop 6 name) (All-drop (λ x. is_name_character x ≡ true) 6 name p.name_characters) none
+    in
     let proper : IsRtProper name type = record {
       name_characters = p.name_characters;
       name_some = some_from_word name (λ zero_word. some (sym first ∙ zero_word));
@@ -111,9 +121,11 @@ IsRtName-from_name a b c some is =
     IsRtName-from_parts (a ∷ b ∷ c ∷ []) name type proper (λ i. first i ∷ second i ∷ third i ∷ [])
 
 -- an answer that is there just where three words are a name
-pub name_tested : (r : Option (List ℕ)) (b : Bool) (x y z : ℕ) → x ≢ 0 → SomeIff r (IsName (x ∷ y ∷ 0 ∷ z ∷ 1 ∷ [])) (x ∷ y ∷ 0 ∷ z ∷ 1 ∷ []) → b ≡ is_some r
+pub name_tested : (r : Option (List ℕ)) (b : Bool) (x y z : ℕ) → x ≢ 0
+    → SomeIff r (IsName (x ∷ y ∷ 0 ∷ z ∷ 1 ∷ [])) (x ∷ y ∷ 0 ∷ z ∷ 1 ∷ []) → b ≡ is_some r
     → IsTrue b ↔ IsRtName (x ∷ y ∷ z ∷ [])
-name_tested None b x y z some not is = (λ yes. absurd (let no : true ≡ false = sym yes ∙ is in cc), λ name. absurd (not (IsName-from_rt x y z name).1))
+name_tested None b x y z some not is =
+    (λ yes. absurd (let no : true ≡ false = sym yes ∙ is in cc), λ name. absurd (not (IsName-from_rt x y z name).1))
 name_tested (Some w) b x y z some found is = (λ yes. IsRtName-from_name x y z some found.0, λ name. is)
 
 -- the test of three words
@@ -137,16 +149,20 @@ is_rt_name-IsRtName x y z = (λ holds. to holds, λ name. back name)
         and_from (not (x == 0)) (is_name words) test (is_name-true words is.1)
 
 -- the words of parts, one by one
-pub rt_words-eq : (name type : List ℕ) (a b c : ℕ) → a ≡ radix50 name → b ≡ radix50 (drop 3 name) → c ≡ radix50 type → a ∷ b ∷ c ∷ [] ≡ rt_words_of name type
+pub rt_words-eq : (name type : List ℕ) (a b c : ℕ) → a ≡ radix50 name → b ≡ radix50 (drop 3 name) → c ≡ radix50 type
+    → a ∷ b ∷ c ∷ [] ≡ rt_words_of name type
 unfolding rt_words_of
 rt_words-eq name type a b c first second third = λ i. first i ∷ second i ∷ third i ∷ []
 
 -- three characters of a part have codes
-pub three_characters : (part : List ℕ) (at a b c : ℕ) → a ≡ slice_index_or part at 32 → b ≡ slice_index_or part (at + 1) 32 → c ≡ slice_index_or part (at + 2) 32 → AllPass is_name_character part
+pub three_characters : (part : List ℕ) (at a b c : ℕ) → a ≡ slice_index_or part at 32 → b ≡ slice_index_or part (at + 1) 32
+    → c ≡ slice_index_or part (at + 2) 32 → AllPass is_name_character part
     → All IsCharacter (a ∷ b ∷ c ∷ [])
 three_characters part at a b c first second third pass zero d within = subst IsCharacter (sym first) (IsCharacter-place part pass at)
-three_characters part at a b c first second third pass (suc zero) d within = subst IsCharacter (sym second) (IsCharacter-place part pass (at + 1))
-three_characters part at a b c first second third pass (suc (suc zero)) d within = subst IsCharacter (sym third) (IsCharacter-place part pass (at + 2))
+three_characters part at a b c first second third pass (suc zero) d within =
+    subst IsCharacter (sym second) (IsCharacter-place part pass (at + 1))
+three_characters part at a b c first second third pass (suc (suc zero)) d within =
+    subst IsCharacter (sym third) (IsCharacter-place part pass (at + 2))
 three_characters part at a b c first second third pass (suc (suc (suc k))) d within = absurd (omega arith)
 
 -- there is no answer only where the characters were refused

@@ -30,7 +30,8 @@ use Rattle.f11_files.proofs.Finding.Named.{is-file, block-is, no-file-cause}
 use Rattle.f11_files.proofs.WriteLemmas.{keeps-storage, breaks-off, failed-stays, served-stays, writes-behind}
 
 -- where a header was written, what is kept stays
-pub keeps-header : (s : Structure) (n : ℕ) (block : List ℕ) (old new : Image) → WritesHeader n block (home_of s) old new → IsStructureOf s old → IsStructureOf s new
+pub keeps-header : (s : Structure) (n : ℕ) (block : List ℕ) (old new : Image) → WritesHeader n block (home_of s) old new
+    → IsStructureOf s old → IsStructureOf s new
 keeps-header s n block old new wrote keeps = record {
   index_is = keeps.index_is ∙ sym wrote.index_file.index;
   bitmap_is = keeps.bitmap_is ∙ sym wrote.slot.bitmap;
@@ -38,7 +39,8 @@ keeps-header s n block old new wrote keeps = record {
 }
 
 -- the header was read, and is written with the change
-module _ (s : Structure) (f : FileId) (change : File → File) (was block : List ℕ) (old now : Disk) (lbn : ℕ) (for : IsStructureFor s old) (own : 4 ≤ f.number) (finds : FindsFile (index_in s) f was old now)
+module _ (s : Structure) (f : FileId) (change : File → File) (was block : List ℕ) (old now : Disk) (lbn : ℕ) (for : IsStructureFor s old)
+    (own : 4 ≤ f.number) (finds : FindsFile (index_in s) f was old now)
     (says : SaysBut change was block) (at : lbn ≡ header_lbn (index_in s) f.number) where
   abbrev work : Work
   work = one_part f.number (file_changes f.number change)
@@ -74,7 +76,8 @@ module _ (s : Structure) (f : FileId) (change : File → File) (was block : List
   moment : P written
   moment honest = record {
     sound = (changes honest).header.slot.sound;
-    lags = subst (λ (t : Store). LagsBy work t (store_on s old)) (sym (changes honest).store) (change_lags (store_on s old) f.number change);
+    lags = subst (λ (t : Store). LagsBy work t (store_on s old)) (sym (changes honest).store)
+        (change_lags (store_on s old) f.number change);
   }
 
   module _ (new : Disk) where
@@ -82,15 +85,18 @@ module _ (s : Structure) (f : FileId) (change : File → File) (was block : List
     alters is = record {
       no_cause = λ honest. no-file-cause s f was old for finds.holds honest;
       makes = λ honest. ap (λ (d : Disk). store_of d.image (home_of s)) is ∙ (changes honest).store;
-      allots = λ honest. subst (λ (d : Disk). KeepsBlocks (volume_of old.image (home_of s)) (volume_of d.image (home_of s))) (sym is) (keeps honest);
+      allots = λ honest. subst (λ (d : Disk). KeepsBlocks (volume_of old.image (home_of s)) (volume_of d.image (home_of s))) (sym is)
+          (keeps honest);
       writes = writes-behind (reads-looked finds.looked) (went_write P now new lbn block is moment);
     }
 
     pub altered-stays : new ≡ with_transfer true (with_block_at lbn block now) → StaysFor false s s new
     altered-stays is = served-stays s work old new false for (alters is).writes.went
-        (λ honest. subst (IsStructureOf s) (ap (λ (d : Disk). d.image) (sym is)) (keeps-header s f.number block old.image written (changes honest).header (for.keeps honest)))
+        (λ honest. subst (IsStructureOf s) (ap (λ (d : Disk). d.image) (sym is))
+        (keeps-header s f.number block old.image written (changes honest).header (for.keeps honest)))
 
-    pub fails-alter : (new ≡ with_transfer false now) ⊎ (new ≡ with_transfer false (with_block_at lbn block now)) → FailsToAlter false change (home_of s) f DeviceFault old new
+    pub fails-alter : (new ≡ with_transfer false now) ⊎ (new ≡ with_transfer false (with_block_at lbn block now))
+        → FailsToAlter false change (home_of s) f DeviceFault old new
     fails-alter is =
         breaks-off (λ honest. no-file-cause s f was old for finds.holds honest) refl (right-fault _ _)
         (writes-behind (reads-looked finds.looked) (went_failed_write P now new lbn block is moment))

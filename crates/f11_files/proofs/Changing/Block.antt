@@ -24,7 +24,8 @@ use Rattle.f11_image_store.proofs.StoreLemmas.{block-stored}
 use Rattle.f11_files.proofs.WriteLemmas.{breaks-off, keeps-volume, failed-stays, served-stays, writes-behind}
 
 -- the block was found, and is written there
-module _ (s : Structure) (f : FileId) (vbn lbn : ℕ) (block : List ℕ) (old now : Disk) (for : IsStructureFor s old) (own : 4 ≤ f.number) (finds : FindsBlock (home_of s) f vbn lbn old now) where
+module _ (s : Structure) (f : FileId) (vbn lbn : ℕ) (block : List ℕ) (old now : Disk) (for : IsStructureFor s old) (own : 4 ≤ f.number)
+    (finds : FindsBlock (home_of s) f vbn lbn old now) where
   abbrev written : Image
   written = set now.image lbn block
 
@@ -47,7 +48,8 @@ module _ (s : Structure) (f : FileId) (vbn lbn : ℕ) (block : List ℕ) (old no
   moment : P written
   moment honest = record {
     sound = (writes honest).keeps.sound;
-    lags = subst (λ t. LagsBy (block_work f vbn block) t (store_on s old)) (sym (makes honest)) (change_lags (store_on s old) f.number (with_block vbn block));
+    lags = subst (λ t. LagsBy (block_work f vbn block) t (store_on s old)) (sym (makes honest))
+        (change_lags (store_on s old) f.number (with_block vbn block));
   }
 
   module _ (new : Disk) where
@@ -55,16 +57,20 @@ module _ (s : Structure) (f : FileId) (vbn lbn : ℕ) (block : List ℕ) (old no
     stores-block is = record {
       no_cause = finds.no_cause;
       makes = λ honest. ap (λ (d : Disk). store_of d.image (home_of s)) is ∙ makes honest;
-      allots = λ honest. subst (λ (d : Disk). KeepsBlocks (volume_of old.image (home_of s)) (volume_of d.image (home_of s))) (sym is) (keeps honest);
+      allots = λ honest. subst (λ (d : Disk). KeepsBlocks (volume_of old.image (home_of s)) (volume_of d.image (home_of s))) (sym is)
+          (keeps honest);
       writes = writes-behind finds.reads (went_write P now new lbn block is moment);
     }
 
     pub stored-stays : new ≡ with_transfer true (with_block_at lbn block now) → StaysFor false s s new
     stored-stays is = served-stays s (block_work f vbn block) old new false for (stores-block is).writes.went
-        (λ honest. subst (IsStructureOf s) (ap (λ (d : Disk). d.image) (sym is)) (keeps-volume s old.image written (writes honest).keeps (for.keeps honest)))
+        (λ honest. subst (IsStructureOf s) (ap (λ (d : Disk). d.image) (sym is))
+        (keeps-volume s old.image written (writes honest).keeps (for.keeps honest)))
 
-    pub fails-store : (new ≡ with_transfer false now) ⊎ (new ≡ with_transfer false (with_block_at lbn block now)) → FailsToStore false (home_of s) f vbn block DeviceFault old new
-    fails-store is = breaks-off finds.no_cause refl (right-fault _ _) (writes-behind finds.reads (went_failed_write P now new lbn block is moment))
+    pub fails-store : (new ≡ with_transfer false now) ⊎ (new ≡ with_transfer false (with_block_at lbn block now))
+        → FailsToStore false (home_of s) f vbn block DeviceFault old new
+    fails-store is =
+        breaks-off finds.no_cause refl (right-fault _ _) (writes-behind finds.reads (went_failed_write P now new lbn block is moment))
 
     pub fails-stays : (new ≡ with_transfer false now) ⊎ (new ≡ with_transfer false (with_block_at lbn block now)) → StaysFor true s s new
     fails-stays is = failed-stays s s _ old new for refl (fails-store is).writes.went

@@ -24,11 +24,13 @@ use Rattle.f11_files.proofs.Finding.Windows.{finds-in-window, in-place}
 use Rattle.f11_files.proofs.WriteLemmas.{had-failed}
 
 -- a transfer that failed is one more
-one-more : (lbn : ℕ) (block : List ℕ) (old new : Disk) → (new ≡ with_transfer false old) ⊎ (new ≡ with_transfer false (with_block_at lbn block old)) → new.transfers ≤ old.transfers + 1
+one-more : (lbn : ℕ) (block : List ℕ) (old new : Disk)
+    → (new ≡ with_transfer false old) ⊎ (new ≡ with_transfer false (with_block_at lbn block old)) → new.transfers ≤ old.transfers + 1
 one-more lbn block old new (inl is) = let same = ap (λ (d : Disk). d.transfers) is in omega (arith, same)
 one-more lbn block old new (inr is) = let same = ap (λ (d : Disk). d.transfers) is in omega (arith, same)
 
-module _ (s : Structure) (w : Window) (vbn lbn : ℕ) (block : List ℕ) (old new : Disk) (for : IsStructureFor s old) (some : 0 < w.first) (held : HoldsAt w vbn lbn) (within : lbn < length old.image) where
+module _ (s : Structure) (w : Window) (vbn lbn : ℕ) (block : List ℕ) (old new : Disk) (for : IsStructureFor s old) (some : 0 < w.first)
+    (held : HoldsAt w vbn lbn) (within : lbn < length old.image) where
   finds : (f : FileId) → IsWindowOn (home_of s) f w old → FindsBlock (home_of s) f vbn lbn old old
   finds f is = finds-in-window s f w old for is some vbn lbn held within
 
@@ -50,7 +52,8 @@ module _ (s : Structure) (w : Window) (vbn lbn : ℕ) (block : List ℕ) (old ne
       once = is;
       of_file = λ f on. stores-block s f vbn lbn block old old for on.id.number (finds f on) new is;
       confined = λ f on. confined f (λ honest.
-          other-wrote s no_header (blocks f) lbn block old new (at-in (blocks f) (vbn - 1) lbn (in-place s f w old for on some vbn lbn held honest)) is);
+          other-wrote s no_header (blocks f) lbn block old new
+          (at-in (blocks f) (vbn - 1) lbn (in-place s f w old for on some vbn lbn held honest)) is);
     }
 
     pub stored-by-stays : IsOfFile (home_of s) w old → StaysFor false s s new
@@ -64,17 +67,20 @@ module _ (s : Structure) (w : Window) (vbn lbn : ℕ) (block : List ℕ) (old ne
       few = one-more lbn block old new is;
       of_file = λ f on. fails-store s f vbn lbn block old old for on.id.number (finds f on) new is;
       confined = λ f on. confined f (λ honest.
-          other-failed s no_header (blocks f) lbn block old new (at-in (blocks f) (vbn - 1) lbn (in-place s f w old for on some vbn lbn held honest)) is);
+          other-failed s no_header (blocks f) lbn block old new
+          (at-in (blocks f) (vbn - 1) lbn (in-place s f w old for on some vbn lbn held honest)) is);
     }
 
     pub failed-by-stays : IsOfFile (home_of s) w old → StaysFor true s s new
     failed-by-stays of = fails-stays s of.file vbn lbn block old old for of.is.id.number (finds of.file of.is) new is
 
 -- the volume had failed, and nothing is done
-pub had-failed-by : {failed : Bool} {home : HomeFields} {w : Window} {vbn : ℕ} {block : List ℕ} (old : Disk) → failed ≡ true → FailsToStoreBy failed home w vbn block VolumeFailed old old
+pub had-failed-by : {failed : Bool} {home : HomeFields} {w : Window} {vbn : ℕ} {block : List ℕ} (old : Disk) → failed ≡ true
+    → FailsToStoreBy failed home w vbn block VolumeFailed old old
 had-failed-by {home = home} old is = record {
   why = record { only = inl refl; volume = λ _. is };
   few = omega arith;
   of_file = λ f on. had-failed old is;
-  confined = λ f on honest. confines-none no_header (index_of old.image home) (storage_bitmap old.image home) (file_blocks (table_of old.image home) f.number) old;
+  confined = λ f on honest. confines-none no_header (index_of old.image home) (storage_bitmap old.image home)
+      (file_blocks (table_of old.image home) f.number) old;
 }

@@ -1,5 +1,6 @@
 -- What carries `Confines` from call to call.
-use Rattle.std.proofs.Common.{◌≡◌, ◌≢◌, ◌⊎◌, ℕ, Bool, true, false, List, [], ◌∷◌, ◌++◌, All, get_or, refl, sym, ap, subst, ◌∙◌, append_assoc, arith}
+use Rattle.std.proofs.Common.{◌≡◌, ◌≢◌, ◌⊎◌, ℕ, Bool, true, false, List, [], ◌∷◌, ◌++◌, All, get_or, refl, sym, ap, subst, ◌∙◌}
+use Rattle.std.proofs.Common.{append_assoc, arith}
 use Rattle.std.proofs.lemmas.List.Elements.{All-append}
 use Rattle.f11_bits.specs.Bitmap.{Bitmap}
 use Rattle.f11_dev.specs.Disk.{Disk, with_transfer, with_block_at}
@@ -13,7 +14,8 @@ use Rattle.f11_image_store.specs.Confines.{IsNoPart, Spares, Confines, AreAlike}
 use Rattle.f11_image_store.proofs.ConfinesLemmas.{spares-other}
 
 -- what is known of each image that stood meanwhile
-pub confines-went : (headers : ℕ → Bool) (index : Index) (bitmap : Bitmap) (others : List ℕ) {P : Image → Type 0} {old new : Disk} {most faults : ℕ} → ((image : Image) → P image → Spares headers index bitmap others old.image image)
+pub confines-went : (headers : ℕ → Bool) (index : Index) (bitmap : Bitmap) (others : List ℕ) {P : Image → Type 0} {old new : Disk}
+    {most faults : ℕ} → ((image : Image) → P image → Spares headers index bitmap others old.image image)
     → Went P old new most faults → Confines headers index bitmap others old new
 confines-went headers index bitmap others spares went = record {
   since = went.since;
@@ -22,41 +24,60 @@ confines-went headers index bitmap others spares went = record {
   each = λ k d within. spares (get_or went.since k d) (went.each k d within);
 }
 
-pub confines-looked : (headers : ℕ → Bool) (index : Index) (bitmap : Bitmap) (others : List ℕ) {old new : Disk} {most faults : ℕ} → Looked old new most faults → Confines headers index bitmap others old new
-confines-looked headers index bitmap others {old = old} looked = confines-went headers index bitmap others (λ image is. is) (went_looked (Spares headers index bitmap others old.image) looked)
+pub confines-looked : (headers : ℕ → Bool) (index : Index) (bitmap : Bitmap) (others : List ℕ) {old new : Disk} {most faults : ℕ}
+    → Looked old new most faults → Confines headers index bitmap others old new
+confines-looked headers index bitmap others {old = old} looked =
+    confines-went headers index bitmap others (λ image is. is) (went_looked (Spares headers index bitmap others old.image) looked)
 
-pub confines-none : (headers : ℕ → Bool) (index : Index) (bitmap : Bitmap) (others : List ℕ) (disk : Disk) → Confines headers index bitmap others disk disk
-confines-none headers index bitmap others disk = record { since = []; history = refl; image = refl; each = λ k d within. absurd (omega arith) }
+pub confines-none : (headers : ℕ → Bool) (index : Index) (bitmap : Bitmap) (others : List ℕ) (disk : Disk)
+    → Confines headers index bitmap others disk disk
+confines-none headers index bitmap others disk =
+    record { since = []; history = refl; image = refl; each = λ k d within. absurd (omega arith) }
 
-pub confines-write : (headers : ℕ → Bool) (index : Index) (bitmap : Bitmap) (others : List ℕ) (old new : Disk) (lbn : ℕ) (block : List ℕ) → ((l : ℕ) → IsNoPart headers index bitmap l → is_in others l ≡ false → lbn ≢ l)
+pub confines-write : (headers : ℕ → Bool) (index : Index) (bitmap : Bitmap) (others : List ℕ) (old new : Disk) (lbn : ℕ) (block : List ℕ)
+    → ((l : ℕ) → IsNoPart headers index bitmap l → is_in others l ≡ false → lbn ≢ l)
     → new ≡ with_transfer true (with_block_at lbn block old) → Confines headers index bitmap others old new
 confines-write headers index bitmap others old new lbn block apart wrote =
-    confines-went headers index bitmap others (λ image is. is) (went_write (Spares headers index bitmap others old.image) old new lbn block wrote (spares-other headers index bitmap others old.image lbn block apart))
+    confines-went headers index bitmap others (λ image is. is)
+    (went_write (Spares headers index bitmap others old.image) old new lbn block wrote
+    (spares-other headers index bitmap others old.image lbn block apart))
 
-pub confines-failed : (headers : ℕ → Bool) (index : Index) (bitmap : Bitmap) (others : List ℕ) (old new : Disk) (lbn : ℕ) (block : List ℕ) → ((l : ℕ) → IsNoPart headers index bitmap l → is_in others l ≡ false → lbn ≢ l)
-    → (new ≡ with_transfer false old) ⊎ (new ≡ with_transfer false (with_block_at lbn block old)) → Confines headers index bitmap others old new
+pub confines-failed : (headers : ℕ → Bool) (index : Index) (bitmap : Bitmap) (others : List ℕ) (old new : Disk) (lbn : ℕ) (block : List ℕ)
+    → ((l : ℕ) → IsNoPart headers index bitmap l → is_in others l ≡ false → lbn ≢ l)
+    → (new ≡ with_transfer false old) ⊎ (new ≡ with_transfer false (with_block_at lbn block old))
+    → Confines headers index bitmap others old new
 confines-failed headers index bitmap others old new lbn block apart is =
-    confines-went headers index bitmap others (λ image is. is) (went_failed_write (Spares headers index bitmap others old.image) old new lbn block is (spares-other headers index bitmap others old.image lbn block apart))
+    confines-went headers index bitmap others (λ image is. is)
+    (went_failed_write (Spares headers index bitmap others old.image) old new lbn block is
+    (spares-other headers index bitmap others old.image lbn block apart))
 
 -- the last image spares what each does
-spares-newest : (headers : ℕ → Bool) (index : Index) (bitmap : Bitmap) (others : List ℕ) (old : Image) (since : List Image) → All (Spares headers index bitmap others old) since → Spares headers index bitmap others old (newest since old)
+spares-newest : (headers : ℕ → Bool) (index : Index) (bitmap : Bitmap) (others : List ℕ) (old : Image) (since : List Image)
+    → All (Spares headers index bitmap others old) since → Spares headers index bitmap others old (newest since old)
 spares-newest headers index bitmap others old [] each = λ l none out. refl
 spares-newest headers index bitmap others old (image ∷ earlier) each = each 0 image (omega arith)
 
-confines-last : (headers : ℕ → Bool) (index : Index) (bitmap : Bitmap) (others : List ℕ) {old new : Disk} → Confines headers index bitmap others old new → Spares headers index bitmap others old.image new.image
-confines-last headers index bitmap others {old = old} one = subst (Spares headers index bitmap others old.image) (sym one.image) (spares-newest headers index bitmap others old.image one.since one.each)
+confines-last : (headers : ℕ → Bool) (index : Index) (bitmap : Bitmap) (others : List ℕ) {old new : Disk}
+    → Confines headers index bitmap others old new → Spares headers index bitmap others old.image new.image
+confines-last headers index bitmap others {old = old} one =
+    subst (Spares headers index bitmap others old.image) (sym one.image)
+    (spares-newest headers index bitmap others old.image one.since one.each)
 
 newest-append : (later earlier : List Image) (image : Image) → newest (later ++ earlier) image ≡ newest later (newest earlier image)
 newest-append [] earlier image = refl
 newest-append (last ∷ later) earlier image = refl
 
 -- what is no part of more is none of less
-pub fewer-part : (headers fewer : ℕ → Bool) (index : Index) (bitmap : Bitmap) → ((n : ℕ) → fewer n ≡ true → headers n ≡ true) → (lbn : ℕ) → IsNoPart headers index bitmap lbn → IsNoPart fewer index bitmap lbn
-fewer-part headers fewer index bitmap may lbn none = record { header = λ n is. none.header n (may n is); index_bitmap = none.index_bitmap; storage = none.storage }
+pub fewer-part : (headers fewer : ℕ → Bool) (index : Index) (bitmap : Bitmap) → ((n : ℕ) → fewer n ≡ true → headers n ≡ true) → (lbn : ℕ)
+    → IsNoPart headers index bitmap lbn → IsNoPart fewer index bitmap lbn
+fewer-part headers fewer index bitmap may lbn none =
+    record { header = λ n is. none.header n (may n is); index_bitmap = none.index_bitmap; storage = none.storage }
 
 -- fewer headers, and fewer blocks
-pub confines-wider : (headers fewer : ℕ → Bool) (index : Index) (bitmap : Bitmap) (others more : List ℕ) {old new : Disk} → ((n : ℕ) → fewer n ≡ true → headers n ≡ true)
-    → ((l : ℕ) → is_in others l ≡ false → is_in more l ≡ false) → Confines fewer index bitmap more old new → Confines headers index bitmap others old new
+pub confines-wider : (headers fewer : ℕ → Bool) (index : Index) (bitmap : Bitmap) (others more : List ℕ) {old new : Disk}
+    → ((n : ℕ) → fewer n ≡ true → headers n ≡ true)
+    → ((l : ℕ) → is_in others l ≡ false → is_in more l ≡ false) → Confines fewer index bitmap more old new
+    → Confines headers index bitmap others old new
 confines-wider headers fewer index bitmap others more may less one = record {
   since = one.since;
   history = one.history;
@@ -66,14 +87,16 @@ confines-wider headers fewer index bitmap others more may less one = record {
 
 -- one call after another
 pub confines-then : (headers last : ℕ → Bool) (index after : Index) (bitmap later : Bitmap) (others more : List ℕ) {a b c : Disk}
-    → ((l : ℕ) → IsNoPart headers index bitmap l → is_in others l ≡ false → IsNoPart last after later l) → ((l : ℕ) → is_in others l ≡ false → is_in more l ≡ false)
+    → ((l : ℕ) → IsNoPart headers index bitmap l → is_in others l ≡ false → IsNoPart last after later l)
+    → ((l : ℕ) → is_in others l ≡ false → is_in more l ≡ false)
     → Confines headers index bitmap others a b → Confines last after later more b c → Confines headers index bitmap others a c
 confines-then headers last index after bitmap later others more {a = a} {b = b} {c = c} stands fewer one two = record {
   since = two.since ++ one.since;
   history = two.history ∙ ap (λ (h : List Image). two.since ++ h) one.history ∙ sym (append_assoc two.since one.since a.history);
   image = two.image ∙ ap (newest two.since) one.image ∙ sym (newest-append two.since one.since a.image);
   each = All-append (Spares headers index bitmap others a.image) two.since one.since
-      (λ k d within l none out. two.each k d within l (stands l none out) (fewer l out) ∙ confines-last headers index bitmap others one l none out) one.each;
+      (λ k d within l none out. two.each k d within l (stands l none out) (fewer l out) ∙ confines-last headers index bitmap others one l
+      none out) one.each;
 }
 
 pub alike-same : (index : Index) (bitmap : Bitmap) → AreAlike index index bitmap bitmap

@@ -17,7 +17,8 @@ use Rattle.f11_files.proofs.Confining.Parts.{bit-went, only-wrote, parts-behind,
 in-use-then : (index : Index) (n : ℕ) → 0 < n → n ≤ slots index → slot_bit index n ≡ true → is_in_use index n ≡ true
 unfolding is_in_use
 in-use-then index n some slot bit =
-    ap (λ (b : Bool). b && (nat_le n (slots index) && slot_bit index n)) (lt-ltb 0 n some) ∙ ap (λ (b : Bool). b && slot_bit index n) (le-leb n (slots index) slot) ∙ bit
+    ap (λ (b : Bool). b && (nat_le n (slots index) && slot_bit index n)) (lt-ltb 0 n some)
+    ∙ ap (λ (b : Bool). b && slot_bit index n) (le-leb n (slots index) slot) ∙ bit
 
 unused-new : (index : Index) (n : ℕ) → 0 < n → n ≤ slots index → is_in_use index n ≡ false → new_header index n ≡ true
 unused-new index n some slot unused = elim (cases_Bool (slot_bit index n)) [
@@ -33,22 +34,29 @@ pub least-new : {index : Index} {n : ℕ} → IsLeastFree index n → new_header
 least-new {index} {n} least = unused-new index n (least-some least) least.high least.unused
 
 -- it was read
-module _ (s : Structure) (n lbn : ℕ) (block : List ℕ) (old read : Disk) (least : IsLeastFree (index_in s) n) (at : lbn ≡ header_lbn (index_in s) n) (reads : read ≡ with_transfer true old) where
+module _ (s : Structure) (n lbn : ℕ) (block : List ℕ) (old read : Disk) (least : IsLeastFree (index_in s) n)
+    (at : lbn ≡ header_lbn (index_in s) n) (reads : read ≡ with_transfer true old) where
   abbrev new : ℕ → Bool
   new = new_header (index_in s)
 
   -- and not written
-  pub slot-unwritten : {now : Disk} → (now ≡ with_transfer false read) ⊎ (now ≡ with_transfer false (with_block_at lbn block read)) → WritesParts s new old now
-  slot-unwritten {now = now} failed = parts-behind s new (looked_read old read reads) (slot-failed s new n lbn block read now (least-new least) (least-some least) least.high at failed)
+  pub slot-unwritten : {now : Disk} → (now ≡ with_transfer false read) ⊎ (now ≡ with_transfer false (with_block_at lbn block read))
+      → WritesParts s new old now
+  slot-unwritten {now = now} failed =
+      parts-behind s new (looked_read old read reads)
+      (slot-failed s new n lbn block read now (least-new least) (least-some least) least.high at failed)
 
   -- or written, and then its bit, or that failed
-  pub slot-entered : {now end : Disk} {most faults : ℕ} → now ≡ with_transfer true (with_block_at lbn block read) → Went (HasBitWritten true n (index_in s) now.image) now end most faults → WritesParts s new old end
+  pub slot-entered : {now end : Disk} {most faults : ℕ} → now ≡ with_transfer true (with_block_at lbn block read)
+      → Went (HasBitWritten true n (index_in s) now.image) now end most faults → WritesParts s new old end
   slot-entered {now = now} wrote went =
       let header = slot-wrote s new n lbn block read now (least-new least) (least-some least) least.high at wrote in
-      parts-behind s new (looked_read old read reads) (parts-then s s new (stands-same s) header (bit-went s new true n (least-some least) least.high went))
+      parts-behind s new (looked_read old read reads)
+      (parts-then s s new (stands-same s) header (bit-went s new true n (least-some least) least.high went))
 
 -- a header in use was written, and then its bit, or that failed
-pub slot-freed : (s : Structure) (n lbn : ℕ) (block : List ℕ) (old now : Disk) {end : Disk} {most faults : ℕ} → is_in_use (index_in s) n ≡ true → lbn ≡ header_lbn (index_in s) n → now ≡ with_transfer true (with_block_at lbn block old)
+pub slot-freed : (s : Structure) (n lbn : ℕ) (block : List ℕ) (old now : Disk) {end : Disk} {most faults : ℕ}
+    → is_in_use (index_in s) n ≡ true → lbn ≡ header_lbn (index_in s) n → now ≡ with_transfer true (with_block_at lbn block old)
     → Went (HasBitWritten false n (index_in s) now.image) now end most faults → WritesParts s (only_header n) old end
 slot-freed s n lbn block old now used at wrote went =
     parts-then s s (only_header n) (stands-same s) (only-wrote s n lbn block old now used at wrote)

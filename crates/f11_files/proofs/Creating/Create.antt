@@ -1,5 +1,6 @@
 -- A new file: its slot is read, its header is written, and then its bit.
-use Rattle.std.proofs.Common.{◌≡◌, ◌≢◌, ◌⊎◌, ◌<◌, ℕ, Bool, true, false, cond, IsTrue, List, [], length, Some, None, inl, inr, refl, sym, ap, subst, ◌∙◌, arith, eqb}
+use Rattle.std.proofs.Common.{◌≡◌, ◌≢◌, ◌⊎◌, ◌<◌, ℕ, Bool, true, false, cond, IsTrue, List, [], length, Some, None, inl, inr, refl, sym, ap}
+use Rattle.std.proofs.Common.{subst, ◌∙◌, arith, eqb}
 use Rattle.std.specs.List.{All, slice_get}
 use Rattle.std.proofs.lemmas.List.{length-set}
 use Rattle.std.proofs.Math.ListN.{set}
@@ -46,24 +47,29 @@ use Rattle.f11_image_store.proofs.NewFileLemmas.{free-stored, least-stored, writ
 use Rattle.f11_files.proofs.WriteLemmas.{keeps-storage, breaks-off, failed-stays, sound-went, writes-behind, writes-within}
 
 -- a slot that was given its next sequence number
-numbered : (s : Store) (owner : Uic) (protection : ℕ) (ident attr : List ℕ) (n sequence : ℕ) → sequence ≡ next_sequence (s.last n) → LagsBy (new_file_work s owner protection ident attr) (with_last s n sequence) s
+numbered : (s : Store) (owner : Uic) (protection : ℕ) (ident attr : List ℕ) (n sequence : ℕ) → sequence ≡ next_sequence (s.last n)
+    → LagsBy (new_file_work s owner protection ident attr) (with_last s n sequence) s
 unfolding free_slots
-numbered s owner protection ident attr n sequence next = taken_lags (new_file_work s owner protection ident attr) s (with_last s n sequence) (λ m. refl) (record {
-  others = λ m out. refl;
-  free = omega arith;
-  slots_free = let same : free_headers (with_last s n sequence) ≡ free_headers s = refl in omega (arith, same);
-  last = λ m. last m (cases_eq m n);
-  no_header = λ none. absurd cc;
-  slots = refl;
-  same = same_limits refl refl refl;
-})
+numbered s owner protection ident attr n sequence next = taken_lags (new_file_work s owner protection ident attr) s (with_last s n sequence)
+    (λ m. refl) (record {
+      others = λ m out. refl;
+      free = omega arith;
+      slots_free = let same : free_headers (with_last s n sequence) ≡ free_headers s = refl in omega (arith, same);
+      last = λ m. last m (cases_eq m n);
+      no_header = λ none. absurd cc;
+      slots = refl;
+      same = same_limits refl refl refl;
+    })
   where
-    last : (m : ℕ) → (m ≡ n) ⊎ (m ≢ n) → (cond (eqb m n) sequence (s.last m) ≡ s.last m) ⊎ (cond (eqb m n) sequence (s.last m) ≡ next_sequence (s.last m))
-    last m (inl same) = inr (ap (λ (b : Bool). cond b sequence (s.last m)) (eq-eqb m n same) ∙ next ∙ ap (λ (k : ℕ). next_sequence (s.last k)) (sym same))
+    last : (m : ℕ) → (m ≡ n) ⊎ (m ≢ n)
+        → (cond (eqb m n) sequence (s.last m) ≡ s.last m) ⊎ (cond (eqb m n) sequence (s.last m) ≡ next_sequence (s.last m))
+    last m (inl same) =
+        inr (ap (λ (b : Bool). cond b sequence (s.last m)) (eq-eqb m n same) ∙ next ∙ ap (λ (k : ℕ). next_sequence (s.last k)) (sym same))
     last m (inr other) = inl (ap (λ (b : Bool). cond b sequence (s.last m)) (ne_eqb m n other))
 
 -- where a bit was set, what is kept lies where it lay
-pub lies-bit : (s t : Structure) (value : Bool) (n blocks : ℕ) → bitmap_in t ≡ bitmap_in s → SetsBit value n (index_in s) (index_in t) → FitsOn s blocks → FitsOn t blocks
+pub lies-bit : (s t : Structure) (value : Bool) (n blocks : ℕ) → bitmap_in t ≡ bitmap_in s → SetsBit value n (index_in s) (index_in t)
+    → FitsOn s blocks → FitsOn t blocks
 lies-bit s t value n blocks bitmap bit lies =
     let same = bit.one_block in
     let count = ap (λ (x : Index). length x.bitmap) same ∙ length-set (index_in s).bitmap (bitmap_place n) (bitmap_block (index_in t) n) in
@@ -77,13 +83,17 @@ lies-bit s t value n blocks bitmap bit lies =
     }
 
 -- no slot is free
-pub none-free : (s : Structure) (disk : Disk) → IsStructureFor s disk → IsTrue disk.honest → free_in_index (index_in s) ≡ [] → first_of (slot_causes (store_on s disk)) ≡ Some NoHeader
+pub none-free : (s : Structure) (disk : Disk) → IsStructureFor s disk → IsTrue disk.honest → free_in_index (index_in s) ≡ []
+    → first_of (slot_causes (store_on s disk)) ≡ Some NoHeader
 none-free s disk for honest none =
-    let count : free_headers (store_on s disk) ≡ 0 = ap (λ (l : List ℕ). length l) (free-stored disk.image (home_of s) ∙ ap free_in_index (sym (for.keeps honest).index_is) ∙ none) in
+    let count : free_headers (store_on s disk) ≡ 0 =
+    ap (λ (l : List ℕ). length l) (free-stored disk.image (home_of s) ∙ ap free_in_index (sym (for.keeps honest).index_is) ∙ none) in
     ap (λ (b : Bool). cond b (Some NoHeader) None) (eq-eqb (free_headers (store_on s disk)) 0 count)
 
-module _ (s : Structure) (owner : Uic) (protection : ℕ) (ident attr : List ℕ) (n : ℕ) (old mid : Disk) (lbn : ℕ) (was : List ℕ) (sequence : ℕ) (for : IsStructureFor s old) (least : IsLeastFree (index_in s) n)
-    (at : lbn ≡ header_lbn (index_in s) n) (counts : mid ≡ with_transfer true old) (gives : IsTrue old.honest → slice_get old.image lbn ≡ Some was)
+module _ (s : Structure) (owner : Uic) (protection : ℕ) (ident attr : List ℕ) (n : ℕ) (old mid : Disk) (lbn : ℕ) (was : List ℕ)
+    (sequence : ℕ) (for : IsStructureFor s old) (least : IsLeastFree (index_in s) n)
+    (at : lbn ≡ header_lbn (index_in s) n) (counts : mid ≡ with_transfer true old)
+    (gives : IsTrue old.honest → slice_get old.image lbn ≡ Some was)
     (next : sequence ≡ next_sequence (file_sequence was)) where
   abbrev st : Store
   st = store_on s old
@@ -117,27 +127,35 @@ module _ (s : Structure) (owner : Uic) (protection : ℕ) (ident attr : List ℕ
     wrote : IsTrue old.honest → WritesNewFirst id block home old.image first
     wrote honest =
         subst (WritesNewFirst id block home old.image) (sym ((slot honest).written block))
-        (writes-first id owner protection ident attr empty block new old.image home (for.sound honest) (slot honest).least.high (slot honest).least.unused)
+        (writes-first id owner protection ident attr empty block new old.image home (for.sound honest) (slot honest).least.high
+        (slot honest).least.unused)
 
     pub first-moment : P first
     first-moment honest = record {
       sound = (wrote honest).header.slot.sound;
-      lags = subst (λ (t : Store). LagsBy work t st) (sym (wrote honest).store) (numbered st owner protection ident attr n id.sequence (slot honest).given);
+      lags = subst (λ (t : Store). LagsBy work t st) (sym (wrote honest).store)
+          (numbered st owner protection ident attr n id.sequence (slot honest).given);
     }
 
     -- and then its bit
-    entered : (after : Index) → IsTrue old.honest → SetsBit true n (index_in s) after → EntersNewFile n after owner protection ident attr home old.image first (with_bitmap_block first after n)
+    entered : (after : Index) → IsTrue old.honest → SetsBit true n (index_in s) after
+        → EntersNewFile n after owner protection ident attr home old.image first (with_bitmap_block first after n)
     entered after honest bit =
-        let at-home : SetsBit true n (index_of old.image home) after = subst (λ (x : Index). SetsBit true n x after) (for.keeps honest).index_is bit in
-        subst (λ (i : Image). EntersNewFile n after owner protection ident attr home old.image i (with_bitmap_block i after n)) (sym ((slot honest).written block))
-        (enters-file id owner protection ident attr empty block new old.image home (for.sound honest) (slot honest).least.high (slot honest).least.unused after at-home (slot honest).least (slot honest).next)
+        let at-home : SetsBit true n (index_of old.image home) after = subst (λ (x : Index). SetsBit true n x after)
+        (for.keeps honest).index_is bit in
+        subst (λ (i : Image). EntersNewFile n after owner protection ident attr home old.image i (with_bitmap_block i after n))
+        (sym ((slot honest).written block))
+        (enters-file id owner protection ident attr empty block new old.image home (for.sound honest) (slot honest).least.high
+        (slot honest).least.unused after at-home (slot honest).least (slot honest).next)
 
     -- and each header names what it named
     kept : (after : Index) → IsTrue old.honest → SetsBit true n (index_in s) after
         → KeepsBlocks (volume_of old.image home) (volume_of (with_bitmap_block first after n) home)
     kept after honest bit =
-        let at-home : SetsBit true n (index_of old.image home) after = subst (λ (x : Index). SetsBit true n x after) (for.keeps honest).index_is bit in
-        subst (λ (i : Image). KeepsBlocks (volume_of old.image home) (volume_of (with_bitmap_block i after n) home)) (sym ((slot honest).written block))
+        let at-home : SetsBit true n (index_of old.image home) after = subst (λ (x : Index). SetsBit true n x after)
+        (for.keeps honest).index_is bit in
+        subst (λ (i : Image). KeepsBlocks (volume_of old.image home) (volume_of (with_bitmap_block i after n) home))
+        (sym ((slot honest).written block))
         (entered-keeps id owner protection ident attr empty block new old.image home (for.sound honest)
         (slot honest).least.high (slot honest).least.unused after at-home)
 
@@ -151,12 +169,15 @@ module _ (s : Structure) (owner : Uic) (protection : ℕ) (ident attr : List ℕ
 
     module _ (one : Disk) where
       -- the header couldn't be written
-      pub fails-first : (one ≡ with_transfer false mid) ⊎ (one ≡ with_transfer false (with_block_at lbn block mid)) → FailsToEnter home owner protection ident attr DeviceFault old one
+      pub fails-first : (one ≡ with_transfer false mid) ⊎ (one ≡ with_transfer false (with_block_at lbn block mid))
+          → FailsToEnter home owner protection ident attr DeviceFault old one
       fails-first is =
           breaks-off some-free refl (right-fault _ _)
-          (writes-within (omega arith) (writes-behind (reads-looked (looked_read old mid counts)) (went_failed_write P mid one lbn block is first-moment)))
+          (writes-within (omega arith)
+          (writes-behind (reads-looked (looked_read old mid counts)) (went_failed_write P mid one lbn block is first-moment)))
 
-      pub fails-first-stays : (t : Structure) → home_of t ≡ home → (one ≡ with_transfer false mid) ⊎ (one ≡ with_transfer false (with_block_at lbn block mid)) → StaysFor true s t one
+      pub fails-first-stays : (t : Structure) → home_of t ≡ home
+          → (one ≡ with_transfer false mid) ⊎ (one ≡ with_transfer false (with_block_at lbn block mid)) → StaysFor true s t one
       fails-first-stays t same is = failed-stays s t _ old one for same (fails-first is).writes.went
 
       module _ (landed : one ≡ with_transfer true (with_block_at lbn block mid)) where
@@ -166,24 +187,30 @@ module _ (s : Structure) (owner : Uic) (protection : ℕ) (ident attr : List ℕ
         behind : (new : Disk) (faults : ℕ) → Went (HasBitWritten true n (index_in s) one.image) one new 1 faults → Went P mid new 2 faults
         behind new faults went =
             went_more P (went_write P mid one lbn block landed first-moment)
-            (went_weaker _ P (λ image has. second-moment image (subst (λ (i : Image). HasBitWritten true n (index_in s) i image) image-one has)) went)
+            (went_weaker _ P (λ image has.
+            second-moment image (subst (λ (i : Image). HasBitWritten true n (index_in s) i image) image-one has)) went)
 
         -- nor could its bit
-        pub fails-bit : (new : Disk) → FailsToWriteBit true n (index_in s) one new → FailsToEnter home owner protection ident attr DeviceFault old new
-        fails-bit new fails = breaks-off some-free refl (right-fault _ _) (writes-behind (reads-looked (looked_read old mid counts)) (behind new 1 fails))
+        pub fails-bit : (new : Disk) → FailsToWriteBit true n (index_in s) one new
+            → FailsToEnter home owner protection ident attr DeviceFault old new
+        fails-bit new fails =
+            breaks-off some-free refl (right-fault _ _) (writes-behind (reads-looked (looked_read old mid counts)) (behind new 1 fails))
 
-        pub fails-bit-stays : (t : Structure) (new : Disk) → home_of t ≡ home → FailsToWriteBit true n (index_in s) one new → StaysFor true s t new
+        pub fails-bit-stays : (t : Structure) (new : Disk) → home_of t ≡ home → FailsToWriteBit true n (index_in s) one new
+            → StaysFor true s t new
         fails-bit-stays t new same fails = failed-stays s t _ old new for same (fails-bit new fails).writes.went
 
         image-two : (after : Index) (new : Disk) → WritesBit true n (index_in s) after one new → new.image ≡ with_bitmap_block first after n
         image-two after new wrote_bit = wrote_bit.image ∙ ap (λ (i : Image). with_bitmap_block i after n) image-one
 
         -- the file is there
-        pub creates : (after : Index) (new : Disk) → WritesBit true n (index_in s) after one new → EntersFile home owner protection ident attr id old new
+        pub creates : (after : Index) (new : Disk) → WritesBit true n (index_in s) after one new
+            → EntersFile home owner protection ident attr id old new
         creates after new wrote_bit = record {
           does = record {
             no_cause = some-free;
-            makes = λ honest. ap (λ (i : Image). store_of i home) (image-two after new wrote_bit) ∙ (entered after honest wrote_bit.bit).store;
+            makes = λ honest. ap (λ (i : Image). store_of i home) (image-two after new wrote_bit)
+                ∙ (entered after honest wrote_bit.bit).store;
             allots = λ honest.
                 subst (λ (i : Image). KeepsBlocks (volume_of old.image home) (volume_of i home)) (sym (image-two after new wrote_bit))
                 (kept after honest wrote_bit.bit);
@@ -191,15 +218,22 @@ module _ (s : Structure) (owner : Uic) (protection : ℕ) (ident attr : List ℕ
           };
           id = λ honest.
               let number = least-stored old.image home n (slot honest).least in
-              λ i. record { number = sym number i; sequence = ((slot honest).given ∙ ap (λ (k : ℕ). next_sequence (st.last k)) (sym number)) i; volume = 0 };
+              λ i. record {
+                number = sym number i;
+                sequence = ((slot honest).given ∙ ap (λ (k : ℕ). next_sequence (st.last k)) (sym number))
+                    i;
+                volume = 0;
+              };
         }
 
-        pub created-stays : (t : Structure) (new : Disk) → home_of t ≡ home → t.storage ≡ s.storage → WritesBit true n (index_in s) (index_in t) one new → StaysFor false s t new
+        pub created-stays : (t : Structure) (new : Disk) → home_of t ≡ home → t.storage ≡ s.storage
+            → WritesBit true n (index_in s) (index_in t) one new → StaysFor false s t new
         created-stays t new same kept wrote_bit =
             let writes = (creates (index_in t) new wrote_bit).does.writes in
             record {
               home = same;
-              lies = λ _. subst (FitsOn t) (sym writes.went.size) (lies-bit s t true n (length old.image) (ap bitmap_of kept) wrote_bit.bit for.lies);
+              lies = λ _. subst (FitsOn t) (sym writes.went.size)
+                  (lies-bit s t true n (length old.image) (ap bitmap_of kept) wrote_bit.bit for.lies);
               sound = λ honest. subst (HasSoundVolume new.image) (sym same) (sound-went work home old new for.sound writes.went honest);
               keeps = λ _ honest. keeps (sym writes.went.honest ∙ honest);
             }
@@ -210,7 +244,9 @@ module _ (s : Structure) (owner : Uic) (protection : ℕ) (ident attr : List ℕ
                 let here : new.image ≡ with_bitmap_block first (index_in t) n = image-two (index_in t) new wrote_bit in
                 subst (IsStructureOf t) (sym here) record {
                   index_is = sym made.bit.index_file.index_is ∙ ap (index_of (with_bitmap_block first (index_in t) n)) (sym same);
-                  bitmap_is = ap bitmap_of kept ∙ (for.keeps honest).bitmap_is ∙ sym (wrote honest).header.slot.bitmap ∙ sym made.bit.slot.bitmap ∙ ap (storage_bitmap (with_bitmap_block first (index_in t) n)) (sym same);
+                  bitmap_is = ap bitmap_of kept ∙ (for.keeps honest).bitmap_is ∙ sym (wrote honest).header.slot.bitmap
+                      ∙ sym made.bit.slot.bitmap ∙ ap (storage_bitmap (with_bitmap_block first (index_in t) n)) (sym same);
                   storage = subst (λ (k : Storage). Keeps k (with_bitmap_block first (index_in t) n)) (sym kept)
-                      (keeps-storage s first (with_bitmap_block first (index_in t) n) made.bit.slot.bitmap_blocks (keeps-header s n block old.image first (wrote honest).header (for.keeps honest)));
+                      (keeps-storage s first (with_bitmap_block first (index_in t) n) made.bit.slot.bitmap_blocks
+                      (keeps-header s n block old.image first (wrote honest).header (for.keeps honest)));
                 }

@@ -26,11 +26,14 @@ pub record IsReadAt (s : Structure) (n place sequence : ℕ) (old mid : Disk) : 
   pub given : sequence ≡ next_sequence ((store_on s old).last n)
   pub written : (block : List ℕ) → set mid.image place block ≡ with_header old.image (home_of s) n block
 
-pub read-at : (s : Structure) (n place : ℕ) (was : List ℕ) (sequence : ℕ) (old mid : Disk) → IsStructureFor s old → IsLeastFree (index_in s) n → place ≡ header_lbn (index_in s) n
-    → mid ≡ with_transfer true old → (IsTrue old.honest → slice_get old.image place ≡ Some was) → sequence ≡ next_sequence (file_sequence was) → IsTrue old.honest → IsReadAt s n place sequence old mid
+pub read-at : (s : Structure) (n place : ℕ) (was : List ℕ) (sequence : ℕ) (old mid : Disk) → IsStructureFor s old
+    → IsLeastFree (index_in s) n → place ≡ header_lbn (index_in s) n
+    → mid ≡ with_transfer true old → (IsTrue old.honest → slice_get old.image place ≡ Some was)
+    → sequence ≡ next_sequence (file_sequence was) → IsTrue old.honest → IsReadAt s n place sequence old mid
 unfolding store_of table_in
 read-at s n place was sequence old mid for is_least at counts gives next honest =
-    let least : IsLeastFree (index_of old.image (home_of s)) n = subst (λ (x : Index). IsLeastFree x n) (for.keeps honest).index_is is_least in
+    let least : IsLeastFree (index_of old.image (home_of s)) n = subst (λ (x : Index). IsLeastFree x n) (for.keeps honest).index_is is_least
+    in
     let given : sequence ≡ next_sequence (last_sequence (table_of old.image (home_of s)) n) =
     next ∙ ap (λ (b : List ℕ). next_sequence (file_sequence b)) (table-header (index_in s) old n place was at (gives honest))
     ∙ ap (λ (t : Table). next_sequence (last_sequence t n)) (table-of s old for honest) in

@@ -1,5 +1,6 @@
 -- A new file, once there is a header for it.
-use Rattle.std.proofs.Common.{◌≡◌, ℕ, ◌==◌, ◌&&◌, ◌||◌, Bool, true, false, not, cond, if◌then◌else◌, nat_lt, IsTrue, List, [], Some, None, refl, sym, ap, subst, ◌∙◌, arith}
+use Rattle.std.proofs.Common.{◌≡◌, ℕ, ◌==◌, ◌&&◌, ◌||◌, Bool, true, false, not, cond, if◌then◌else◌, nat_lt, IsTrue, List, [], Some, None}
+use Rattle.std.proofs.Common.{refl, sym, ap, subst, ◌∙◌, arith}
 use Rattle.std.proofs.lemmas.Bool.{eqb-true, ne_eqb}
 use Rattle.f11_bits.specs.Bitmap.{Bitmap}
 use Rattle.f11_dev.specs.Disk.{Disk}
@@ -51,7 +52,8 @@ use Rattle.f11_files.proofs.Confining.Confines.{confines-none}
 use Rattle.f11_files.proofs.Readied.{fails-first, fails-ready, honest-ready, is-ready}
 
 -- what fails where a file is entered, but for want of a header, fails the volume
-pub fatal-enter : (honest : Bool) (s : Store) (r : Refusal) → IsRight false honest (slot_causes s) r → (refusal_number r == 17) ≡ false → is_fatal r ≡ true
+pub fatal-enter : (honest : Bool) (s : Store) (r : Refusal) → IsRight false honest (slot_causes s) r → (refusal_number r == 17) ≡ false
+    → is_fatal r ≡ true
 fatal-enter honest s VolumeFailed right other = let no : false ≡ true = right.volume refl in absurd cc
 fatal-enter honest s BadArgument right other = let no : false ≡ true = right.among refl in absurd cc
 fatal-enter honest s NoSuchAccess right other = let no : false ≡ true = right.among refl in absurd cc
@@ -80,8 +82,10 @@ module _ (home : HomeFields) (owner : Uic) (protection : ℕ) (ident attr : List
   s = store_of old.image home
 
   -- headers weren't ready
-  pub fails-readying : (r : Refusal) (new : Disk) → FailsToReady false home 1 0 r old new → FailsToCreate false home owner protection ident attr r old new
-  fails-readying r new fails = fails-first (create_causes s) 1 (new_file_work (with_slots_first s 1) owner protection ident attr) r (omega arith) fails
+  pub fails-readying : (r : Refusal) (new : Disk) → FailsToReady false home 1 0 r old new
+      → FailsToCreate false home owner protection ident attr r old new
+  fails-readying r new fails =
+      fails-first (create_causes s) 1 (new_file_work (with_slots_first s 1) owner protection ident attr) r (omega arith) fails
 
   module _ (mid : Disk) (readies : ReadiesHeaders home 1 0 old mid) where
     abbrev ready : Store
@@ -93,31 +97,40 @@ module _ (home : HomeFields) (owner : Uic) (protection : ℕ) (ident attr : List
         let enough = readies.enough (sym (honest-ready readies) ∙ honest) in
         ap (λ (b : Bool). cond b (Some NoHeader) None) (ne_eqb (free_headers ready) 0 (λ none. omega (arith, none, enough)))
 
-    pub fails-entering : (r : Refusal) (new : Disk) → (refusal_number r == 17) ≡ false → FailsToEnter home owner protection ident attr r mid new → FailsToCreate false home owner protection ident attr r old new
+    pub fails-entering : (r : Refusal) (new : Disk) → (refusal_number r == 17) ≡ false
+        → FailsToEnter home owner protection ident attr r mid new → FailsToCreate false home owner protection ident attr r old new
     fails-entering r new other fails =
-        fails-ready readies (new_file_work (with_slots_first s 1) owner protection ident attr) (new_file_work ready owner protection ident attr)
+        fails-ready readies (new_file_work (with_slots_first s 1) owner protection ident attr)
+        (new_file_work ready owner protection ident attr)
         (λ honest. new-file-stays s ready (slots_first s 1) owner protection ident attr (is-ready readies honest)) (tt, tt)
-        (create_causes s) (slot_causes ready) 3 r readies.does.no_cause some-free (λ _. omega arith) (fatal-enter mid.honest ready r fails.right other)
+        (create_causes s) (slot_causes ready) 3 r readies.does.no_cause some-free (λ _. omega arith)
+        (fatal-enter mid.honest ready r fails.right other)
         (λ honest. fails.right.undamaged (honest-ready readies ∙ honest)) fails.writes
 
     -- so that none is free is found on no honest disk
-    pub fails-none : (r : Refusal) (new : Disk) → (refusal_number r == 17) ≡ true → FailsToEnter home owner protection ident attr r mid new → FailsToCreate false home owner protection ident attr Damaged old new
+    pub fails-none : (r : Refusal) (new : Disk) → (refusal_number r == 17) ≡ true → FailsToEnter home owner protection ident attr r mid new
+        → FailsToCreate false home owner protection ident attr Damaged old new
     fails-none r new none fails =
         let number : refusal_number r ≡ 17 = eqb-true (refusal_number r) 17 none in
         let is : is_cause r ≡ true = ap (λ (n : ℕ). nat_lt 1 n && not ((n == 19) || (n == 20))) number in
         let no_fault : faults_of r ≡ 0 = ap (λ (n : ℕ). if n == 19 then 1 else 0) number in
-        fails-ready readies (new_file_work (with_slots_first s 1) owner protection ident attr) (new_file_work ready owner protection ident attr)
+        fails-ready readies (new_file_work (with_slots_first s 1) owner protection ident attr)
+        (new_file_work ready owner protection ident attr)
         (λ honest. new-file-stays s ready (slots_first s 1) owner protection ident attr (is-ready readies honest)) (tt, tt)
         (create_causes s) (slot_causes ready) 3 Damaged readies.does.no_cause some-free (λ _. omega arith) refl
-        (λ honest. let sure = honest-ready readies ∙ honest in let no : None ≡ Some r = sym (some-free sure) ∙ fails.right.cause sure is in absurd cc)
-        (subst (WritesAtMost (Meanwhile (work_if (first_of (slot_causes ready)) (new_file_work ready owner protection ident attr)) home mid) 3 mid new) no_fault fails.writes)
+        (λ honest. let sure = honest-ready readies ∙ honest in let no : None ≡ Some r = sym (some-free sure) ∙ fails.right.cause sure is in
+        absurd cc)
+        (subst (WritesAtMost (Meanwhile (work_if (first_of (slot_causes ready)) (new_file_work ready owner protection ident attr)) home mid)
+        3 mid new) no_fault fails.writes)
 
 -- which blocks are changed
-pub unready-confined : (home : HomeFields) (old new : Disk) → WritesSlots 1 home old new → WritesAfterSlots 1 (WritesNewHeaders home) home old new
+pub unready-confined : (home : HomeFields) (old new : Disk) → WritesSlots 1 home old new
+    → WritesAfterSlots 1 (WritesNewHeaders home) home old new
 unready-confined home old new slots = record { ready = new; slots = slots; rest = λ _. confines-none _ _ _ _ new }
 
 pub make-confined :
-    (s t : Structure) (old mid new : Disk) → StaysFor false s t mid → WritesSlots 1 (home_of s) old mid → WritesParts t (new_header (index_in t)) mid new →
+    (s t : Structure) (old mid new : Disk) → StaysFor false s t mid → WritesSlots 1 (home_of s) old mid
+    → WritesParts t (new_header (index_in t)) mid new →
     WritesAfterSlots 1 (WritesNewHeaders (home_of s)) (home_of s) old new
 make-confined s t old mid new stays slots parts = record { ready = mid; slots = slots; rest = rest }
   where

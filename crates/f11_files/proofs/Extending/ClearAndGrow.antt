@@ -1,5 +1,6 @@
 -- A file that grows, the index file or another, once its contiguous mark is cleared, and what stands meanwhile.
-use Rattle.std.proofs.Common.{◌≡◌, ◌+◌, ◌-◌, ◌*◌, ◌/◌, ◌≤◌, ◌==◌, ℕ, Bool, true, false, cond, IsTrue, List, Option, Some, None, option_map, unwrap_or, refl, sym, ap, subst, ◌∙◌, eqb, arith}
+use Rattle.std.proofs.Common.{◌≡◌, ◌+◌, ◌-◌, ◌*◌, ◌/◌, ◌≤◌, ◌==◌, ℕ, Bool, true, false, cond, IsTrue, List, Option, Some, None, option_map}
+use Rattle.std.proofs.Common.{unwrap_or, refl, sym, ap, subst, ◌∙◌, eqb, arith}
 use Rattle.f11_dev.specs.Disk.{Disk}
 use Rattle.f11_dev.specs.Image.{Image}
 use Rattle.f11_dev.specs.Went.{Went}
@@ -50,7 +51,8 @@ pub record HasRoomFor (s : Structure) (k n : ℕ) (file : File) (old : Disk) : T
   pub no_cause : IsTrue old.honest → first_of (growth_causes (store_on s old) file n) ≡ None
   pub within : IsTrue old.honest → IsTrue (k == 1) → (store_on s old).slots + n ≤ (store_on s old).limit
 
-module _ (s : Structure) (f : FileId) (n : ℕ) (end : FileEnd) (was last : List ℕ) (old : Disk) (for : IsStructureFor s old) (ends : HoldsEnd s f end was last old) (file : File)
+module _ (s : Structure) (f : FileId) (n : ℕ) (end : FileEnd) (was last : List ℕ) (old : Disk) (for : IsStructureFor s old)
+    (ends : HoldsEnd s f end was last old) (file : File)
     (has : HasRoomFor s f.number n file old) where
   abbrev home : HomeFields
   home = home_of s
@@ -87,7 +89,8 @@ module _ (s : Structure) (f : FileId) (n : ℕ) (end : FileEnd) (was last : List
       let there = is honest in
       record {
         sound = there.sound;
-        lags = subst (λ (x : Store). LagsBy work x st) (sym there.store) (growth-cleared-lags st cleared_store k file.room n (lags_itself (piece_work_of k file.room n n) cleared_store));
+        lags = subst (λ (x : Store). LagsBy work x st) (sym there.store)
+            (growth-cleared-lags st cleared_store k file.room n (lags_itself (piece_work_of k file.room n n) cleared_store));
       }
 
   pub breaks-clearing : {faults : ℕ} {new : Disk} → Went (Clearing s f old) old new 1 faults → WritesAtMost P most old new faults
@@ -108,7 +111,9 @@ module _ (s : Structure) (f : FileId) (n : ℕ) (end : FileEnd) (was last : List
     store-cleared honest = (clears.store honest).store
 
     room-cleared : IsTrue old.honest → (file_numbered after k).room ≡ file.room
-    room-cleared honest = ap (λ (x : Store). (file_numbered x k).room) (store-cleared honest) ∙ cleared-room st k ∙ ap (λ (g : File). g.room) (numbered honest)
+    room-cleared honest =
+        ap (λ (x : Store). (file_numbered x k).room) (store-cleared honest) ∙ cleared-room st k
+        ∙ ap (λ (g : File). g.room) (numbered honest)
 
     cleared-went : Went P old cleared 1 0
     cleared-went = went_weaker (Clearing s f old) P clear-moment clears.went
@@ -117,19 +122,23 @@ module _ (s : Structure) (f : FileId) (n : ℕ) (end : FileEnd) (was last : List
     may-grow there =
         let honest = sym still-honest ∙ there in
         subst (λ (x : Store). MayGrowAs x k n n) (sym (store-cleared honest))
-        (cleared-may-grow st k n (is-numbered honest) (ap (λ (g : File). first_of (growth_causes st g n)) (numbered honest) ∙ has.no_cause honest) (has.within honest))
+        (cleared-may-grow st k n (is-numbered honest)
+        (ap (λ (g : File). first_of (growth_causes st g n)) (numbered honest) ∙ has.no_cause honest) (has.within honest))
 
     -- the images that stand while the file grows
     grown-moment : (image : Image) → GrowingByRuns s k n cleared image → P image
     grown-moment image is honest =
         let there = is (still-honest ∙ honest) in
-        let lags = subst (λ (x : Store). LagsBy (piece_work_of k (file_numbered after k).room n n) (store_of image home) x) (store-cleared honest) there.lags in
+        let lags = subst (λ (x : Store). LagsBy (piece_work_of k (file_numbered after k).room n n) (store_of image home) x)
+        (store-cleared honest) there.lags in
         record {
           sound = there.sound;
-          lags = growth-cleared-lags st (store_of image home) k file.room n (subst (λ (room : ℕ). LagsBy (piece_work_of k room n n) (store_of image home) cleared_store) (room-cleared honest) lags);
+          lags = growth-cleared-lags st (store_of image home) k file.room n
+              (subst (λ (room : ℕ). LagsBy (piece_work_of k room n n) (store_of image home) cleared_store) (room-cleared honest) lags);
         }
 
-    pub breaks-growing : {r : Refusal} {new : Disk} → Breaks (GrowingByRuns s k n cleared) (after.bitmap_blocks + 5 * n + 3 * need (file_numbered after k).room n + 3) r cleared new
+    pub breaks-growing : {r : Refusal} {new : Disk}
+        → Breaks (GrowingByRuns s k n cleared) (after.bitmap_blocks + 5 * n + 3 * need (file_numbered after k).room n + 3) r cleared new
         → WritesAtMost P most old new (faults_of r)
     breaks-growing breaks = record {
       transfers = 1 + breaks.writes.transfers;
@@ -142,11 +151,13 @@ module _ (s : Structure) (f : FileId) (n : ℕ) (end : FileEnd) (was last : List
           omega (arith, then, blocks, many, headers);
     }
 
-    module _ (tail : Tail) (of : IsTailOf f block end.number last tail) (new : Disk) (grows : GrowsByRuns s k (ownership_of tail) n cleared new) where
+    module _ (tail : Tail) (of : IsTailOf f block end.number last tail) (new : Disk)
+        (grows : GrowsByRuns s k (ownership_of tail) n cleared new) where
       pub has-grown : IsTrue old.honest → GrowsUnmarked (k == 1) st k n (store_of new.image home)
       has-grown honest =
           (cleared-grows st (store_of new.image home) k n (is-numbered honest)
-          (subst (λ (x : Store). GrowsAs x k n n (store_of new.image home)) (store-cleared honest) (grows.grew.grows (still-honest ∙ honest)))).0
+          (subst (λ (x : Store). GrowsAs x k n n (store_of new.image home)) (store-cleared honest)
+          (grows.grew.grows (still-honest ∙ honest)))).0
 
       -- it has the lowest free blocks more
       abbrev ownership : Uic × ℕ
@@ -156,7 +167,8 @@ module _ (s : Structure) (f : FileId) (n : ℕ) (end : FileEnd) (was last : List
       gains-all honest =
           let none : 0 + n ≡ n = omega arith in
           subst (λ (m : ℕ). GainsBlocks k m (volume_of old.image home) (volume_of new.image home)) none
-          (gains-add k ownership 0 n (volume_of old.image home) (volume_of cleared.image home) (volume_of new.image home) (clears.gains honest)
+          (gains-add k ownership 0 n (volume_of old.image home) (volume_of cleared.image home) (volume_of new.image home)
+          (clears.gains honest)
           (subst (λ (r : Uic × ℕ). GainsBlocksAs k r n (volume_of cleared.image home) (volume_of new.image home))
           (tail-ownership s f end was last old for ends block cleared clears tail of honest) (grows.gains (still-honest ∙ honest))))
 

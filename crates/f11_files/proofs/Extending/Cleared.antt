@@ -1,5 +1,6 @@
 -- A file that is about to grow, or the index file, whose contiguous mark was cleared: its last header is in hand still.
-use Rattle.std.proofs.Common.{◌≡◌, ◌≢◌, ◌+◌, ◌*◌, ◌/◌, ◌≤◌, ℕ, Bool, true, false, IsTrue, List, length, refl, sym, ap, subst, ◌∙◌, inl, inr, arith}
+use Rattle.std.proofs.Common.{◌≡◌, ◌≢◌, ◌+◌, ◌*◌, ◌/◌, ◌≤◌, ℕ, Bool, true, false, IsTrue, List, length, refl, sym, ap, subst, ◌∙◌, inl, inr}
+use Rattle.std.proofs.Common.{arith}
 use Rattle.std.proofs.lemmas.Bool.{cases_eq}
 use Rattle.f11_bits.specs.Bitmap.{Bitmap}
 use Rattle.f11_dev.specs.Disk.{Disk}
@@ -46,7 +47,8 @@ pub fewer-needed : (room n : ℕ) → need room n ≤ (n + 101) / 102
 fewer-needed room n = omega arith
 
 -- a fatal refusal is right whatever the causes
-pub fatal-right : (causes : List Cause) (r : Refusal) (honest : Bool) → is_fatal r ≡ true → (IsTrue honest → r ≢ Damaged) → IsRight false honest causes r
+pub fatal-right : (causes : List Cause) (r : Refusal) (honest : Bool) → is_fatal r ≡ true → (IsTrue honest → r ≢ Damaged)
+    → IsRight false honest causes r
 fatal-right causes r honest fatal undamaged = record {
   volume = λ is. let no : true ≡ false = sym fatal ∙ ap is_fatal is in cc;
   among = λ is. absurd (fatal-no-cause r fatal is);
@@ -55,14 +57,16 @@ fatal-right causes r honest fatal undamaged = record {
 }
 
 -- the storage bitmap has so many blocks
-pub covered : (s : Structure) (old : Disk) → IsStructureFor s old → IsTrue old.honest → (bitmap_in s).size ≤ 4096 * (store_on s old).bitmap_blocks
+pub covered : (s : Structure) (old : Disk) → IsStructureFor s old → IsTrue old.honest
+    → (bitmap_in s).size ≤ 4096 * (store_on s old).bitmap_blocks
 covered s old for honest =
     let many = s.storage.valid.covered in
     let count = ap (λ (b : Bitmap). length b.places) (for.keeps honest).bitmap_is in
     let blocks = store-bitmap old.image (home_of s) in
     omega (arith, many, count, blocks)
 
-module _ (s : Structure) (f : FileId) (end : FileEnd) (was last : List ℕ) (old : Disk) (for : IsStructureFor s old) (ends : HoldsEnd s f end was last old) where
+module _ (s : Structure) (f : FileId) (end : FileEnd) (was last : List ℕ) (old : Disk) (for : IsStructureFor s old)
+    (ends : HoldsEnd s f end was last old) where
   abbrev home : HomeFields
   home = home_of s
 
@@ -76,18 +80,22 @@ module _ (s : Structure) (f : FileId) (end : FileEnd) (was last : List ℕ) (old
       module _ (none : (link_of block).number ≡ 0) where
         first-header : HoldsHeader (index_in s) tail.number tail.block cleared
         first-header = let is = of.alone none in
-            subst (λ (m : ℕ). HoldsHeader (index_in s) m tail.block cleared) (sym is.0) (subst (λ (b : List ℕ). HoldsHeader (index_in s) k b cleared) (sym is.1) clears.holds.header)
+            subst (λ (m : ℕ). HoldsHeader (index_in s) m tail.block cleared) (sym is.0)
+            (subst (λ (b : List ℕ). HoldsHeader (index_in s) k b cleared) (sym is.1) clears.holds.header)
 
         alone-last : HoldsLast s tail cleared
         alone-last = let is = of.alone none in record {
           header = first-header;
           no_link = ap (λ (b : List ℕ). (link_of b).number) is.1 ∙ none;
-          few = let zero = clears.holds.is_first.first in let same = ap (λ (b : List ℕ). segment_number b) is.1 in omega (arith, zero, same);
+          few = let zero = clears.holds.is_first.first in let same = ap (λ (b : List ℕ). segment_number b) is.1 in
+              omega (arith, zero, same);
           is_last = λ honest.
               let t : Table = table_of cleared.image home in
               let here : IsLastOf t k k = record {
-                of = first (subst (λ (u : Table). IsFile u k) (table-of s cleared clears.is_for honest) (is-file s f block cleared clears.is_for clears.holds honest).file);
-                no_link = ap (λ (b : List ℕ). (link_of b).number) (sym (block-is s f block cleared clears.is_for clears.holds honest)) ∙ none;
+                of = first (subst (λ (u : Table). IsFile u k) (table-of s cleared clears.is_for honest)
+                    (is-file s f block cleared clears.is_for clears.holds honest).file);
+                no_link = ap (λ (b : List ℕ). (link_of b).number) (sym (block-is s f block cleared clears.is_for clears.holds honest))
+                    ∙ none;
               } in
               subst (λ (g : FileId). IsLastOf t g.number tail.number) (sym of.file_is) (subst (λ (m : ℕ). IsLastOf t k m) (sym is.0) here);
         }
@@ -107,7 +115,8 @@ module _ (s : Structure) (f : FileId) (end : FileEnd) (was last : List ℕ) (old
           apart : end.number ≢ k
           apart same = some (
               ap (λ (l : FileId). l.number) clears.link
-              ∙ ap (λ (b : List ℕ). (link_of b).number) (block-is s f was old for ends.holds honest ∙ ap t.header (sym same) ∙ sym last-there) ∙ ends.no_link
+              ∙ ap (λ (b : List ℕ). (link_of b).number)
+              (block-is s f was old for ends.holds honest ∙ ap t.header (sym same) ∙ sym last-there) ∙ ends.no_link
               )
 
           header-cleared : (table_of cleared.image home).header end.number ≡ t.header end.number
@@ -125,17 +134,20 @@ module _ (s : Structure) (f : FileId) (end : FileEnd) (was last : List ℕ) (old
           valid = ends.header.valid;
           block_is = λ honest.
               let before = was-honest honest in
-              last-there before ∙ sym (header-cleared before) ∙ ap (λ (u : Table). u.header end.number) (sym (table-of s cleared clears.is_for honest));
+              last-there before ∙ sym (header-cleared before)
+              ∙ ap (λ (u : Table). u.header end.number) (sym (table-of s cleared clears.is_for honest));
         }
 
         other-last : HoldsLast s tail cleared
         other-last = let is = of.other some in record {
-          header = subst (λ (m : ℕ). HoldsHeader (index_in s) m tail.block cleared) (sym is.0) (subst (λ (b : List ℕ). HoldsHeader (index_in s) end.number b cleared) (sym is.1) later-header);
+          header = subst (λ (m : ℕ). HoldsHeader (index_in s) m tail.block cleared) (sym is.0)
+              (subst (λ (b : List ℕ). HoldsHeader (index_in s) end.number b cleared) (sym is.1) later-header);
           no_link = ap (λ (b : List ℕ). (link_of b).number) is.1 ∙ ends.no_link;
           few = let same = ap (λ (b : List ℕ). segment_number b) is.1 in omega (arith, ends.segment, ends.few, same);
           is_last = λ honest.
               let u : Table = table_of cleared.image home in
-              subst (λ (g : FileId). IsLastOf u g.number tail.number) (sym of.file_is) (subst (λ (m : ℕ). IsLastOf u k m) (sym is.0) (last-cleared (was-honest honest)));
+              subst (λ (g : FileId). IsLastOf u g.number tail.number) (sym of.file_is)
+              (subst (λ (m : ℕ). IsLastOf u k m) (sym is.0) (last-cleared (was-honest honest)));
         }
 
       -- and the file's ownership are those that its first header said
@@ -143,7 +155,8 @@ module _ (s : Structure) (f : FileId) (end : FileEnd) (was last : List ℕ) (old
       unfolding volume_of
       tail-ownership honest =
           let stays = (clears.gains honest).names.says.first in
-          (λ i. (of.owner_is i, of.protection_is i)) ∙ ap ownership_in (block-is s f block cleared clears.is_for clears.holds (clears.went.honest ∙ honest)) ∙ stays
+          (λ i. (of.owner_is i, of.protection_is i))
+          ∙ ap ownership_in (block-is s f block cleared clears.is_for clears.holds (clears.went.honest ∙ honest)) ∙ stays
 
       pub holds-last : HoldsLast s tail cleared
       holds-last = elim (cases_eq (link_of block).number 0) [ inl none ↦ alone-last none | inr some ↦ other-last some ]

@@ -1,5 +1,6 @@
 -- A header that a file gets behind its last one: its slot is read, it is written, and then the slot's bit.
-use Rattle.std.proofs.Common.{◌≡◌, ◌≢◌, ◌⊎◌, ◌+◌, ◌≤◌, ◌<◌, ℕ, Bool, true, false, cond, IsTrue, List, [], ◌∷◌, length, Some, inl, inr, refl, sym, ap, subst, ◌∙◌, ◌||◌, arith, eqb}
+use Rattle.std.proofs.Common.{◌≡◌, ◌≢◌, ◌⊎◌, ◌+◌, ◌≤◌, ◌<◌, ℕ, Bool, true, false, cond, IsTrue, List, [], ◌∷◌, length, Some, inl, inr, refl}
+use Rattle.std.proofs.Common.{sym, ap, subst, ◌∙◌, ◌||◌, arith, eqb}
 use Rattle.std.specs.List.{slice_get}
 use Rattle.std.proofs.Math.ListN.{set}
 use Rattle.std.proofs.lemmas.Bool.{both_ways, cases_eq, eq-eqb, ne_eqb}
@@ -66,12 +67,18 @@ use Rattle.f11_image_store.specs.Allocation.{SaysOnly}
 
 -- a slot that wasn't in use and was given its next sequence number
 given-last : (s : Store) (n sequence m : ℕ) → s.in_use n ≡ false → sequence ≡ next_sequence (s.last n) → (m ≡ n) ⊎ (m ≢ n)
-    → (cond (eqb m n) sequence (s.last m) ≡ s.last m) ⊎ ((s.in_use m ≡ false) × (cond (eqb m n) sequence (s.last m) ≡ next_sequence (s.last m)))
+    → (cond (eqb m n) sequence (s.last m) ≡ s.last m)
+    ⊎ ((s.in_use m ≡ false) × (cond (eqb m n) sequence (s.last m) ≡ next_sequence (s.last m)))
 given-last s n sequence m unused next (inl same) =
-    inr (ap s.in_use same ∙ unused, ap (λ (b : Bool). cond b sequence (s.last m)) (eq-eqb m n same) ∙ next ∙ ap (λ (k : ℕ). next_sequence (s.last k)) (sym same))
+    inr (
+      ap s.in_use same ∙ unused,
+      ap (λ (b : Bool). cond b sequence (s.last m)) (eq-eqb m n same) ∙ next
+          ∙ ap (λ (k : ℕ). next_sequence (s.last k)) (sym same),
+    )
 given-last s n sequence m unused next (inr other) = inl (ap (λ (b : Bool). cond b sequence (s.last m)) (ne_eqb m n other))
 
-takes-number : (s : Store) (n sequence : ℕ) → s.in_use n ≡ false → sequence ≡ next_sequence (s.last n) → TakesSome 0 1 s (with_last s n sequence)
+takes-number : (s : Store) (n sequence : ℕ) → s.in_use n ≡ false → sequence ≡ next_sequence (s.last n)
+    → TakesSome 0 1 s (with_last s n sequence)
 unfolding free_slots
 takes-number s n sequence unused next = record {
   files = λ m. refl;
@@ -90,9 +97,11 @@ takes-slot s n unused = record {
   files = λ m. refl;
   free = omega arith;
   unused = λ m free. before (is_in (n ∷ []) m) (s.in_use m) free;
-  slots_free = headers_taken s (with_slots s (n ∷ [])) (n ∷ []) (λ m out free. stays_unused (is_in (n ∷ []) m) (s.in_use m) out free) (omega arith);
+  slots_free = headers_taken s (with_slots s (n ∷ [])) (n ∷ []) (λ m out free. stays_unused (is_in (n ∷ []) m) (s.in_use m) out free)
+      (omega arith);
   last = λ m.
-      subst (λ (t : Store). (t.last m ≡ s.last m) ⊎ ((s.in_use m ≡ false) × (t.last m ≡ next_sequence (s.last m)))) (slot-taken s n (next_sequence (s.last n)) refl)
+      subst (λ (t : Store). (t.last m ≡ s.last m) ⊎ ((s.in_use m ≡ false) × (t.last m ≡ next_sequence (s.last m))))
+      (slot-taken s n (next_sequence (s.last n)) refl)
       (given-last s n (next_sequence (s.last n)) m unused refl (cases_eq m n));
   no_header = λ none. absurd cc;
   slots = refl;
@@ -104,17 +113,20 @@ takes-slot s n unused = record {
     before true b is = absurd cc
 
 -- blocks that no header names are none of the index file's, and stay where one of those is written
-zeros-kept : (image : Image) (home : HomeFields) (place at lbn count : ℕ) (block : List ℕ) → HasSoundVolume image home → slice_get (index_file_blocks image home) place ≡ Some at
+zeros-kept : (image : Image) (home : HomeFields) (place at lbn count : ℕ) (block : List ℕ) → HasSoundVolume image home
+    → slice_get (index_file_blocks image home) place ≡ Some at
     → AreUnreferenced (volume_of image home) lbn count → HoldsZeros image lbn count → HoldsZeros (set image at block) lbn count
 unfolding volume_of
 zeros-kept image home place at lbn count block is there unreferenced zeros =
     let named : IsNamed (table_of image home) at = named-of (table_of image home) 1 at (in-index-file image home is place at there) in
     record {
       each = λ k low high.
-          get_or-set_other image at k block zero_block (λ same. unreferenced.unnamed k low high (subst (IsNamed (table_of image home)) (sym same) named)) ∙ zeros.each k low high;
+          get_or-set_other image at k block zero_block
+          (λ same. unreferenced.unnamed k low high (subst (IsNamed (table_of image home)) (sym same) named)) ∙ zeros.each k low high;
     }
 
-module _ (s : Structure) (tail : Tail) (lbn count : ℕ) (old : Disk) (for : IsStructureFor s old) (last : HoldsLast s tail old) (given : MayBeGiven (home_of s) lbn count old) where
+module _ (s : Structure) (tail : Tail) (lbn count : ℕ) (old : Disk) (for : IsStructureFor s old) (last : HoldsLast s tail old)
+    (given : MayBeGiven (home_of s) lbn count old) where
   abbrev st : Store
   st = store_on s old
 
@@ -129,7 +141,8 @@ module _ (s : Structure) (tail : Tail) (lbn count : ℕ) (old : Disk) (for : IsS
   none-free free none = record {
     fatal = refl;
     undamaged = λ honest _.
-        let count : free_headers st ≡ 0 = ap (λ (l : List ℕ). length l) (free-stored old.image home ∙ ap free_in_index (sym (for.keeps honest).index_is) ∙ none) in
+        let count : free_headers st ≡ 0 =
+        ap (λ (l : List ℕ). length l) (free-stored old.image home ∙ ap free_in_index (sym (for.keeps honest).index_is) ∙ none) in
         let some = free honest in
         omega (arith, count, some);
     writes = writes-none P 3 old;
@@ -138,7 +151,8 @@ module _ (s : Structure) (tail : Tail) (lbn count : ℕ) (old : Disk) (for : IsS
   pub fails-read : (new : Disk) → new ≡ with_transfer false old → Breaks P 3 DeviceFault old new
   fails-read new is = breaks-fault (record { transfers = 1; went = went_looked P (looked_failed_read old new is); few = λ _. omega arith })
 
-  module _ (n : ℕ) (mid : Disk) (place : ℕ) (was : List ℕ) (sequence : ℕ) (least : IsLeastFree (index_in s) n) (at : place ≡ header_lbn (index_in s) n) (counts : mid ≡ with_transfer true old)
+  module _ (n : ℕ) (mid : Disk) (place : ℕ) (was : List ℕ) (sequence : ℕ) (least : IsLeastFree (index_in s) n)
+      (at : place ≡ header_lbn (index_in s) n) (counts : mid ≡ with_transfer true old)
       (gives : IsTrue old.honest → slice_get old.image place ≡ Some was) (next : sequence ≡ next_sequence (file_sequence was)) where
     abbrev id : FileId
     id = record { number = n; sequence = sequence; volume = 0 }
@@ -176,9 +190,11 @@ module _ (s : Structure) (tail : Tail) (lbn count : ℕ) (old : Disk) (for : IsS
       }
 
       -- what both writes make
-      entered : (after : Index) → IsTrue old.honest → SetsBit true n (index_in s) after → EntersExtension n block after home old.image first (second after)
+      entered : (after : Index) → IsTrue old.honest → SetsBit true n (index_in s) after
+          → EntersExtension n block after home old.image first (second after)
       entered after honest bit =
-          subst (λ (i : Image). EntersExtension n block after home old.image i (with_bitmap_block i after n)) (sym ((slot honest).written block))
+          subst (λ (i : Image). EntersExtension n block after home old.image i (with_bitmap_block i after n))
+          (sym ((slot honest).written block))
           (enters-extension old.image home n lbn count block after (for.sound honest) (is-new honest) (given.unreferenced honest)
           (subst (λ (x : Index). SetsBit true n x after) (for.keeps honest).index_is bit))
 
@@ -188,7 +204,9 @@ module _ (s : Structure) (tail : Tail) (lbn count : ℕ) (old : Disk) (for : IsS
           (unused-keeps old.image home (for.sound honest) n block some (slot honest).least.high (slot honest).least.unused)
 
       store-first : IsTrue old.honest → store_of first home ≡ with_last st n sequence
-      store-first honest = unused-given old.image first home n block (one honest) some (slot honest).within (slot honest).unused ∙ ap (with_last st n) new.sequence
+      store-first honest =
+          unused-given old.image first home n block (one honest) some (slot honest).within (slot honest).unused
+          ∙ ap (with_last st n) new.sequence
 
       first-moment : P first
       first-moment honest = record {
@@ -196,9 +214,11 @@ module _ (s : Structure) (tail : Tail) (lbn count : ℕ) (old : Disk) (for : IsS
         takes = subst (TakesSome 0 1 st) (sym (store-first honest)) (takes-number st n sequence (slot honest).free (slot honest).given);
       }
 
-      store-second : (after : Index) → IsTrue old.honest → SetsBit true n (index_in s) after → store_of (second after) home ≡ with_slots st (n ∷ [])
+      store-second : (after : Index) → IsTrue old.honest → SetsBit true n (index_in s) after
+          → store_of (second after) home ≡ with_slots st (n ∷ [])
       store-second after honest bit =
-          (entered after honest bit).store ∙ ap (λ (q : ℕ). with_use (with_last st n q) n true) new.sequence ∙ slot-taken st n sequence (slot honest).given
+          (entered after honest bit).store ∙ ap (λ (q : ℕ). with_use (with_last st n q) n true) new.sequence
+          ∙ slot-taken st n sequence (slot honest).given
 
       second-moment : (image : Image) → HasBitWritten true n (index_in s) first image → P image
       second-moment image has honest =
@@ -213,7 +233,8 @@ module _ (s : Structure) (tail : Tail) (lbn count : ℕ) (old : Disk) (for : IsS
           let sound = for.sound honest in
           let there = header_at old.image home sound.framed.indexed.file n some (slot honest).least.high in
           subst (λ (i : Image). HoldsZeros i lbn count) (sym ((slot honest).written block))
-          (zeros-kept old.image home _ (header_lbn (index_of old.image home) n) lbn count block sound there (given.unreferenced honest) (given.zeros honest))
+          (zeros-kept old.image home _ (header_lbn (index_of old.image home) n) lbn count block sound there (given.unreferenced honest)
+          (given.zeros honest))
 
       zeros-second : (after : Index) → IsTrue old.honest → SetsBit true n (index_in s) after → HoldsZeros (second after) lbn count
       zeros-second after honest bit =
@@ -224,21 +245,28 @@ module _ (s : Structure) (tail : Tail) (lbn count : ℕ) (old : Disk) (for : IsS
           let there = block-at first home sound.framed.indexed.file true n after (index-apart first home sound) some few sets in
           let unused = ap (λ (f : ℕ → Bool). f n) (one honest).in_use ∙ (slot honest).unused in
           let unreferenced = unentered-unreferenced old.image first home n lbn count (one honest).slot (given.unreferenced honest) unused in
-          zeros-kept first home _ (after.bitmap_lbn + bitmap_place n) lbn count (bitmap_block after n) sound there unreferenced (zeros-first honest)
+          zeros-kept first home _ (after.bitmap_lbn + bitmap_place n) lbn count (bitmap_block after n) sound there unreferenced
+          (zeros-first honest)
 
       module _ (wrote : Disk) where
         -- the header couldn't be written
-        pub fails-first : (wrote ≡ with_transfer false mid) ⊎ (wrote ≡ with_transfer false (with_block_at place block mid)) → Breaks P 3 DeviceFault old wrote
-        fails-first is = breaks-fault (writes-within (omega arith) (writes-behind (reads-looked (looked_read old mid counts)) (went_failed_write P mid wrote place block is first-moment)))
+        pub fails-first : (wrote ≡ with_transfer false mid) ⊎ (wrote ≡ with_transfer false (with_block_at place block mid))
+            → Breaks P 3 DeviceFault old wrote
+        fails-first is =
+            breaks-fault (writes-within (omega arith)
+            (writes-behind (reads-looked (looked_read old mid counts)) (went_failed_write P mid wrote place block is first-moment)))
 
         module _ (landed : wrote ≡ with_transfer true (with_block_at place block mid)) where
           image-one : wrote.image ≡ first
           image-one = ap (λ (d : Disk). d.image) landed
 
-          behind : (done : Disk) (faults : ℕ) → Went (HasBitWritten true n (index_in s) wrote.image) wrote done 1 faults → WritesAtMost P 3 old done faults
+          behind : (done : Disk) (faults : ℕ) → Went (HasBitWritten true n (index_in s) wrote.image) wrote done 1 faults
+              → WritesAtMost P 3 old done faults
           behind done faults went =
-              writes-behind (reads-looked (looked_read old mid counts)) (went_more P (went_write P mid wrote place block landed first-moment)
-              (went_weaker _ P (λ image has. second-moment image (subst (λ (i : Image). HasBitWritten true n (index_in s) i image) image-one has)) went))
+              writes-behind (reads-looked (looked_read old mid counts))
+              (went_more P (went_write P mid wrote place block landed first-moment)
+              (went_weaker _ P (λ image has.
+              second-moment image (subst (λ (i : Image). HasBitWritten true n (index_in s) i image) image-one has)) went))
 
           -- nor could its bit
           pub fails-bit : (done : Disk) → FailsToWriteBit true n (index_in s) wrote done → Breaks P 3 DeviceFault old done
@@ -255,7 +283,9 @@ module _ (s : Structure) (tail : Tail) (lbn count : ℕ) (old : Disk) (for : IsS
             writes = behind done 0 bit.went
 
             made : IsTrue old.honest → EntersExtension n block (index_kept after) home old.image first done.image
-            made honest = subst (EntersExtension n block (index_kept after) home old.image first) (sym image-two) (entered (index_kept after) honest bit.bit)
+            made honest =
+                subst (EntersExtension n block (index_kept after) home old.image first) (sym image-two)
+                (entered (index_kept after) honest bit.bit)
 
             was-honest : IsTrue done.honest → IsTrue old.honest
             was-honest honest = sym writes.went.honest ∙ honest
@@ -289,24 +319,30 @@ module _ (s : Structure) (tail : Tail) (lbn count : ℕ) (old : Disk) (for : IsS
             holds-new = record {
               in_use = bit.in_use;
               valid = new.valid;
-              block_is = λ honest. sym (made (was-honest honest)).block_is ∙ ap (λ (u : Table). u.header n) (sym (table-of t done for-now honest));
+              block_is = λ honest. sym (made (was-honest honest)).block_is
+                  ∙ ap (λ (u : Table). u.header n) (sym (table-of t done for-now honest));
             }
 
             tail-in-use : IsTrue old.honest → (table_of old.image home).in_use tail.number ≡ true
-            tail-in-use honest = ap (λ (u : Table). u.in_use tail.number) (sym (table-of s old for honest)) ∙ table-in_use (index_in s) old tail.number ∙ last.header.in_use
+            tail-in-use honest =
+                ap (λ (u : Table). u.in_use tail.number) (sym (table-of s old for honest)) ∙ table-in_use (index_in s) old tail.number
+                ∙ last.header.in_use
 
             -- the file's last header is as it was
-            tail-same : (honest : IsTrue old.honest) → (table_of done.image home).header tail.number ≡ (table_of old.image home).header tail.number
+            tail-same : (honest : IsTrue old.honest)
+                → (table_of done.image home).header tail.number ≡ (table_of old.image home).header tail.number
             tail-same honest = (made honest).others tail.number (tail-in-use honest)
 
             holds-tail : HoldsLast t tail done
             holds-tail = record {
               header = record {
-                in_use = SetsBit-others (index_in s) (index_kept after) true n tail.number bit.bit (λ same. other (sym same)) ∙ last.header.in_use;
+                in_use = SetsBit-others (index_in s) (index_kept after) true n tail.number bit.bit (λ same. other (sym same))
+                    ∙ last.header.in_use;
                 valid = last.header.valid;
                 block_is = λ honest.
                     let before = was-honest honest in
-                    last.header.block_is before ∙ ap (λ (u : Table). u.header tail.number) (table-of s old for before) ∙ sym (tail-same before)
+                    last.header.block_is before ∙ ap (λ (u : Table). u.header tail.number) (table-of s old for before)
+                    ∙ sym (tail-same before)
                     ∙ ap (λ (u : Table). u.header tail.number) (sym (table-of t done for-now honest));
               };
               no_link = last.no_link;
@@ -338,11 +374,14 @@ module _ (s : Structure) (tail : Tail) (lbn count : ℕ) (old : Disk) (for : IsS
               holds = holds-new;
               follows = follows;
               last = holds-tail;
-              zeros = λ honest. subst (λ (i : Image). HoldsZeros i lbn count) (sym image-two) (zeros-second (index_kept after) honest bit.bit);
+              zeros = λ honest. subst (λ (i : Image). HoldsZeros i lbn count) (sym image-two)
+                  (zeros-second (index_kept after) honest bit.bit);
               bitmap = refl;
-              free = λ honest. ap (λ (v : Volume). v.free) (made honest).bit.slot.volume ∙ ap (λ (v : Volume). v.free) (made honest).header.slot.volume;
+              free = λ honest. ap (λ (v : Volume). v.free) (made honest).bit.slot.volume
+                  ∙ ap (λ (v : Volume). v.free) (made honest).header.slot.volume;
               adds = λ honest.
-                  adds-fileless tail.file.number tail.number n (ownership_of tail) block (index_kept after) home old.image first done.image (last.is_last honest)
+                  adds-fileless tail.file.number tail.number n (ownership_of tail) block (index_kept after) home old.image first done.image
+                  (last.is_last honest)
                   (slot honest).unused says-only (made honest);
               slots = λ honest. zero-entered n block (index_kept after) home old.image first done.image (made honest);
               slot = λ honest. sym (least-stored old.image home n (slot honest).least);

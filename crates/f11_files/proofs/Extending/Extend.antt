@@ -1,5 +1,6 @@
 -- A file that is extended, once its contiguous mark is cleared.
-use Rattle.std.proofs.Common.{arith, ◌≡◌, ◌+◌, ◌-◌, ◌*◌, ◌≤◌, ◌==◌, ℕ, Bool, true, cond, IsTrue, [], List, Some, None, refl, sym, ap, subst, ◌∙◌}
+use Rattle.std.proofs.Common.{arith, ◌≡◌, ◌+◌, ◌-◌, ◌*◌, ◌≤◌, ◌==◌, ℕ, Bool, true, cond, IsTrue, [], List, Some, None, refl, sym, ap, subst}
+use Rattle.std.proofs.Common.{◌∙◌}
 use Rattle.f11_dev.specs.Disk.{Disk}
 use Rattle.f11_dev.specs.Went.{Went}
 use Rattle.f11_home.specs.Home.{HomeFields}
@@ -29,10 +30,12 @@ use Rattle.f11_files.specs.Extending.Tail.{ownership_of}
 use Rattle.std.proofs.lemmas.Bool.{false≢true}
 use Rattle.f11_store.proofs.GrowsLemmas.{grows-as-extends}
 use Rattle.f11_files.proofs.Extending.Written.{are-none}
-use Rattle.f11_files.proofs.Extending.ClearAndGrow.{HasRoomFor, breaks-clearing, breaks-growing, gains-all, has-grown, may-grow, writes-grown}
+use Rattle.f11_files.proofs.Extending.ClearAndGrow.{HasRoomFor, breaks-clearing, breaks-growing, gains-all, has-grown, may-grow}
+use Rattle.f11_files.proofs.Extending.ClearAndGrow.{writes-grown}
 use Rattle.f11_files.specs.declared.extend.tail.Tail.{Tail}
 
-module _ (s : Structure) (f : FileId) (n : ℕ) (end : FileEnd) (was last : List ℕ) (old : Disk) (for : IsStructureFor s old) (own : 4 ≤ f.number) (room : HoldsRoom s f n end was last old) where
+module _ (s : Structure) (f : FileId) (n : ℕ) (end : FileEnd) (was last : List ℕ) (old : Disk) (for : IsStructureFor s old)
+    (own : 4 ≤ f.number) (room : HoldsRoom s f n end was last old) where
   abbrev home : HomeFields
   home = home_of s
 
@@ -49,8 +52,11 @@ module _ (s : Structure) (f : FileId) (n : ℕ) (end : FileEnd) (was last : List
   most = growth_cost st named n - 1 - header_count named - 2
 
   -- it is no index file
-  as-extend : {new : Disk} {faults : ℕ} → WritesAtMost (Meanwhile (grow_work_of k named.room n) home old) most old new faults → WritesAtMost (Meanwhile (extend_work k named.room n) home old) most old new faults
-  as-extend {new = new} {faults = faults} = subst (λ (w : Work). WritesAtMost (Meanwhile w home old) most old new faults) (ap (λ (slots : Bool). grow_work_if slots k named.room n) (are-none own))
+  as-extend : {new : Disk} {faults : ℕ} → WritesAtMost (Meanwhile (grow_work_of k named.room n) home old) most old new faults
+      → WritesAtMost (Meanwhile (extend_work k named.room n) home old) most old new faults
+  as-extend {new = new} {faults = faults} =
+      subst (λ (w : Work). WritesAtMost (Meanwhile w home old) most old new faults)
+      (ap (λ (slots : Bool). grow_work_if slots k named.room n) (are-none own))
 
   no-slots : IsTrue old.honest → IsTrue (k == 1) → st.slots + n ≤ st.limit
   no-slots honest is = absurd (false≢true (sym (are-none own) ∙ is))
@@ -60,7 +66,8 @@ module _ (s : Structure) (f : FileId) (n : ℕ) (end : FileEnd) (was last : List
 
   no-growth-cause : IsTrue old.honest → first_of (growth_causes st named n) ≡ None
   no-growth-cause honest =
-      ap (λ (b : Bool). cond b (Some NoSuchFile) (first_of (growth_causes st named n))) (sym (found-named s f old for honest (is-file s f was old for room.ends.holds honest)).0)
+      ap (λ (b : Bool). cond b (Some NoSuchFile) (first_of (growth_causes st named n)))
+      (sym (found-named s f old for honest (is-file s f was old for room.ends.holds honest)).0)
       ∙ room.no_cause honest
 
   has : HasRoomFor s k n named old
@@ -79,19 +86,22 @@ module _ (s : Structure) (f : FileId) (n : ℕ) (end : FileEnd) (was last : List
     may-extend = may-grow s f n end was last old for room.ends named has block cleared clears
 
     pub fails-growing : (r : Refusal) (new : Disk)
-        → Breaks (GrowingByRuns s k n cleared) ((store_on s cleared).bitmap_blocks + 5 * n + 3 * need (file_numbered (store_on s cleared) k).room n + 3) r cleared new
+        → Breaks (GrowingByRuns s k n cleared)
+        ((store_on s cleared).bitmap_blocks + 5 * n + 3 * need (file_numbered (store_on s cleared) k).room n + 3) r cleared new
         → FailsToExtendHeld home f n r old new
     fails-growing r new breaks =
         breaks-off (λ _. refl) breaks.fatal
         (fatal-right [] r old.honest breaks.fatal (λ honest. breaks.undamaged (clears.went.honest ∙ honest)))
         (as-extend (breaks-growing s f n end was last old for room.ends named has block cleared clears breaks))
 
-    pub extends-held : (tail : Tail) → IsTailOf f block end.number last tail → (new : Disk) → GrowsByRuns s k (ownership_of tail) n cleared new
+    pub extends-held : (tail : Tail) → IsTailOf f block end.number last tail → (new : Disk)
+        → GrowsByRuns s k (ownership_of tail) n cleared new
         → ExtendsInHand home f n old new
     extends-held tail of new grows = record {
       no_cause = room.no_cause;
       makes = λ honest.
-          (grows-as-extends st (store_of new.image home) k n (λ is. omega (arith, own, is)) (has-grown s f n end was last old for room.ends named has block cleared clears tail of new grows honest)).0;
+          (grows-as-extends st (store_of new.image home) k n (λ is. omega (arith, own, is))
+          (has-grown s f n end was last old for room.ends named has block cleared clears tail of new grows honest)).0;
       allots = gains-all s f n end was last old for room.ends named has block cleared clears tail of new grows;
       writes = as-extend (writes-grown s f n end was last old for room.ends named has block cleared clears tail of new grows);
     }

@@ -1,5 +1,6 @@
 -- Runs of free blocks, one after another, until a file has as many as it is to have.
-use Rattle.std.proofs.Common.{◌==◌, ◌≡◌, ◌⊎◌, ◌+◌, ◌-◌, ◌*◌, ◌/◌, ◌≤◌, ℕ, false, IsTrue, length, inl, inr, unwrap_or, refl, sym, ap, subst, ◌∙◌, arith, Option}
+use Rattle.std.proofs.Common.{◌==◌, ◌≡◌, ◌⊎◌, ◌+◌, ◌-◌, ◌*◌, ◌/◌, ◌≤◌, ℕ, false, IsTrue, length, inl, inr, unwrap_or, refl, sym, ap, subst}
+use Rattle.std.proofs.Common.{◌∙◌, arith, Option}
 use Rattle.f11_bits.specs.Bitmap.{Bitmap, IsBitmap}
 use Rattle.f11_bits.specs.Transfers.{blocks_from}
 use Rattle.f11_dev.specs.Disk.{Disk}
@@ -54,11 +55,14 @@ pub record GrowingOn (s t : Structure) (tail later : Tail) (n from left : ℕ) (
   pub within : from ≤ (bitmap_in s).size
   pub none_below : IsTrue old.honest → NoneFreeBelow now.image (bitmap_in s) from
   pub gains :
-      IsTrue old.honest → GainsBlocksAs tail.file.number (ownership_of tail) done (volume_of old.image (home_of s)) (volume_of now.image (home_of s))
+      IsTrue old.honest → GainsBlocksAs tail.file.number (ownership_of tail) done (volume_of old.image (home_of s))
+      (volume_of now.image (home_of s))
   pub slots : IsTrue old.honest → AddsZeroSlots (table_of old.image (home_of s)) (table_of now.image (home_of s))
-  pub grew : Grew (Meanwhile (tail_work s tail n old) (home_of s) old) (home_of s) (store_on s old) tail.file.number done done (from / 4096 + 5 * done) old now
+  pub grew : Grew (Meanwhile (tail_work s tail n old) (home_of s) old) (home_of s) (store_on s old) tail.file.number done done
+      (from / 4096 + 5 * done) old now
 
-module _ (s : Structure) (tail : Tail) (n : ℕ) (old : Disk) (for : IsStructureFor s old) (last : HoldsLast s tail old) (reserved : IsTrue (tail.file.number == 1) → n ≤ room s.index)
+module _ (s : Structure) (tail : Tail) (n : ℕ) (old : Disk) (for : IsStructureFor s old) (last : HoldsLast s tail old)
+    (reserved : IsTrue (tail.file.number == 1) → n ≤ room s.index)
     (may : IsTrue old.honest → MayGrowAs (store_on s old) tail.file.number n n) where
   abbrev home : HomeFields
   home = home_of s
@@ -132,25 +136,33 @@ module _ (s : Structure) (tail : Tail) (n : ℕ) (old : Disk) (for : IsStructure
         let rest : n - so_far.done ≡ left = let sum = so_far.sum in omega (arith, sum) in
         let few : so_far.done ≤ n = let sum = so_far.sum in omega (arith, sum) in
         subst (λ (h : HomeFields). MayGrowAs (store_of now.image h) later.file.number left left) (sym so_far.stays.home)
-        (subst (λ (j : ℕ). MayGrowAs tn j left left) (sym number) (subst (λ (m : ℕ). MayGrowAs tn k m m) rest (others-may st tn k n so_far.done n so_far.done (may before) (has before) few few)))
+        (subst (λ (j : ℕ). MayGrowAs tn j left left) (sym number)
+        (subst (λ (m : ℕ). MayGrowAs tn k m m) rest (others-may st tn k n so_far.done n so_far.done (may before) (has before) few few)))
 
     pub next-below : IsTrue now.honest → NoneFreeBelow now.image (bitmap_in t) from
     next-below honest = subst (λ (b : Bitmap). NoneFreeBelow now.image b from) (sym so_far.bitmap) (so_far.none_below (was-honest honest))
 
     -- images that stand meanwhile
-    lags : IsTrue old.honest → (u : Store) → TakesSome left (need (file_numbered tn k).room left) tn u ⊎ GrowsSome tn k left left u → LagsBy (tail_work s tail n old) u st
-    lags honest u (inl takes) = let few : so_far.done + left ≤ n = let sum = so_far.sum in omega (arith, sum) in growth-taken-lags st tn u k n n so_far.done left so_far.done left (has honest) few few takes
+    lags : IsTrue old.honest → (u : Store) → TakesSome left (need (file_numbered tn k).room left) tn u ⊎ GrowsSome tn k left left u
+        → LagsBy (tail_work s tail n old) u st
+    lags honest u (inl takes) =
+        let few : so_far.done + left ≤ n = let sum = so_far.sum in omega (arith, sum) in
+        growth-taken-lags st tn u k n n so_far.done left so_far.done left (has honest) few few takes
     lags honest u (inr some) =
         let few : so_far.done + some.0 ≤ n = let sum = so_far.sum in let less = some.1 in omega (arith, sum, less) in
         let fewer : so_far.done + left ≤ n = let sum = so_far.sum in omega (arith, sum) in
-        growth-lags st u k n n (so_far.done + some.0) (so_far.done + left) (grows-twice st tn u k n n so_far.done some.0 so_far.done left (may honest) fewer (has honest) some.2).0 few fewer
+        growth-lags st u k n n (so_far.done + some.0) (so_far.done + left)
+        (grows-twice st tn u k n n so_far.done some.0 so_far.done left (may honest) fewer (has honest) some.2).0 few fewer
 
     moment : (image : Image) → GrowingBy (home_of t) (store_on t now) later.file.number left left now image → P image
     moment image is honest =
-        let named : IsGrowing (home_of t) left (need (file_numbered (store_on t now) k).room left) (GrowsSome (store_on t now) k left left) (store_on t now) image =
-        subst (λ (j : ℕ). IsGrowing (home_of t) left (need (file_numbered (store_on t now) j).room left) (GrowsSome (store_on t now) j left left) (store_on t now) image) number (is (now-honest honest)) in
+        let named : IsGrowing (home_of t) left (need (file_numbered (store_on t now) k).room left) (GrowsSome (store_on t now) k left left)
+        (store_on t now) image =
+        subst (λ (j : ℕ). IsGrowing (home_of t) left (need (file_numbered (store_on t now) j).room left)
+        (GrowsSome (store_on t now) j left left) (store_on t now) image) number (is (now-honest honest)) in
         let here : IsGrowing home left (need (file_numbered tn k).room left) (GrowsSome tn k left left) tn image =
-        subst (λ (h : HomeFields). IsGrowing h left (need (file_numbered (store_of now.image h) k).room left) (GrowsSome (store_of now.image h) k left left) (store_of now.image h) image) so_far.stays.home named in
+        subst (λ (h : HomeFields). IsGrowing h left (need (file_numbered (store_of now.image h) k).room left)
+        (GrowsSome (store_of now.image h) k left left) (store_of now.image h) image) so_far.stays.home named in
         record { sound = here.sound; lags = lags honest (store_of image home) here.stage }
 
     -- no more headers were added than may be needed
@@ -173,15 +185,19 @@ module _ (s : Structure) (tail : Tail) (n : ℕ) (old : Disk) (for : IsStructure
     unfolding store_of
     bitmap-blocks honest = sym (ap (λ (b : Bitmap). length b.places) (for.keeps honest).bitmap_is)
 
-    pub fails-run : (new : Disk) (r : Refusal) → Breaks (GrowingBy (home_of t) (store_on t now) later.file.number left left now) (blocks_from (bitmap_in t) from + 5 * left + 3) r now new
+    pub fails-run : (new : Disk) (r : Refusal)
+        → Breaks (GrowingBy (home_of t) (store_on t now) later.file.number left left now) (blocks_from (bitmap_in t) from + 5 * left + 3) r
+        now new
         → Breaks P (st.bitmap_blocks + 5 * n + 3 * need (file_numbered st k).room n + 3) r old new
     fails-run new r breaks =
         let is : IsBitmap (bitmap_in s) = s.storage.valid in
         let places = ap (λ (b : Bitmap). length b.places) so_far.bitmap in
         let sum = so_far.sum in
-        breaks-within (λ honest. let blocks = bitmap-blocks honest in omega (arith, blocks, places, sum, so_far.within, is.covered)) (breaks-behind moment written breaks)
+        breaks-within (λ honest. let blocks = bitmap-blocks honest in omega (arith, blocks, places, sum, so_far.within, is.covered))
+        (breaks-behind moment written breaks)
 
-    module _ (u : Structure) (after : Tail) (end count : ℕ) (new : Disk) (adds : AddsRun t u later after from left end count now new) (kept : StaysFor false t u new) where
+    module _ (u : Structure) (after : Tail) (end count : ℕ) (new : Disk) (adds : AddsRun t u later after from left end count now new)
+        (kept : StaysFor false t u new) where
       abbrev most : ℕ
       most = end / 4096 - from / 4096 + 5 * count
 
@@ -189,10 +205,14 @@ module _ (s : Structure) (tail : Tail) (n : ℕ) (old : Disk) (for : IsStructure
       run : IsTrue old.honest → (e : GrowsAs tn k count count (store_of new.image home)) × (adds.grew.transfers ≤ most + 3 * e.grows.added)
       run honest =
           let there = now-honest honest in
-          subst (λ (h : HomeFields). (e : GrowsAs (store_of now.image h) k count count (store_of new.image h)) × (adds.grew.transfers ≤ most + 3 * e.grows.added)) so_far.stays.home
-          (subst (λ (j : ℕ). (e : GrowsAs (store_on t now) j count count (store_of new.image (home_of t))) × (adds.grew.transfers ≤ most + 3 * e.grows.added)) number (adds.grew.grows there, adds.grew.few there))
+          subst (λ (h : HomeFields). (e : GrowsAs (store_of now.image h) k count count (store_of new.image h))
+          × (adds.grew.transfers ≤ most + 3 * e.grows.added)) so_far.stays.home
+          (subst (λ (j : ℕ). (e : GrowsAs (store_on t now) j count count (store_of new.image (home_of t)))
+          × (adds.grew.transfers ≤ most + 3 * e.grows.added)) number (adds.grew.grows there, adds.grew.few there))
 
-      both : (honest : IsTrue old.honest) → (e : GrowsAs st k (so_far.done + count) (so_far.done + count) (store_of new.image home)) × (e.grows.added ≡ (has honest).grows.added + (run honest).0.grows.added)
+      both : (honest : IsTrue old.honest)
+          → (e : GrowsAs st k (so_far.done + count) (so_far.done + count) (store_of new.image home))
+          × (e.grows.added ≡ (has honest).grows.added + (run honest).0.grows.added)
       both honest =
           let few : so_far.done + count ≤ n = let sum = so_far.sum in let asked = adds.asked in omega (arith, sum, asked) in
           grows-twice st tn (store_of new.image home) k n n so_far.done count so_far.done count (may honest) few (has honest) (run honest).0
@@ -209,19 +229,24 @@ module _ (s : Structure) (tail : Tail) (n : ℕ) (old : Disk) (for : IsStructure
         within = let same = ap (λ (b : Bitmap). b.size) so_far.bitmap in let inside = adds.within in omega (arith, same, inside);
         none_below = λ honest. subst (λ (b : Bitmap). NoneFreeBelow new.image b end) so_far.bitmap (adds.none_below (now-honest honest));
         gains = λ honest.
-            gains-add k (ownership_of tail) so_far.done count (volume_of old.image home) (volume_of now.image home) (volume_of new.image home)
+            gains-add k (ownership_of tail) so_far.done count (volume_of old.image home) (volume_of now.image home)
+            (volume_of new.image home)
             (so_far.gains honest)
-            (subst (λ (h : HomeFields). GainsBlocksAs k (ownership_of tail) count (volume_of now.image h) (volume_of new.image h)) so_far.stays.home
+            (subst (λ (h : HomeFields). GainsBlocksAs k (ownership_of tail) count (volume_of now.image h) (volume_of new.image h))
+            so_far.stays.home
             (subst (λ (w : Uic × ℕ). GainsBlocksAs k w count (volume_of now.image (home_of t)) (volume_of new.image (home_of t))) ownership
-            (subst (λ (j : ℕ). GainsBlocksAs j (ownership_of later) count (volume_of now.image (home_of t)) (volume_of new.image (home_of t))) number
+            (subst (λ (j : ℕ). GainsBlocksAs j (ownership_of later) count (volume_of now.image (home_of t))
+            (volume_of new.image (home_of t))) number
             (adds.gains (now-honest honest)))));
         slots = λ honest.
             zero-then (table_of old.image home) (table_of now.image home) (table_of new.image home) (so_far.slots honest)
-            (subst (λ (h : HomeFields). AddsZeroSlots (table_of now.image h) (table_of new.image h)) so_far.stays.home (adds.slots (now-honest honest)));
+            (subst (λ (h : HomeFields). AddsZeroSlots (table_of now.image h) (table_of new.image h)) so_far.stays.home
+            (adds.slots (now-honest honest)));
         grew = record {
           grows = λ honest. (both honest).0;
           transfers = so_far.grew.transfers + adds.grew.transfers;
-          went = went_more P so_far.grew.went (went_weaker (GrowingBy (home_of t) (store_on t now) later.file.number left left now) P moment adds.grew.went);
+          went = went_more P so_far.grew.went
+              (went_weaker (GrowingBy (home_of t) (store_on t now) later.file.number left left now) P moment adds.grew.went);
           few = λ honest.
               let here = so_far.grew.few honest in
               let more = (run honest).1 in
@@ -236,7 +261,8 @@ module _ (s : Structure) (tail : Tail) (n : ℕ) (old : Disk) (for : IsStructure
         let all : so_far.done ≡ n = let sum = so_far.sum in omega (arith, sum, none) in
         record {
           gains = λ honest.
-              subst (λ (m : ℕ). GainsBlocksAs k (ownership_of tail) m (volume_of old.image home) (volume_of now.image home)) all (so_far.gains honest);
+              subst (λ (m : ℕ). GainsBlocksAs k (ownership_of tail) m (volume_of old.image home) (volume_of now.image home)) all
+              (so_far.gains honest);
           slots = so_far.slots;
           grew =
               subst (λ (m : ℕ). Grew P home st k m m ((bitmap_in s).size / 4096 + 5 * m) old now) all

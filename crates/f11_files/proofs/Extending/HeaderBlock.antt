@@ -22,11 +22,13 @@ pub names-header : (id : FileId) → 0 < id.number → 0 < id.sequence → (nat_
 names-header id number sequence = and_from _ _ (lt-ltb 0 id.number number) (lt-ltb 0 id.sequence sequence)
 
 -- the segment number of a header in hand
-pub segment-said : (block : List ℕ) (area : List ℕ) (segment : ℕ) → area ≡ map_area block → segment ≡ segment_in area → segment ≡ segment_number block
+pub segment-said : (block : List ℕ) (area : List ℕ) (segment : ℕ) → area ≡ map_area block → segment ≡ segment_in area
+    → segment ≡ segment_number block
 unfolding segment_number
 segment-said block area segment same is = is ∙ ap segment_in same
 
-module _ (tail : Tail) (id : FileId) (segment : ℕ) (empty : List ℕ) (holds : IsTrue (holds_header empty)) (blank : IsEmptyHeader empty id tail.owner tail.protection (segment + 1)) where
+module _ (tail : Tail) (id : FileId) (segment : ℕ) (empty : List ℕ) (holds : IsTrue (holds_header empty))
+    (blank : IsEmptyHeader empty id tail.owner tail.protection (segment + 1)) where
   no-runs : runs_of (map_area empty) ≡ []
   no-runs = runs-none (map_area empty) blank.no_pointer
 
@@ -47,7 +49,8 @@ module _ (tail : Tail) (id : FileId) (segment : ℕ) (empty : List ℕ) (holds :
   numbered = blank.segment_is
 
   -- the blocks were appended
-  module _ (lbn count : ℕ) (block : List ℕ) (is : segment ≡ segment_number tail.block) (some : 0 < count) (appends : AppendsRuns empty block lbn count) where
+  module _ (lbn count : ℕ) (block : List ℕ) (is : segment ≡ segment_number tail.block) (some : 0 < count)
+      (appends : AppendsRuns empty block lbn count) where
     names : NamesInHand empty block (run_pointers count) lbn count
     names = record { header = appends.header; pointers = appends.more; blocks = appends.blocks; rest = appends.rest }
 
@@ -62,7 +65,11 @@ module _ (tail : Tail) (id : FileId) (segment : ℕ) (empty : List ℕ) (holds :
 
     pub is-extension : IsExtension tail id lbn count block
     is-extension = record {
-      valid = record { number = ap (λ (h : HeaderFields). h.number) held.1 ∙ blank.number_is; holds = held.0; sum = appends.header.seals.sum };
+      valid = record {
+        number = ap (λ (h : HeaderFields). h.number) held.1 ∙ blank.number_is;
+        holds = held.0;
+        sum = appends.header.seals.sum;
+      };
       sequence = ap (λ (h : HeaderFields). h.sequence) held.1 ∙ blank.sequence_is;
       owner_is = ap (λ (h : HeaderFields). h.owner) held.1 ∙ blank.owner_is;
       protection_is = ap (λ (h : HeaderFields). h.protection) held.1 ∙ blank.protection_is;
@@ -71,7 +78,8 @@ module _ (tail : Tail) (id : FileId) (segment : ℕ) (empty : List ℕ) (holds :
       no_ident = appends.header.ident ∙ blank.no_ident;
       segment = segment-more empty block (run_pointers count) lbn count names ∙ numbered ∙ ap (λ (k : ℕ). k + 1) is;
       no_link = ap (λ (l : FileId). l.number) (link-more empty block (run_pointers count) lbn count names) ∙ links-none;
-      names = blocks-more empty block (run_pointers count) lbn count names ∙ ap (λ (bs : List ℕ). bs ++ range_with_len lbn count) names-none;
+      names = blocks-more empty block (run_pointers count) lbn count names
+          ∙ ap (λ (bs : List ℕ). bs ++ range_with_len lbn count) names-none;
       some = omega (arith, pointers-are, some);
       few = omega (arith, pointers-are);
       room = omega (arith, all-places);

@@ -1,5 +1,6 @@
 -- A file's last header that links on.
-use Rattle.std.proofs.Common.{Bool, ◌++◌, ◌==◌, [], ◌≡◌, ◌⊎◌, ◌+◌, ◌-◌, ◌/◌, ◌<◌, ◌≤◌, ℕ, true, false, IsTrue, List, length, min, get_or, sym, ap, subst, ◌∙◌, arith, inl, inr, map, refl}
+use Rattle.std.proofs.Common.{Bool, ◌++◌, ◌==◌, [], ◌≡◌, ◌⊎◌, ◌+◌, ◌-◌, ◌/◌, ◌<◌, ◌≤◌, ℕ, true, false, IsTrue, List, length, min, get_or}
+use Rattle.std.proofs.Common.{sym, ap, subst, ◌∙◌, arith, inl, inr, map, refl}
 use Rattle.std.proofs.Math.ListN.{set}
 use Rattle.std.proofs.lemmas.List.{get_or-drop, append-nil}
 use Rattle.f11_dev.specs.Disk.{Disk, with_transfer, with_block_at}
@@ -72,10 +73,12 @@ module _ (was block : List ℕ) (id : FileId) (sets : SetsLink was block id) whe
   pub pointers-linked : HasPointersMore 0 was block
   pointers-linked = record {
     pointers = let same = ap (λ (runs : List (ℕ × ℕ)). length runs) sets.pointers in omega (arith, same);
-    places_are = ap (λ (m : ℕ). min m ((length (map_area block) - 10) / 2) / 2) most ∙ ap (λ (l : ℕ). min (most_words (map_area was)) ((l - 10) / 2) / 2) sets.link.size;
+    places_are = ap (λ (m : ℕ). min m ((length (map_area block) - 10) / 2) / 2) most
+        ∙ ap (λ (l : ℕ). min (most_words (map_area was)) ((l - 10) / 2) / 2) sets.link.size;
   }
 
-module _ (s : Structure) (tail : Tail) (block : List ℕ) (id : FileId) (old : Disk) (for : IsStructureFor s old) (last : HoldsLast s tail old) (early : segment_number tail.block < 255)
+module _ (s : Structure) (tail : Tail) (block : List ℕ) (id : FileId) (old : Disk) (for : IsStructureFor s old)
+    (last : HoldsLast s tail old) (early : segment_number tail.block < 255)
     (follows : IsTrue old.honest → MayFollow (table_of old.image (home_of s)) tail id) (sets : SetsLink tail.block block id) where
   abbrev home : HomeFields
   home = home_of s
@@ -126,7 +129,8 @@ module _ (s : Structure) (tail : Tail) (block : List ℕ) (id : FileId) (old : D
     becomes = record {
       valid = valid;
       good = λ _. good;
-      names = subst (MayName (volume_of old.image home) n) (sym blocks-are) (own-names (volume_of old.image home) n (for.sound honest).sound (live_of-header (last.is_last honest).of));
+      names = subst (MayName (volume_of old.image home) n) (sym blocks-are)
+          (own-names (volume_of old.image home) n (for.sound honest).sound (live_of-header (last.is_last honest).of));
       link = links_anew record {
         not_last = let same = segment-linked tail.block block id sets in omega (arith, same, early);
         here = ap (λ (l : FileId). l.volume) (link-set tail.block block id sets);
@@ -158,7 +162,8 @@ module _ (s : Structure) (tail : Tail) (block : List ℕ) (id : FileId) (old : D
       blocks = blocks-are;
     }
 
-  module _ (gets : GetsBlocks tail.file.number) (lbn count : ℕ) (named : NamesThese s id lbn count old) (within : lbn + count ≤ (bitmap_in s).size)
+  module _ (gets : GetsBlocks tail.file.number) (lbn count : ℕ) (named : NamesThese s id lbn count old)
+      (within : lbn + count ≤ (bitmap_in s).size)
       (zeros : IsTrue old.honest → HoldsZeros old.image lbn count) (come : MayCome s tail.file.number count old) where
     abbrev then : Store
     then = with_run_linked s f id count old
@@ -200,12 +205,15 @@ module _ (s : Structure) (tail : Tail) (block : List ℕ) (id : FileId) (old : D
 
       -- as slots
       index-slots : (one : f ≡ 1) → HasSlotsMore count t (table_of next home)
-      index-slots one = slots-more old.image home n block lbn count (for.sound honest) (last-one one).of (wrote (inl one)) on-device (zeros honest) (come.limit honest (are-slots one))
+      index-slots one =
+          slots-more old.image home n block lbn count (for.sound honest) (last-one one).of (wrote (inl one)) on-device (zeros honest)
+          (come.limit honest (are-slots one))
 
       zero-slots : (kind : GetsBlocks f) → AddsZeroSlots t (table_of next home)
       zero-slots (inl one) =
           zero-grown old.image next home n block lbn count (wrote (inl one)) live.in_use (index-slots one).slots
-          (slots-zero old.image home n block lbn count (for.sound honest) (last-one one).of (wrote (inl one)) on-device (zeros honest) (come.limit honest (are-slots one)))
+          (slots-zero old.image home n block lbn count (for.sound honest) (last-one one).of (wrote (inl one)) on-device (zeros honest)
+          (come.limit honest (are-slots one)))
       zero-slots (inr late) = zero-header old.image next home n block (wrote (inr late)) live.in_use
 
       -- what the file has more
@@ -223,11 +231,13 @@ module _ (s : Structure) (tail : Tail) (block : List ℕ) (id : FileId) (old : D
           (index-linked old.image next home n id.number block lbn count (wrote (inl one)) (index-slots one) (links-one one)
           ∙ ap (λ (change : File → File). with_more_slots (with_change (store_on s old) 1 change) count) none-more)
       store (inr late) =
-          file-stored old.image next home n block (wrote (inr late)) (good honest).sequence f (with_header_more old.image t id.number) late (last.is_last honest).of
+          file-stored old.image next home n block (wrote (inr late)) (good honest).sequence f (with_header_more old.image t id.number) late
+          (last.is_last honest).of
           (of-now old.image next home f n block written (links honest).stands)
           (file-linked old.image next home f n id.number block (omega (arith, late)) (wrote (inr late)) (links honest))
           ∙ ap (with_change (store_on s old) f) zeros-more
-          ∙ ap (λ (slots : Bool). with_slots_if slots count (with_change (store_on s old) f (with_header_of t id.number (new_blocks slots count)))) (sym (are-none late))
+          ∙ ap (λ (slots : Bool). with_slots_if slots count
+          (with_change (store_on s old) f (with_header_of t id.number (new_blocks slots count)))) (sym (are-none late))
 
       has-store : HasStore home then next
       has-store = record { sound = written.slot.sound; store = store gets }
@@ -236,13 +246,16 @@ module _ (s : Structure) (tail : Tail) (block : List ℕ) (id : FileId) (old : D
     module _ (place : ℕ) (new : Disk) (at : place ≡ header_lbn (index_in s) n) where
       moment : Linking s tail id count old (set old.image place block)
       moment honest =
-          subst (HasStore home then) (ap (λ (x : Index). set old.image (header_lbn x n) block) (sym (for.keeps honest).index_is) ∙ ap (λ (l : ℕ). set old.image l block) (sym at))
+          subst (HasStore home then) (ap (λ (x : Index). set old.image (header_lbn x n) block) (sym (for.keeps honest).index_is)
+          ∙ ap (λ (l : ℕ). set old.image l block) (sym at))
           (has-store honest)
 
-      pub fails-link : (new ≡ with_transfer false old) ⊎ (new ≡ with_transfer false (with_block_at place block old)) → Went (Linking s tail id count old) old new 1 1
+      pub fails-link : (new ≡ with_transfer false old) ⊎ (new ≡ with_transfer false (with_block_at place block old))
+          → Went (Linking s tail id count old) old new 1 1
       fails-link is = went_failed_write (Linking s tail id count old) old new place block is moment
 
-      module _ (after : IndexFile) (behind : index_kept after ≡ index_behind (tail.file.number == 1) (index_in s) lbn count) (left : room s.index ≤ room after + count)
+      module _ (after : IndexFile) (behind : index_kept after ≡ index_behind (tail.file.number == 1) (index_in s) lbn count)
+          (left : room s.index ≤ room after + count)
           (is : new ≡ with_transfer true (with_block_at place block old)) where
         abbrev e : Structure
         e = record s { index = after }
@@ -251,15 +264,19 @@ module _ (s : Structure) (tail : Tail) (block : List ℕ) (id : FileId) (old : D
         image = image-is s after n block lbn count old new for within place at is
 
         pub links-stays : StaysFor false s e new
-        links-stays = for-stays refl (behind-for s after n block lbn count old new for within place at is gets behind (λ honest. wrote honest gets))
+        links-stays =
+            for-stays refl (behind-for s after n block lbn count old new for within place at is gets behind (λ honest. wrote honest gets))
 
         pub links-tail : LinksTail s e tail id count old new
         links-tail = record {
           is_last = λ honest.
-              subst (λ (i : Image). IsLastOf (table_of i home) f id.number) (sym (image honest)) (last-linked old.image next home f n id.number block (written honest) (links honest));
+              subst (λ (i : Image). IsLastOf (table_of i home) f id.number) (sym (image honest))
+              (last-linked old.image next home f n id.number block (written honest) (links honest));
           header_stays = λ honest.
-              ap (λ (i : Image). (table_of i home).header id.number) (image honest) ∙ m-stays old.image next home f n id.number block (written honest) (links honest);
-          in_use = λ m used. subst (λ (x : Index). is_in_use x m ≡ true) (sym behind) (in_use-behind (f == 1) (index_in s) lbn count m s refl used);
+              ap (λ (i : Image). (table_of i home).header id.number) (image honest)
+              ∙ m-stays old.image next home f n id.number block (written honest) (links honest);
+          in_use = λ m used. subst (λ (x : Index). is_in_use x m ≡ true) (sym behind)
+              (in_use-behind (f == 1) (index_in s) lbn count m s refl used);
           bitmap = refl;
           left = left;
           links = λ honest.

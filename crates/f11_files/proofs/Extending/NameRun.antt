@@ -1,5 +1,6 @@
 -- Blocks of zeros that a file's last header names.
-use Rattle.std.proofs.Common.{◌≡◌, ◌⊎◌, ◌+◌, ◌≤◌, ◌==◌, ℕ, zero, suc, Bool, true, false, IsTrue, List, inl, inr, ◌∷◌, ◌++◌, length, option_map, refl, sym, ap, subst, ◌∙◌, arith}
+use Rattle.std.proofs.Common.{◌≡◌, ◌⊎◌, ◌+◌, ◌≤◌, ◌==◌, ℕ, zero, suc, Bool, true, false, IsTrue, List, inl, inr, ◌∷◌, ◌++◌, length}
+use Rattle.std.proofs.Common.{option_map, refl, sym, ap, subst, ◌∙◌, arith}
 use Rattle.std.specs.List.{range_with_len}
 use Rattle.std.proofs.Math.ListN.{set}
 use Rattle.f11_dev.specs.Disk.{Disk, with_transfer, with_block_at}
@@ -35,7 +36,8 @@ use Rattle.f11_store.specs.Pieces.{new_blocks, with_blocks_named, with_more_bloc
 use Rattle.f11_files.specs.Extending.Growing.{SameFree}
 use Rattle.f11_files.specs.Extending.Slots.{GetsBlocks, MayCome, index_behind}
 use Rattle.f11_files.specs.Structure.{index_in, bitmap_in, home_of, store_on, IsStructureFor, StaysFor}
-use Rattle.f11_files.specs.Extending.Tail.{HoldsLast, MayBeGiven, HasStore, Naming, NamesAll, NamesInHand, NamesRun, FailsToName, ownership_of}
+use Rattle.f11_files.specs.Extending.Tail.{HoldsLast, MayBeGiven, HasStore, Naming, NamesAll, NamesInHand, NamesRun, FailsToName}
+use Rattle.f11_files.specs.Extending.Tail.{ownership_of}
 use Rattle.f11_image_store.specs.StoreOf.{store_of}
 use Rattle.f11_files.specs.Extending.Zeros.{HoldsZeros}
 use Rattle.f11_files.specs.declared.structure.Structure.{Structure}
@@ -60,9 +62,11 @@ held-zeros image lbn (suc count) holds =
     λ i. here i ∷ rest i
 
 -- what is said where a map area was rewritten
-pub held-again : (was block : List ℕ) → IsTrue (holds_header was) → RewritesMap was block → IsTrue (holds_header block) × (header_fields block ≡ record (header_fields was) { map = map_area block })
+pub held-again : (was block : List ℕ) → IsTrue (holds_header was) → RewritesMap was block
+    → IsTrue (holds_header block) × (header_fields block ≡ record (header_fields was) { map = map_area block })
 held-again was block holds rewrites =
-    held-from block (record (header_fields was) { map = map_area block }) (rewrites.fields ∙ ap (option_map (λ (h : HeaderFields). record h { map = map_area block })) (header_in-held was holds))
+    held-from block (record (header_fields was) { map = map_area block })
+    (rewrites.fields ∙ ap (option_map (λ (h : HeaderFields). record h { map = map_area block })) (header_in-held was holds))
 
 -- a header whose map area was rewritten
 module _ (n : ℕ) (was block : List ℕ) (valid : IsHeader was n) (rewrites : RewritesMap was block) where
@@ -112,7 +116,8 @@ module _ (was block : List ℕ) (more lbn count : ℕ) (appends : NamesInHand wa
       omega (arith, has.pointers, has.places_are, within)
 
 -- it is a file's last, in hand
-module _ (s : Structure) (tail : Tail) (block : List ℕ) (lbn count : ℕ) (old : Disk) (for : IsStructureFor s old) (last : HoldsLast s tail old)
+module _ (s : Structure) (tail : Tail) (block : List ℕ) (lbn count : ℕ) (old : Disk) (for : IsStructureFor s old)
+    (last : HoldsLast s tail old)
     (given : MayBeGiven (home_of s) lbn count old) (all : NamesAll tail.block block lbn count) where
   abbrev home : HomeFields
   home = home_of s
@@ -153,7 +158,8 @@ module _ (s : Structure) (tail : Tail) (block : List ℕ) (lbn count : ℕ) (old
     no-link = ap (λ l. l.number) (link-more tail.block block more lbn count appends) ∙ last.no_link
 
     blocks-are : blocks_named block ≡ blocks_named (t.header n) ++ range_with_len lbn count
-    blocks-are = blocks-more tail.block block more lbn count appends ∙ ap (λ (b : List ℕ). blocks_named b ++ range_with_len lbn count) was-is
+    blocks-are =
+        blocks-more tail.block block more lbn count appends ∙ ap (λ (b : List ℕ). blocks_named b ++ range_with_len lbn count) was-is
 
     pub becomes : MayBecome (volume_of old.image home) n block
     unfolding volume_of
@@ -161,7 +167,8 @@ module _ (s : Structure) (tail : Tail) (block : List ℕ) (lbn count : ℕ) (old
       valid = valid;
       good = λ _. good;
       names = subst (MayName (volume_of old.image home) n) (sym blocks-are)
-          (more-names (volume_of old.image home) n lbn count (for.sound honest).sound (live_of-header (last.is_last honest).of) (given.unreferenced honest));
+          (more-names (volume_of old.image home) n lbn count (for.sound honest).sound (live_of-header (last.is_last honest).of)
+          (given.unreferenced honest));
       link = links_to_none no-link;
     }
 
@@ -179,114 +186,139 @@ module _ (s : Structure) (tail : Tail) (block : List ℕ) (lbn count : ℕ) (old
       blocks = blocks-are;
     }
 
-  module _ (gets : GetsBlocks tail.file.number) (within : lbn + count ≤ (bitmap_in s).size) (come : MayCome s tail.file.number count old) where
-    abbrev then : Store
-    then = with_blocks_named f more count (store_on s old)
+  module _ (gets : GetsBlocks tail.file.number) (within : lbn + count ≤ (bitmap_in s).size) (come : MayCome s tail.file.number count old)
+    where
+      abbrev then : Store
+      then = with_blocks_named f more count (store_on s old)
 
-    on-device : lbn + count ≤ length old.image
-    on-device = let whole = for.lies.volume in omega (arith, within, whole)
+      on-device : lbn + count ≤ length old.image
+      on-device = let whole = for.lies.volume in omega (arith, within, whole)
 
-    module _ (honest : IsTrue old.honest) where
-      live : IsLive t n
-      live = live_of-header (last.is_last honest).of
+      module _ (honest : IsTrue old.honest) where
+        live : IsLive t n
+        live = live_of-header (last.is_last honest).of
 
-      wrote : (kind : GetsBlocks f) → WroteAs kind n block lbn count home old.image next
-      wrote (inl one) =
-          let few = (names honest).stands.few in
-          let may : NamesMoreOf t 1 n block more lbn count = subst (λ (j : ℕ). NamesMoreOf t j n block more lbn count) one (names honest) in
-          names-keep old.image home n block lbn count (for.sound honest)
-          (record { last = subst (λ (j : ℕ). IsLastOf t j n) one (last.is_last honest); few = few; good = may.stands.good; no_link = may.no_link; blocks = may.blocks }) on-device (becomes honest)
-      wrote (inr late) = file-rewrite-keeps old.image home (for.sound honest) n block f late (last.is_last honest).of (becomes honest)
+        wrote : (kind : GetsBlocks f) → WroteAs kind n block lbn count home old.image next
+        wrote (inl one) =
+            let few = (names honest).stands.few in
+            let may : NamesMoreOf t 1 n block more lbn count = subst (λ (j : ℕ). NamesMoreOf t j n block more lbn count) one
+            (names honest) in
+            names-keep old.image home n block lbn count (for.sound honest)
+            (record {
+              last = subst (λ (j : ℕ). IsLastOf t j n) one (last.is_last honest);
+              few = few;
+              good = may.stands.good;
+              no_link = may.no_link;
+              blocks = may.blocks;
+            }) on-device (becomes honest)
+        wrote (inr late) = file-rewrite-keeps old.image home (for.sound honest) n block f late (last.is_last honest).of (becomes honest)
 
-      written : HasWritten n block home old.image next
-      written = has-written gets n block lbn count home old.image next live (wrote gets)
+        written : HasWritten n block home old.image next
+        written = has-written gets n block lbn count home old.image next live (wrote gets)
 
-      -- as slots
-      index-slots : (one : f ≡ 1) → HasSlotsMore count t (table_of next home)
-      index-slots one =
-          slots-more old.image home n block lbn count (for.sound honest) (subst (λ (j : ℕ). IsLastOf t j n) one (last.is_last honest)).of (wrote (inl one)) on-device
-          (given.zeros honest) (come.limit honest (are-slots one))
+        -- as slots
+        index-slots : (one : f ≡ 1) → HasSlotsMore count t (table_of next home)
+        index-slots one =
+            slots-more old.image home n block lbn count (for.sound honest) (subst (λ (j : ℕ). IsLastOf t j n) one (last.is_last honest)).of
+            (wrote (inl one)) on-device
+            (given.zeros honest) (come.limit honest (are-slots one))
 
-      zero-slots : (kind : GetsBlocks f) → AddsZeroSlots t (table_of next home)
-      zero-slots (inl one) =
-          zero-grown old.image next home n block lbn count (wrote (inl one)) live.in_use (index-slots one).slots
-          (slots-zero old.image home n block lbn count (for.sound honest) (subst (λ (j : ℕ). IsLastOf t j n) one (last.is_last honest)).of (wrote (inl one)) on-device (given.zeros honest) (come.limit honest (are-slots one)))
-      zero-slots (inr late) = zero-header old.image next home n block (wrote (inr late)) live.in_use
+        zero-slots : (kind : GetsBlocks f) → AddsZeroSlots t (table_of next home)
+        zero-slots (inl one) =
+            zero-grown old.image next home n block lbn count (wrote (inl one)) live.in_use (index-slots one).slots
+            (slots-zero old.image home n block lbn count (for.sound honest) (subst (λ (j : ℕ). IsLastOf t j n) one (last.is_last honest)).of
+            (wrote (inl one)) on-device (given.zeros honest) (come.limit honest (are-slots one)))
+        zero-slots (inr late) = zero-header old.image next home n block (wrote (inr late)) live.in_use
 
-      store : (kind : GetsBlocks f) → store_of next home ≡ then
-      store (inl one) =
-          subst (λ (j : ℕ). store_of next home ≡ with_blocks_named j more count (store_on s old)) (sym one)
-          (index-more old.image next home n block more lbn count (wrote (inl one)) (index-slots one) (subst (λ (j : ℕ). NamesMoreOf t j n block more lbn count) one (names honest)))
-      store (inr late) =
-          file-grows old.image next home f n block more lbn count late (wrote (inr late)) (names honest)
-          ∙ ap (λ (bs : List (List ℕ)). with_change (store_on s old) f (with_more_blocks more bs)) (held-zeros old.image lbn count (given.zeros honest))
-          ∙ ap (λ (slots : Bool). with_slots_if slots count (with_change (store_on s old) f (with_more_blocks more (new_blocks slots count)))) (sym (are-none late))
+        store : (kind : GetsBlocks f) → store_of next home ≡ then
+        store (inl one) =
+            subst (λ (j : ℕ). store_of next home ≡ with_blocks_named j more count (store_on s old)) (sym one)
+            (index-more old.image next home n block more lbn count (wrote (inl one)) (index-slots one)
+            (subst (λ (j : ℕ). NamesMoreOf t j n block more lbn count) one (names honest)))
+        store (inr late) =
+            file-grows old.image next home f n block more lbn count late (wrote (inr late)) (names honest)
+            ∙ ap (λ (bs : List (List ℕ)). with_change (store_on s old) f (with_more_blocks more bs))
+            (held-zeros old.image lbn count (given.zeros honest))
+            ∙ ap (λ (slots : Bool). with_slots_if slots count
+            (with_change (store_on s old) f (with_more_blocks more (new_blocks slots count)))) (sym (are-none late))
 
-      has-store : HasStore home then next
-      has-store = record { sound = written.slot.sound; store = store gets }
+        has-store : HasStore home then next
+        has-store = record { sound = written.slot.sound; store = store gets }
 
-      last-named : IsLastOf (table_of next home) f n
-      last-named = record {
-        of = of-now old.image next home f n block written (names honest).stands;
-        no_link = ap (λ (b : List ℕ). (link_of b).number) written.header ∙ no-link honest;
-      }
-
-    -- it is written
-    module _ (place : ℕ) (new : Disk) (at : place ≡ header_lbn (index_in s) n) where
-      moment : Naming s tail more count old (set old.image place block)
-      moment honest =
-          subst (HasStore home then) (ap (λ (x : Index). set old.image (header_lbn x n) block) (sym (for.keeps honest).index_is) ∙ ap (λ (l : ℕ). set old.image l block) (sym at))
-          (has-store honest)
-
-      pub fails-name : (new ≡ with_transfer false old) ⊎ (new ≡ with_transfer false (with_block_at place block old)) → FailsToName s tail lbn count old new
-      fails-name is = record { more = more; few = all.few; fits = pointers-fit tail.block block more lbn count appends; went = went_failed_write (Naming s tail more count old) old new place block is moment }
-
-      module _ (after : IndexFile) (behind : index_kept after ≡ index_behind (tail.file.number == 1) (index_in s) lbn count) (left : room s.index ≤ room after + count)
-          (is : new ≡ with_transfer true (with_block_at place block old)) where
-        abbrev e : Structure
-        e = record s { index = after }
-
-        went : Went (Naming s tail more count old) old new 1 0
-        went = went_write (Naming s tail more count old) old new place block is moment
-
-        image : IsTrue old.honest → new.image ≡ next
-        image = image-is s after n block lbn count old new for within place at is
-
-        was-honest : IsTrue new.honest → IsTrue old.honest
-        was-honest honest = sym went.honest ∙ honest
-
-        for-new : IsStructureFor e new
-        for-new = behind-for s after n block lbn count old new for within place at is gets behind (λ honest. wrote honest gets)
-
-        pub names-stays : StaysFor false s e new
-        names-stays = for-stays refl for-new
-
-        pub names-run : NamesRun s e tail (record tail { block = block }) lbn count old new
-        names-run = record {
-          file_is = refl;
-          more = more;
-          few = all.few;
-          fits = pointers-fit tail.block block more lbn count appends;
-          holds = record {
-            header = record {
-              in_use = subst (λ (x : Index). is_in_use x n ≡ true) (sym behind) (in_use-behind (f == 1) (index_in s) lbn count n s refl last.header.in_use);
-              valid = valid;
-              block_is = λ honest.
-                  let before = was-honest honest in
-                  sym (written before).header ∙ ap (λ (i : Image). (table_of i home).header n) (sym (image before))
-                  ∙ ap (λ (u : Table). u.header n) (sym (table-of e new for-new honest));
-            };
-            no_link = ap (λ l. l.number) (link-more tail.block block more lbn count appends) ∙ last.no_link;
-            few = let same = segment-more tail.block block more lbn count appends in omega (arith, same, last.few);
-            is_last = λ honest. let before = was-honest honest in subst (λ (i : Image). IsLastOf (table_of i home) f n) (sym (image before)) (last-named before);
-          };
-          bitmap = refl;
-          left = left;
-          names = λ honest.
-              subst (λ (i : Image). NamesMore f (ownership_of tail) (range_with_len lbn count) t (table_of i home)) (sym (image honest))
-              (names-more old.image next home f n block more lbn count (written honest) (names honest) (ownership_of tail));
-          slots = λ honest. subst (λ (i : Image). AddsZeroSlots t (table_of i home)) (sym (image honest)) (zero-slots honest gets);
-          store = λ honest. subst (HasStore home then) (sym (image honest)) (has-store honest);
-          free = λ honest. subst (SameFree home old.image) (sym (image honest)) (ap (λ (v : Volume). v.free) (written honest).slot.volume);
-          went = went;
+        last-named : IsLastOf (table_of next home) f n
+        last-named = record {
+          of = of-now old.image next home f n block written (names honest).stands;
+          no_link = ap (λ (b : List ℕ). (link_of b).number) written.header ∙ no-link honest;
         }
+
+      -- it is written
+      module _ (place : ℕ) (new : Disk) (at : place ≡ header_lbn (index_in s) n) where
+        moment : Naming s tail more count old (set old.image place block)
+        moment honest =
+            subst (HasStore home then) (ap (λ (x : Index). set old.image (header_lbn x n) block) (sym (for.keeps honest).index_is)
+            ∙ ap (λ (l : ℕ). set old.image l block) (sym at))
+            (has-store honest)
+
+        pub fails-name : (new ≡ with_transfer false old) ⊎ (new ≡ with_transfer false (with_block_at place block old))
+            → FailsToName s tail lbn count old new
+        fails-name is =
+            record {
+              more = more;
+              few = all.few;
+              fits = pointers-fit tail.block block more lbn count appends;
+              went = went_failed_write (Naming s tail more count old) old new place block is moment;
+            }
+
+        module _ (after : IndexFile) (behind : index_kept after ≡ index_behind (tail.file.number == 1) (index_in s) lbn count)
+            (left : room s.index ≤ room after + count)
+            (is : new ≡ with_transfer true (with_block_at place block old)) where
+          abbrev e : Structure
+          e = record s { index = after }
+
+          went : Went (Naming s tail more count old) old new 1 0
+          went = went_write (Naming s tail more count old) old new place block is moment
+
+          image : IsTrue old.honest → new.image ≡ next
+          image = image-is s after n block lbn count old new for within place at is
+
+          was-honest : IsTrue new.honest → IsTrue old.honest
+          was-honest honest = sym went.honest ∙ honest
+
+          for-new : IsStructureFor e new
+          for-new = behind-for s after n block lbn count old new for within place at is gets behind (λ honest. wrote honest gets)
+
+          pub names-stays : StaysFor false s e new
+          names-stays = for-stays refl for-new
+
+          pub names-run : NamesRun s e tail (record tail { block = block }) lbn count old new
+          names-run = record {
+            file_is = refl;
+            more = more;
+            few = all.few;
+            fits = pointers-fit tail.block block more lbn count appends;
+            holds = record {
+              header = record {
+                in_use = subst (λ (x : Index). is_in_use x n ≡ true) (sym behind)
+                    (in_use-behind (f == 1) (index_in s) lbn count n s refl last.header.in_use);
+                valid = valid;
+                block_is = λ honest.
+                    let before = was-honest honest in
+                    sym (written before).header ∙ ap (λ (i : Image). (table_of i home).header n) (sym (image before))
+                    ∙ ap (λ (u : Table). u.header n) (sym (table-of e new for-new honest));
+              };
+              no_link = ap (λ l. l.number) (link-more tail.block block more lbn count appends) ∙ last.no_link;
+              few = let same = segment-more tail.block block more lbn count appends in omega (arith, same, last.few);
+              is_last = λ honest. let before = was-honest honest in
+                  subst (λ (i : Image). IsLastOf (table_of i home) f n) (sym (image before)) (last-named before);
+            };
+            bitmap = refl;
+            left = left;
+            names = λ honest.
+                subst (λ (i : Image). NamesMore f (ownership_of tail) (range_with_len lbn count) t (table_of i home)) (sym (image honest))
+                (names-more old.image next home f n block more lbn count (written honest) (names honest) (ownership_of tail));
+            slots = λ honest. subst (λ (i : Image). AddsZeroSlots t (table_of i home)) (sym (image honest)) (zero-slots honest gets);
+            store = λ honest. subst (HasStore home then) (sym (image honest)) (has-store honest);
+            free = λ honest. subst (SameFree home old.image) (sym (image honest))
+                (ap (λ (v : Volume). v.free) (written honest).slot.volume);
+            went = went;
+          }

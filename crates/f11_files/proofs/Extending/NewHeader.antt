@@ -26,8 +26,10 @@ same-headers : (s : Store) (count : ℕ) → free_headers (with_more_free s coun
 unfolding free_slots
 same-headers s count = refl
 
-module _ (s : Structure) (tail : Tail) (lbn count : ℕ) (old : Disk) (for : IsStructureFor s old) (last : HoldsLast s tail old) (given : MayBeGiven (home_of s) lbn count old)
-    (full : room_in tail.block ≡ 0) (may : IsTrue old.honest → MayGrowAs (with_more_free (store_on s old) count) tail.file.number count (run_pointers count)) where
+module _ (s : Structure) (tail : Tail) (lbn count : ℕ) (old : Disk) (for : IsStructureFor s old) (last : HoldsLast s tail old)
+    (given : MayBeGiven (home_of s) lbn count old)
+    (full : room_in tail.block ≡ 0)
+    (may : IsTrue old.honest → MayGrowAs (with_more_free (store_on s old) count) tail.file.number count (run_pointers count)) where
   abbrev home : HomeFields
   home = home_of s
 
@@ -61,11 +63,17 @@ module _ (s : Structure) (tail : Tail) (lbn count : ℕ) (old : Disk) (for : IsS
 
   -- the file has as many headers as it may
   pub too-many : segment_number tail.block ≡ 255 → Breaks P 4 Damaged old old
-  too-many is = record { fatal = refl; undamaged = λ honest _. let early = is-early honest in omega (arith, early, is); writes = writes-none P 4 old }
+  too-many is =
+      record { fatal = refl; undamaged = λ honest _. let early = is-early honest in omega (arith, early, is); writes = writes-none P 4 old }
 
   -- a header was taken for it
   pub taken-moment : (image : Image) → Taking home 0 1 st old image → P image
-  taken-moment image is honest = record { sound = (is honest).sound; stage = inl (takes-within 0 0 1 (need file.room (run_pointers count)) st (store_of image home) (omega arith) (needed honest) (is honest).takes) }
+  taken-moment image is honest =
+      record {
+        sound = (is honest).sound;
+        stage = inl (takes-within 0 0 1 (need file.room (run_pointers count)) st (store_of image home) (omega arith) (needed honest)
+            (is honest).takes);
+      }
 
   pub fails-enter : (mid : Disk) (r : Refusal) → Breaks (Taking home 0 1 st old) 3 r old mid → Breaks P 4 r old mid
   fails-enter mid r breaks = breaks-within (λ _. omega arith) (breaks-weaker taken-moment breaks)

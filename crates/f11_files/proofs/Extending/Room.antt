@@ -1,5 +1,6 @@
 -- Room for more blocks of a file.
-use Rattle.std.proofs.Common.{◌≡◌, ◌≢◌, ◌-◌, ◌+◌, ◌<◌, inl, inr, ltb, ℕ, Bool, true, false, cond, IsTrue, List, [], ◌∷◌, ◌++◌, length, length-append, Some, None, refl, sym, ap, subst, ◌∙◌, arith}
+use Rattle.std.proofs.Common.{◌≡◌, ◌≢◌, ◌-◌, ◌+◌, ◌<◌, inl, inr, ltb, ℕ, Bool, true, false, cond, IsTrue, List, [], ◌∷◌, ◌++◌, length}
+use Rattle.std.proofs.Common.{length-append, Some, None, refl, sym, ap, subst, ◌∙◌, arith}
 use Rattle.std.proofs.lemmas.Bool.{cases_lt, le-ltb, lt-ltb}
 use Rattle.f11_dev.specs.Disk.{Disk}
 use Rattle.f11_dev.specs.Image.{Image}
@@ -46,19 +47,49 @@ pub record IsClean (r : Refusal) : Type 0 where
   pub among : (s : Store) (f : FileId) (n : ℕ) → is_among (held_causes s f n) r ≡ true
 
 clean : (a b c : Bool) (r : Refusal) → first_of ((TooManySegments ⇐ a) ∷ (DeviceFull ⇐ b) ∷ (NoHeader ⇐ c) ∷ []) ≡ Some r → IsClean r
-clean true b c r is = let same : TooManySegments ≡ r = cc in subst IsClean same record { not_failed = λ no. omega (arith, no); not_damaged = λ no. omega (arith, no); no_fault = refl; other = λ no. omega (arith, no); not_wanting = λ no. omega (arith, no); among = λ s f n. refl }
-clean false true c r is = let same : DeviceFull ≡ r = cc in subst IsClean same record { not_failed = λ no. omega (arith, no); not_damaged = λ no. omega (arith, no); no_fault = refl; other = λ no. omega (arith, no); not_wanting = λ no. omega (arith, no); among = λ s f n. refl }
-clean false false true r is = let same : NoHeader ≡ r = cc in subst IsClean same record { not_failed = λ no. omega (arith, no); not_damaged = λ no. omega (arith, no); no_fault = refl; other = λ no. omega (arith, no); not_wanting = λ no. omega (arith, no); among = λ s f n. refl }
+clean true b c r is =
+    let same : TooManySegments ≡ r = cc in
+    subst IsClean same record {
+      not_failed = λ no. omega (arith, no);
+      not_damaged = λ no. omega (arith, no);
+      no_fault = refl;
+      other = λ no. omega (arith, no);
+      not_wanting = λ no. omega (arith, no);
+      among = λ s f n. refl;
+    }
+clean false true c r is =
+    let same : DeviceFull ≡ r = cc in
+    subst IsClean same record {
+      not_failed = λ no. omega (arith, no);
+      not_damaged = λ no. omega (arith, no);
+      no_fault = refl;
+      other = λ no. omega (arith, no);
+      not_wanting = λ no. omega (arith, no);
+      among = λ s f n. refl;
+    }
+clean false false true r is =
+    let same : NoHeader ≡ r = cc in
+    subst IsClean same record {
+      not_failed = λ no. omega (arith, no);
+      not_damaged = λ no. omega (arith, no);
+      no_fault = refl;
+      other = λ no. omega (arith, no);
+      not_wanting = λ no. omega (arith, no);
+      among = λ s f n. refl;
+    }
 clean false false false r is = absurd cc
 
-pub lacks-cause : (headers room free more n : ℕ) (r : Refusal) → first_of (room_causes headers room free more n) ≡ Some r → refusal_number r ≢ 6
+pub lacks-cause : (headers room free more n : ℕ) (r : Refusal) → first_of (room_causes headers room free more n) ≡ Some r
+    → refusal_number r ≢ 6
 lacks-cause headers room free more n r is = (clean _ _ _ r is).other
 
-pub lacks-want : (headers room free more n : ℕ) (r : Refusal) → first_of (room_causes headers room free more n) ≡ Some r → refusal_number r ≢ 18
+pub lacks-want : (headers room free more n : ℕ) (r : Refusal) → first_of (room_causes headers room free more n) ≡ Some r
+    → refusal_number r ≢ 18
 lacks-want headers room free more n r is = (clean _ _ _ r is).not_wanting
 
 -- the causes stay where the number of free headers is as far from what is needed
-pub causes-alike : (headers room free a b n : ℕ) → ltb a (need room n) ≡ ltb b (need room n) → first_of (room_causes headers room free a n) ≡ first_of (room_causes headers room free b n)
+pub causes-alike : (headers room free a b n : ℕ) → ltb a (need room n) ≡ ltb b (need room n)
+    → first_of (room_causes headers room free a n) ≡ first_of (room_causes headers room free b n)
 causes-alike headers room free a b n same =
     ap (λ (c : Bool). first_of ((TooManySegments ⇐ ltb 256 (headers + need room n)) ∷ (DeviceFull ⇐ ltb free n) ∷ (NoHeader ⇐ c) ∷ [])) same
 
@@ -90,7 +121,8 @@ module _ (image : Image) (t : Table) (f n : ℕ) (last : IsLastOf t f n) (few : 
   count-is = ap (λ (hs : List ℕ). length hs) (reached ∙ split) ∙ length-append before.0 (n ∷ []) ∙ ap (λ (c : ℕ). c + 1) before.1.count
 
 -- a file's first header in hand, and its last
-module _ (s : Structure) (f : FileId) (block : List ℕ) (old : Disk) (for : IsStructureFor s old) (holds : HoldsFile (index_in s) f block old) (end : FileEnd) (after : List ℕ) (new : Disk)
+module _ (s : Structure) (f : FileId) (block : List ℕ) (old : Disk) (for : IsStructureFor s old)
+    (holds : HoldsFile (index_in s) f block old) (end : FileEnd) (after : List ℕ) (new : Disk)
     (goes : ReadsLast (index_in s) f.number 0 end after old new) where
   abbrev st : Store
   st = store_on s old
@@ -117,31 +149,39 @@ module _ (s : Structure) (f : FileId) (block : List ℕ) (old : Disk) (for : IsS
 
     pub headers-named : length (file_named st f).held ≡ end.headers
     headers-named =
-        ap (λ (hs : List ℕ). length hs) (held-are s f block old for holds honest) ∙ ap (λ (t : Table). length (headers_of t f.number)) (sym same) ∙ sym (goes.headers_are honest)
+        ap (λ (hs : List ℕ). length hs) (held-are s f block old for holds honest)
+        ∙ ap (λ (t : Table). length (headers_of t f.number)) (sym same) ∙ sym (goes.headers_are honest)
 
-  module _ (room free headers slots n : ℕ) (room_is : room ≡ room_in after) (space : IsTrue old.honest → IsSpaceOf st free headers slots) where
-    -- the causes against more blocks of it
-    causes-are : IsTrue old.honest → first_of (held_causes st f n) ≡ first_of (room_causes end.headers room free headers n)
-    causes-are honest =
-        ap (λ (b : Bool). cond b (Some NoSuchFile) (first_of (room_causes (length (file_named st f).held) (file_named st f).room st.free (free_headers st) n))) (found-named s f old for honest (is-file s f block old for holds honest)).0
-        ∙ ap (λ (k : ℕ). first_of (room_causes k (file_named st f).room st.free (free_headers st) n)) (headers-named honest)
-        ∙ ap (λ (k : ℕ). first_of (room_causes end.headers k st.free (free_headers st) n)) (room-named honest ∙ sym room_is)
-        ∙ ap (λ (k : ℕ). first_of (room_causes end.headers room k (free_headers st) n)) (sym (space honest).blocks_are)
-        ∙ ap (λ (k : ℕ). first_of (room_causes end.headers room free k n)) (sym (space honest).headers_are)
+  module _ (room free headers slots n : ℕ) (room_is : room ≡ room_in after) (space : IsTrue old.honest → IsSpaceOf st free headers slots)
+    where
+      -- the causes against more blocks of it
+      causes-are : IsTrue old.honest → first_of (held_causes st f n) ≡ first_of (room_causes end.headers room free headers n)
+      causes-are honest =
+          ap (λ (b : Bool). cond b (Some NoSuchFile)
+          (first_of (room_causes (length (file_named st f).held) (file_named st f).room st.free (free_headers st) n)))
+          (found-named s f old for honest (is-file s f block old for holds honest)).0
+          ∙ ap (λ (k : ℕ). first_of (room_causes k (file_named st f).room st.free (free_headers st) n)) (headers-named honest)
+          ∙ ap (λ (k : ℕ). first_of (room_causes end.headers k st.free (free_headers st) n)) (room-named honest ∙ sym room_is)
+          ∙ ap (λ (k : ℕ). first_of (room_causes end.headers room k (free_headers st) n)) (sym (space honest).blocks_are)
+          ∙ ap (λ (k : ℕ). first_of (room_causes end.headers room free k n)) (sym (space honest).headers_are)
 
-    pub has-room : first_of (room_causes end.headers room free headers n) ≡ None → IsTrue old.honest → first_of (held_causes st f n) ≡ None
-    has-room none honest = causes-are honest ∙ none
+      pub has-room : first_of (room_causes end.headers room free headers n) ≡ None → IsTrue old.honest
+          → first_of (held_causes st f n) ≡ None
+      has-room none honest = causes-are honest ∙ none
 
-    pub lacks-room : (r : Refusal) → first_of (room_causes end.headers room free headers n) ≡ Some r → FailsToRead false (held_causes st f n) (header_count (file_named st f)) r old new
-    lacks-room r is =
-        let cause = clean _ _ _ r is in
-        record {
-          right = right-cause _ _ r cause.not_failed cause.not_damaged (cause.among st f n) (λ honest. causes-are honest ∙ is);
-          reads = subst (ReadsAtMost (header_count (file_named st f)) old new) (sym cause.no_fault) (reads-along s f block old new 0 for holds goes.looked);
-        }
+      pub lacks-room : (r : Refusal) → first_of (room_causes end.headers room free headers n) ≡ Some r
+          → FailsToRead false (held_causes st f n) (header_count (file_named st f)) r old new
+      lacks-room r is =
+          let cause = clean _ _ _ r is in
+          record {
+            right = right-cause _ _ r cause.not_failed cause.not_damaged (cause.among st f n) (λ honest. causes-are honest ∙ is);
+            reads = subst (ReadsAtMost (header_count (file_named st f)) old new) (sym cause.no_fault)
+                (reads-along s f block old new 0 for holds goes.looked);
+          }
 
 -- what was read is in hand then
-pub ends-then : (s : Structure) (f : FileId) (end : FileEnd) (was last : List ℕ) (old new : Disk) → FindsFileEnd s f end was last old new → HoldsEnd s f end was last new
+pub ends-then : (s : Structure) (f : FileId) (end : FileEnd) (was last : List ℕ) (old new : Disk) → FindsFileEnd s f end was last old new
+    → HoldsEnd s f end was last new
 ends-then s f end was last old new finds =
     let looked = finds.ends.looked.looked in
     let same = ap (λ (i : Image). table_in i (index_in s)) (sym looked.image) in

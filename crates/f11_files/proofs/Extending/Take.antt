@@ -1,5 +1,6 @@
 -- A run of free blocks that is marked used, for a file that is to have it.
-use Rattle.std.proofs.Common.{◌≡◌, ◌+◌, ◌-◌, ◌<◌, ◌≤◌, ℕ, zero, suc, Bool, true, false, IsTrue, refl, sym, ap, subst, ◌∙◌, ◌++◌, inl, inr, arith}
+use Rattle.std.proofs.Common.{◌≡◌, ◌+◌, ◌-◌, ◌<◌, ◌≤◌, ℕ, zero, suc, Bool, true, false, IsTrue, refl, sym, ap, subst, ◌∙◌, ◌++◌, inl, inr}
+use Rattle.std.proofs.Common.{arith}
 use Rattle.std.specs.List.{filter, range_with_len}
 use Rattle.std.proofs.lemmas.Bool.{cases_lt}
 use Rattle.f11_bits.specs.Bitmap.{Bitmap, count_below, free_blocks, is_free, Marks}
@@ -76,8 +77,10 @@ module _ (s : Structure) (from most : ℕ) (old : Disk) (for : IsStructureFor s 
   bitmap honest = (for.keeps honest).bitmap_is
 
   -- a front of a run of free blocks was marked used
-  module _ (lbn count part : ℕ) (image : Image) (some : 0 < part) (within : part ≤ count) (asked : count ≤ most) (honest : IsTrue old.honest)
-      (each : (k : ℕ) → lbn ≤ k → k < lbn + count → is_free old.image (bitmap_in s) k ≡ true) (marks : Marks false (bitmap_in s) lbn part old.image image) where
+  module _ (lbn count part : ℕ) (image : Image) (some : 0 < part) (within : part ≤ count) (asked : count ≤ most)
+      (honest : IsTrue old.honest)
+      (each : (k : ℕ) → lbn ≤ k → k < lbn + count → is_free old.image (bitmap_in s) k ≡ true)
+      (marks : Marks false (bitmap_in s) lbn part old.image image) where
     marks-there : Marks false (storage_bitmap old.image home) lbn part old.image image
     marks-there = subst (λ (b : Bitmap). Marks false b lbn part old.image image) (bitmap honest) marks
 
@@ -91,7 +94,9 @@ module _ (s : Structure) (from most : ℕ) (old : Disk) (for : IsStructureFor s 
     front-inside : lbn + part ≤ (storage_bitmap old.image home).size
     front-inside = elim (cases_lt (lbn + part - 1) (storage_bitmap old.image home).size) [
       | inl inside ↦ omega (arith, inside, some)
-      | inr past ↦ let free = front-free (lbn + part - 1) (omega (arith, some)) (omega (arith, some)) in let used = is_free-past old.image (storage_bitmap old.image home) (lbn + part - 1) past in absurd cc
+      | inr past ↦ let free =
+          front-free (lbn + part - 1) (omega (arith, some)) (omega (arith, some)) in
+          let used = is_free-past old.image (storage_bitmap old.image home) (lbn + part - 1) past in absurd cc
     ]
 
     pub front-store : store_of image home ≡ with_fewer_free st part
@@ -107,19 +112,25 @@ module _ (s : Structure) (from most : ℕ) (old : Disk) (for : IsStructureFor s 
     front-unreferenced = taken-unreferenced old.image image home lbn part (for.sound honest) marks-there front-inside front-free
 
   -- the images that stand while a run is marked used
-  pub run-moment : (lbn count : ℕ) → count ≤ most → (IsTrue old.honest → (k : ℕ) → lbn ≤ k → k < lbn + count → is_free old.image (bitmap_in s) k ≡ true)
+  pub run-moment : (lbn count : ℕ) → count ≤ most
+      → (IsTrue old.honest → (k : ℕ) → lbn ≤ k → k < lbn + count → is_free old.image (bitmap_in s) k ≡ true)
       → (image : Image) → Changing old.honest false (bitmap_in s) lbn count old.image image → Taking home most 0 st old image
   run-moment lbn count asked each image is honest =
-      let marking = is.marking honest in front-takes lbn count marking.part image marking.some marking.within asked honest (each honest) marking.marks
+      let marking = is.marking honest in
+      front-takes lbn count marking.part image marking.some marking.within asked honest (each honest) marking.marks
 
   first-moment : (image : Image) → TakingBits old.honest (bitmap_in s) from most old.image image → Taking home most 0 st old image
   first-moment image is honest = run-moment is.lbn is.count (is.run honest).asked (λ sure. (is.run sure).each) image is.changing honest
 
-  pub fails-taking : (new : Disk) → FailsToTake (bitmap_in s) from most old new → Breaks (Taking home most 0 st old) (blocks_from (bitmap_in s) from + 2) DeviceFault old new
-  fails-taking new fails = breaks-fault (went-writes (went_weaker (TakingBits old.honest (bitmap_in s) from most old.image) (Taking home most 0 st old) first-moment fails))
+  pub fails-taking : (new : Disk) → FailsToTake (bitmap_in s) from most old new
+      → Breaks (Taking home most 0 st old) (blocks_from (bitmap_in s) from + 2) DeviceFault old new
+  fails-taking new fails =
+      breaks-fault (went-writes
+      (went_weaker (TakingBits old.honest (bitmap_in s) from most old.image) (Taking home most 0 st old) first-moment fails))
 
   -- on an honest disk a block is free, where some are asked for
-  pub finds-none : (new : Disk) → 0 < most → (IsTrue old.honest → most ≤ st.free) → (IsTrue old.honest → NoneFreeBelow old.image (bitmap_in s) from) → FindsNone (bitmap_in s) from old new
+  pub finds-none : (new : Disk) → 0 < most → (IsTrue old.honest → most ≤ st.free)
+      → (IsTrue old.honest → NoneFreeBelow old.image (bitmap_in s) from) → FindsNone (bitmap_in s) from old new
       → Breaks (Taking home most 0 st old) (blocks_from (bitmap_in s) from + 2) Damaged old new
   finds-none new some enough below finds = record {
     fatal = refl;
@@ -134,12 +145,16 @@ module _ (s : Structure) (from most : ℕ) (old : Disk) (for : IsStructureFor s 
     writes = writes-within (λ _. omega arith) (went-writes (went_looked (Taking home most 0 st old) finds.looked));
   }
 
-  module _ (lbn count : ℕ) (new : Disk) (below : IsTrue old.honest → NoneFreeBelow old.image (bitmap_in s) from) (takes : Takes (bitmap_in s) from most lbn count old new) where
+  module _ (lbn count : ℕ) (new : Disk) (below : IsTrue old.honest → NoneFreeBelow old.image (bitmap_in s) from)
+      (takes : Takes (bitmap_in s) from most lbn count old new) where
     went : Went (Taking home most 0 st old) old new (blocks_to (bitmap_in s) from (lbn + count) + blocks_touched lbn count) 0
-    went = went_weaker (Changing old.honest false (bitmap_in s) lbn count old.image) (Taking home most 0 st old) (run-moment lbn count takes.within.asked (λ sure. (takes.first sure).each)) takes.marked.went
+    went =
+        went_weaker (Changing old.honest false (bitmap_in s) lbn count old.image) (Taking home most 0 st old)
+        (run-moment lbn count takes.within.asked (λ sure. (takes.first sure).each)) takes.marked.went
 
     none-before : IsTrue old.honest → NoneFreeBelow old.image (bitmap_in s) lbn
-    none-before honest k before = elim (cases_lt k from) [ inl early ↦ below honest k early | inr late ↦ (takes.first honest).first k late before ]
+    none-before honest k before =
+        elim (cases_lt k from) [ inl early ↦ below honest k early | inr late ↦ (takes.first honest).first k late before ]
 
     none-left : IsTrue old.honest → NoneFreeBelow new.image (bitmap_in s) (lbn + count)
     none-left honest k low = elim (cases_lt k lbn) [
@@ -149,23 +164,32 @@ module _ (s : Structure) (from most : ℕ) (old : Disk) (for : IsStructureFor s 
 
     module _ (honest : IsTrue old.honest) where
       kept : KeepsButFree home old.image new.image
-      kept = front-keeps lbn count count new.image takes.within.some (omega arith) takes.within.asked honest (takes.first honest).each (takes.marked.marks honest)
+      kept =
+          front-keeps lbn count count new.image takes.within.some (omega arith) takes.within.asked honest (takes.first honest).each
+          (takes.marked.marks honest)
 
       store-now : store_of new.image home ≡ with_fewer_free st count
-      store-now = front-store lbn count count new.image takes.within.some (omega arith) takes.within.asked honest (takes.first honest).each (takes.marked.marks honest)
+      store-now =
+          front-store lbn count count new.image takes.within.some (omega arith) takes.within.asked honest (takes.first honest).each
+          (takes.marked.marks honest)
 
       unreferenced-now : AreUnreferenced (volume_of new.image home) lbn count
-      unreferenced-now = front-unreferenced lbn count count new.image takes.within.some (omega arith) takes.within.asked honest (takes.first honest).each (takes.marked.marks honest)
+      unreferenced-now =
+          front-unreferenced lbn count count new.image takes.within.some (omega arith) takes.within.asked honest (takes.first honest).each
+          (takes.marked.marks honest)
 
       lowest-now : free_list (volume_of old.image home) ≡ range_with_len lbn count ++ free_list (volume_of new.image home)
       unfolding free_list volume_of
       lowest-now =
           ap (λ (b : Bitmap). filter (is_free old.image b) (range_with_len 0 b.size)) (sym (bitmap honest))
-          ∙ lowest-taken (is_free old.image (bitmap_in s)) (is_free new.image (bitmap_in s)) (bitmap_in s).size lbn count takes.within.within (none-before honest) (takes.first honest).each (none-left honest)
+          ∙ lowest-taken (is_free old.image (bitmap_in s)) (is_free new.image (bitmap_in s)) (bitmap_in s).size lbn count
+          takes.within.within (none-before honest) (takes.first honest).each (none-left honest)
           (takes.marked.marks honest).after
-          ∙ ap (λ (b : Bitmap). range_with_len lbn count ++ filter (is_free new.image b) (range_with_len 0 b.size)) (bitmap honest ∙ sym kept.bitmap)
+          ∙ ap (λ (b : Bitmap). range_with_len lbn count ++ filter (is_free new.image b) (range_with_len 0 b.size))
+          (bitmap honest ∙ sym kept.bitmap)
 
-    pub takes-run : (t : Structure) → index_in t ≡ index_in s → bitmap_in t ≡ bitmap_in s → room t.index ≡ room s.index → TakesNextRun s t from most lbn count old new
+    pub takes-run : (t : Structure) → index_in t ≡ index_in s → bitmap_in t ≡ bitmap_in s → room t.index ≡ room s.index
+        → TakesNextRun s t from most lbn count old new
     takes-run t index bitmaps left = record {
       index = index;
       bitmap = bitmaps;
@@ -185,7 +209,8 @@ module _ (s : Structure) (from most : ℕ) (old : Disk) (for : IsStructureFor s 
       lies = λ _. record {
         index = subst (λ (n : ℕ). IndexLiesWithin (index_in s) n) (sym went.size) for.lies.index;
         bitmap = is.within;
-        volume = let size = ap (λ (b : Bitmap). b.size) same in let device = went.size in let was = for.lies.volume in omega (arith, size, device, was);
+        volume = let size = ap (λ (b : Bitmap). b.size) same in let device = went.size in let was = for.lies.volume in
+            omega (arith, size, device, was);
       };
       sound = sound-growing (taking-sound home most 0 st old) for.sound (went-writes went);
       keeps = λ _ honest.

@@ -38,7 +38,8 @@ pub break-cost : (bitmap : Bitmap) (from most lbn count : ℕ) → from ≤ lbn 
     → blocks_to bitmap from (lbn + count) + blocks_touched lbn count + (count + 4) ≤ blocks_from bitmap from + 5 * most + 3
 break-cost bitmap from most lbn count above some few asked = omega (arith, above, some, few, asked)
 
-module _ (s t : Structure) (tail : Tail) (from most lbn count : ℕ) (old mid : Disk) (for : IsStructureFor s old) (last : HoldsLast s tail old) (enough : IsTrue old.honest → most ≤ (store_on s old).free)
+module _ (s t : Structure) (tail : Tail) (from most lbn count : ℕ) (old mid : Disk) (for : IsStructureFor s old)
+    (last : HoldsLast s tail old) (enough : IsTrue old.honest → most ≤ (store_on s old).free)
     (takes : TakesNextRun s t from most lbn count old mid) (stays : StaysFor false s t mid) where
   abbrev home : HomeFields
   home = home_of s
@@ -76,7 +77,9 @@ module _ (s t : Structure) (tail : Tail) (from most lbn count : ℕ) (old mid : 
       block_is = λ honest.
           let before = was-honest honest in
           last.header.block_is before
-          ∙ ap (λ (x : Table). x.header tail.number) (table-of s old for before ∙ sym (tables before) ∙ ap (table_of mid.image) (sym stays.home) ∙ sym (table-of t mid run-for honest));
+          ∙ ap (λ (x : Table). x.header tail.number)
+          (table-of s old for before ∙ sym (tables before) ∙ ap (table_of mid.image) (sym stays.home)
+          ∙ sym (table-of t mid run-for honest));
     };
     no_link = last.no_link;
     few = last.few;
@@ -90,29 +93,36 @@ module _ (s t : Structure) (tail : Tail) (from most lbn count : ℕ) (old mid : 
   bitmap-mid : IsTrue mid.honest → storage_bitmap mid.image home ≡ bitmap_in s
   bitmap-mid there = ap (storage_bitmap mid.image) (sym stays.home) ∙ sym (stays.keeps refl there).bitmap_is ∙ takes.bitmap
 
-  bitmap-then : (u : Structure) (new : Disk) → bitmap_in u ≡ bitmap_in t → StaysFor false t u new → IsTrue new.honest → storage_bitmap new.image home ≡ bitmap_in s
-  bitmap-then u new bitmap kept honest = ap (storage_bitmap new.image) (sym stays.home ∙ sym kept.home) ∙ sym (kept.keeps refl honest).bitmap_is ∙ bitmap ∙ takes.bitmap
+  bitmap-then : (u : Structure) (new : Disk) → bitmap_in u ≡ bitmap_in t → StaysFor false t u new → IsTrue new.honest
+      → storage_bitmap new.image home ≡ bitmap_in s
+  bitmap-then u new bitmap kept honest =
+      ap (storage_bitmap new.image) (sym stays.home ∙ sym kept.home) ∙ sym (kept.keeps refl honest).bitmap_is ∙ bitmap ∙ takes.bitmap
 
   -- once it is named, and the free blocks are as they were
-  pub none-left : (u : Structure) (new : Disk) → bitmap_in u ≡ bitmap_in t → new.honest ≡ mid.honest → (IsTrue mid.honest → SameFree (home_of t) mid.image new.image) → StaysFor false t u new
+  pub none-left : (u : Structure) (new : Disk) → bitmap_in u ≡ bitmap_in t → new.honest ≡ mid.honest
+      → (IsTrue mid.honest → SameFree (home_of t) mid.image new.image) → StaysFor false t u new
       → IsTrue old.honest → NoneFreeBelow new.image (bitmap_in s) (lbn + count)
   unfolding volume_of
   none-left u new bitmap still free kept honest j low =
       let there = takes.writes.went.honest ∙ honest in
       let same : SameFree home mid.image new.image = subst (λ (h : HomeFields). SameFree h mid.image new.image) stays.home (free there) in
-      ap (λ (b : Bitmap). is_free new.image b j) (sym (bitmap-then u new bitmap kept (still ∙ there))) ∙ (λ i. same i j) ∙ ap (λ (b : Bitmap). is_free mid.image b j) (bitmap-mid there)
+      ap (λ (b : Bitmap). is_free new.image b j) (sym (bitmap-then u new bitmap kept (still ∙ there))) ∙ (λ i. same i j)
+      ∙ ap (λ (b : Bitmap). is_free mid.image b j) (bitmap-mid there)
       ∙ takes.none_below honest j low
 
   -- the file has the run then
   pub run-gained : (u : Structure) (new : Disk) (f : ℕ) (ownership : Uic × ℕ) → bitmap_in u ≡ bitmap_in t → new.honest ≡ mid.honest
       → (IsTrue mid.honest → SameFree (home_of t) mid.image new.image)
-      → (IsTrue mid.honest → NamesMore f ownership (range_with_len lbn count) (table_of mid.image (home_of t)) (table_of new.image (home_of t)))
+      → (IsTrue mid.honest → NamesMore f ownership (range_with_len lbn count) (table_of mid.image (home_of t))
+      (table_of new.image (home_of t)))
       → StaysFor false t u new → IsTrue old.honest → GainsBlocksAs f ownership count (volume_of old.image home) (volume_of new.image home)
   unfolding volume_of
   run-gained u new f ownership bitmap still free names kept honest =
       let there = takes.writes.went.honest ∙ honest in
-      gains-run f ownership lbn count (volume_of old.image home) (volume_of mid.image home) (volume_of new.image home) (tables honest) (takes.lowest honest)
-      (subst (λ (h : HomeFields). NamesMore f ownership (range_with_len lbn count) (table_of mid.image h) (table_of new.image h)) stays.home (names there))
+      gains-run f ownership lbn count (volume_of old.image home) (volume_of mid.image home) (volume_of new.image home) (tables honest)
+      (takes.lowest honest)
+      (subst (λ (h : HomeFields). NamesMore f ownership (range_with_len lbn count) (table_of mid.image h) (table_of new.image h)) stays.home
+      (names there))
       (ap (λ (b : Bitmap). b.size) (bitmap-mid there ∙ (for.keeps honest).bitmap_is))
       (ap (λ (b : Bitmap). b.size) (bitmap-then u new bitmap kept (still ∙ there) ∙ sym (bitmap-mid there)))
       (subst (λ (h : HomeFields). SameFree h mid.image new.image) stays.home (free there))
@@ -122,4 +132,5 @@ module _ (s t : Structure) (tail : Tail) (from most lbn count : ℕ) (old mid : 
       → IsTrue old.honest → AddsZeroSlots (table_of old.image home) (table_of new.image home)
   slots-gained new slots honest =
       subst (λ (x : Table). AddsZeroSlots x (table_of new.image home)) (tables honest)
-      (subst (λ (h : HomeFields). AddsZeroSlots (table_of mid.image h) (table_of new.image h)) stays.home (slots (takes.writes.went.honest ∙ honest)))
+      (subst (λ (h : HomeFields). AddsZeroSlots (table_of mid.image h) (table_of new.image h)) stays.home
+      (slots (takes.writes.went.honest ∙ honest)))

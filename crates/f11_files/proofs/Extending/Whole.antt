@@ -1,5 +1,6 @@
 -- A file that is extended: its headers are read, those that it may need readied, and then it grows by runs.
-use Rattle.std.proofs.Common.{◌≡◌, ◌≢◌, ◌≤◌, ◌<◌, ◌+◌, ◌-◌, ◌*◌, ◌/◌, ◌==◌, ◌&&◌, ◌||◌, ℕ, Bool, true, false, not, nat_lt, cond, IsTrue, List, [], ◌∷◌, Some, None, option_map, length, ltb, eqb, Fits, w32, refl, sym, ap, subst, ◌∙◌, arith}
+use Rattle.std.proofs.Common.{◌≡◌, ◌≢◌, ◌≤◌, ◌<◌, ◌+◌, ◌-◌, ◌*◌, ◌/◌, ◌==◌, ◌&&◌, ◌||◌, ℕ, Bool, true, false, not, nat_lt, cond, IsTrue}
+use Rattle.std.proofs.Common.{List, [], ◌∷◌, Some, None, option_map, length, ltb, eqb, Fits, w32, refl, sym, ap, subst, ◌∙◌, arith}
 use Rattle.std.proofs.lemmas.Option.{same_Some}
 use Rattle.f11_dev.specs.Disk.{Disk}
 use Rattle.f11_dev.specs.Image.{Image, IsImage}
@@ -41,7 +42,8 @@ use Rattle.f11_volume.proofs.FileLemmas.{image-files}
 use Rattle.f11_image_store.specs.FileLaws.{room_in}
 use Rattle.f11_image_store.specs.StoreOf.{store_of}
 use Rattle.f11_image_store.proofs.KeptBlocksLemmas.{held-stored, is-stored}
-use Rattle.f11_files.specs.Answers.{Does, FailsOrWants, FailsToRead, FailsToWrite, IsRight, IsUnderWay, Meanwhile, ReadsAtMost, WritesAtMost, faults_of, is_among, is_fatal}
+use Rattle.f11_files.specs.Answers.{Does, FailsOrWants, FailsToRead, FailsToWrite, IsRight, IsUnderWay, Meanwhile, ReadsAtMost}
+use Rattle.f11_files.specs.Answers.{WritesAtMost, faults_of, is_among, is_fatal}
 use Rattle.f11_files.specs.Extending.Again.{IsEndOf}
 use Rattle.f11_files.specs.Extending.Room.{FindsFileEnd, HoldsEnd, HoldsRoom}
 use Rattle.f11_files.specs.Extending.Runs.{headers_for, ExtendsFile, ExtendsInHand, FailsToExtend, FailsToExtendHeld, IsLengthAfter}
@@ -60,14 +62,16 @@ use Rattle.f11_files.proofs.Readied.{fails-first, fails-ready, honest-ready, is-
 use Rattle.f11_files.proofs.WriteLemmas.{as-wanting, fails-unread}
 
 -- a file's last header stands at the end of its headers
-at-end : (t : Table) (f n : ℕ) → IsLastOf t f n → segment_number (t.header n) < 256 → slice_get (headers_of t f) (length (headers_of t f) - 1) ≡ Some n
+at-end : (t : Table) (f n : ℕ) → IsLastOf t f n → segment_number (t.header n) < 256
+    → slice_get (headers_of t f) (length (headers_of t f) - 1) ≡ Some n
 at-end t f n last few =
     let count = last-ends t f n last few in
     let place : length (headers_of t f) - 1 ≡ segment_number (t.header n) = omega (arith, count) in
     ap (slice_get (headers_of t f)) place ∙ header-placed t f n last.of few
 
 -- so that a file with the same headers has the same last one
-same-last : (t u : Table) (f n : ℕ) → HasByteSegments u → IsWholeFile u f → headers_of u f ≡ headers_of t f → IsLastOf t f n → segment_number (t.header n) < 256 → IsLastOf u f n
+same-last : (t u : Table) (f n : ℕ) → HasByteSegments u → IsWholeFile u f → headers_of u f ≡ headers_of t f → IsLastOf t f n
+    → segment_number (t.header n) < 256 → IsLastOf u f n
 same-last t u f n bytes whole same last few =
     let found = whole-last u f bytes whole in
     let here = at-end u f found.0 found.1 (bytes found.0) in
@@ -79,23 +83,30 @@ pub fatal-none : (honest : Bool) (s : Store) (r : Refusal) → IsRight false hon
 fatal-none honest s r right = fatal-enter honest s r (right-anyway right) (other (eqb (refusal_number r) 17) refl)
   where
     other : (same : Bool) → eqb (refusal_number r) 17 ≡ same → same ≡ false
-    other true is = let no : false ≡ true = right.among (ap (λ (k : ℕ). ltb 1 k && not (eqb k 19 || eqb k 20)) (eqb-true (refusal_number r) 17 is)) in absurd cc
+    other true is =
+        let no : false ≡ true = right.among (ap (λ (k : ℕ). ltb 1 k && not (eqb k 19 || eqb k 20)) (eqb-true (refusal_number r) 17 is)) in
+        absurd cc
     other false is = refl
 
 -- headers are readied, as many where the disk is honest
-readies-as : (home : HomeFields) (h k n : ℕ) (a b : Disk) → (IsTrue a.honest → k ≡ h) → ReadiesHeaders home h n a b → ReadiesHeaders home k n a b
+readies-as : (home : HomeFields) (h k n : ℕ) (a b : Disk) → (IsTrue a.honest → k ≡ h) → ReadiesHeaders home h n a b
+    → ReadiesHeaders home k n a b
 readies-as home h k n a b same readies =
     let s : Store = store_of a.image home in
     record {
       does = record {
         no_cause = λ honest. ap (λ (m : ℕ). first_of (header_causes s m n)) (same honest) ∙ readies.does.no_cause honest;
-        makes = λ honest. subst (λ (m : ℕ). GetsSlots (slots_first s m) s (store_of b.image home)) (sym (same honest)) (readies.does.makes honest);
-        allots = λ honest. subst (λ (m : ℕ). AllotsSlots (slots_first s m) (volume_of a.image home) (volume_of b.image home)) (sym (same honest)) (readies.does.allots honest);
+        makes = λ honest. subst (λ (m : ℕ). GetsSlots (slots_first s m) s (store_of b.image home)) (sym (same honest))
+            (readies.does.makes honest);
+        allots = λ honest. subst (λ (m : ℕ). AllotsSlots (slots_first s m) (volume_of a.image home) (volume_of b.image home))
+            (sym (same honest)) (readies.does.allots honest);
         writes = record {
           transfers = readies.does.writes.transfers;
           went = went_weaker (Meanwhile (ready_work s h) home a) (Meanwhile (ready_work s k) home a)
-              (λ image is honest. subst (λ (m : ℕ). IsUnderWay (ready_work s m) home a.image image) (sym (same honest)) (is honest)) readies.does.writes.went;
-          few = λ honest. subst (λ (m : ℕ). readies.does.writes.transfers ≤ slots_cost s m) (sym (same honest)) (readies.does.writes.few honest);
+              (λ image is honest. subst (λ (m : ℕ). IsUnderWay (ready_work s m) home a.image image) (sym (same honest)) (is honest))
+              readies.does.writes.went;
+          few = λ honest. subst (λ (m : ℕ). readies.does.writes.transfers ≤ slots_cost s m) (sym (same honest))
+              (readies.does.writes.few honest);
         };
       };
       enough = λ honest. subst (λ (m : ℕ). m ≤ free_headers (store_of b.image home)) (sym (same honest)) (readies.enough honest);
@@ -103,10 +114,12 @@ readies-as home h k n a b same readies =
     }
 
 -- no file, or one of its headers couldn't be read
-pub unfound : (home : HomeFields) (f : FileId) (n : ℕ) (r : Refusal) (old read : Disk) → FailsToRead false (file_causes (store_of old.image home) f) (header_count (file_named (store_of old.image home) f)) r old read
+pub unfound : (home : HomeFields) (f : FileId) (n : ℕ) (r : Refusal) (old read : Disk)
+    → FailsToRead false (file_causes (store_of old.image home) f) (header_count (file_named (store_of old.image home) f)) r old read
     → FailsToExtend false home f n r old read
 unfound home f n r old read fails =
-    as-wanting want (fails-unread {m = header_count file} (omega (arith, growth-more s file n)) (fails-more {causes = file_causes s f} {others = extend_causes s f n} (more (eqb 6 (refusal_number r)) _) cause fails))
+    as-wanting want (fails-unread {m = header_count file} (omega (arith, growth-more s file n))
+    (fails-more {causes = file_causes s f} {others = extend_causes s f n} (more (eqb 6 (refusal_number r)) _) cause fails))
   where
     s : Store
     s = store_of old.image home
@@ -128,11 +141,13 @@ unfound home f n r old read fails =
     cause : first_of (file_causes s f) ≡ Some r → first_of (extend_causes s f n) ≡ Some r
     cause = by_test (is_missing s f)
       where
-        by_test : (b : Bool) → first_of ((NoSuchFile ⇐ b) ∷ []) ≡ Some r → cond b (Some NoSuchFile) (first_of (causes.extend_causes s file n)) ≡ Some r
+        by_test : (b : Bool) → first_of ((NoSuchFile ⇐ b) ∷ []) ≡ Some r
+            → cond b (Some NoSuchFile) (first_of (causes.extend_causes s file n)) ≡ Some r
         by_test true is = is
         by_test false is = absurd cc
 
-module _ (s : Structure) (f : FileId) (n : ℕ) (end : FileEnd) (was last : List ℕ) (old read : Disk) (for : IsStructureFor s old) (own : 4 ≤ f.number) (finds : FindsFileEnd s f end was last old read) (room : ℕ) (room_is : room ≡ room_in last) where
+module _ (s : Structure) (f : FileId) (n : ℕ) (end : FileEnd) (was last : List ℕ) (old read : Disk) (for : IsStructureFor s old)
+    (own : 4 ≤ f.number) (finds : FindsFileEnd s f end was last old read) (room : ℕ) (room_is : room ≡ room_in last) where
   abbrev home : HomeFields
   home = home_of s
 
@@ -165,13 +180,18 @@ module _ (s : Structure) (f : FileId) (n : ℕ) (end : FileEnd) (was last : List
   count-is honest = headers-named s f was old for finds.holds end last read finds.ends honest
 
   -- the causes against it
-  growth-causes-are : IsTrue old.honest → first_of (causes.extend_causes st file n) ≡ cond (nat_lt 256 (end.headers + need room n)) (Some TooManySegments) (first_of (header_causes st headers n))
+  growth-causes-are : IsTrue old.honest
+      → first_of (causes.extend_causes st file n) ≡ cond (nat_lt 256 (end.headers + need room n)) (Some TooManySegments)
+      (first_of (header_causes st headers n))
   growth-causes-are honest =
       ap (λ (k : ℕ). cond (nat_lt 256 (k + headers)) (Some TooManySegments) (first_of (header_causes st headers n))) (count-is honest)
       ∙ ap (λ (k : ℕ). cond (nat_lt 256 (end.headers + k)) (Some TooManySegments) (first_of (header_causes st headers n))) (need-is honest)
 
-  causes-are : IsTrue old.honest → first_of (extend_causes st f n) ≡ cond (nat_lt 256 (end.headers + need room n)) (Some TooManySegments) (first_of (header_causes st headers n))
-  causes-are honest = ap (λ (b : Bool). cond b (Some NoSuchFile) (first_of (causes.extend_causes st file n))) (there honest) ∙ growth-causes-are honest
+  causes-are : IsTrue old.honest
+      → first_of (extend_causes st f n) ≡ cond (nat_lt 256 (end.headers + need room n)) (Some TooManySegments)
+      (first_of (header_causes st headers n))
+  causes-are honest =
+      ap (λ (b : Bool). cond b (Some NoSuchFile) (first_of (causes.extend_causes st file n))) (there honest) ∙ growth-causes-are honest
 
   pub too-long : nat_lt 256 (end.headers + need room n) ≡ true → FailsToExtend false home f n TooManySegments old read
   too-long long =
@@ -188,12 +208,16 @@ module _ (s : Structure) (f : FileId) (n : ℕ) (end : FileEnd) (was last : List
     -- headers weren't readied
     pub unready : (r : Refusal) (new : Disk) → FailsToReady false home (need room n) n r read new → FailsToExtend false home f n r old new
     unready r new fails =
-        fails-first (extend_causes st f n) {m = header_count file + slots_cost st headers} headers (extend_work f.number file.room n) r (omega (arith, growth-more st file n))
-        (wants-as {causes = header_causes st (need room n) n} {others = extend_causes st f n} (among (eqb 6 (refusal_number r)) (eqb 15 (refusal_number r)) _)
+        fails-first (extend_causes st f n) {m = header_count file + slots_cost st headers} headers (extend_work f.number file.room n) r
+        (omega (arith, growth-more st file n))
+        (wants-as {causes = header_causes st (need room n) n} {others = extend_causes st f n}
+        (among (eqb 6 (refusal_number r)) (eqb 15 (refusal_number r)) _)
         (λ honest. short honest ∙ ap (λ (h : ℕ). first_of (header_causes st h n)) (need-is honest))
         (λ honest. ap (λ (h : ℕ). gets_slots (slots_first st h)) (need-is honest)) (λ honest. ap (ready_work st) (need-is honest))
         (λ honest. let same = ap (slots_cost st) (need-is honest) in omega (arith, same))
-        (wants-read file-read home (subst (λ (x : Store). FailsOrWants (gets_slots (slots_first x (need room n))) false (header_causes x (need room n) n) (slots_cost x (need room n)) (ready_work x (need room n)) home r read new) still fails)))
+        (wants-read file-read home
+        (subst (λ (x : Store). FailsOrWants (gets_slots (slots_first x (need room n))) false (header_causes x (need room n) n)
+        (slots_cost x (need room n)) (ready_work x (need room n)) home r read new) still fails)))
       where
         among : (a b c : Bool) → c ≡ true → (a || (b || c)) ≡ true
         among true b c is = refl
@@ -246,10 +270,12 @@ module _ (s : Structure) (f : FileId) (n : ℕ) (end : FileEnd) (was last : List
           ∙ ap (λ (g : File). first_of (growth_causes now g n)) (file-now sure)
           ∙ ready-may-extend was_store now n file (readies.does.makes sure) (readies.enough sure) (no-cause-read sure)
 
-      pub room-ready : (t : Structure) (d : Disk) (was_now last_now : List ℕ) → home_of t ≡ home → {most faults : ℕ} → Looked ready d most faults → HoldsEnd t f end was_now last_now d → HoldsRoom t f n end was_now last_now d
+      pub room-ready : (t : Structure) (d : Disk) (was_now last_now : List ℕ) → home_of t ≡ home → {most faults : ℕ}
+          → Looked ready d most faults → HoldsEnd t f end was_now last_now d → HoldsRoom t f n end was_now last_now d
       room-ready t d was_now last_now at looked ends = record {
         no_cause = λ honest.
-            ap (λ (i : Image). first_of (held_causes (store_of i (home_of t)) f n)) looked.image ∙ ap (λ (h : HomeFields). first_of (held_causes (store_of ready.image h) f n)) at
+            ap (λ (i : Image). first_of (held_causes (store_of i (home_of t)) f n)) looked.image
+            ∙ ap (λ (h : HomeFields). first_of (held_causes (store_of ready.image h) f n)) at
             ∙ no-cause-now (sym looked.honest ∙ honest);
         ends = ends;
       }
@@ -268,14 +294,18 @@ module _ (s : Structure) (f : FileId) (n : ℕ) (end : FileEnd) (was last : List
           let before = held-stored old.image home f.number sound whole-old.file in
           let file' : IsFile u f.number = is-stored ready.image home f.number (headers_of t f.number) (held ∙ before) in
           let same : headers_of u f.number ≡ headers_of t f.number =
-          same_Some (headers_of u f.number) (headers_of t f.number) (sym (held-stored ready.image home f.number sound' file') ∙ held ∙ before) in
+          same_Some (headers_of u f.number) (headers_of t f.number)
+          (sym (held-stored ready.image home f.number sound' file') ∙ held ∙ before) in
           let count = ap (λ (hs : List ℕ). length hs) same in
           let counted = ap (λ (hs : List ℕ). length hs) (held-are s f was old for finds.holds (as-old sure)) in
           let counts = count-is (as-old sure) in
           record {
             there = ap (λ (b : Bool). cond b (Some NoSuchFile) None) (missing-now sure);
-            last = same-last t u f.number end.number (table-bytes ready.image (index_of ready.image home) image) ((image-files ready.image home sound').each f.number file').whole same
-                (last-of s f was old for finds.holds end last read finds.ends (as-old sure)) (last-few s f was old for finds.holds end last read finds.ends (as-old sure));
+            last =
+                same-last t u f.number end.number (table-bytes ready.image (index_of ready.image home) image)
+                ((image-files ready.image home sound').each f.number file').whole same
+                (last-of s f was old for finds.holds end last read finds.ends (as-old sure))
+                (last-few s f was old for finds.holds end last read finds.ends (as-old sure));
             headers = omega (arith, count, counted, counts);
           }
 
@@ -295,12 +325,16 @@ module _ (s : Structure) (f : FileId) (n : ℕ) (end : FileEnd) (was last : List
 
       -- what broke off then
       fails-behind : (r : Refusal) (new : Disk) → is_fatal r ≡ true → (IsTrue ready.honest → r ≢ Damaged)
-          → (k : ℕ) → (IsTrue read.honest → k ≤ few) → WritesAtMost (Meanwhile (extend_work f.number (file_named now f).room n) home ready) k ready new (faults_of r) → FailsToExtend false home f n r old new
+          → (k : ℕ) → (IsTrue read.honest → k ≤ few)
+          → WritesAtMost (Meanwhile (extend_work f.number (file_named now f).room n) home ready) k ready new (faults_of r)
+          → FailsToExtend false home f n r old new
       fails-behind r new fatal undamaged k fewer writes =
           wants-within (omega (arith, growth-more st file n))
-          (subst (λ (x : Store). FailsOrWants (gets_slots (slots_first st headers)) false (extend_causes st f n) (header_count file + (slots_cost x headers + few)) (with_headers_first x headers work) home r old new) still
+          (subst (λ (x : Store). FailsOrWants (gets_slots (slots_first st headers)) false (extend_causes st f n)
+          (header_count file + (slots_cost x headers + few)) (with_headers_first x headers work) home r old new) still
           (wants-read file-read home
-          (fails-ready readies work (extend_work f.number (file_named now f).room n) work-now (extend_respectful f.number n) (extend_causes st f n) [] few r (λ honest. no-cause-old (as-old honest)) (λ _. refl) fewer fatal
+          (fails-ready readies work (extend_work f.number (file_named now f).room n) work-now (extend_respectful f.number n)
+          (extend_causes st f n) [] few r (λ honest. no-cause-old (as-old honest)) (λ _. refl) fewer fatal
           (λ honest. undamaged (honest-ready readies ∙ honest)) writes)))
 
       pub fails-again : (r : Refusal) (d : Disk) → FailsToRead false [] 2 r ready d → FailsToExtend false home f n r old d
@@ -333,8 +367,11 @@ module _ (s : Structure) (f : FileId) (n : ℕ) (end : FileEnd) (was last : List
 
         pub fails-in-hand : (r : Refusal) (new : Disk) → FailsToExtendHeld home f n r d new → FailsToExtend false home f n r old new
         fails-in-hand r new fails =
-            let whole-fails = fails-read again home (subst (λ (x : Store). FailsToWrite false [] (growth_cost x (file_named x f) n - 1 - header_count (file_named x f) - 2) (extend_work f.number (file_named x f).room n) home r d new) store-again fails) in
-            fails-behind r new (fatal-none ready.honest now r whole-fails.right) (λ honest. whole-fails.right.undamaged honest) _ within whole-fails.writes
+            let whole-fails = fails-read again home
+            (subst (λ (x : Store). FailsToWrite false [] (growth_cost x (file_named x f) n - 1 - header_count (file_named x f) - 2)
+            (extend_work f.number (file_named x f).room n) home r d new) store-again fails) in
+            fails-behind r new (fatal-none ready.honest now r whole-fails.right) (λ honest. whole-fails.right.undamaged honest) _ within
+            whole-fails.writes
 
         pub extends-then : (new : Disk) → ExtendsInHand home f n d new → ExtendsFile home f n old new
         extends-then new extends = record {
@@ -344,20 +381,25 @@ module _ (s : Structure) (f : FileId) (n : ℕ) (end : FileEnd) (was last : List
           ready = ready;
           readies = readies;
           extends = does-within two-more (does-read again home
-              (subst (λ (x : Store). Does (held_causes x f n) (extend_work f.number (file_named x f).room n) (growth_cost x (file_named x f) n - 1 - header_count (file_named x f) - 2) (Extends x f.number n) (GainsBlocks f.number n) home d new) store-again extends));
+              (subst (λ (x : Store). Does (held_causes x f n) (extend_work f.number (file_named x f).room n)
+              (growth_cost x (file_named x f) n - 1 - header_count (file_named x f) - 2) (Extends x f.number n) (GainsBlocks f.number n)
+              home d new) store-again extends));
         }
           where
-            two-more : 2 + (growth_cost now (file_named now f) n - 1 - header_count (file_named now f) - 2) ≤ growth_cost now (file_named now f) n - 1 - header_count (file_named now f)
+            two-more : 2 + (growth_cost now (file_named now f) n - 1 - header_count (file_named now f) - 2) ≤ growth_cost now
+                (file_named now f) n - 1 - header_count (file_named now f)
             two-more = by_parts (header_count (file_named now f)) now.bitmap_blocks now.index_bitmap_blocks ((n + 101) / 102)
               where
                 by_parts : (h b i m : ℕ) → 2 + (h + b + 5 * n + (i + 8) * (m + 1) - 1 - h - 2) ≤ h + b + 5 * n + (i + 8) * (m + 1) - 1 - h
                 by_parts h b i m = omega arith
 
   pub length-then : IsLengthAfter home f n old (end.blocks + n)
-  length-then honest = ap (λ (blocks : ℕ). blocks + n) ((counts-last s f was old read for finds.holds own end last finds.ends).length_is honest)
+  length-then honest =
+      ap (λ (blocks : ℕ). blocks + n) ((counts-last s f was old read for finds.holds own end last finds.ends).length_is honest)
 
 -- what refuses it once its headers are in hand fails the volume
-pub fatal-held : (home : HomeFields) (f : FileId) (n : ℕ) (r : Refusal) (old new : Disk) → FailsToExtendHeld home f n r old new → is_fatal r ≡ true
+pub fatal-held : (home : HomeFields) (f : FileId) (n : ℕ) (r : Refusal) (old new : Disk) → FailsToExtendHeld home f n r old new
+    → is_fatal r ≡ true
 fatal-held home f n r old new fails = fatal-none old.honest (store_of old.image home) r fails.right
 
 -- it is not read again
@@ -365,7 +407,8 @@ pub none-read : (disk : Disk) → ReadsAtMost 2 disk disk 0
 none-read disk = record { reads = 0; looked = looked_none disk; few = λ _. omega arith }
 
 -- a file may have no more blocks than 32 bits tell
-pub few-enough : (end : FileEnd) (room n : ℕ) (last : List ℕ) → length last ≡ 512 → end.headers ≤ 256 → end.blocks ≤ 32512 * end.headers → false ≡ nat_lt 256 (end.headers + need room n) → room ≡ room_in last → Fits w32 (end.blocks + n)
+pub few-enough : (end : FileEnd) (room n : ℕ) (last : List ℕ) → length last ≡ 512 → end.headers ≤ 256 → end.blocks ≤ 32512 * end.headers
+    → false ≡ nat_lt 256 (end.headers + need room n) → room ≡ room_in last → Fits w32 (end.blocks + n)
 few-enough end room n last long few_headers blocks fits room_is =
     let area = length-map_area last long in
     let need_few : end.headers + need room n ≤ 256 = grind (arith, nat_tests, fits) in

@@ -13,7 +13,8 @@ use Rattle.f11_files.proofs.Behind.{more-looked, slots-behind}
 use Rattle.f11_files.proofs.GrowingIndex.First.{confined-looked}
 
 -- none where blocks were read
-pub after-read : (home : HomeFields) (headers f : ℕ) (a b : Disk) {most faults : ℕ} → Looked a b most faults → WritesAfterSlots headers (WritesMoreOf f home) home a b
+pub after-read : (home : HomeFields) (headers f : ℕ) (a b : Disk) {most faults : ℕ} → Looked a b most faults
+    → WritesAfterSlots headers (WritesMoreOf f home) home a b
 after-read home headers f a b looked = record {
   ready = b;
   slots = λ honest. confined-looked (slots_first (store_of a.image home) headers) home a b looked;
@@ -21,11 +22,15 @@ after-read home headers f a b looked = record {
 }
 
 -- those of slots that come first, and then those of the file
-pub after-slots : (home : HomeFields) (headers h f : ℕ) (a b c d : Disk) {most faults : ℕ} → Looked a b most faults → (IsTrue a.honest → headers ≡ h) → WritesSlots h home b c → WritesMoreOf f home c d → WritesAfterSlots headers (WritesMoreOf f home) home a d
+pub after-slots : (home : HomeFields) (headers h f : ℕ) (a b c d : Disk) {most faults : ℕ} → Looked a b most faults
+    → (IsTrue a.honest → headers ≡ h) → WritesSlots h home b c → WritesMoreOf f home c d
+    → WritesAfterSlots headers (WritesMoreOf f home) home a d
 after-slots home headers h f a b c d looked same slots rest = record {
   ready = c;
   slots = λ honest.
       slots-behind (slots_first (store_of a.image home) headers) home a b c looked
-      (subst (λ (k : ℕ). ConfinesSlots k home b c) (ap (λ (i : Image). slots_first (store_of i home) h) looked.image ∙ ap (slots_first (store_of a.image home)) (sym (same honest))) (slots (looked.honest ∙ honest)));
+      (subst (λ (k : ℕ). ConfinesSlots k home b c)
+      (ap (λ (i : Image). slots_first (store_of i home) h) looked.image ∙ ap (slots_first (store_of a.image home)) (sym (same honest)))
+      (slots (looked.honest ∙ honest)));
   rest = rest;
 }

@@ -45,17 +45,22 @@ volume-more home a b c one two = record {
 }
 
 -- zeros that are written are zeros, and those that were there are zeros still
-zero-more : (image : Image) (lbn count : ℕ) → lbn + count < length image → HoldsZeros image lbn count → HoldsZeros (set image (lbn + count) zero_block) lbn (count + 1)
+zero-more : (image : Image) (lbn count : ℕ) → lbn + count < length image → HoldsZeros image lbn count
+    → HoldsZeros (set image (lbn + count) zero_block) lbn (count + 1)
 zero-more image lbn count within zeros = record { each = λ k low high. go k low high (cases_eq k (lbn + count)) }
   where
-    go : (k : ℕ) → lbn ≤ k → k < lbn + (count + 1) → (k ≡ lbn + count) ⊎ (k ≢ lbn + count) → block_or_zeros (set image (lbn + count) zero_block) k ≡ zero_block
-    go k low high (inl here) = ap (block_or_zeros (set image (lbn + count) zero_block)) here ∙ get_or-set_same image (lbn + count) zero_block zero_block within
-    go k low high (inr away) = get_or-set_other image (lbn + count) k zero_block zero_block away ∙ zeros.each k low (omega (arith, high, away))
+    go : (k : ℕ) → lbn ≤ k → k < lbn + (count + 1) → (k ≡ lbn + count) ⊎ (k ≢ lbn + count)
+        → block_or_zeros (set image (lbn + count) zero_block) k ≡ zero_block
+    go k low high (inl here) =
+        ap (block_or_zeros (set image (lbn + count) zero_block)) here ∙ get_or-set_same image (lbn + count) zero_block zero_block within
+    go k low high (inr away) =
+        get_or-set_other image (lbn + count) k zero_block zero_block away ∙ zeros.each k low (omega (arith, high, away))
 
 unnamed-at : (v : Volume) (lbn count k : ℕ) → AreUnreferenced v lbn count → k < count → ¬ IsNamed v.table (lbn + k)
 unnamed-at v lbn count k unreferenced few = unreferenced.unnamed (lbn + k) (omega arith) (omega (arith, few))
 
-module _ (home : HomeFields) (lbn count : ℕ) (old : Disk) (within : lbn + count ≤ length old.image) (sound : IsTrue old.honest → HasSoundVolume old.image home)
+module _ (home : HomeFields) (lbn count : ℕ) (old : Disk) (within : lbn + count ≤ length old.image)
+    (sound : IsTrue old.honest → HasSoundVolume old.image home)
     (unreferenced : IsTrue old.honest → AreUnreferenced (volume_of old.image home) lbn count) where
   abbrev P : Image → Type 0
   P = Keeping home old
@@ -72,7 +77,9 @@ module _ (home : HomeFields) (lbn count : ℕ) (old : Disk) (within : lbn + coun
     next = set now.image (lbn + k) zero_block
 
     unnamed : (honest : IsTrue old.honest) → ¬ IsNamed (volume_of now.image home).table (lbn + k)
-    unnamed honest = unnamed-at (volume_of now.image home) lbn count k (unreferenced-stay old.image now.image home lbn count (so_far.keeps honest).volume (unreferenced honest)) few
+    unnamed honest =
+        unnamed-at (volume_of now.image home) lbn count k
+        (unreferenced-stay old.image now.image home lbn count (so_far.keeps honest).volume (unreferenced honest)) few
 
     keeps-files : (honest : IsTrue old.honest) → KeepsFiles home now.image next
     unfolding volume_of
@@ -82,7 +89,11 @@ module _ (home : HomeFields) (lbn count : ℕ) (old : Disk) (within : lbn + coun
     keeps-next honest =
         let here = keeps-files honest in
         let before = so_far.keeps honest in
-        record { volume = volume-more home old.image now.image next before.volume here.keeps; store = stays now.image next home here ∙ before.store }
+        record {
+          volume = volume-more home old.image now.image next before.volume here.keeps;
+          store = stays now.image next home here
+              ∙ before.store;
+        }
 
     inside : lbn + k < length now.image
     inside = omega (arith, so_far.went.size, within, few)
@@ -90,12 +101,15 @@ module _ (home : HomeFields) (lbn count : ℕ) (old : Disk) (within : lbn + coun
     pub zeroes-more : new ≡ with_transfer true (with_block_at (lbn + k) zero_block now) → Zeroes home lbn (k + 1) old new
     zeroes-more is = record {
       keeps = subst P (sym image) keeps-next;
-      zeros = λ honest. subst (λ (i : Image). HoldsZeros i lbn (k + 1)) (sym image) (zero-more now.image lbn k inside (so_far.zeros honest));
+      zeros = λ honest. subst (λ (i : Image). HoldsZeros i lbn (k + 1)) (sym image)
+          (zero-more now.image lbn k inside (so_far.zeros honest));
       went = went_more P so_far.went (went_write P now new (lbn + k) zero_block is keeps-next);
     }
       where
         image : new.image ≡ next
         image = ap (λ (d : Disk). d.image) is
 
-    pub fails-zero : (new ≡ with_transfer false now) ⊎ (new ≡ with_transfer false (with_block_at (lbn + k) zero_block now)) → FailsToZero home count old new
-    fails-zero is = went_within P (went_more P so_far.went (went_failed_write P now new (lbn + k) zero_block is keeps-next)) (omega (arith, few))
+    pub fails-zero : (new ≡ with_transfer false now) ⊎ (new ≡ with_transfer false (with_block_at (lbn + k) zero_block now))
+        → FailsToZero home count old new
+    fails-zero is =
+        went_within P (went_more P so_far.went (went_failed_write P now new (lbn + k) zero_block is keeps-next)) (omega (arith, few))

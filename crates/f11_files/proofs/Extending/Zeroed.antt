@@ -30,11 +30,14 @@ low-block s lbn count within =
 places-none : (room p : ℕ) → room < p → p ≤ (if room == 0 then 102 else room) → (room ≡ 0) × (p ≤ 102)
 places-none zero p lacks fits = (refl, fits)
 places-none (suc room) p lacks fits =
-    let here : p ≤ suc room = subst (λ (b : Bool). p ≤ (if b then 102 else suc room)) (other_number (suc room) 0 (λ none. omega (arith, none))) fits in
+    let here : p ≤ suc room = subst (λ (b : Bool). p ≤ (if b then 102 else suc room))
+    (other_number (suc room) 0 (λ none. omega (arith, none))) fits in
     absurd (omega (arith, lacks, here))
 
-module _ (s : Structure) (tail : Tail) (lbn count : ℕ) (old mid : Disk) (for : IsStructureFor s old) (last : HoldsLast s tail old) (within : lbn + count ≤ (bitmap_in s).size) (some : 0 < count) (fits : run_pointers count ≤ places_next tail.block)
-    (unreferenced : IsTrue old.honest → AreUnreferenced (volume_of old.image (home_of s)) lbn count) (zeroed : Zeroes (home_of s) lbn count old mid) where
+module _ (s : Structure) (tail : Tail) (lbn count : ℕ) (old mid : Disk) (for : IsStructureFor s old) (last : HoldsLast s tail old)
+    (within : lbn + count ≤ (bitmap_in s).size) (some : 0 < count) (fits : run_pointers count ≤ places_next tail.block)
+    (unreferenced : IsTrue old.honest → AreUnreferenced (volume_of old.image (home_of s)) lbn count)
+    (zeroed : Zeroes (home_of s) lbn count old mid) where
   abbrev home : HomeFields
   home = home_of s
 
@@ -61,18 +64,22 @@ module _ (s : Structure) (tail : Tail) (lbn count : ℕ) (old mid : Disk) (for :
       valid = last.header.valid;
       block_is = λ honest.
           let before = was-honest honest in
-          last.header.block_is before ∙ ap (λ (t : Table). t.header tail.number) (table-of s old for before ∙ sym (tables before) ∙ sym (table-of s mid mid-for honest));
+          last.header.block_is before
+          ∙ ap (λ (t : Table). t.header tail.number)
+          (table-of s old for before ∙ sym (tables before) ∙ sym (table-of s mid mid-for honest));
     };
     no_link = last.no_link;
     few = last.few;
-    is_last = λ honest. let before = was-honest honest in subst (λ (t : Table). IsLastOf t tail.file.number tail.number) (sym (tables before)) (last.is_last before);
+    is_last = λ honest. let before = was-honest honest in
+        subst (λ (t : Table). IsLastOf t tail.file.number tail.number) (sym (tables before)) (last.is_last before);
   }
 
   pub mid-given : MayBeGiven home lbn count mid
   mid-given = record {
     some = some;
     low = low-block s lbn count within;
-    unreferenced = λ honest. let before = was-honest honest in unreferenced-stay old.image mid.image home lbn count (zeroed.keeps before).volume (unreferenced before);
+    unreferenced = λ honest. let before = was-honest honest in
+        unreferenced-stay old.image mid.image home lbn count (zeroed.keeps before).volume (unreferenced before);
     zeros = λ honest. zeroed.zeros (was-honest honest);
   }
 
@@ -82,7 +89,8 @@ module _ (s : Structure) (tail : Tail) (lbn count : ℕ) (old mid : Disk) (for :
     now-for = subst (IsStructureFor s) (sym full.disk_is) mid-for
 
     pub now-last : HoldsLast s after now
-    now-last = subst (λ (d : Disk). HoldsLast s after d) (sym full.disk_is) (subst (λ (x : Tail). HoldsLast s x mid) (sym full.tail_is) mid-last)
+    now-last =
+        subst (λ (d : Disk). HoldsLast s after d) (sym full.disk_is) (subst (λ (x : Tail). HoldsLast s x mid) (sym full.tail_is) mid-last)
 
     pub now-given : MayBeGiven home lbn count now
     now-given = subst (MayBeGiven home lbn count) (sym full.disk_is) mid-given

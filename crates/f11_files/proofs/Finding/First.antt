@@ -21,14 +21,17 @@ use Rattle.f11_files.specs.Structure.{index_in, home_of, IsStructureFor}
 use Rattle.f11_files.specs.declared.structure.Structure.{Structure}
 
 -- the headers of the disk are those of its volume
-pub table-of : (s : Structure) (disk : Disk) → IsStructureFor s disk → IsTrue disk.honest → table (index_in s) disk ≡ table_of disk.image (home_of s)
+pub table-of : (s : Structure) (disk : Disk) → IsStructureFor s disk → IsTrue disk.honest
+    → table (index_in s) disk ≡ table_of disk.image (home_of s)
 table-of s disk for honest = ap (table_in disk.image) (for.keeps honest).index_is
 
 -- the place of a header in use is on the device, and on one that is as large
-pub place-within : (s : Structure) (n place : ℕ) (old : Disk) (now : Image) → IsStructureFor s old → is_in_use (index_in s) n ≡ true → length now ≡ length old.image → place ≡ header_lbn (index_in s) n
+pub place-within : (s : Structure) (n place : ℕ) (old : Disk) (now : Image) → IsStructureFor s old → is_in_use (index_in s) n ≡ true
+    → length now ≡ length old.image → place ≡ header_lbn (index_in s) n
     → place < length now
 place-within s n place old now for used size at =
-    let within = header-within (index_in s) n (length old.image) for.lies.index (in_use-some (index_in s) n used) (in_use-slot (index_in s) n used) in
+    let within = header-within (index_in s) n (length old.image) for.lies.index (in_use-some (index_in s) n used)
+    (in_use-slot (index_in s) n used) in
     omega (arith, within, size, at)
 
 -- each header in use is dead or valid
@@ -44,7 +47,8 @@ dead-or-valid s disk n for honest in_use =
 pub unused-none : (index : Index) (f : FileId) (disk : Disk) → is_in_use index f.number ≡ false → ¬ IsFileOf f index disk
 unused-none index f disk none is = both_ways (is_in_use index f.number) none (sym (table-in_use index disk f.number) ∙ is.file.live.in_use)
 
-module _ (index : Index) (f : FileId) (lbn : ℕ) (block : List ℕ) (old new : Disk) (in_use : is_in_use index f.number ≡ true) (at : lbn ≡ header_lbn index f.number)
+module _ (index : Index) (f : FileId) (lbn : ℕ) (block : List ℕ) (old new : Disk) (in_use : is_in_use index f.number ≡ true)
+    (at : lbn ≡ header_lbn index f.number)
     (counts : new ≡ with_transfer true old) (gives : IsTrue old.honest → slice_get old.image lbn ≡ Some block) where
   -- the header that was read
   pub read-is : IsTrue old.honest → block ≡ (table index old).header f.number
@@ -58,11 +62,18 @@ module _ (index : Index) (f : FileId) (lbn : ℕ) (block : List ℕ) (old new : 
 
   -- it is no such file's
   pub none-read : ¬ IsFirstOf f block → IsTrue old.honest → ¬ IsFileOf f index old
-  none-read other honest is = other (subst (IsFirstOf f) (sym (read-is honest)) record { valid = is.file.live.valid; first = is.file.first; sequence = is.sequence })
+  none-read other honest is =
+      other (subst (IsFirstOf f) (sym (read-is honest)) record {
+        valid = is.file.live.valid;
+        first = is.file.first;
+        sequence = is.sequence;
+      })
 
 -- it was neither dead nor valid
-pub never-bad : (s : Structure) (f : FileId) (lbn : ℕ) (block : List ℕ) (old new : Disk) → IsStructureFor s old → is_in_use (index_in s) f.number ≡ true → lbn ≡ header_lbn (index_in s) f.number
-    → new ≡ with_transfer true old → (IsTrue old.honest → slice_get old.image lbn ≡ Some block) → ¬ IsDead block → ¬ IsHeader block f.number → ¬ IsTrue old.honest
+pub never-bad : (s : Structure) (f : FileId) (lbn : ℕ) (block : List ℕ) (old new : Disk) → IsStructureFor s old
+    → is_in_use (index_in s) f.number ≡ true → lbn ≡ header_lbn (index_in s) f.number
+    → new ≡ with_transfer true old → (IsTrue old.honest → slice_get old.image lbn ≡ Some block) → ¬ IsDead block → ¬ IsHeader block f.number
+    → ¬ IsTrue old.honest
 never-bad s f lbn block old new for in_use at counts gives not_dead not_valid honest =
     let same = read-is (index_in s) f lbn block old new in_use at counts gives honest in
     elim (subst (λ (b : List ℕ). IsDead b ⊎ IsHeader b f.number) (sym same) (dead-or-valid s old f.number for honest in_use)) [

@@ -1,5 +1,6 @@
 -- A walk along a file's headers, in the words of the store.
-use Rattle.std.proofs.Common.{◌≡◌, ◌-◌, ◌<◌, ◌≤◌, ℕ, Bool, false, cond, IsTrue, List, length, Some, None, option_map, refl, sym, ap, subst, ◌∙◌, ltb, arith}
+use Rattle.std.proofs.Common.{◌≡◌, ◌-◌, ◌<◌, ◌≤◌, ℕ, Bool, false, cond, IsTrue, List, length, Some, None, option_map, refl, sym, ap, subst}
+use Rattle.std.proofs.Common.{◌∙◌, ltb, arith}
 use Rattle.std.proofs.lemmas.Bool.{lt-ltb, le-ltb}
 use Rattle.std.proofs.lemmas.List.{length-map}
 use Rattle.std.specs.List.{slice_get}
@@ -38,11 +39,13 @@ use Rattle.f11_files.proofs.Finding.Named.{held-named, is-file, found-named, no-
 use Rattle.f11_image_store.proofs.StoreLemmas.{seen-own}
 
 -- the first header was read
-pub reads-first : (index : Index) (f : FileId) (block : List ℕ) (old new : Disk) → FindsFile index f block old new → ReadsFirst index f.number block old new
+pub reads-first : (index : Index) (f : FileId) (block : List ℕ) (old new : Disk) → FindsFile index f block old new
+    → ReadsFirst index f.number block old new
 reads-first index f block old new finds = record { header = finds.holds.header; first = finds.holds.is_first.first; looked = finds.looked }
 
 -- a file's first header in hand, on an honest disk
-module _ (s : Structure) (f : FileId) (block : List ℕ) (disk : Disk) (for : IsStructureFor s disk) (holds : HoldsFile (index_in s) f block disk) (honest : IsTrue disk.honest) where
+module _ (s : Structure) (f : FileId) (block : List ℕ) (disk : Disk) (for : IsStructureFor s disk)
+    (holds : HoldsFile (index_in s) f block disk) (honest : IsTrue disk.honest) where
   abbrev t : Table
   t = table_of disk.image (home_of s)
 
@@ -66,7 +69,8 @@ module _ (s : Structure) (f : FileId) (block : List ℕ) (disk : Disk) (for : Is
   pub held-are : named.held ≡ headers_of t f.number
   held-are =
       ap (λ (g : File). g.held) (held-named s f block disk for holds honest)
-      ∙ seen-same (λ (g : File). g.held) (λ g. refl) f.number (file_in (home_of s) f.number disk.image) ∙ file-headers-are disk.image t f.number whole
+      ∙ seen-same (λ (g : File). g.held) (λ g. refl) f.number (file_in (home_of s) f.number disk.image)
+      ∙ file-headers-are disk.image t f.number whole
 
   pub headers-counted : length (headers_of (table (index_in s) disk) f.number) ≤ header_count named
   headers-counted =
@@ -82,29 +86,36 @@ module _ (s : Structure) (f : FileId) (block : List ℕ) (disk : Disk) (for : Is
       ∙ ap (λ (u : Table). length (file_blocks u f.number)) (sym same)
 
   -- the causes against a block of it
-  pub length-first : 4 ≤ f.number → (vbn : ℕ) → first_of (length_causes (store_on s disk) f vbn) ≡ cond (ltb (length (file_blocks (table (index_in s) disk) f.number)) vbn) (Some EndOfFile) None
+  pub length-first : 4 ≤ f.number → (vbn : ℕ)
+      → first_of (length_causes (store_on s disk) f vbn) ≡ cond (ltb (length (file_blocks (table (index_in s) disk) f.number)) vbn)
+      (Some EndOfFile) None
   length-first own vbn =
-      ap (λ (b : Bool). cond b (Some NoSuchFile) (cond (ltb (length_of named) vbn) (Some EndOfFile) None)) (found-named s f disk for honest (is-file s f block disk for holds honest)).0
+      ap (λ (b : Bool). cond b (Some NoSuchFile) (cond (ltb (length_of named) vbn) (Some EndOfFile) None))
+      (found-named s f disk for honest (is-file s f block disk for holds honest)).0
       ∙ ap (λ (n : ℕ). cond (ltb n vbn) (Some EndOfFile) None) (length-named own)
 
 -- headers of it were read, no more than there are
-pub reads-along : (s : Structure) (f : FileId) (block : List ℕ) (old new : Disk) (faults : ℕ) → IsStructureFor s old → HoldsFile (index_in s) f block old → LooksAlongFile (index_in s) f.number 0 old new faults
+pub reads-along : (s : Structure) (f : FileId) (block : List ℕ) (old new : Disk) (faults : ℕ) → IsStructureFor s old
+    → HoldsFile (index_in s) f block old → LooksAlongFile (index_in s) f.number 0 old new faults
     → ReadsAtMost (header_count (file_named (store_on s old) f)) old new faults
 reads-along s f block old new faults for holds looks = record {
   reads = looks.headers;
   looked = looks.looked;
-  few = λ honest. let once = looks.each_once honest in let count = headers-counted s f block old for holds honest in omega (arith, once, count);
+  few = λ honest. let once = looks.each_once honest in let count = headers-counted s f block old for holds honest in
+      omega (arith, once, count);
 }
 
 -- a walk to a block of it failed
-module _ (s : Structure) (f : FileId) (block : List ℕ) (old new : Disk) (for : IsStructureFor s old) (holds : HoldsFile (index_in s) f block old) (own : 4 ≤ f.number) (vbn : ℕ) where
+module _ (s : Structure) (f : FileId) (block : List ℕ) (old new : Disk) (for : IsStructureFor s old)
+    (holds : HoldsFile (index_in s) f block old) (own : 4 ≤ f.number) (vbn : ℕ) where
   abbrev Fails : Refusal → Type 0
   Fails refusal = FailsToRead false (length_causes (store_on s old) f vbn) (header_count (file_named (store_on s old) f)) refusal old new
 
   pub fails-end : FindsEnd (index_in s) f.number 0 vbn old new → Fails EndOfFile
   fails-end finds = record {
     right = right-cause _ _ _ (λ is. omega (arith, is)) (λ is. omega (arith, is)) refl
-        (λ honest. length-first s f block old for holds honest own vbn ∙ ap (λ (b : Bool). cond b (Some EndOfFile) None) (lt-ltb _ _ (finds.fewer honest)));
+        (λ honest. length-first s f block old for holds honest own vbn ∙ ap (λ (b : Bool). cond b (Some EndOfFile) None)
+        (lt-ltb _ _ (finds.fewer honest)));
     reads = reads-along s f block old new 0 for holds finds.looked;
   }
 
@@ -117,7 +128,8 @@ module _ (s : Structure) (f : FileId) (block : List ℕ) (old new : Disk) (for :
   pub fails-fault : LooksAlongFile (index_in s) f.number 0 old new 1 → Fails DeviceFault
   fails-fault looks = record { right = right-fault _ _; reads = reads-along s f block old new 1 for holds looks }
 
-  pub fails-walk : (fault : ChainFault) → (fault ≡ chain.EndOfFile → FindsEnd (index_in s) f.number 0 vbn old new) → (fault ≡ chain.Damaged → FindsDamage (index_in s) f.number old new)
+  pub fails-walk : (fault : ChainFault) → (fault ≡ chain.EndOfFile → FindsEnd (index_in s) f.number 0 vbn old new)
+      → (fault ≡ chain.Damaged → FindsDamage (index_in s) f.number old new)
       → (fault ≡ chain.DeviceFault → LooksAlongFile (index_in s) f.number 0 old new 1) → Fails (refusal_for fault)
   fails-walk chain.EndOfFile end damaged failed = fails-end (end refl)
   fails-walk chain.Damaged end damaged failed = fails-damaged (damaged refl)
@@ -127,17 +139,21 @@ module _ (s : Structure) (f : FileId) (block : List ℕ) (old new : Disk) (for :
   pub finds-block : (lbn : ℕ) → 0 < vbn → Locates (index_in s) f.number vbn lbn old new → FindsBlock (home_of s) f vbn lbn old new
   finds-block lbn some locates = record {
     no_cause = λ honest.
-        let within : vbn - 1 < length (file_blocks (table (index_in s) old) f.number) = slice_get_within _ _ lbn (locates.block_is honest) in
-        length-first s f block old for holds honest own vbn ∙ ap (λ (b : Bool). cond b (Some EndOfFile) None) (le-ltb _ _ (omega (arith, within, some)));
+        let within : vbn - 1 < length (file_blocks (table (index_in s) old) f.number) = slice_get_within _ _ lbn (locates.block_is honest)
+        in
+        length-first s f block old for holds honest own vbn
+        ∙ ap (λ (b : Bool). cond b (Some EndOfFile) None) (le-ltb _ _ (omega (arith, within, some)));
     named = λ honest. held-named s f block old for holds honest ∙ seen-own f.number (file_in (home_of s) f.number old.image) own;
     file = λ honest. subst (λ (u : Table). IsFile u f.number) (table-of s old for honest) (is-file s f block old for holds honest).file;
-    block_is = λ honest. subst (λ (u : Table). block_by_vbn u f.number vbn ≡ Some lbn) (table-of s old for honest) (locates.block_is honest);
+    block_is = λ honest. subst (λ (u : Table). block_by_vbn u f.number vbn ≡ Some lbn) (table-of s old for honest)
+        (locates.block_is honest);
     within = locates.within;
     reads = reads-along s f block old new 0 for holds locates.looked;
   }
 
 -- what was read there is the file's block
-pub block-read : (s : Structure) (f : FileId) (vbn lbn : ℕ) (block : List ℕ) (old now : Disk) → IsStructureFor s old → FindsBlock (home_of s) f vbn lbn old now → now.image ≡ old.image
+pub block-read : (s : Structure) (f : FileId) (vbn lbn : ℕ) (block : List ℕ) (old now : Disk) → IsStructureFor s old
+    → FindsBlock (home_of s) f vbn lbn old now → now.image ≡ old.image
     → slice_get now.image lbn ≡ Some block → IsTrue old.honest → slice_get (file_named (store_on s old) f).blocks (vbn - 1) ≡ Some block
 block-read s f vbn lbn block old now for finds same at honest =
     let t : Table = table_of old.image (home_of s) in
@@ -145,11 +161,13 @@ block-read s f vbn lbn block old now for finds same at honest =
     let whole = ((image-files old.image (home_of s) (for.sound honest)).each f.number (finds.file honest)).whole in
     ap (λ (g : File). slice_get g.blocks (vbn - 1)) (finds.named honest)
     ∙ ap (λ (bs : List (List ℕ)). slice_get bs (vbn - 1)) (file-blocks-are old.image t f.number whole)
-    ∙ slice_get-map (block_or_zeros old.image) (file_blocks t f.number) (vbn - 1) ∙ ap (option_map (block_or_zeros old.image)) (finds.block_is honest)
+    ∙ slice_get-map (block_or_zeros old.image) (file_blocks t f.number) (vbn - 1)
+    ∙ ap (option_map (block_or_zeros old.image)) (finds.block_is honest)
     ∙ ap Some (get_or_from_slice_get old.image lbn block zero_block here)
 
 -- a walk to its last header
-module _ (s : Structure) (f : FileId) (block : List ℕ) (old new : Disk) (for : IsStructureFor s old) (holds : HoldsFile (index_in s) f block old) where
+module _ (s : Structure) (f : FileId) (block : List ℕ) (old new : Disk) (for : IsStructureFor s old)
+    (holds : HoldsFile (index_in s) f block old) where
   pub fails-last : (fault : ChainFault) → ¬ (fault ≡ chain.EndOfFile) → (fault ≡ chain.Damaged → FindsBreak (index_in s) f.number 0 old new)
       → (fault ≡ chain.DeviceFault → LooksAlongFile (index_in s) f.number 0 old new 1)
       → FailsToRead false (file_causes (store_on s old) f) (header_count (file_named (store_on s old) f)) (refusal_for fault) old new
@@ -158,9 +176,11 @@ module _ (s : Structure) (f : FileId) (block : List ℕ) (old new : Disk) (for :
     right = right-damaged _ _ (λ honest. (damaged refl).broken honest (sound-file s f block old for holds honest).whole);
     reads = reads-along s f block old new 0 for holds (damaged refl).looked;
   }
-  fails-last chain.DeviceFault never damaged failed = record { right = right-fault _ _; reads = reads-along s f block old new 1 for holds (failed refl) }
+  fails-last chain.DeviceFault never damaged failed =
+      record { right = right-fault _ _; reads = reads-along s f block old new 1 for holds (failed refl) }
 
-  pub counts-last : 4 ≤ f.number → (last : FileEnd) (after : List ℕ) → ReadsLast (index_in s) f.number 0 last after old new → CountsBlocks (home_of s) f last.blocks old new
+  pub counts-last : 4 ≤ f.number → (last : FileEnd) (after : List ℕ) → ReadsLast (index_in s) f.number 0 last after old new
+      → CountsBlocks (home_of s) f last.blocks old new
   counts-last own last after goes = record {
     no_cause = λ honest. no-file-cause s f block old for holds honest;
     length_is = λ honest. goes.blocks_are honest ∙ sym (length-named s f block old for holds honest own);

@@ -1,5 +1,6 @@
 -- The file of an identification in the store of a disk.
-use Rattle.std.proofs.Common.{◌≡◌, ◌≢◌, ℕ, Bool, true, false, cond, IsTrue, List, [], Option, Some, None, is_none, unwrap_or, inl, inr, refl, sym, ap, subst, ◌∙◌, leb, arith}
+use Rattle.std.proofs.Common.{◌≡◌, ◌≢◌, ℕ, Bool, true, false, cond, IsTrue, List, [], Option, Some, None, is_none, unwrap_or, inl, inr}
+use Rattle.std.proofs.Common.{refl, sym, ap, subst, ◌∙◌, leb, arith}
 use Rattle.std.specs.Option.{option_and_then}
 use Rattle.std.proofs.lemmas.Bool.{eq-eqb, ne_eqb}
 use Rattle.std.specs.List.{slice_get}
@@ -37,7 +38,8 @@ unfolding store_of
 file-stored image home n = refl
 
 -- what is said of a file, but for its blocks, is said of it as it is seen
-pub seen-same : {T : Type 0} (get : File → T) → ((f : File) → get (record f { blocks = [] }) ≡ get f) → (n : ℕ) (f : File) → get (as_seen n f) ≡ get f
+pub seen-same : {T : Type 0} (get : File → T) → ((f : File) → get (record f { blocks = [] }) ≡ get f) → (n : ℕ) (f : File)
+    → get (as_seen n f) ≡ get f
 seen-same get same n f = go (leb n 3)
   where
     go : (b : Bool) → get (cond b (record f { blocks = [] }) f) ≡ get f
@@ -72,7 +74,8 @@ module _ (image : Image) (home : HomeFields) (f : FileId) where
   -- there is one
   pub is-named : IsFile t f.number → last_sequence t f.number ≡ f.sequence → file_of s f ≡ Some seen
   is-named file sequence =
-      ap (option_and_then (of_sequence f.sequence)) (file-stored image home f.number ∙ file-at image t f.number (Some seen) (λ _. refl) (λ none. absurd (none file)))
+      ap (option_and_then (of_sequence f.sequence))
+      (file-stored image home f.number ∙ file-at image t f.number (Some seen) (λ _. refl) (λ none. absurd (none file)))
       ∙ of-sequence seen f.sequence (sequence-seen ∙ sequence)
 
   pub named-is : IsFile t f.number → last_sequence t f.number ≡ f.sequence → (is_missing s f ≡ false) × (file_named s f ≡ seen)
@@ -86,11 +89,14 @@ module _ (image : Image) (home : HomeFields) (f : FileId) where
       go : (b : Bool) → is_first t f.number ≡ b → is_missing s f ≡ true
       go true is =
           let file = (first-is-tested t f.number).0 is in
-          ap (λ (o : Option File). is_none (option_and_then (of_sequence f.sequence) o)) (file-stored image home f.number ∙ file-at image t f.number (Some seen) (λ _. refl) (λ not. absurd (not file)))
+          ap (λ (o : Option File). is_none (option_and_then (of_sequence f.sequence) o))
+          (file-stored image home f.number ∙ file-at image t f.number (Some seen) (λ _. refl) (λ not. absurd (not file)))
           ∙ ap (λ (o : Option File). is_none o) (not-sequence seen f.sequence (λ same. none (file, sym sequence-seen ∙ same)))
       go false is =
           ap (λ (o : Option File). is_none (option_and_then (of_sequence f.sequence) o))
-          (file-stored image home f.number ∙ file-at image t f.number None (λ file. let no : true ≡ false = sym ((first-is-tested t f.number).1 file) ∙ is in absurd cc) (λ _. refl))
+          (file-stored image home f.number
+          ∙ file-at image t f.number None (λ file. let no : true ≡ false = sym ((first-is-tested t f.number).1 file) ∙ is in absurd cc)
+          (λ _. refl))
 
 module _ (s : Structure) (f : FileId) (disk : Disk) (for : IsStructureFor s disk) (honest : IsTrue disk.honest) where
   -- a file that was found
@@ -98,20 +104,25 @@ module _ (s : Structure) (f : FileId) (disk : Disk) (for : IsStructureFor s disk
       × (file_named (store_of disk.image (home_of s)) f ≡ as_seen f.number (file_in (home_of s) f.number disk.image))
   found-named is =
       let same : table (index_in s) disk ≡ table_of disk.image (home_of s) = table-of s disk for honest in
-      named-is disk.image (home_of s) f (subst (λ (t : Table). IsFile t f.number) same is.file) (ap (λ (t : Table). last_sequence t f.number) (sym same) ∙ is.sequence)
+      named-is disk.image (home_of s) f (subst (λ (t : Table). IsFile t f.number) same is.file)
+      (ap (λ (t : Table). last_sequence t f.number) (sym same) ∙ is.sequence)
 
   pub none-named : ¬ IsFileOf f (index_in s) disk → is_missing (store_of disk.image (home_of s)) f ≡ true
   none-named none =
       let same : table_of disk.image (home_of s) ≡ table (index_in s) disk = sym (table-of s disk for honest) in
       not-named disk.image (home_of s) f
-      (λ is. none record { file = subst (λ (t : Table). IsFile t f.number) same is.0; sequence = ap (λ (t : Table). last_sequence t f.number) (sym same) ∙ is.1 })
+      (λ is. none record {
+        file = subst (λ (t : Table). IsFile t f.number) same is.0;
+        sequence = ap (λ (t : Table). last_sequence t f.number) (sym same) ∙ is.1;
+      })
 
   -- so it is the first cause against a request for it
   pub missing-first : ¬ IsFileOf f (index_in s) disk → first_of (file_causes (store_on s disk) f) ≡ Some NoSuchFile
   missing-first none = ap (λ (b : Bool). cond b (Some NoSuchFile) None) (none-named none)
 
 -- another header was read than that of the file
-pub read-refused : (s : Structure) (f : FileId) (lbn : ℕ) (block : List ℕ) (old new : Disk) → IsStructureFor s old → is_in_use (index_in s) f.number ≡ true → lbn ≡ header_lbn (index_in s) f.number
+pub read-refused : (s : Structure) (f : FileId) (lbn : ℕ) (block : List ℕ) (old new : Disk) → IsStructureFor s old
+    → is_in_use (index_in s) f.number ≡ true → lbn ≡ header_lbn (index_in s) f.number
     → new ≡ with_transfer true old → (IsTrue old.honest → slice_get old.image lbn ≡ Some block) → (r : Refusal) → IsOther f block r
     → FailsToRead false (file_causes (store_on s old) f) 1 r old new
 read-refused s f lbn block old new for in_use at counts gives r other = go other
@@ -121,7 +132,8 @@ read-refused s f lbn block old new for in_use at counts gives r other = go other
 
     go : IsOther f block r → Fails r
     go (inl none) = subst Fails (sym none.0) record {
-      right = right-cause _ _ _ (λ is. omega (arith, is)) (λ is. omega (arith, is)) refl (λ honest. missing-first s f old for honest (none-read (index_in s) f lbn block old new in_use at counts gives none.1 honest));
+      right = right-cause _ _ _ (λ is. omega (arith, is)) (λ is. omega (arith, is)) refl
+          (λ honest. missing-first s f old for honest (none-read (index_in s) f lbn block old new in_use at counts gives none.1 honest));
       reads = reads-looked (looked_read old new counts);
     }
     go (inr bad) = subst Fails (sym bad.0) record {
@@ -135,13 +147,17 @@ unfolding said_file
 attr-said image t n = refl
 
 -- a file's first header in hand
-module _ (s : Structure) (f : FileId) (block : List ℕ) (disk : Disk) (for : IsStructureFor s disk) (holds : HoldsFile (index_in s) f block disk) (honest : IsTrue disk.honest) where
+module _ (s : Structure) (f : FileId) (block : List ℕ) (disk : Disk) (for : IsStructureFor s disk)
+    (holds : HoldsFile (index_in s) f block disk) (honest : IsTrue disk.honest) where
   pub block-is : block ≡ (table_of disk.image (home_of s)).header f.number
   block-is = holds.header.block_is honest ∙ ap (λ (t : Table). t.header f.number) (table-of s disk for honest)
 
   pub is-file : IsFileOf f (index_in s) disk
   is-file = record {
-    file = record { live = HoldsHeader-live (index_in s) f.number block disk holds.header honest; first = ap segment_number (sym (holds.header.block_is honest)) ∙ holds.is_first.first };
+    file = record {
+      live = HoldsHeader-live (index_in s) f.number block disk holds.header honest;
+      first = ap segment_number (sym (holds.header.block_is honest)) ∙ holds.is_first.first;
+    };
     sequence = ap file_sequence (sym (holds.header.block_is honest)) ∙ holds.is_first.sequence;
   }
 

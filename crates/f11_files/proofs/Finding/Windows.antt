@@ -1,5 +1,6 @@
 -- Windows over a file's blocks, in the words of the store.
-use Rattle.std.proofs.Common.{◌≡◌, ◌-◌, ◌<◌, ◌≤◌, ℕ, Bool, true, false, cond, IsTrue, List, length, Some, None, inl, inr, refl, sym, ap, subst, ◌∙◌, ltb, arith}
+use Rattle.std.proofs.Common.{◌≡◌, ◌-◌, ◌<◌, ◌≤◌, ℕ, Bool, true, false, cond, IsTrue, List, length, Some, None, inl, inr, refl, sym, ap}
+use Rattle.std.proofs.Common.{subst, ◌∙◌, ltb, arith}
 use Rattle.std.specs.Prelude.{IfErr, OnOk, Result, Ok, Err}
 use Rattle.std.proofs.lemmas.Bool.{cases_eq, le-ltb}
 use Rattle.std.proofs.lemmas.List.{length-map}
@@ -60,14 +61,16 @@ is-there image home f there = go (is_first t f.number) refl
           | inl same ↦ (file, same)
           | inr other ↦ never (not-named image home f (λ both. other both.1))
         ]
-    go false is = never (not-named image home f (λ both. let no : true ≡ false = sym ((first-is-tested t f.number).1 both.0) ∙ is in absurd cc))
+    go false is =
+        never (not-named image home f (λ both. let no : true ≡ false = sym ((first-is-tested t f.number).1 both.0) ∙ is in absurd cc))
 
 -- a block that stands in a window stands there in one place
 pub held-somewhere : (w : Window) (vbn : ℕ) → HoldsBlock w vbn → (lbn : ℕ) × HoldsAt w vbn lbn
 held-somewhere w vbn holds =
     (_, record { holds = holds; lbn_is = slice_get-get_or (blocks_held w) (vbn - w.first) 0 (omega (arith, holds.from, holds.before)) })
 
-module _ (s : Structure) (f : FileId) (w : Window) (disk : Disk) (for : IsStructureFor s disk) (is : IsWindowOn (home_of s) f w disk) (some : 0 < w.first) (vbn lbn : ℕ) (held : HoldsAt w vbn lbn) where
+module _ (s : Structure) (f : FileId) (w : Window) (disk : Disk) (for : IsStructureFor s disk) (is : IsWindowOn (home_of s) f w disk)
+    (some : 0 < w.first) (vbn lbn : ℕ) (held : HoldsAt w vbn lbn) where
   module _ (honest : IsTrue disk.honest) where
     abbrev t : Table
     t = table_of disk.image (home_of s)
@@ -82,12 +85,15 @@ module _ (s : Structure) (f : FileId) (w : Window) (disk : Disk) (for : IsStruct
     in-place = window-has t f.number vbn lbn w has.window some held
 
     named : file_named (store_on s disk) f ≡ file_in (home_of s) f.number disk.image
-    named = (named-is disk.image (home_of s) f file (is-there disk.image (home_of s) f has.there).1).1 ∙ seen-own f.number (file_in (home_of s) f.number disk.image) is.id.number
+    named =
+        (named-is disk.image (home_of s) f file (is-there disk.image (home_of s) f has.there).1).1
+        ∙ seen-own f.number (file_in (home_of s) f.number disk.image) is.id.number
 
     as-long : length_of (file_named (store_on s disk) f) ≡ length (file_blocks t f.number)
     as-long =
         ap length_of named
-        ∙ ap (λ (bs : List (List ℕ)). length bs) (file-blocks-are disk.image t f.number ((image-files disk.image (home_of s) (for.sound honest)).each f.number file).whole)
+        ∙ ap (λ (bs : List (List ℕ)). length bs)
+        (file-blocks-are disk.image t f.number ((image-files disk.image (home_of s) (for.sound honest)).each f.number file).whole)
         ∙ length-map (file_blocks t f.number) _
 
     long-enough : vbn ≤ length_of (file_named (store_on s disk) f)
@@ -97,7 +103,8 @@ module _ (s : Structure) (f : FileId) (w : Window) (disk : Disk) (for : IsStruct
 
     pub no-cause : first_of (length_causes (store_on s disk) f vbn) ≡ None
     no-cause =
-        ap (λ (b : Bool). cond b (Some NoSuchFile) (cond (ltb (length_of (file_named (store_on s disk) f)) vbn) (Some EndOfFile) None)) has.there
+        ap (λ (b : Bool). cond b (Some NoSuchFile) (cond (ltb (length_of (file_named (store_on s disk) f)) vbn) (Some EndOfFile) None))
+        has.there
         ∙ ap (λ (b : Bool). cond b (Some EndOfFile) None) (le-ltb (length_of (file_named (store_on s disk) f)) vbn long-enough)
 
   -- the block of a window is found without a transfer
@@ -112,7 +119,8 @@ module _ (s : Structure) (f : FileId) (w : Window) (disk : Disk) (for : IsStruct
   }
 
 -- the block was read there
-pub reads-by : (s : Structure) (w : Window) (vbn lbn : ℕ) (block : List ℕ) (old new : Disk) → IsStructureFor s old → 0 < w.first → HoldsAt w vbn lbn → lbn < length old.image → new ≡ with_transfer true old
+pub reads-by : (s : Structure) (w : Window) (vbn lbn : ℕ) (block : List ℕ) (old new : Disk) → IsStructureFor s old → 0 < w.first
+    → HoldsAt w vbn lbn → lbn < length old.image → new ≡ with_transfer true old
     → (IsTrue old.honest → slice_get old.image lbn ≡ Some block) → ReadsBy (home_of s) w vbn block old new
 reads-by s w vbn lbn block old new for some held within once gives = record {
   once = once;
@@ -127,11 +135,13 @@ reads-by s w vbn lbn block old new for some held within once gives = record {
 
 -- what the answer tells, one way or the other
 module _ (s : Structure) (w : Window) (vbn : ℕ) (block : List ℕ) (old new : Disk) (for : IsStructureFor s old) where
-  pub read-answered : (r : Result Unit Refusal) → 0 < w.first → ReadsIn w vbn r block old new → OnOk r (ReadsBy (home_of s) w vbn block old new)
+  pub read-answered : (r : Result Unit Refusal) → 0 < w.first → ReadsIn w vbn r block old new
+      → OnOk r (ReadsBy (home_of s) w vbn block old new)
   read-answered (Ok x) some is = reads-by s w vbn is.lbn block old new for some is.held is.within is.reads.counts is.reads.gives
   read-answered (Err e) some is = tt
 
-  pub read-refused-by : (failed : Bool) (r : Result Unit Refusal) → IfErr r (λ e. e ≡ DeviceFault) → ReadsIn w vbn r block old new → IfErr r (λ e. FailsToReadBy failed e old new)
+  pub read-refused-by : (failed : Bool) (r : Result Unit Refusal) → IfErr r (λ e. e ≡ DeviceFault) → ReadsIn w vbn r block old new
+      → IfErr r (λ e. FailsToReadBy failed e old new)
   read-refused-by failed (Ok x) fault is = fault
   read-refused-by failed (Err e) fault is = subst (λ (x : Refusal). FailsToReadBy failed x old new) (sym fault) record {
     why = record { only = inr refl; volume = λ no. absurd cc };
@@ -144,10 +154,12 @@ module _ (s : Structure) (w : Window) (vbn : ℕ) (block : List ℕ) (old new : 
 
 -- the volume had failed, and nothing is read
 pub had-failed-read : {failed : Bool} (disk : Disk) → failed ≡ true → FailsToReadBy failed VolumeFailed disk disk
-had-failed-read disk is = record { why = record { only = inl refl; volume = λ _. is }; looked = looked_within (looked_none disk) (omega arith) }
+had-failed-read disk is =
+    record { why = record { only = inl refl; volume = λ _. is }; looked = looked_within (looked_none disk) (omega arith) }
 
 -- the window was found behind the first header in hand
-module _ (s : Structure) (f : FileId) (block : List ℕ) (old new : Disk) (for : IsStructureFor s old) (holds : HoldsFile (index_in s) f block old) (id : IsIdFrom 4 f) (vbn : ℕ) (w : Window)
+module _ (s : Structure) (f : FileId) (block : List ℕ) (old new : Disk) (for : IsStructureFor s old)
+    (holds : HoldsFile (index_in s) f block old) (id : IsIdFrom 4 f) (vbn : ℕ) (w : Window)
     (image : IsImage old.image) (finds : FindsWindow (index_in s) f.number vbn w old new) where
   has-window : IsTrue old.honest → HasWindow (home_of s) f w old.image
   has-window honest =

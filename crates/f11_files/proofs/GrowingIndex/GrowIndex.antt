@@ -1,5 +1,6 @@
 -- More slots for the index file: its room, memory for them, its contiguous mark, and then run by run.
-use Rattle.std.proofs.Common.{◌-◌, ◌≡◌, ◌+◌, ◌*◌, ◌||◌, ℕ, Bool, true, false, cond, IsTrue, List, [], Some, None, eqb, refl, sym, ap, subst, ◌∙◌, arith}
+use Rattle.std.proofs.Common.{◌-◌, ◌≡◌, ◌+◌, ◌*◌, ◌||◌, ℕ, Bool, true, false, cond, IsTrue, List, [], Some, None, eqb, refl, sym, ap, subst}
+use Rattle.std.proofs.Common.{◌∙◌, arith}
 use Rattle.std.proofs.lemmas.Bool.{le-ltb}
 use Rattle.f11_dev.specs.Disk.{Disk}
 use Rattle.f11_dev.specs.Went.{Went}
@@ -39,11 +40,13 @@ use Rattle.f11_files.specs.Extending.Runs.{IsTailOf, GrowingByRuns, GrowsByRuns}
 use Rattle.f11_files.specs.Extending.Tail.{ownership_of}
 use Rattle.f11_store.proofs.GrowsLemmas.{grows-as-index}
 use Rattle.f11_store.specs.Pieces.{MayGrowAs}
-use Rattle.f11_files.proofs.Extending.ClearAndGrow.{HasRoomFor, breaks-clearing, breaks-growing, gains-all, has-grown, may-grow, writes-grown, zeros-all}
+use Rattle.f11_files.proofs.Extending.ClearAndGrow.{HasRoomFor, breaks-clearing, breaks-growing, gains-all, has-grown, may-grow}
+use Rattle.f11_files.proofs.Extending.ClearAndGrow.{writes-grown, zeros-all}
 use Rattle.f11_files.specs.declared.extend.tail.Tail.{Tail}
 
 -- there is room for more slots
-pub reserved-room : (s : Structure) (index : IndexFile) → index_kept index ≡ index_in s → (n : ℕ) (end : FileEnd) (was last : List ℕ) (disk : Disk) → HoldsIndexRoom s n end was last disk
+pub reserved-room : (s : Structure) (index : IndexFile) → index_kept index ≡ index_in s
+    → (n : ℕ) (end : FileEnd) (was last : List ℕ) (disk : Disk) → HoldsIndexRoom s n end was last disk
     → HoldsIndexRoom (record s { index = index }) n end was last disk
 reserved-room s index kept n end was last disk has = record {
   within = has.within;
@@ -60,7 +63,8 @@ reserved-room s index kept n end was last disk has = record {
   };
 }
 
-module _ (s : Structure) (n : ℕ) (end : FileEnd) (was last : List ℕ) (old : Disk) (for : IsStructureFor s old) (room : HoldsIndexRoom s n end was last old) where
+module _ (s : Structure) (n : ℕ) (end : FileEnd) (was last : List ℕ) (old : Disk) (for : IsStructureFor s old)
+    (room : HoldsIndexRoom s n end was last old) where
   abbrev home : HomeFields
   home = home_of s
 
@@ -84,11 +88,14 @@ module _ (s : Structure) (n : ℕ) (end : FileEnd) (was last : List ℕ) (old : 
     no-growth-cause : first_of (growth_causes st file n) ≡ None
     no-growth-cause =
         ap (λ (g : File). first_of (growth_causes st g n)) (sym named)
-        ∙ ap (λ (b : Bool). cond b (Some NoSuchFile) (first_of (growth_causes st (file_named st index_id) n))) (sym (index-is s old for honest index_id refl refl).0)
+        ∙ ap (λ (b : Bool). cond b (Some NoSuchFile) (first_of (growth_causes st (file_named st index_id) n)))
+        (sym (index-is s old for honest index_id refl refl).0)
         ∙ room.room.no_cause honest
 
     pub may-grow-slots : first_of (grow_causes st n) ≡ None
-    may-grow-slots = ap (λ (b : Bool). cond b (Some IndexLimit) (first_of (growth_causes st file n))) (le-ltb st.limit (st.slots + n) (room.within honest)) ∙ no-growth-cause
+    may-grow-slots =
+        ap (λ (b : Bool). cond b (Some IndexLimit) (first_of (growth_causes st file n)))
+        (le-ltb st.limit (st.slots + n) (room.within honest)) ∙ no-growth-cause
 
   -- there is no memory for them
   pub wants-memory : FailsToGrowHeld home n NoMemory old old
@@ -100,10 +107,18 @@ module _ (s : Structure) (n : ℕ) (end : FileEnd) (was last : List ℕ) (old : 
   }
 
   has : HasRoomFor s 1 n file old
-  has = record { is_file = λ honest. (index-is s old for honest index_id refl refl).2; no_cause = no-growth-cause; within = λ honest _. room.within honest }
+  has =
+      record {
+        is_file = λ honest. (index-is s old for honest index_id refl refl).2;
+        no_cause = no-growth-cause;
+        within = λ honest _.
+            room.within honest;
+      }
 
   -- in no more transfers than the cost
-  as-whole : {new : Disk} {faults : ℕ} → WritesAtMost (Meanwhile work home old) (growth_cost st file n - 1 - header_count file - 2) old new faults → WritesAtMost (Meanwhile work home old) most old new faults
+  as-whole : {new : Disk} {faults : ℕ}
+      → WritesAtMost (Meanwhile work home old) (growth_cost st file n - 1 - header_count file - 2) old new faults
+      → WritesAtMost (Meanwhile work home old) most old new faults
   as-whole = writes-within (omega arith)
 
   -- the mark is cleared
@@ -121,12 +136,17 @@ module _ (s : Structure) (n : ℕ) (end : FileEnd) (was last : List ℕ) (old : 
     may-grow-index = may-grow s index_id n end was last old for room.room.ends file has block cleared clears
 
     pub fails-growing : (r : Refusal) (new : Disk)
-        → Breaks (GrowingByRuns s 1 n cleared) ((store_on s cleared).bitmap_blocks + 5 * n + 3 * need (index_file (store_on s cleared)).room n + 3) r cleared new → FailsToGrowHeld home n r old new
-    fails-growing r new breaks = as-wanting (λ is. let no : true ≡ false = sym breaks.fatal ∙ ap (λ (k : ℕ). eqb k 19 || eqb k 20) is in absurd cc)
-        (breaks-off (λ _. refl) breaks.fatal (fatal-right [] r old.honest breaks.fatal (λ honest. breaks.undamaged (clears.went.honest ∙ honest)))
+        → Breaks (GrowingByRuns s 1 n cleared)
+        ((store_on s cleared).bitmap_blocks + 5 * n + 3 * need (index_file (store_on s cleared)).room n + 3) r cleared new
+        → FailsToGrowHeld home n r old new
+    fails-growing r new breaks =
+        as-wanting (λ is. let no : true ≡ false = sym breaks.fatal ∙ ap (λ (k : ℕ). eqb k 19 || eqb k 20) is in absurd cc)
+        (breaks-off (λ _. refl) breaks.fatal
+        (fatal-right [] r old.honest breaks.fatal (λ honest. breaks.undamaged (clears.went.honest ∙ honest)))
         (as-whole (breaks-growing s index_id n end was last old for room.room.ends file has block cleared clears breaks)))
 
-    module _ (tail : Tail) (of : IsTailOf index_id block end.number last tail) (new : Disk) (grows : GrowsByRuns s 1 (ownership_of tail) n cleared new) where
+    module _ (tail : Tail) (of : IsTailOf index_id block end.number last tail) (new : Disk)
+        (grows : GrowsByRuns s 1 (ownership_of tail) n cleared new) where
       grown : IsTrue old.honest → GrowsIndex st n (store_of new.image home)
       grown honest =
           grows-as-index st (store_of new.image home) n
@@ -149,8 +169,10 @@ module _ (s : Structure) (n : ℕ) (end : FileEnd) (was last : List ℕ) (old : 
       }
 
 -- so many slots there are then
-pub slots-after : (s t : Structure) (n count : ℕ) (old new : Disk) → GrowsIndexFile (home_of s) n old new → StaysFor false s t new → count ≡ slots (index_in t) → IsSlotsAfter (home_of s) n old count
+pub slots-after : (s t : Structure) (n count : ℕ) (old new : Disk) → GrowsIndexFile (home_of s) n old new → StaysFor false s t new
+    → count ≡ slots (index_in t) → IsSlotsAfter (home_of s) n old count
 slots-after s t n count old new grows stays is honest =
     let made = grows.makes honest in
-    is ∙ ap slots (stays.keeps refl (grows.writes.went.honest ∙ honest)).index_is ∙ sym (slots-of new.image (home_of t)) ∙ ap (λ (h : HomeFields). (store_of new.image h).slots) stays.home
+    is ∙ ap slots (stays.keeps refl (grows.writes.went.honest ∙ honest)).index_is ∙ sym (slots-of new.image (home_of t))
+    ∙ ap (λ (h : HomeFields). (store_of new.image h).slots) stays.home
     ∙ ap (λ (x : Store). x.slots) (made.store_is ∙ ap (λ (x : Store). with_more_slots x n) made.grows.store_is)

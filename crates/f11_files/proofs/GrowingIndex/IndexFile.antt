@@ -17,14 +17,17 @@ use Rattle.f11_files.proofs.Finding.Named.{file-stored, named-is}
 use Rattle.f11_image_store.proofs.StoreLemmas.{file-at}
 
 -- the index file is file 1,1
-pub index-named : (image : Image) (home : HomeFields) → HasSoundVolume image home → IsFile (table_of image home) 1 × (last_sequence (table_of image home) 1 ≡ 1)
+pub index-named : (image : Image) (home : HomeFields) → HasSoundVolume image home
+    → IsFile (table_of image home) 1 × (last_sequence (table_of image home) 1 ≡ 1)
 index-named image home is = let index = is.framed.indexed.file in (index.whole.file, index.sequence)
 
 -- the store has it, as it is seen
-index-stored : (image : Image) (home : HomeFields) → HasSoundVolume image home → (store_of image home).file 1 ≡ Some (as_seen 1 (file_in home 1 image))
+index-stored : (image : Image) (home : HomeFields) → HasSoundVolume image home
+    → (store_of image home).file 1 ≡ Some (as_seen 1 (file_in home 1 image))
 index-stored image home is =
     file-stored image home 1
-    ∙ file-at image (table_of image home) 1 (Some (as_seen 1 (file_in home 1 image))) (λ _. refl) (λ none. absurd (none (index-named image home is).0))
+    ∙ file-at image (table_of image home) 1 (Some (as_seen 1 (file_in home 1 image))) (λ _. refl)
+    (λ none. absurd (none (index-named image home is).0))
 
 -- and by that identification it is found
 pub index-is : (s : Structure) (disk : Disk) → IsStructureFor s disk → IsTrue disk.honest → (f : FileId) → f.number ≡ 1 → f.sequence ≡ 1

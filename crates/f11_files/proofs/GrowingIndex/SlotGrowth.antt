@@ -1,5 +1,6 @@
 -- Blocks of zeros that the index file has behind its others are slots.
-use Rattle.std.proofs.Common.{◌≡◌, ◌≢◌, ◌+◌, ◌-◌, ◌*◌, ◌<◌, ◌≤◌, ℕ, true, IsTrue, List, ◌++◌, length, min, get_or, Some, refl, sym, ap, subst, ◌∙◌, arith}
+use Rattle.std.proofs.Common.{◌≡◌, ◌≢◌, ◌+◌, ◌-◌, ◌*◌, ◌<◌, ◌≤◌, ℕ, true, IsTrue, List, ◌++◌, length, min, get_or, Some, refl, sym, ap}
+use Rattle.std.proofs.Common.{subst, ◌∙◌, arith}
 use Rattle.std.specs.List.{slice_get, range_with_len}
 use Rattle.std.proofs.Math.ListN.{set}
 use Rattle.std.proofs.lemmas.List.{length-append, length-take, length-set, get_or-take, get_or-append-add}
@@ -40,7 +41,8 @@ use Rattle.f11_files.proofs.WriteLemmas.{keeps-storage}
 use Rattle.f11_image_store.proofs.FreshStoreLemmas.{zero-sequence}
 
 -- a slot that was in use is so still
-pub in_use-kept : (index : Index) (lbn count n : ℕ) → IsIndex index → is_in_use index n ≡ true → is_in_use (with_blocks_behind index lbn count) n ≡ true
+pub in_use-kept : (index : Index) (lbn count n : ℕ) → IsIndex index → is_in_use index n ≡ true
+    → is_in_use (with_blocks_behind index lbn count) n ≡ true
 in_use-kept index lbn count n valid used =
     let some = in_use-some index n used in
     let within = in_use-slot index n used in
@@ -50,8 +52,10 @@ in_use-kept index lbn count n valid used =
     ∙ sym (is_in_use-within index n some within) ∙ used
 
 -- the index file of an image has grown, where no more slots came than there may be
-module _ (image : Image) (home : HomeFields) (n : ℕ) (block : List ℕ) (lbn count : ℕ) (is : HasSoundVolume image home) (of : IsHeaderOf (table_of image home) 1 n)
-    (wrote : WritesGrowth n block lbn count home image (with_header image home n block)) (within : lbn + count ≤ length image) (zeros : HoldsZeros image lbn count)
+module _ (image : Image) (home : HomeFields) (n : ℕ) (block : List ℕ) (lbn count : ℕ) (is : HasSoundVolume image home)
+    (of : IsHeaderOf (table_of image home) 1 n)
+    (wrote : WritesGrowth n block lbn count home image (with_header image home n block)) (within : lbn + count ≤ length image)
+    (zeros : HoldsZeros image lbn count)
     (limit : (store_of image home).slots + count ≤ (store_of image home).limit) where
   abbrev was : Index
   was = index_of image home
@@ -102,9 +106,11 @@ module _ (image : Image) (home : HomeFields) (n : ℕ) (block : List ℕ) (lbn c
       let placed = header-placed-at image home n is.framed.indexed.file slot.0 slot.1 in
       let there : length all + i - length all ≡ i = omega arith in
       let front : slice_get (index_file_blocks next home) placed.place ≡ Some (header_lbn was n) =
-      ap (λ (xs : List ℕ). slice_get xs placed.place) wrote.index_file.file ∙ slice_get-append_front all more placed.place (header_lbn was n) placed.at in
+      ap (λ (xs : List ℕ). slice_get xs placed.place) wrote.index_file.file
+      ∙ slice_get-append_front all more placed.place (header_lbn was n) placed.at in
       let behind : slice_get (index_file_blocks next home) (length all + i) ≡ Some (header_lbn was n) =
-      ap (λ (xs : List ℕ). slice_get xs (length all + i)) wrote.index_file.file ∙ slice_get-append_back all more (length all + i) (length all) refl (omega arith)
+      ap (λ (xs : List ℕ). slice_get xs (length all + i)) wrote.index_file.file
+      ∙ slice_get-append_back all more (length all + i) (length all) refl (omega arith)
       ∙ ap (slice_get more) there ∙ range-slice_get lbn count i below ∙ ap Some same in
       let one = index-apart next home wrote.slot.sound placed.place (length all + i) (header_lbn was n) front behind in
       let inside = slice_get_within all placed.place (header_lbn was n) placed.at in
@@ -114,9 +120,11 @@ module _ (image : Image) (home : HomeFields) (n : ℕ) (block : List ℕ) (lbn c
   zeros-there i below =
       image_block-other image (header_lbn was n) (lbn + i) block (apart i below)
       ∙ image_block-read image (lbn + i) zero_block
-      (slice_get-get_or image (lbn + i) zero_block (omega (arith, below, within)) ∙ ap Some (zeros.each (lbn + i) (omega arith) (omega (arith, below))))
+      (slice_get-get_or image (lbn + i) zero_block (omega (arith, below, within))
+      ∙ ap Some (zeros.each (lbn + i) (omega arith) (omega (arith, below))))
 
-  pub slots-zero : (m : ℕ) → (table_of image home).slots < m → m ≤ (table_of image home).slots + count → (table_of next home).header m ≡ zero_block
+  pub slots-zero : (m : ℕ) → (table_of image home).slots < m → m ≤ (table_of image home).slots + count
+      → (table_of next home).header m ≡ zero_block
   unfolding table_in
   slots-zero m past few = ap (image_block next) (lbn-is m past few) ∙ zeros-there (m - 1 - slots was) (omega (arith, past, few))
 
@@ -129,7 +137,8 @@ module _ (image : Image) (home : HomeFields) (n : ℕ) (block : List ℕ) (lbn c
   }
 
 -- what is kept has grown with the image's index file
-module _ (s : Structure) (after : IndexFile) (n : ℕ) (block : List ℕ) (lbn count : ℕ) (old new : Disk) (for : IsStructureFor s old) (within : lbn + count ≤ (bitmap_in s).size)
+module _ (s : Structure) (after : IndexFile) (n : ℕ) (block : List ℕ) (lbn count : ℕ) (old new : Disk) (for : IsStructureFor s old)
+    (within : lbn + count ≤ (bitmap_in s).size)
     (grown : index_kept after ≡ with_blocks_behind (index_in s) lbn count)
     (wrote : IsTrue old.honest → WritesGrowth n block lbn count (home_of s) old.image (with_header old.image (home_of s) n block))
     (place : ℕ) (at : place ≡ header_lbn (index_in s) n) (is : new ≡ with_transfer true (with_block_at place block old)) where
@@ -148,7 +157,8 @@ module _ (s : Structure) (after : IndexFile) (n : ℕ) (block : List ℕ) (lbn c
   index-for : IndexIsFor (index_kept after) home new
   index-for =
       subst (IndexIsFor (index_kept after) home) (sym new-is) (subst (λ (x : Index). IndexIsFor x home written) (sym grown)
-      (IsFor-grown (index_in s) home old true n block lbn count (λ honest. (wrote honest).index_file) (let whole = for.lies.volume in omega (arith, within, whole))
+      (IsFor-grown (index_in s) home old true n block lbn count (λ honest. (wrote honest).index_file)
+      (let whole = for.lies.volume in omega (arith, within, whole))
       (record { within = for.lies.index; keeps = λ honest. (for.keeps honest).index_is })))
 
   size : length new.image ≡ length old.image
@@ -158,7 +168,8 @@ module _ (s : Structure) (after : IndexFile) (n : ℕ) (block : List ℕ) (lbn c
   was-honest honest = sym (ap (λ (d : Disk). d.honest) is) ∙ honest
 
   grown-image : IsTrue old.honest → new.image ≡ with_header old.image home n block
-  grown-image honest = ap (λ (d : Disk). d.image) new-is ∙ ap (λ (x : Index). set old.image (header_lbn x n) block) (for.keeps honest).index_is
+  grown-image honest =
+      ap (λ (d : Disk). d.image) new-is ∙ ap (λ (x : Index). set old.image (header_lbn x n) block) (for.keeps honest).index_is
 
   pub grown-for : IsStructureFor t new
   grown-for = record {
@@ -167,12 +178,14 @@ module _ (s : Structure) (after : IndexFile) (n : ℕ) (block : List ℕ) (lbn c
       bitmap = subst (BitmapLiesWithin (bitmap_in s)) (sym size) for.lies.bitmap;
       volume = let whole = for.lies.volume in omega (arith, whole, size);
     };
-    sound = λ honest. let before = was-honest honest in subst (λ (i : Image). HasSoundVolume i home) (sym (grown-image before)) (wrote before).slot.sound;
+    sound = λ honest. let before = was-honest honest in
+        subst (λ (i : Image). HasSoundVolume i home) (sym (grown-image before)) (wrote before).slot.sound;
     keeps = λ honest. record {
       index_is = index-for.keeps honest;
       bitmap_is =
           let before = was-honest honest in
-          subst (λ (i : Image). bitmap_in s ≡ storage_bitmap i home) (sym (grown-image before)) ((for.keeps before).bitmap_is ∙ sym (wrote before).slot.bitmap);
+          subst (λ (i : Image). bitmap_in s ≡ storage_bitmap i home) (sym (grown-image before))
+          ((for.keeps before).bitmap_is ∙ sym (wrote before).slot.bitmap);
       storage =
           let before = was-honest honest in
           subst (Keeps s.storage) (sym (grown-image before))

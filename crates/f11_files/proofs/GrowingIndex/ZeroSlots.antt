@@ -35,7 +35,8 @@ zero-then t u w one two = record {
 }
 
 -- a header that is in use was written
-pub zero-header : (old new : Image) (home : HomeFields) (n : ℕ) (block : List ℕ) → WritesHeader n block home old new → (table_of old home).in_use n ≡ true
+pub zero-header : (old new : Image) (home : HomeFields) (n : ℕ) (block : List ℕ) → WritesHeader n block home old new
+    → (table_of old home).in_use n ≡ true
     → AddsZeroSlots (table_of old home) (table_of new home)
 unfolding table_in
 zero-header old new home n block wrote used =
@@ -45,11 +46,13 @@ zero-header old new home n block wrote used =
       zeros = λ m past within. absurd (omega (arith, past, within, same));
       unused = λ m some within unused. sym (λ i. wrote.in_use i m) ∙ unused;
       held = λ m some within unused.
-          wrote.index_file.others m some within (λ here. both_ways _ unused ((λ i. wrote.in_use i m) ∙ ap (table_of old home).in_use here ∙ used));
+          wrote.index_file.others m some within
+          (λ here. both_ways _ unused ((λ i. wrote.in_use i m) ∙ ap (table_of old home).in_use here ∙ used));
     }
 
 -- a header was written and entered
-pub zero-entered : (n : ℕ) (block : List ℕ) (after : Index) (home : HomeFields) (old first second : Image) → EntersExtension n block after home old first second
+pub zero-entered : (n : ℕ) (block : List ℕ) (after : Index) (home : HomeFields) (old first second : Image)
+    → EntersExtension n block after home old first second
     → AddsZeroSlots (table_of old home) (table_of second home)
 unfolding table_in
 zero-entered n block after home old first second enters =
@@ -67,7 +70,8 @@ zero-entered n block after home old first second enters =
     }
 
 -- blocks of zeros became slots
-pub zero-grown : (old new : Image) (home : HomeFields) (n : ℕ) (block : List ℕ) (lbn count : ℕ) → WritesGrowth n block lbn count home old new → (table_of old home).in_use n ≡ true
+pub zero-grown : (old new : Image) (home : HomeFields) (n : ℕ) (block : List ℕ) (lbn count : ℕ)
+    → WritesGrowth n block lbn count home old new → (table_of old home).in_use n ≡ true
     → (table_of new home).slots ≡ (table_of old home).slots + count
     → ((m : ℕ) → (table_of old home).slots < m → m ≤ (table_of old home).slots + count → (table_of new home).header m ≡ zero_block)
     → AddsZeroSlots (table_of old home) (table_of new home)
@@ -77,5 +81,6 @@ zero-grown old new home n block lbn count wrote used more zeros = record {
   zeros = λ m past within unused. zeros m past (omega (arith, within, more));
   unused = λ m some within unused. sym (wrote.index_file.in_use m within) ∙ unused;
   held = λ m some within unused.
-      wrote.index_file.others m some within (λ here. both_ways _ unused (wrote.index_file.in_use m within ∙ ap (table_of old home).in_use here ∙ used));
+      wrote.index_file.others m some within
+      (λ here. both_ways _ unused (wrote.index_file.in_use m within ∙ ap (table_of old home).in_use here ∙ used));
 }

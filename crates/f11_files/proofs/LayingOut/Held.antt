@@ -1,5 +1,6 @@
 -- A file that is laid out once its headers are in hand: the run is marked used, its blocks come, and then the mark is set.
-use Rattle.std.proofs.Common.{◌≡◌, ◌≢◌, ◌+◌, ◌≤◌, ℕ, Bool, false, cond, IsTrue, List, length, Option, Some, None, unwrap_or, inl, inr, sym, ap, subst, ◌∙◌, arith}
+use Rattle.std.proofs.Common.{◌≡◌, ◌≢◌, ◌+◌, ◌≤◌, ℕ, Bool, false, cond, IsTrue, List, length, Option, Some, None, unwrap_or, inl, inr, sym}
+use Rattle.std.proofs.Common.{ap, subst, ◌∙◌, arith}
 use Rattle.std.proofs.lemmas.Bool.{cases_eq, false≢true}
 use Rattle.f11_bits.specs.Bitmap.{Bitmap}
 use Rattle.f11_chain.specs.declared.blocks.FileEnd.{FileEnd}
@@ -37,7 +38,8 @@ use Rattle.f11_files.proofs.Finding.Named.{block-is, found-named, held-named, is
 use Rattle.f11_files.proofs.LayingOut.Lay.{file-bounds}
 use Rattle.f11_files.proofs.Removing.Freeing.{stays-for}
 
-module _ (s : Structure) (f : FileId) (n : ℕ) (end : FileEnd) (was last : List ℕ) (old : Disk) (for : IsStructureFor s old) (own : 4 ≤ f.number) (room : HoldsRunRoom s f n end was last old) (is_image : IsImage old.image) where
+module _ (s : Structure) (f : FileId) (n : ℕ) (end : FileEnd) (was last : List ℕ) (old : Disk) (for : IsStructureFor s old)
+    (own : 4 ≤ f.number) (room : HoldsRunRoom s f n end was last old) (is_image : IsImage old.image) where
   abbrev home : HomeFields
   home = home_of s
 
@@ -62,7 +64,8 @@ module _ (s : Structure) (f : FileId) (n : ℕ) (end : FileEnd) (was last : List
 
     no-run-cause : first_of (causes.contiguous_causes st named n) ≡ None
     no-run-cause =
-        ap (λ (b : Bool). cond b (Some NoSuchFile) (first_of (causes.contiguous_causes st named n))) (sym (found-named s f old for honest (is-file s f was old for room.ends.holds honest)).0)
+        ap (λ (b : Bool). cond b (Some NoSuchFile) (first_of (causes.contiguous_causes st named n)))
+        (sym (found-named s f old for honest (is-file s f was old for room.ends.holds honest)).0)
         ∙ room.no_cause honest
 
     pub few-blocks : length named.blocks ≤ 0
@@ -79,13 +82,19 @@ module _ (s : Structure) (f : FileId) (n : ℕ) (end : FileEnd) (was last : List
         omega (arith, bounds.0, none, same)
 
     pub may-lay : MayGrowAs st k n (run_pointers n)
-    may-lay = record { places = has-places st k n (run_pointers n) named is-named (has-run-room st named n no-run-cause).0; within = λ is. absurd (false≢true (sym (are-none own) ∙ is)) }
+    may-lay =
+        record {
+          places = has-places st k n (run_pointers n) named is-named (has-run-room st named n no-run-cause).0;
+          within = λ is.
+              absurd (false≢true (sym (are-none own) ∙ is));
+        }
 
   -- the file's last header is in hand
   module _ (tail : Tail) (of : IsTailOf f was end.number last tail) where
     alone-last : (link_of was).number ≡ 0 → HoldsLast s tail old
     alone-last none = let is = of.alone none in record {
-      header = subst (λ (m : ℕ). HoldsHeader (index_in s) m tail.block old) (sym is.0) (subst (λ (b : List ℕ). HoldsHeader (index_in s) k b old) (sym is.1) room.ends.holds.header);
+      header = subst (λ (m : ℕ). HoldsHeader (index_in s) m tail.block old) (sym is.0)
+          (subst (λ (b : List ℕ). HoldsHeader (index_in s) k b old) (sym is.1) room.ends.holds.header);
       no_link = ap (λ (b : List ℕ). (link_of b).number) is.1 ∙ none;
       few = let zero = room.ends.holds.is_first.first in let same = ap (λ (b : List ℕ). segment_number b) is.1 in omega (arith, zero, same);
       is_last = λ honest.
@@ -99,13 +108,15 @@ module _ (s : Structure) (f : FileId) (n : ℕ) (end : FileEnd) (was last : List
 
     other-last : (link_of was).number ≢ 0 → HoldsLast s tail old
     other-last some = let is = of.other some in record {
-      header = subst (λ (m : ℕ). HoldsHeader (index_in s) m tail.block old) (sym is.0) (subst (λ (b : List ℕ). HoldsHeader (index_in s) end.number b old) (sym is.1) room.ends.header);
+      header = subst (λ (m : ℕ). HoldsHeader (index_in s) m tail.block old) (sym is.0)
+          (subst (λ (b : List ℕ). HoldsHeader (index_in s) end.number b old) (sym is.1) room.ends.header);
       no_link = ap (λ (b : List ℕ). (link_of b).number) is.1 ∙ room.ends.no_link;
       few = let same = ap (λ (b : List ℕ). segment_number b) is.1 in omega (arith, room.ends.segment, room.ends.few, same);
       is_last = λ honest.
           let t : Table = table_of old.image home in
           subst (λ (g : FileId). IsLastOf t g.number tail.number) (sym of.file_is)
-          (subst (λ (m : ℕ). IsLastOf t k m) (sym is.0) (subst (λ (u : Table). IsLastOf u k end.number) (table-of s old for honest) (room.ends.is_last honest)));
+          (subst (λ (m : ℕ). IsLastOf t k m) (sym is.0)
+          (subst (λ (u : Table). IsLastOf u k end.number) (table-of s old for honest) (room.ends.is_last honest)));
     }
 
     holds-tail : HoldsLast s tail old
@@ -133,7 +144,9 @@ module _ (s : Structure) (f : FileId) (n : ℕ) (end : FileEnd) (was last : List
           block_is = λ honest.
               let before = was-honest honest in
               holds-tail.header.block_is before
-              ∙ ap (λ (x : Table). x.header tail.number) (table-of s old for before ∙ sym (tables before) ∙ ap (table_of mid.image) (sym stays.home) ∙ sym (table-of t mid taken-for honest));
+              ∙ ap (λ (x : Table). x.header tail.number)
+              (table-of s old for before ∙ sym (tables before) ∙ ap (table_of mid.image) (sym stays.home)
+              ∙ sym (table-of t mid taken-for honest));
         };
         no_link = holds-tail.no_link;
         few = holds-tail.few;
@@ -156,9 +169,11 @@ module _ (s : Structure) (f : FileId) (n : ℕ) (end : FileEnd) (was last : List
       pub taken-empty : IsTrue mid.honest → (file_numbered (store_on t mid) tail.file.number).pointers ≡ 0
       taken-empty honest =
           let before = was-honest honest in
-          ap (λ (j : ℕ). (file_numbered (store_on t mid) j).pointers) number ∙ ap (λ (x : Store). (file_numbered x k).pointers) (store-taken before) ∙ no-pointers before
+          ap (λ (j : ℕ). (file_numbered (store_on t mid) j).pointers) number
+          ∙ ap (λ (x : Store). (file_numbered x k).pointers) (store-taken before) ∙ no-pointers before
 
       pub taken-may : IsTrue mid.honest → MayGrowAs (with_more_free (store_on t mid) n) tail.file.number n (run_pointers n)
       taken-may honest =
           let before = was-honest honest in
-          subst (λ (x : Store). MayGrowAs x tail.file.number n (run_pointers n)) (sym (taken-free before)) (subst (λ (j : ℕ). MayGrowAs st j n (run_pointers n)) (sym number) (may-lay before))
+          subst (λ (x : Store). MayGrowAs x tail.file.number n (run_pointers n)) (sym (taken-free before))
+          (subst (λ (j : ℕ). MayGrowAs st j n (run_pointers n)) (sym number) (may-lay before))

@@ -51,7 +51,8 @@ no-element : {A : Type 0} (xs : List A) → length xs ≤ 0 → xs ≡ []
 no-element [] none = refl
 no-element (x ∷ xs) none = absurd (omega (arith, none))
 
-module _ (s : Structure) (f : FileId) (n : ℕ) (end : FileEnd) (was last : List ℕ) (old : Disk) (for : IsStructureFor s old) (own : 4 ≤ f.number) (room : HoldsRunRoom s f n end was last old) (is_image : IsImage old.image) where
+module _ (s : Structure) (f : FileId) (n : ℕ) (end : FileEnd) (was last : List ℕ) (old : Disk) (for : IsStructureFor s old)
+    (own : 4 ≤ f.number) (room : HoldsRunRoom s f n end was last old) (is_image : IsImage old.image) where
   abbrev home : HomeFields
   home = home_of s
 
@@ -77,7 +78,8 @@ module _ (s : Structure) (f : FileId) (n : ℕ) (end : FileEnd) (was last : List
   come-lags : IsTrue old.honest → (u : Store) → LagsBy (blocks_work k n (run_need (file_numbered st k).room n)) u st → LagsBy work u st
   come-lags honest u lags =
       blocks-come-lags st u k named.room n
-      (subst (λ (g : File). LagsBy (blocks_work k n (run_need g.room n)) u st) (numbered s f n end was last old for own room is_image honest) lags)
+      (subst (λ (g : File). LagsBy (blocks_work k n (run_need g.room n)) u st)
+      (numbered s f n end was last old for own room is_image honest) lags)
 
   -- the run is marked used
   pub take-moment : (image : Image) → Taking home n 0 st old image → P image
@@ -87,11 +89,13 @@ module _ (s : Structure) (f : FileId) (n : ℕ) (end : FileEnd) (was last : List
       record {
         sound = here.sound;
         lags = come-lags honest (store_of image home)
-            (taken-lags st st (store_of image home) k n (run_pointers n) 0 0 n 0 (none-zeros st k n (run_pointers n) may.places) (omega arith) (omega arith)
+            (taken-lags st st (store_of image home) k n (run_pointers n) 0 0 n 0 (none-zeros st k n (run_pointers n) may.places)
+            (omega arith) (omega arith)
             (takes-within n n 0 (need (file_numbered st k).room 0) st (store_of image home) (omega arith) (omega arith) here.takes));
       }
 
-  module _ (tail : Tail) (of : IsTailOf f was end.number last tail) (t : Structure) (lbn : ℕ) (mid : Disk) (takes : TakesWholeRun s t n lbn old mid) (stays : StaysFor false s t mid) where
+  module _ (tail : Tail) (of : IsTailOf f was end.number last tail) (t : Structure) (lbn : ℕ) (mid : Disk)
+      (takes : TakesWholeRun s t n lbn old mid) (stays : StaysFor false s t mid) where
     mid-honest : IsTrue old.honest → IsTrue mid.honest
     mid-honest honest = takes.writes.went.honest ∙ honest
 
@@ -109,12 +113,15 @@ module _ (s : Structure) (f : FileId) (n : ℕ) (end : FileEnd) (was last : List
     -- its blocks come
     pub lay-moment : (image : Image) → LayingRun t tail.file.number n mid image → P image
     lay-moment image is honest =
-        let named_so : IsLaying (home_of t) k n (run_free t n mid) image = subst (λ (j : ℕ). IsLaying (home_of t) j n (run_free t n mid) image) number (is (mid-honest honest)) in
-        let at_home : IsLaying home k n (run_free t n mid) image = subst (λ (h : HomeFields). IsLaying h k n (run_free t n mid) image) stays.home named_so in
+        let named_so : IsLaying (home_of t) k n (run_free t n mid) image =
+        subst (λ (j : ℕ). IsLaying (home_of t) j n (run_free t n mid) image) number (is (mid-honest honest)) in
+        let at_home : IsLaying home k n (run_free t n mid) image = subst (λ (h : HomeFields). IsLaying h k n (run_free t n mid) image)
+        stays.home named_so in
         let here : IsLaying home k n st image = subst (λ (x : Store). IsLaying home k n x image) (free-was honest) at_home in
         record { sound = here.sound; lags = come-lags honest (store_of image home) here.lags }
 
-    module _ (u : Structure) (laid : Disk) (lays : LaysRun t u tail lbn n mid laid) (kept : StaysFor false t u laid) (laid_image : IsImage laid.image) where
+    module _ (u : Structure) (laid : Disk) (lays : LaysRun t u tail lbn n mid laid) (kept : StaysFor false t u laid)
+        (laid_image : IsImage laid.image) where
       abbrev sl : Store
       sl = store_of laid.image home
 
@@ -128,52 +135,71 @@ module _ (s : Structure) (f : FileId) (n : ℕ) (end : FileEnd) (was last : List
       adds honest =
           subst (λ (x : Store). AddsBlocks x k n (run_pointers n) (zero_blocks n) sl) (free-was honest)
           (subst (λ (h : HomeFields). AddsBlocks (run_free t n mid) k n (run_pointers n) (zero_blocks n) (store_of laid.image h)) stays.home
-          (subst (λ (j : ℕ). AddsBlocks (run_free t n mid) j n (run_pointers n) (zero_blocks n) (store_of laid.image (home_of t))) number (lays.adds (mid-honest honest))))
+          (subst (λ (j : ℕ). AddsBlocks (run_free t n mid) j n (run_pointers n) (zero_blocks n) (store_of laid.image (home_of t))) number
+          (lays.adds (mid-honest honest))))
 
       -- and then the mark is set
-      pub mark-moment : (image : Image) → Meanwhile (one_part f.number (file_changes f.number with_contiguous_mark)) (home_of u) laid image → P image
+      pub mark-moment : (image : Image) → Meanwhile (one_part f.number (file_changes f.number with_contiguous_mark)) (home_of u) laid image
+          → P image
       mark-moment image is honest =
           let here : IsUnderWay (one_part k (file_changes k with_contiguous_mark)) home laid.image image =
-          subst (λ (h : HomeFields). IsUnderWay (one_part k (file_changes k with_contiguous_mark)) h laid.image image) home-now (is (laid-honest honest)) in
+          subst (λ (h : HomeFields). IsUnderWay (one_part k (file_changes k with_contiguous_mark)) h laid.image image) home-now
+          (is (laid-honest honest)) in
           record {
             sound = here.sound;
             lags =
-                subst (λ (g : File). LagsBy (contiguous_work k g.room n) (store_of image home) st) (numbered s f n end was last old for own room is_image honest)
+                subst (λ (g : File). LagsBy (contiguous_work k g.room n) (store_of image home) st)
+                (numbered s f n end was last old for own room is_image honest)
                 (mark-comes-lags st sl (store_of image home) k n (adds honest) here.lags);
           }
 
-      names-laid : IsTrue old.honest → NamesMore k (ownership_in ((table_of old.image home).header k)) (range_with_len lbn n) (table_of old.image home) (table_of laid.image home)
+      names-laid : IsTrue old.honest
+          → NamesMore k (ownership_in ((table_of old.image home).header k)) (range_with_len lbn n) (table_of old.image home)
+          (table_of laid.image home)
       names-laid honest =
           let same : ownership_of tail ≡ ownership_in ((table_of old.image home).header k) =
           (λ i. (of.owner_is i, of.protection_is i)) ∙ ap ownership_in (block-is s f was old for room.ends.holds honest) in
-          subst (λ (x : Table). NamesMore k (ownership_in ((table_of old.image home).header k)) (range_with_len lbn n) x (table_of laid.image home)) (takes.keeps honest).index_file.table
-          (subst (λ (h : HomeFields). NamesMore k (ownership_in ((table_of old.image home).header k)) (range_with_len lbn n) (table_of mid.image h) (table_of laid.image h)) stays.home
-          (subst (λ (w : Uic × ℕ). NamesMore k w (range_with_len lbn n) (table_of mid.image (home_of t)) (table_of laid.image (home_of t))) same
-          (subst (λ (j : ℕ). NamesMore j (ownership_of tail) (range_with_len lbn n) (table_of mid.image (home_of t)) (table_of laid.image (home_of t))) number (lays.names (mid-honest honest)))))
+          subst (λ (x : Table). NamesMore k (ownership_in ((table_of old.image home).header k)) (range_with_len lbn n) x
+          (table_of laid.image home)) (takes.keeps honest).index_file.table
+          (subst (λ (h : HomeFields). NamesMore k (ownership_in ((table_of old.image home).header k)) (range_with_len lbn n)
+          (table_of mid.image h) (table_of laid.image h)) stays.home
+          (subst (λ (w : Uic × ℕ). NamesMore k w (range_with_len lbn n) (table_of mid.image (home_of t)) (table_of laid.image (home_of t)))
+          same
+          (subst (λ (j : ℕ). NamesMore j (ownership_of tail) (range_with_len lbn n) (table_of mid.image (home_of t))
+          (table_of laid.image (home_of t))) number (lays.names (mid-honest honest)))))
 
-      module _ (new : Disk) (marks : Alters with_contiguous_mark (home_of u) f laid new) (gains : IsTrue laid.honest → GainsBlocks k 0 (volume_of laid.image (home_of u)) (volume_of new.image (home_of u))) where
+      module _ (new : Disk) (marks : Alters with_contiguous_mark (home_of u) f laid new)
+          (gains : IsTrue laid.honest → GainsBlocks k 0 (volume_of laid.image (home_of u)) (volume_of new.image (home_of u))) where
         makes : IsTrue old.honest → LaysOut st k n (store_of new.image home)
         makes honest =
             let store : store_of new.image home ≡ with_change sl k with_contiguous_mark =
-            subst (λ (h : HomeFields). store_of new.image h ≡ with_change (store_of laid.image h) k with_contiguous_mark) home-now (marks.makes (laid-honest honest)) in
+            subst (λ (h : HomeFields). store_of new.image h ≡ with_change (store_of laid.image h) k with_contiguous_mark) home-now
+            (marks.makes (laid-honest honest)) in
             let none = few-blocks s f n end was last old for own room is_image honest in
             let same = ap (λ (g : File). length g.blocks) (numbered s f n end was last old for own room is_image honest) in
-            let file : IsFile (table_of laid.image home) k = file_of-header ((names-laid honest).headers k (first (names-laid honest).says.file)) in
+            let file : IsFile (table_of laid.image home) k =
+            file_of-header ((names-laid honest).headers k (first (names-laid honest).says.file)) in
             let bounds = file-bounds home laid.image k laid_image own file in
             let long = adds-blocks st sl k n (run_pointers n) (adds honest) in
             subst (LaysOut st k n) (sym store)
-            (marked-is-laid-out st sl k n (no-element (file_numbered st k).blocks (omega (arith, none, same))) (no-pointers s f n end was last old for own room is_image honest) (adds honest) (omega (arith, bounds.1, long)))
+            (marked-is-laid-out st sl k n (no-element (file_numbered st k).blocks (omega (arith, none, same)))
+            (no-pointers s f n end was last old for own room is_image honest) (adds honest) (omega (arith, bounds.1, long)))
 
-        names-new : IsTrue old.honest → NamesMore k (ownership_in ((table_of old.image home).header k)) (range_with_len lbn n) (table_of old.image home) (table_of new.image home)
+        names-new : IsTrue old.honest
+            → NamesMore k (ownership_in ((table_of old.image home).header k)) (range_with_len lbn n) (table_of old.image home)
+            (table_of new.image home)
         unfolding volume_of
         names-new honest =
             let o : Uic × ℕ = ownership_in ((table_of old.image home).header k) in
             let laid_names = names-laid honest in
             let marked : GainsBlocks k 0 (volume_of laid.image home) (volume_of new.image home) =
-            subst (λ (h : HomeFields). GainsBlocks k 0 (volume_of laid.image h) (volume_of new.image h)) home-now (gains (laid-honest honest)) in
+            subst (λ (h : HomeFields). GainsBlocks k 0 (volume_of laid.image h) (volume_of new.image h)) home-now
+            (gains (laid-honest honest)) in
             subst (λ (l : List ℕ). NamesMore k o l (table_of old.image home) (table_of new.image home)) (append-nil (range_with_len lbn n))
-            (names-twice k o (range_with_len lbn n) [] (table_of old.image home) (table_of laid.image home) (table_of new.image home) laid_names
-            (subst (λ (w : Uic × ℕ). NamesMore k w [] (table_of laid.image home) (table_of new.image home)) laid_names.says.first marked.names))
+            (names-twice k o (range_with_len lbn n) [] (table_of old.image home) (table_of laid.image home) (table_of new.image home)
+            laid_names
+            (subst (λ (w : Uic × ℕ). NamesMore k w [] (table_of laid.image home) (table_of new.image home)) laid_names.says.first
+            marked.names))
 
         no-blocks : IsTrue old.honest → file_blocks (table_of old.image home) k ≡ []
         no-blocks honest =
@@ -184,8 +210,10 @@ module _ (s : Structure) (f : FileId) (n : ℕ) (end : FileEnd) (was last : List
         size-laid : IsTrue old.honest → (volume_of laid.image home).size ≡ (volume_of mid.image home).size
         unfolding volume_of
         size-laid honest =
-            let then : bitmap_in u ≡ storage_bitmap laid.image home = (kept.keeps refl (laid-honest honest)).bitmap_is ∙ ap (storage_bitmap laid.image) home-now in
-            let before : bitmap_in t ≡ storage_bitmap mid.image home = (stays.keeps refl (mid-honest honest)).bitmap_is ∙ ap (storage_bitmap mid.image) stays.home in
+            let then : bitmap_in u ≡ storage_bitmap laid.image home = (kept.keeps refl (laid-honest honest)).bitmap_is
+            ∙ ap (storage_bitmap laid.image) home-now in
+            let before : bitmap_in t ≡ storage_bitmap mid.image home = (stays.keeps refl (mid-honest honest)).bitmap_is
+            ∙ ap (storage_bitmap mid.image) stays.home in
             ap (λ (b : Bitmap). b.size) (sym then ∙ lays.bitmap ∙ before)
 
         uses : IsTrue old.honest → UsesRun lbn n (volume_of old.image home) (volume_of new.image home)
@@ -193,7 +221,8 @@ module _ (s : Structure) (f : FileId) (n : ℕ) (end : FileEnd) (was last : List
             let taken = takes.uses honest in
             let there = laid-honest honest in
             let free_laid : (volume_of laid.image home).free ≡ (volume_of mid.image home).free =
-            subst (λ (h : HomeFields). (volume_of laid.image h).free ≡ (volume_of mid.image h).free) stays.home (lays.free (mid-honest honest)) in
+            subst (λ (h : HomeFields). (volume_of laid.image h).free ≡ (volume_of mid.image h).free) stays.home
+            (lays.free (mid-honest honest)) in
             let free_new : (volume_of new.image home).free ≡ (volume_of laid.image home).free =
             subst (λ (h : HomeFields). (volume_of new.image h).free ≡ (volume_of laid.image h).free) home-now (marks.allots there).free in
             let size_new : (volume_of new.image home).size ≡ (volume_of laid.image home).size =
@@ -227,5 +256,6 @@ module _ (s : Structure) (f : FileId) (n : ℕ) (end : FileEnd) (was last : List
               let many = enough st.index_bitmap_blocks (run_need named.room n) in
               let inside = takes.within in
               omega (arith, same, size, many, inside))
-              (writes-then mark-moment (writes-then lay-moment (writes-then take-moment (writes-none P 0 old) takes.writes) lays.writes) marks.writes);
+              (writes-then mark-moment (writes-then lay-moment (writes-then take-moment (writes-none P 0 old) takes.writes) lays.writes)
+              marks.writes);
         }

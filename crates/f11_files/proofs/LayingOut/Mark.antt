@@ -25,7 +25,8 @@ use Rattle.f11_files.proofs.Changing.Alter.{changes, file-here, is-written, says
 use Rattle.f11_files.proofs.Extending.Clear.{headers-stay}
 use Rattle.f11_files.proofs.Finding.Named.{block-is}
 
-module _ (s : Structure) (f : FileId) (was block : List ℕ) (old now : Disk) (lbn : ℕ) (for : IsStructureFor s old) (own : 4 ≤ f.number) (finds : FindsFile (index_in s) f was old now)
+module _ (s : Structure) (f : FileId) (was block : List ℕ) (old now : Disk) (lbn : ℕ) (for : IsStructureFor s old) (own : 4 ≤ f.number)
+    (finds : FindsFile (index_in s) f was old now)
     (says : SaysBut with_contiguous_mark was block) (at : lbn ≡ header_lbn (index_in s) f.number) where
   abbrev home : HomeFields
   home = home_of s
@@ -42,7 +43,8 @@ module _ (s : Structure) (f : FileId) (was block : List ℕ) (old now : Disk) (l
   module _ (honest : IsTrue old.honest) where
     wrote : WritesHeader f.number block home old.image next
     wrote =
-        subst (λ (i : Image). WritesHeader f.number block home old.image i) (is-written s f with_contiguous_mark was block old now lbn for own finds says at honest)
+        subst (λ (i : Image). WritesHeader f.number block home old.image i)
+        (is-written s f with_contiguous_mark was block old now lbn for own finds says at honest)
         (changes s f with_contiguous_mark was block old now lbn for own finds says at honest).header
 
     header-was : was ≡ t.header f.number
@@ -59,23 +61,28 @@ module _ (s : Structure) (f : FileId) (was block : List ℕ) (old now : Disk) (l
         headers-stay t u f.number wrote.slot.others
         (record {
           good = record {
-            in_use = ap (λ (g : ℕ → Bool). g f.number) wrote.in_use ∙ (file-here s f with_contiguous_mark was block old now lbn for own finds says at honest).live.in_use;
+            in_use = ap (λ (g : ℕ → Bool). g f.number) wrote.in_use
+                ∙ (file-here s f with_contiguous_mark was block old now lbn for own finds says at honest).live.in_use;
             valid = subst (λ (b : List ℕ). IsHeader b f.number) (sym header-now) valid;
             sequence = ap file_sequence header-now ∙ says.sequence ∙ ap file_sequence header-was;
             segment = ap segment_number header-now ∙ segment-same with_contiguous_mark was block says ∙ ap segment_number header-was;
           };
           link = ap link_of header-now ∙ link-same with_contiguous_mark was block says ∙ ap link_of header-was;
         })
-        ((image-files old.image home (for.sound honest)).each f.number (file-here s f with_contiguous_mark was block old now lbn for own finds says at honest)).whole
+        ((image-files old.image home (for.sound honest)).each f.number
+        (file-here s f with_contiguous_mark was block old now lbn for own finds says at honest)).whole
 
     gains-next : GainsBlocks f.number 0 (volume_of old.image home) (volume_of next home)
     unfolding volume_of
     gains-next =
         let says_now = says-here s f with_contiguous_mark was block old now lbn for own finds says at honest in
-        field-gains old.image home f.number block with_contiguous_mark (for.sound honest) (file-here s f with_contiguous_mark was block old now lbn for own finds says at honest) says_now wrote
+        field-gains old.image home f.number block with_contiguous_mark (for.sound honest)
+        (file-here s f with_contiguous_mark was block old now lbn for own finds says at honest) says_now wrote
         (ownership_in (t.header f.number)) headers (ap (λ (g : File). (g.owner, g.protection)) (says_now.file no_file))
 
-  pub altered-gains : (new : Disk) → new ≡ with_transfer true (with_block_at lbn block now) → IsTrue old.honest → GainsBlocks f.number 0 (volume_of old.image home) (volume_of new.image home)
+  pub altered-gains : (new : Disk) → new ≡ with_transfer true (with_block_at lbn block now) → IsTrue old.honest
+      → GainsBlocks f.number 0 (volume_of old.image home) (volume_of new.image home)
   altered-gains new is honest =
       subst (λ (i : Image). GainsBlocks f.number 0 (volume_of old.image home) (volume_of i home))
-      (sym (ap (λ (d : Disk). d.image) is ∙ is-written s f with_contiguous_mark was block old now lbn for own finds says at honest)) (gains-next honest)
+      (sym (ap (λ (d : Disk). d.image) is ∙ is-written s f with_contiguous_mark was block old now lbn for own finds says at honest))
+      (gains-next honest)

@@ -41,12 +41,15 @@ module _ (s : Structure) (n : ℕ) (old : Disk) (for : IsStructureFor s old) whe
   bitmap : IsTrue old.honest → bitmap_in s ≡ storage_bitmap old.image home
   bitmap honest = (for.keeps honest).bitmap_is
 
-  moment : (lbn : ℕ) → (IsTrue old.honest → IsFirstRunOf (is_free old.image (bitmap_in s)) n lbn) → (image : Image) → Changing old.honest false (bitmap_in s) lbn n old.image image
+  moment : (lbn : ℕ) → (IsTrue old.honest → IsFirstRunOf (is_free old.image (bitmap_in s)) n lbn) → (image : Image)
+      → Changing old.honest false (bitmap_in s) lbn n old.image image
       → Taking home n 0 st old image
   moment lbn first = run-moment s 0 n old for lbn n (omega arith) (λ honest. (first honest).each)
 
   pub fails-run : (new : Disk) → FailsToTakeBits (bitmap_in s) n old new → FailsToTakeWholeRun s n old new
-  fails-run new fails = went_weaker (TakingRun old.honest (bitmap_in s) n old.image) (Taking home n 0 st old) (λ image is. moment is.lbn is.run image is.changing) fails
+  fails-run new fails =
+      went_weaker (TakingRun old.honest (bitmap_in s) n old.image) (Taking home n 0 st old)
+      (λ image is. moment is.lbn is.run image is.changing) fails
 
   -- nowhere are so many
   pub no-run : (new : Disk) → FindsNoRun (bitmap_in s) n old new → HasNoRun s n old new
@@ -56,7 +59,8 @@ module _ (s : Structure) (n : ℕ) (old : Disk) (for : IsStructureFor s old) whe
     looked = finds.looked;
   }
 
-  pub no-run-stays : (new : Disk) (t : Storage) → FindsNoRun (bitmap_in s) n old new → bitmap_of t ≡ bitmap_in s → storage.IsFor t new → StaysFor false s (record s { storage = t }) new
+  pub no-run-stays : (new : Disk) (t : Storage) → FindsNoRun (bitmap_in s) n old new → bitmap_of t ≡ bitmap_in s → storage.IsFor t new
+      → StaysFor false s (record s { storage = t }) new
   no-run-stays new t finds same is =
       let size = ap (λ (i : Image). length i) finds.looked.image in
       let was : IsTrue new.honest → IsTrue old.honest = λ honest. sym finds.looked.honest ∙ honest in
@@ -77,19 +81,26 @@ module _ (s : Structure) (n : ℕ) (old : Disk) (for : IsStructureFor s old) whe
 
   module _ (lbn : ℕ) (new : Disk) (some : 0 < n) (takes : TakesBits (bitmap_in s) n lbn old new) where
     went : Went (Taking home n 0 st old) old new (run_transfers lbn n) 0
-    went = went_weaker (Changing old.honest false (bitmap_in s) lbn n old.image) (Taking home n 0 st old) (moment lbn takes.first) takes.marked.went
+    went =
+        went_weaker (Changing old.honest false (bitmap_in s) lbn n old.image) (Taking home n 0 st old) (moment lbn takes.first)
+        takes.marked.went
 
     module _ (honest : IsTrue old.honest) where
       kept : KeepsButFree home old.image new.image
-      kept = front-keeps s 0 n old for lbn n n new.image some (omega arith) (omega arith) honest (takes.first honest).each (takes.marked.marks honest)
+      kept =
+          front-keeps s 0 n old for lbn n n new.image some (omega arith) (omega arith) honest (takes.first honest).each
+          (takes.marked.marks honest)
 
       -- a block of the run, or another
       used : (k : ℕ) → is_free new.image (bitmap_in s) k ≡ (is_free old.image (bitmap_in s) k && not (is_in (range_with_len lbn n) k))
       used k = elim (cases_lt k lbn) [
-        | inl low ↦ (takes.marked.marks honest).before k low ∙ left (is_free old.image (bitmap_in s) k) (is_in (range_with_len lbn n) k) (out-run lbn n k (inl low))
+        | inl low ↦ (takes.marked.marks honest).before k low
+            ∙ left (is_free old.image (bitmap_in s) k) (is_in (range_with_len lbn n) k) (out-run lbn n k (inl low))
         | inr high ↦ elim (cases_lt k (lbn + n)) [
-          | inl inside ↦ (takes.marked.marks honest).inside k high inside ∙ gone (is_free old.image (bitmap_in s) k) (is_in (range_with_len lbn n) k) (in-run lbn n k high inside)
-          | inr past ↦ (takes.marked.marks honest).after k past ∙ left (is_free old.image (bitmap_in s) k) (is_in (range_with_len lbn n) k) (out-run lbn n k (inr past))
+          | inl inside ↦ (takes.marked.marks honest).inside k high inside
+              ∙ gone (is_free old.image (bitmap_in s) k) (is_in (range_with_len lbn n) k) (in-run lbn n k high inside)
+          | inr past ↦ (takes.marked.marks honest).after k past
+              ∙ left (is_free old.image (bitmap_in s) k) (is_in (range_with_len lbn n) k) (out-run lbn n k (inr past))
         ]
       ]
         where
@@ -116,7 +127,8 @@ module _ (s : Structure) (n : ℕ) (old : Disk) (for : IsStructureFor s old) whe
       unfolding volume_of
       first-run = subst (λ (b : Bitmap). IsFirstRunOf (is_free old.image b) n lbn) (bitmap honest) (takes.first honest)
 
-    pub takes-whole : (t : Structure) → index_in t ≡ index_in s → bitmap_in t ≡ bitmap_in s → room t.index ≡ room s.index → TakesWholeRun s t n lbn old new
+    pub takes-whole : (t : Structure) → index_in t ≡ index_in s → bitmap_in t ≡ bitmap_in s → room t.index ≡ room s.index
+        → TakesWholeRun s t n lbn old new
     takes-whole t index bitmaps left = record {
       index = index;
       bitmap = bitmaps;
@@ -125,8 +137,10 @@ module _ (s : Structure) (n : ℕ) (old : Disk) (for : IsStructureFor s old) whe
       first = first-run;
       uses = uses-run;
       keeps = kept;
-      unreferenced = λ honest. front-unreferenced s 0 n old for lbn n n new.image some (omega arith) (omega arith) honest (takes.first honest).each (takes.marked.marks honest);
-      store = λ honest. front-store s 0 n old for lbn n n new.image some (omega arith) (omega arith) honest (takes.first honest).each (takes.marked.marks honest);
+      unreferenced = λ honest. front-unreferenced s 0 n old for lbn n n new.image some (omega arith) (omega arith) honest
+          (takes.first honest).each (takes.marked.marks honest);
+      store = λ honest. front-store s 0 n old for lbn n n new.image some (omega arith) (omega arith) honest (takes.first honest).each
+          (takes.marked.marks honest);
       writes = went-writes went;
     }
 
@@ -136,7 +150,8 @@ module _ (s : Structure) (n : ℕ) (old : Disk) (for : IsStructureFor s old) whe
       lies = λ _. record {
         index = subst (λ (k : ℕ). IndexLiesWithin (index_in s) k) (sym went.size) for.lies.index;
         bitmap = is.within;
-        volume = let size = ap (λ (b : Bitmap). b.size) same in let device = went.size in let was = for.lies.volume in omega (arith, size, device, was);
+        volume = let size = ap (λ (b : Bitmap). b.size) same in let device = went.size in let was = for.lies.volume in
+            omega (arith, size, device, was);
       };
       sound = sound-growing (taking-sound home n 0 st old) for.sound (went-writes went);
       keeps = λ _ honest.

@@ -34,16 +34,18 @@ module _ (f lbn count : ℕ) (ownership : Uic × ℕ) (old new : Volume) (sound 
     (names : NamesMore f ownership (range_with_len lbn count) old.table new.table) where
   -- a block of the file that isn't one of those was its
   in-old : (x : ℕ) → lbn + count ≤ x → Contains (file_blocks new.table f) x → IsNamed old.table x
-  in-old x past has = elim (in-either (file_blocks old.table f) (range_with_len lbn count) x (subst (λ (l : List ℕ). Contains l x) names.blocks has)) [
-    | inl was ↦ named-of old.table f x (named-in old sound f was.0 x names.says.file (at-place (file_blocks old.table f) x was))
-    | inr run ↦ let here = in-range lbn count x run in absurd (omega (arith, here.1, past))
-  ]
+  in-old x past has = elim (in-either (file_blocks old.table f) (range_with_len lbn count) x
+      (subst (λ (l : List ℕ). Contains l x) names.blocks has)) [
+        | inl was ↦ named-of old.table f x (named-in old sound f was.0 x names.says.file (at-place (file_blocks old.table f) x was))
+        | inr run ↦ let here = in-range lbn count x run in absurd (omega (arith, here.1, past))
+      ]
 
   -- what a header of the file names is the file's
   in-file : (m x : ℕ) → IsHeaderOf new.table f m → Contains (blocks_named (new.table.header m)) x → Contains (file_blocks new.table f) x
   in-file m x of has =
       let stands = header-stands new.table new.table f m of (few m) (λ k from below. refl) in
-      subst (λ (l : List ℕ). Contains l x) (sym stands.whole_is) (in-back stands.before _ x (in-front (blocks_named (new.table.header m)) stands.behind x has))
+      subst (λ (l : List ℕ). Contains l x) (sym stands.whole_is)
+      (in-back stands.before _ x (in-front (blocks_named (new.table.header m)) stands.behind x has))
 
   unnamed-then : (x : ℕ) → lbn + count ≤ x → ¬ IsNamed old.table x → ¬ IsNamed new.table x
   unnamed-then x past none is =
@@ -53,7 +55,8 @@ module _ (f lbn count : ℕ) (ownership : Uic × ℕ) (old new : Volume) (sound 
       none (was-named old.table m x (subst (λ (l : List ℕ). Contains l x) (sym (named-live new.table m is.cell.live) ∙ same) has))
 
   -- those behind them are unreferenced still
-  pub rest-unreferenced : (from rest : ℕ) → lbn + count ≤ from → new.size ≡ old.size → new.free ≡ old.free → AreUnreferenced old from rest → AreUnreferenced new from rest
+  pub rest-unreferenced : (from rest : ℕ) → lbn + count ≤ from → new.size ≡ old.size → new.free ≡ old.free → AreUnreferenced old from rest
+      → AreUnreferenced new from rest
   rest-unreferenced from rest past size free unreferenced = record {
     inside = let inside = unreferenced.inside in omega (arith, inside, size);
     used = λ k low high. ap (λ g. g k) free ∙ unreferenced.used k low high;

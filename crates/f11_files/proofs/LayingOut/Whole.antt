@@ -1,5 +1,6 @@
 -- A file that is laid out, from the first look at its headers on.
-use Rattle.std.proofs.Common.{◌≡◌, ◌≢◌, ◌+◌, ◌-◌, ◌*◌, ◌≤◌, ◌<◌, ◌||◌, ◌&&◌, not, eqb, ltb, ℕ, Bool, true, false, cond, IsTrue, List, [], ◌∷◌, length, Some, None, Result, Ok, Err, refl, sym, ap, subst, ◌∙◌, arith}
+use Rattle.std.proofs.Common.{◌≡◌, ◌≢◌, ◌+◌, ◌-◌, ◌*◌, ◌≤◌, ◌<◌, ◌||◌, ◌&&◌, not, eqb, ltb, ℕ, Bool, true, false, cond, IsTrue, List, []}
+use Rattle.std.proofs.Common.{◌∷◌, length, Some, None, Result, Ok, Err, refl, sym, ap, subst, ◌∙◌, arith}
 use Rattle.std.proofs.lemmas.Bool.{eqb-true}
 use Rattle.std.specs.Prelude.{IsErrAnd}
 use Rattle.f11_bits.specs.Run.{NoRunOf}
@@ -22,7 +23,8 @@ use Rattle.f11_store.specs.declared.refusals.Refusal.TheVariants.{DeviceFull, No
 use Rattle.f11_volume.specs.Volume.{volume_of}
 use Rattle.f11_image_store.specs.FileLaws.{room_in}
 use Rattle.f11_image_store.specs.StoreOf.{store_of}
-use Rattle.f11_files.specs.Answers.{faults_of, is_among, is_clean, is_refused, Does, FailsToRead, FailsToWrite, Meanwhile, ReadsAtMost, WritesAtMost}
+use Rattle.f11_files.specs.Answers.{faults_of, is_among, is_clean, is_refused, Does, FailsToRead, FailsToWrite, Meanwhile, ReadsAtMost}
+use Rattle.f11_files.specs.Answers.{WritesAtMost}
 use Rattle.f11_files.specs.Extending.Room.{FindsFileEnd}
 use Rattle.f11_files.specs.LayingOut.Room.{run_causes}
 use Rattle.f11_files.specs.LayingOut.Whole.{FailsToLayOut, FailsToLayOutHeld, GainsRun, HoldsRunRoom, LaysOutFile, LaysOutHeld}
@@ -38,7 +40,8 @@ use Rattle.f11_files.proofs.Finding.Named.{found-named, is-file}
 use Rattle.f11_files.proofs.WriteLemmas.{fails-unread, had-failed, unless-refused, writes-within}
 
 -- a refusal that is handed on is a clean one where the answer is
-pub clean-handed : {T : Type 0} (r : Result T Refusal) (x : Refusal) → IsErrAnd r (λ y. y ≡ x) → is_refused is_clean r ≡ true → is_clean x ≡ true
+pub clean-handed : {T : Type 0} (r : Result T Refusal) (x : Refusal) → IsErrAnd r (λ y. y ≡ x) → is_refused is_clean r ≡ true
+    → is_clean x ≡ true
 clean-handed (Ok y) x is clean = absurd is
 clean-handed (Err y) x is clean = subst (λ (z : Refusal). is_clean z ≡ true) is clean
 
@@ -51,18 +54,27 @@ part-of-cost s g n some = by_parts (header_count g) (3 * s.bitmap_blocks) ((s.in
 
 -- a refusal to read, for another cause than that there is no run
 unread : (home : HomeFields) (f : FileId) (n : ℕ) (r : Refusal) (old read : Disk) → 0 < n → refusal_number r ≢ 22
-    → FailsToRead false (contiguous_causes (store_of old.image home) f n) (header_count (file_named (store_of old.image home) f)) r old read → FailsToLayOut false home f n r old read
+    → FailsToRead false (contiguous_causes (store_of old.image home) f n) (header_count (file_named (store_of old.image home) f)) r old read
+    → FailsToLayOut false home f n r old read
 unread home f n r old read some other reads =
     let s : Store = store_of old.image home in
-    let fails : FailsToWrite false (contiguous_causes s f n) (contiguous_cost s (file_named s f) n - 1) (contiguous_work f.number (file_named s f).room n) home r old read =
+    let fails : FailsToWrite false (contiguous_causes s f n) (contiguous_cost s (file_named s f) n - 1)
+    (contiguous_work f.number (file_named s f).room n) home r old read =
     fails-unread {m = header_count (file_named s f)} (part-of-cost s (file_named s f) n some) reads in
-    record { right = λ _. fails.right; no_run = λ is. absurd (other (ap refusal_number is)); writes = fails.writes; unchanged = fails.unchanged }
+    record {
+      right = λ _. fails.right;
+      no_run = λ is. absurd (other (ap refusal_number is));
+      writes = fails.writes;
+      unchanged = fails.unchanged;
+    }
 
 -- no file, or one of its headers couldn't be read
 pub no-end : (home : HomeFields) (f : FileId) (n : ℕ) (r : Refusal) (old read : Disk) → 0 < n
-    → FailsToRead false (file_causes (store_of old.image home) f) (header_count (file_named (store_of old.image home) f)) r old read → FailsToLayOut false home f n r old read
+    → FailsToRead false (file_causes (store_of old.image home) f) (header_count (file_named (store_of old.image home) f)) r old read
+    → FailsToLayOut false home f n r old read
 no-end home f n r old read some fails =
-    unread home f n r old read some other (fails-more {causes = file_causes s f} {others = contiguous_causes s f n} (more (eqb 6 (refusal_number r)) _) cause fails)
+    unread home f n r old read some other
+    (fails-more {causes = file_causes s f} {others = contiguous_causes s f n} (more (eqb 6 (refusal_number r)) _) cause fails)
   where
     s : Store
     s = store_of old.image home
@@ -81,7 +93,8 @@ no-end home f n r old read some fails =
     cause : first_of (file_causes s f) ≡ Some r → first_of (contiguous_causes s f n) ≡ Some r
     cause = by_test (is_missing s f)
       where
-        by_test : (b : Bool) → first_of ((NoSuchFile ⇐ b) ∷ []) ≡ Some r → cond b (Some NoSuchFile) (first_of (causes.contiguous_causes s (file_named s f) n)) ≡ Some r
+        by_test : (b : Bool) → first_of ((NoSuchFile ⇐ b) ∷ []) ≡ Some r
+            → cond b (Some NoSuchFile) (first_of (causes.contiguous_causes s (file_named s f) n)) ≡ Some r
         by_test true is = is
         by_test false is = absurd cc
 
@@ -93,15 +106,55 @@ record IsJudged (r : Refusal) : Type 0 where
   no_fault : faults_of r ≡ 0
   among : (s : Store) (f : FileId) (n : ℕ) → is_among (contiguous_causes s f n) r ≡ true
 
-judged : (a b c d : Bool) (r : Refusal) → first_of ((NotEmpty ⇐ a) ∷ (TooManySegments ⇐ b) ∷ (DeviceFull ⇐ c) ∷ (NoHeader ⇐ d) ∷ []) ≡ Some r → IsJudged r
-judged true b c d r is = let same : NotEmpty ≡ r = cc in subst IsJudged same record { not_failed = λ no. omega (arith, no); not_damaged = λ no. omega (arith, no); not_run = λ no. omega (arith, no); no_fault = refl; among = λ s f n. refl }
-judged false true c d r is = let same : TooManySegments ≡ r = cc in subst IsJudged same record { not_failed = λ no. omega (arith, no); not_damaged = λ no. omega (arith, no); not_run = λ no. omega (arith, no); no_fault = refl; among = λ s f n. refl }
-judged false false true d r is = let same : DeviceFull ≡ r = cc in subst IsJudged same record { not_failed = λ no. omega (arith, no); not_damaged = λ no. omega (arith, no); not_run = λ no. omega (arith, no); no_fault = refl; among = λ s f n. refl }
-judged false false false true r is = let same : NoHeader ≡ r = cc in subst IsJudged same record { not_failed = λ no. omega (arith, no); not_damaged = λ no. omega (arith, no); not_run = λ no. omega (arith, no); no_fault = refl; among = λ s f n. refl }
+judged : (a b c d : Bool) (r : Refusal)
+    → first_of ((NotEmpty ⇐ a) ∷ (TooManySegments ⇐ b) ∷ (DeviceFull ⇐ c) ∷ (NoHeader ⇐ d) ∷ []) ≡ Some r → IsJudged r
+judged true b c d r is =
+    let same : NotEmpty ≡ r = cc in
+    subst IsJudged same record {
+      not_failed = λ no. omega (arith, no);
+      not_damaged = λ no. omega (arith, no);
+      not_run = λ no.
+          omega (arith, no);
+      no_fault = refl;
+      among = λ s f n. refl;
+    }
+judged false true c d r is =
+    let same : TooManySegments ≡ r = cc in
+    subst IsJudged same record {
+      not_failed = λ no. omega (arith, no);
+      not_damaged = λ no. omega (arith, no);
+      not_run = λ no.
+          omega (arith, no);
+      no_fault = refl;
+      among = λ s f n. refl;
+    }
+judged false false true d r is =
+    let same : DeviceFull ≡ r = cc in
+    subst IsJudged same record {
+      not_failed = λ no. omega (arith, no);
+      not_damaged = λ no. omega (arith, no);
+      not_run = λ no.
+          omega (arith, no);
+      no_fault = refl;
+      among = λ s f n. refl;
+    }
+judged false false false true r is =
+    let same : NoHeader ≡ r = cc in
+    subst IsJudged same record {
+      not_failed = λ no. omega (arith, no);
+      not_damaged = λ no. omega (arith, no);
+      not_run = λ no.
+          omega (arith, no);
+      no_fault = refl;
+      among = λ s f n. refl;
+    }
 judged false false false false r is = absurd cc
 
-module _ (s : Structure) (f : FileId) (n : ℕ) (end : FileEnd) (was last : List ℕ) (old read : Disk) (for : IsStructureFor s old) (own : 4 ≤ f.number) (some : 0 < n) (finds : FindsFileEnd s f end was last old read)
-    (room free count slots headers : ℕ) (room_is : room ≡ room_in last) (space : IsTrue old.honest → IsSpaceOf (store_on s old) free count slots) (alike : ltb headers (run_need room n) ≡ ltb count (run_need room n)) where
+module _ (s : Structure) (f : FileId) (n : ℕ) (end : FileEnd) (was last : List ℕ) (old read : Disk) (for : IsStructureFor s old)
+    (own : 4 ≤ f.number) (some : 0 < n) (finds : FindsFileEnd s f end was last old read)
+    (room free count slots headers : ℕ) (room_is : room ≡ room_in last)
+    (space : IsTrue old.honest → IsSpaceOf (store_on s old) free count slots)
+    (alike : ltb headers (run_need room n) ≡ ltb count (run_need room n)) where
   abbrev home : HomeFields
   home = home_of s
 
@@ -126,16 +179,24 @@ module _ (s : Structure) (f : FileId) (n : ℕ) (end : FileEnd) (was last : List
   -- the causes against it
   causes-are : IsTrue old.honest → first_of (contiguous_causes st f n) ≡ first_of (run_causes end.blocks end.headers room free headers n)
   causes-are honest =
-      ap (λ (b : Bool). cond b (Some NoSuchFile) (first_of (run_causes (length_of named) (length named.held) named.room st.free (free_headers st) n))) (found-named s f old for honest (is-file s f was old for finds.holds honest)).0
-      ∙ ap (λ (k : ℕ). first_of (run_causes k (length named.held) named.room st.free (free_headers st) n)) (length-named s f was old for finds.holds honest own ∙ sym (finds.ends.blocks_are honest))
-      ∙ ap (λ (k : ℕ). first_of (run_causes end.blocks k named.room st.free (free_headers st) n)) (headers-named s f was old for finds.holds end last read finds.ends honest)
-      ∙ ap (λ (k : ℕ). first_of (run_causes end.blocks end.headers k st.free (free_headers st) n)) (room-named s f was old for finds.holds end last read finds.ends honest ∙ sym room_is)
+      ap (λ (b : Bool). cond b (Some NoSuchFile)
+      (first_of (run_causes (length_of named) (length named.held) named.room st.free (free_headers st) n)))
+      (found-named s f old for honest (is-file s f was old for finds.holds honest)).0
+      ∙ ap (λ (k : ℕ). first_of (run_causes k (length named.held) named.room st.free (free_headers st) n))
+      (length-named s f was old for finds.holds honest own ∙ sym (finds.ends.blocks_are honest))
+      ∙ ap (λ (k : ℕ). first_of (run_causes end.blocks k named.room st.free (free_headers st) n))
+      (headers-named s f was old for finds.holds end last read finds.ends honest)
+      ∙ ap (λ (k : ℕ). first_of (run_causes end.blocks end.headers k st.free (free_headers st) n))
+      (room-named s f was old for finds.holds end last read finds.ends honest ∙ sym room_is)
       ∙ ap (λ (k : ℕ). first_of (run_causes end.blocks end.headers room k (free_headers st) n)) (sym (space honest).blocks_are)
       ∙ ap (λ (k : ℕ). first_of (run_causes end.blocks end.headers room free k n)) (sym (space honest).headers_are)
-      ∙ ap (λ (c : Bool). first_of ((NotEmpty ⇐ ltb 0 end.blocks) ∷ (TooManySegments ⇐ ltb 256 (end.headers + run_need room n)) ∷ (DeviceFull ⇐ ltb free n) ∷ (NoHeader ⇐ c) ∷ [])) (sym alike)
+      ∙ ap (λ (c : Bool). first_of
+      ((NotEmpty ⇐ ltb 0 end.blocks) ∷ (TooManySegments ⇐ ltb 256 (end.headers + run_need room n)) ∷ (DeviceFull ⇐ ltb free n) ∷
+      (NoHeader ⇐ c) ∷ [])) (sym alike)
 
   -- one stands against it
-  pub no-run-room : (r : Refusal) → first_of (run_causes end.blocks end.headers room free headers n) ≡ Some r → FailsToLayOut false home f n r old read
+  pub no-run-room : (r : Refusal) → first_of (run_causes end.blocks end.headers room free headers n) ≡ Some r
+      → FailsToLayOut false home f n r old read
   no-run-room r is =
       let cause = judged _ _ _ _ r is in
       unread home f n r old read some cause.not_run (record {
@@ -159,29 +220,50 @@ module _ (s : Structure) (f : FileId) (n : ℕ) (end : FileEnd) (was last : List
     pub fails-whole : (r : Refusal) (new : Disk) → FailsToLayOutHeld s f n r read new → FailsToLayOut false home f n r old new
     fails-whole r new fails =
         let writes = writes-within within (writes-read file-read home
-        (subst (λ (x : Store). WritesAtMost (Meanwhile (contiguous_work f.number (file_named x f).room n) home read) (contiguous_cost x (file_named x f) n - 1 - header_count (file_named x f)) read new (faults_of r)) still fails.writes)) in
+        (subst (λ (x : Store). WritesAtMost (Meanwhile (contiguous_work f.number (file_named x f).room n) home read)
+        (contiguous_cost x (file_named x f) n - 1 - header_count (file_named x f)) read new (faults_of r)) still fails.writes)) in
         record {
-          right = λ other. fatal-right (contiguous_causes st f n) r old.honest (fails.right other) (λ honest. fails.undamaged (as-read honest));
-          no_run = λ is. (refl, λ honest. (no-cause honest, subst (λ (i : Image). NoRunOf (volume_of i home).free n) (image-read file-read home) (fails.no_run is (as-read honest))));
+          right = λ other. fatal-right (contiguous_causes st f n) r old.honest (fails.right other)
+              (λ honest. fails.undamaged (as-read honest));
+          no_run = λ is. (
+            refl,
+            λ honest. (
+              no-cause honest,
+              subst (λ (i : Image). NoRunOf (volume_of i home).free n) (image-read file-read home)
+                  (fails.no_run is (as-read honest)),
+            ),
+          );
           writes = record {
             transfers = writes.transfers;
-            went = went_weaker (Meanwhile (contiguous_work f.number named.room n) home old) (Meanwhile (work_if (first_of (contiguous_causes st f n)) (contiguous_work f.number named.room n)) home old)
+            went =
+                went_weaker (Meanwhile (contiguous_work f.number named.room n) home old)
+                (Meanwhile (work_if (first_of (contiguous_causes st f n)) (contiguous_work f.number named.room n)) home old)
                 (unless-refused (contiguous_causes st f n) (contiguous_work f.number named.room n) home old no-cause) writes.went;
             few = writes.few;
           };
           unchanged = λ clean. reads-within within (reads-more file-read
-              (subst (λ (x : Store). ReadsAtMost (contiguous_cost x (file_named x f) n - 1 - header_count (file_named x f)) read new 0) still (fails.unchanged clean)));
+              (subst (λ (x : Store). ReadsAtMost (contiguous_cost x (file_named x f) n - 1 - header_count (file_named x f)) read new 0)
+              still (fails.unchanged clean)));
         }
 
     pub lays-whole : (new : Disk) → LaysOutHeld home f n read new → LaysOutFile home f n old new
     lays-whole new lays =
         let does = does-read file-read home
-        (subst (λ (x : Store). Does (contiguous_causes x f n) (contiguous_work f.number (file_named x f).room n) (contiguous_cost x (file_named x f) n - 1 - header_count (file_named x f)) (LaysOut x f.number n) (GainsRun f.number n) home read new) still lays) in
+        (subst (λ (x : Store). Does (contiguous_causes x f n) (contiguous_work f.number (file_named x f).room n)
+        (contiguous_cost x (file_named x f) n - 1 - header_count (file_named x f)) (LaysOut x f.number n) (GainsRun f.number n) home
+        read new) still lays) in
         record { no_cause = does.no_cause; makes = does.makes; allots = does.allots; writes = writes-within within does.writes }
 
 -- the volume had failed, and nothing is done
-pub laying-failed : {failed : Bool} {home : HomeFields} {f : FileId} {n : ℕ} (old : Disk) → failed ≡ true → FailsToLayOut failed home f n VolumeFailed old old
+pub laying-failed : {failed : Bool} {home : HomeFields} {f : FileId} {n : ℕ} (old : Disk) → failed ≡ true
+    → FailsToLayOut failed home f n VolumeFailed old old
 laying-failed {failed = failed} {home = home} {f = f} {n = n} old is =
     let s : Store = store_of old.image home in
-    let fails : FailsToWrite failed (contiguous_causes s f n) (contiguous_cost s (file_named s f) n - 1) (contiguous_work f.number (file_named s f).room n) home VolumeFailed old old = had-failed old is in
-    record { right = λ _. fails.right; no_run = λ is. let no : 1 ≡ 22 = ap refusal_number is in absurd (omega (arith, no)); writes = fails.writes; unchanged = fails.unchanged }
+    let fails : FailsToWrite failed (contiguous_causes s f n) (contiguous_cost s (file_named s f) n - 1)
+    (contiguous_work f.number (file_named s f).room n) home VolumeFailed old old = had-failed old is in
+    record {
+      right = λ _. fails.right;
+      no_run = λ is. let no : 1 ≡ 22 = ap refusal_number is in absurd (omega (arith, no));
+      writes = fails.writes;
+      unchanged = fails.unchanged;
+    }

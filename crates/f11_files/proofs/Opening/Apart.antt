@@ -28,7 +28,8 @@ not-apart xs i within found apart =
     at a x early is = get_or_default (take i xs) a 0 x early ∙ is
 
 -- or none is
-pub apart-more : (xs : List ℕ) (i : ℕ) → i < length xs → AreApartTo xs i → list_any (λ y. eqb y (slice_index xs i)) (take i xs) ≡ false → AreApartTo xs (i + 1)
+pub apart-more : (xs : List ℕ) (i : ℕ) → i < length xs → AreApartTo xs i → list_any (λ y. eqb y (slice_index xs i)) (take i xs) ≡ false
+    → AreApartTo xs (i + 1)
 apart-more xs i within apart none a b low high same = elim (cases_eq a i) [
   | inl here ↦ elim (cases_eq b i) [
     | inl there ↦ here ∙ sym there
@@ -42,5 +43,6 @@ apart-more xs i within apart none a b low high same = elim (cases_eq a i) [
   where
     fresh : (c : ℕ) → c < i → ¬ (slice_index xs c ≡ slice_index xs i)
     fresh c early is =
-        let found = list_any_at (λ y. eqb y (slice_index xs i)) (take i xs) c 0 (omega (arith, early, within, length-take i xs)) (eq-eqb _ _ (get_or-take i xs c 0 early ∙ is)) in
+        let found = list_any_at (λ y. eqb y (slice_index xs i)) (take i xs) c 0 (omega (arith, early, within, length-take i xs))
+        (eq-eqb _ _ (get_or-take i xs c 0 early ∙ is)) in
         let no : true ≡ false = sym found ∙ none in absurd cc

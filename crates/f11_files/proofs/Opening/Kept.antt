@@ -13,7 +13,8 @@ use Rattle.f11_files.specs.Structure.{home_of, FitsOn, IsStructureOf, HasNoOther
 use Rattle.f11_files.specs.declared.structure.Structure.{Structure}
 
 -- an accepted image has a sound volume, with the only home block that it has
-pub accepted-opened : (image : Image) (home : HomeFields) → IsImage image → IsAccepted image → HasNoOtherHome image home → HasSoundVolume image home
+pub accepted-opened : (image : Image) (home : HomeFields) → IsImage image → IsAccepted image → HasNoOtherHome image home
+    → HasSoundVolume image home
 accepted-opened image home image_is accepted no_other =
     let sound = (accepted-sound image image_is).0 accepted in
     subst (HasSoundVolume image) (no_other sound.home sound.volume.framed.home_is) sound.volume
@@ -26,7 +27,8 @@ pub opened-home : (image : Image) (home : HomeFields) → HasSoundVolume image h
 opened-home image home sound other is = home-unique image other home is sound.framed.home_is
 
 -- so what is kept is for the disk
-pub kept-for : (s : Structure) (disk : Disk) → IsImage disk.image → FitsOn s (length disk.image) → (IsTrue disk.honest → IsAccepted disk.image) → (IsTrue disk.honest → HasNoOtherHome disk.image (home_of s))
+pub kept-for : (s : Structure) (disk : Disk) → IsImage disk.image → FitsOn s (length disk.image)
+    → (IsTrue disk.honest → IsAccepted disk.image) → (IsTrue disk.honest → HasNoOtherHome disk.image (home_of s))
     → (IsTrue disk.honest → IsStructureOf s disk.image) → IsStructureFor s disk
 kept-for s disk image_is lies accepted home keeps = record {
   lies = lies;
@@ -35,7 +37,8 @@ kept-for s disk image_is lies accepted home keeps = record {
 }
 
 -- a disk that was only read has what it had
-pub looked-for : (s : Structure) (old new : Disk) (most faults : ℕ) → IsStructureFor s old → Looked old new most faults → IsStructureFor s new
+pub looked-for : (s : Structure) (old new : Disk) (most faults : ℕ) → IsStructureFor s old → Looked old new most faults
+    → IsStructureFor s new
 looked-for s old new most faults for looked = record {
   lies = subst (λ (i : Image). FitsOn s (length i)) (sym looked.image) for.lies;
   sound = λ honest. subst (λ (i : Image). HasSoundVolume i (home_of s)) (sym looked.image) (for.sound (sym looked.honest ∙ honest));
@@ -43,7 +46,8 @@ looked-for s old new most faults for looked = record {
 }
 
 -- what a call that was answered leaves, whatever the answer
-pub answered : {T E R : Type 0} (r : Result T E) (P : T → Type 0) (Q : E → Type 0) → IfOk r P → IfErr r Q → ((x : T) → P x → R) → ((y : E) → Q y → R) → R
+pub answered : {T E R : Type 0} (r : Result T E) (P : T → Type 0) (Q : E → Type 0) → IfOk r P → IfErr r Q → ((x : T) → P x → R)
+    → ((y : E) → Q y → R) → R
 answered (Ok x) P Q ok err done refused = done x ok
 answered (Err y) P Q ok err done refused = refused y err
 
@@ -62,7 +66,8 @@ for-opened s failed disk image_is for = record {
   keeps = λ honest _. for.keeps honest;
 }
 
-pub stays-opened : (old new : Structure) (failed : Bool) (disk : Disk) → IsImage disk.image → StaysFor failed old new disk → IsOpened new failed disk
+pub stays-opened : (old new : Structure) (failed : Bool) (disk : Disk) → IsImage disk.image → StaysFor failed old new disk
+    → IsOpened new failed disk
 stays-opened old new failed disk image_is stays = record {
   lies = stays.lies;
   accepted = λ honest. opened-accepted disk.image (home_of new) image_is (stays.sound honest);

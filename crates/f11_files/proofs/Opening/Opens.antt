@@ -28,7 +28,8 @@ module _ (old : Disk) (image_is : IsImage old.image) (accepted : IsTrue old.hone
   -- no home block was found
   pub no-home : (new : Disk) → FindsNoHome old new → MeetsDamage old new
   no-home new finds = record {
-    never = λ honest. let sound = (accepted-sound old.image image_is).0 (accepted honest) in home-some old.image sound.home sound.volume.framed.home_is (finds.has_none honest);
+    never = λ honest. let sound = (accepted-sound old.image image_is).0 (accepted honest) in
+        home-some old.image sound.home sound.volume.framed.home_is (finds.has_none honest);
     looked = looked_within finds.looked (few (length old.image));
   }
     where
@@ -53,7 +54,8 @@ module _ (old : Disk) (image_is : IsImage old.image) (accepted : IsTrue old.hone
         reads-same = ap (λ (i : Image). candidates (length i) + 788) same
 
     -- the frame couldn't be read
-    pub frame-fails : (new : Disk) (fault : ReadFault) → (fault ≡ read.DeviceFault → FailsToReadFrame mid new) → (fault ≡ read.NoMemory → LacksFrameMemory mid new)
+    pub frame-fails : (new : Disk) (fault : ReadFault) → (fault ≡ read.DeviceFault → FailsToReadFrame mid new)
+        → (fault ≡ read.NoMemory → LacksFrameMemory mid new)
         → HasNoStructure (fault_of fault) old new
     frame-fails new read.DeviceFault failed lacks = looked-behind new 1 (failed refl)
     frame-fails new read.NoMemory failed lacks = looked-behind new 0 (lacks refl)
@@ -61,7 +63,8 @@ module _ (old : Disk) (image_is : IsImage old.image) (accepted : IsTrue old.hone
     -- a fault was found
     pub frame-faulty : (new : Disk) (code a : ℕ) → FindsFrameFault code a mid new → MeetsDamage old new
     frame-faulty new code a fault = record {
-      never = λ honest. accepted honest code a 0 (of_frame code a (subst (λ (i : Image). IsFrameFault i code a) same (fault.fault (sure honest))));
+      never = λ honest. accepted honest code a 0
+          (of_frame code a (subst (λ (i : Image). IsFrameFault i code a) same (fault.fault (sure honest))));
       looked = looked-behind new 0 fault.looked;
     }
 
@@ -70,39 +73,48 @@ module _ (old : Disk) (image_is : IsImage old.image) (accepted : IsTrue old.hone
       is-sound : IsTrue old.honest → HasSoundVolume old.image home
       is-sound honest =
           let sound = (accepted-sound old.image image_is).0 (accepted honest) in
-          subst (HasSoundVolume old.image) (home-unique old.image sound.home home sound.volume.framed.home_is (finds.is_home honest)) sound.volume
+          subst (HasSoundVolume old.image) (home-unique old.image sound.home home sound.volume.framed.home_is (finds.is_home honest))
+          sound.volume
 
       are : IsTrue old.honest → AreOf old.image home index bitmap
       are honest =
           let here = subst (λ (i : Image). AreOf i reads.home index bitmap) same (reads.are (sure honest)) in
-          subst (λ (h : HomeFields). AreOf old.image h index bitmap) (home-unique old.image reads.home home here.framed.home_is (finds.is_home honest)) here
+          subst (λ (h : HomeFields). AreOf old.image h index bitmap)
+          (home-unique old.image reads.home home here.framed.home_is (finds.is_home honest)) here
 
       -- a block of the bitmap is there twice
       pub not-apart-damage : ¬ ArePlacesApart bitmap.places → MeetsDamage old now
       not-apart-damage not = record {
-        never = λ honest. not (subst (λ (b : Bitmap). ArePlacesApart b.places) (sym (are honest).bitmap_is) (bitmap-is old.image home (is-sound honest)).0.apart);
+        never = λ honest. not (subst (λ (b : Bitmap). ArePlacesApart b.places) (sym (are honest).bitmap_is)
+            (bitmap-is old.image home (is-sound honest)).0.apart);
         looked = looked-behind now 0 reads.looked;
       }
 
       pub is-bitmap : ArePlacesApart bitmap.places → IsBitmap bitmap
-      is-bitmap apart = record { some = reads.lie.some; few = reads.lie.few; apart = apart; sized = reads.lie.sized; covered = reads.lie.covered }
+      is-bitmap apart =
+          record { some = reads.lie.some; few = reads.lie.few; apart = apart; sized = reads.lie.sized; covered = reads.lie.covered }
 
       pub lies-still : BitmapLiesWithin bitmap (length now.image)
       lies-still = subst (λ (i : Image). BitmapLiesWithin bitmap (length i)) (sym reads.looked.image) reads.lie.bitmap_lies
 
       -- what is kept was read
-      pub opens : (s : Structure) (new : Disk) → home_of s ≡ home → index_in s ≡ index → Loads bitmap s.storage now new → OpensStructure s old new
+      pub opens : (s : Structure) (new : Disk) → home_of s ≡ home → index_in s ≡ index → Loads bitmap s.storage now new
+          → OpensStructure s old new
       opens s new home_is index_is loads = record {
         is_for = record {
           lies = record {
-            index = subst (λ (x : Index). IndexLiesWithin x (length new.image)) (sym index_is) (subst (λ (n : ℕ). IndexLiesWithin index n) size reads.lie.index_lies);
+            index = subst (λ (x : Index). IndexLiesWithin x (length new.image)) (sym index_is)
+                (subst (λ (n : ℕ). IndexLiesWithin index n) size reads.lie.index_lies);
             bitmap = loads.is_for.within;
             volume = let on = reads.lie.on_device in let at = ap (λ (b : Bitmap). b.size) loads.bitmap_is in omega (arith, on, at, size);
           };
-          sound = λ honest. subst (λ (h : HomeFields). HasSoundVolume new.image h) (sym home_is) (subst (λ (i : Image). HasSoundVolume i home) image (is-sound (back honest)));
+          sound = λ honest. subst (λ (h : HomeFields). HasSoundVolume new.image h) (sym home_is)
+              (subst (λ (i : Image). HasSoundVolume i home) image (is-sound (back honest)));
           keeps = λ honest. record {
-            index_is = index_is ∙ (are (back honest)).index_is ∙ ap (λ (i : Image). index_of i home) image ∙ ap (index_of new.image) (sym home_is);
-            bitmap_is = loads.bitmap_is ∙ (are (back honest)).bitmap_is ∙ ap (λ (i : Image). storage_bitmap i home) image ∙ ap (storage_bitmap new.image) (sym home_is);
+            index_is = index_is ∙ (are (back honest)).index_is ∙ ap (λ (i : Image). index_of i home) image
+                ∙ ap (index_of new.image) (sym home_is);
+            bitmap_is = loads.bitmap_is ∙ (are (back honest)).bitmap_is ∙ ap (λ (i : Image). storage_bitmap i home) image
+                ∙ ap (storage_bitmap new.image) (sym home_is);
             storage = loads.is_for.keeps honest;
           };
         };

@@ -23,12 +23,14 @@ unfolding store_of table_in
 slots-of image home = refl
 
 -- they are those of the store
-pub space-is : (s : Structure) (disk : Disk) → IsStructureFor s disk → IsTrue disk.honest → (free headers count : ℕ) → ((image : Image) → storage.Keeps s.storage image → free ≡ free_blocks image (bitmap_in s))
+pub space-is : (s : Structure) (disk : Disk) → IsStructureFor s disk → IsTrue disk.honest → (free headers count : ℕ)
+    → ((image : Image) → storage.Keeps s.storage image → free ≡ free_blocks image (bitmap_in s))
     → headers ≡ length (free_slots_in (index_in s)) → count ≡ slots (index_in s) → IsSpaceOf (store_on s disk) free headers count
 space-is s disk for honest free headers count free_is headers_are count_is =
     let keeps = for.keeps honest in
     record {
       blocks_are = free_is disk.image keeps.storage ∙ ap (free_blocks disk.image) keeps.bitmap_is ∙ sym (free-of disk.image (home_of s));
-      headers_are = headers_are ∙ ap (λ (x : Index). length (free_slots_in x)) keeps.index_is ∙ ap (λ (l : List ℕ). length l) (sym (free-stored disk.image (home_of s)));
+      headers_are = headers_are ∙ ap (λ (x : Index). length (free_slots_in x)) keeps.index_is
+          ∙ ap (λ (l : List ℕ). length l) (sym (free-stored disk.image (home_of s)));
       slots_are = count_is ∙ ap slots keeps.index_is ∙ sym (slots-of disk.image (home_of s));
     }

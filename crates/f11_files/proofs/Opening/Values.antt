@@ -8,5 +8,7 @@ use Rattle.f11_files.specs.declared.files.Files.{Files}
 use Rattle.f11_files.proofs.Opening.Kept.{kept-for}
 
 -- unless a call has failed the volume, what is kept is for the disk
-pub files-for : {D : Type 0} {met : Ghosts D} (files : Files D met) → IsImage (disk_in files).image → has_failed files ≡ false → IsStructureFor files.structure (disk_in files)
-files-for files image_is not = kept-for files.structure (disk_in files) image_is (files.lies not) files.accepted files.home (λ honest. files.keeps honest not)
+pub files-for : {D : Type 0} {met : Ghosts D} (files : Files D met) → IsImage (disk_in files).image → has_failed files ≡ false
+    → IsStructureFor files.structure (disk_in files)
+files-for files image_is not =
+    kept-for files.structure (disk_in files) image_is (files.lies not) files.accepted files.home (λ honest. files.keeps honest not)

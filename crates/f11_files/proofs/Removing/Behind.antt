@@ -28,7 +28,8 @@ pub behind-none : (t : Table) (before : List ℕ) → (link_of before).number �
 behind-none t before none = ap (headers_from (255 - segment_number before) t) none ∙ headers_from-none (255 - segment_number before) t
 
 -- the next one, and those behind it
-pub behind-some : (t : Table) (before : List ℕ) (n : ℕ) → (link_of before).number ≡ n → 0 < n → segment_number before < 255 → segment_number (t.header n) ≡ segment_number before + 1
+pub behind-some : (t : Table) (before : List ℕ) (n : ℕ) → (link_of before).number ≡ n → 0 < n → segment_number before < 255
+    → segment_number (t.header n) ≡ segment_number before + 1
     → headers_behind t before ≡ n ∷ headers_behind t (t.header n)
 behind-some t before n to some early segment =
     let fuel : 255 - segment_number before ≡ suc (255 - segment_number (t.header n)) = omega (arith, early, segment) in
@@ -52,7 +53,8 @@ unlinked-none t n unlinked some in_file = go in_file.of
     go {f} (next {n = m} of goes) = unlinked m (record { file = f; of = of }) goes
 
 -- Slot n was written, and no live header of a later segment is header n.
-module _ (t u : Table) (n low : ℕ) (others : KeepsOtherSlots n t u) (apart : (m : ℕ) → IsLive t m → low < segment_number (t.header m) → m ≢ n) where
+module _ (t u : Table) (n low : ℕ) (others : KeepsOtherSlots n t u)
+    (apart : (m : ℕ) → IsLive t m → low < segment_number (t.header m) → m ≢ n) where
   -- where it isn't live then, those that hang behind a header do so still
   pub hangs-kept : ¬ IsLive u n → (before ns : List ℕ) → low ≤ segment_number before → HangsBehind t before ns → HangsBehind u before ns
   hangs-kept gone before [] early none = none
@@ -60,7 +62,10 @@ module _ (t u : Table) (n low : ℕ) (others : KeepsOtherSlots n t u) (apart : (
       let away = apart m goes.to (omega (arith, goes.segment, early)) in
       let same = others.header m away goes.to.in_use in (
         record {
-          to = record { in_use = others.in_use m away ∙ goes.to.in_use; valid = subst (λ (b : List ℕ). IsHeader b m) (sym same) goes.to.valid };
+          to = record {
+            in_use = others.in_use m away ∙ goes.to.in_use;
+            valid = subst (λ (b : List ℕ). IsHeader b m) (sym same) goes.to.valid;
+          };
           number = goes.number;
           sequence = goes.sequence ∙ ap file_sequence (sym same);
           segment = ap segment_number same ∙ goes.segment;
@@ -79,16 +84,19 @@ module _ (t u : Table) (n low : ℕ) (others : KeepsOtherSlots n t u) (apart : (
       ap (λ (b : List ℕ). blocks_named b ++ blocks_by u ms) same
       ∙ ap (λ (bs : List ℕ). blocks_named (t.header m) ++ bs) (hangs-blocks (t.header m) ms (omega (arith, goes.segment, early)) rest)
 
-  pub hangs-pointers : (before ns : List ℕ) → low ≤ segment_number before → HangsBehind t before ns → sum_by (pointer_count u) ns ≡ sum_by (pointer_count t) ns
+  pub hangs-pointers : (before ns : List ℕ) → low ≤ segment_number before → HangsBehind t before ns
+      → sum_by (pointer_count u) ns ≡ sum_by (pointer_count t) ns
   hangs-pointers before [] early none = refl
   hangs-pointers before (m ∷ ms) early (goes, unlinked, rest) =
       let same = others.header m (apart m goes.to (omega (arith, goes.segment, early))) goes.to.in_use in
       let count = hangs-pointers (t.header m) ms (omega (arith, goes.segment, early)) rest in
-      sum_by-cons (pointer_count u) m ms ∙ ap (λ (k : ℕ). k + sum_by (pointer_count u) ms) (ap pointers_in same) ∙ ap (λ (k : ℕ). pointer_count t m + k) count
+      sum_by-cons (pointer_count u) m ms ∙ ap (λ (k : ℕ). k + sum_by (pointer_count u) ms) (ap pointers_in same)
+      ∙ ap (λ (k : ℕ). pointer_count t m + k) count
       ∙ sym (sum_by-cons (pointer_count t) m ms)
 
 -- a header of a sound volume that isn't a first one is none of the volume's own
-pub late-header : (image : Image) (home : HomeFields) (n : ℕ) → HasSoundVolume image home → IsLive (table_of image home) n → 0 < segment_number ((table_of image home).header n) → 5 ≤ n
+pub late-header : (image : Image) (home : HomeFields) (n : ℕ) → HasSoundVolume image home → IsLive (table_of image home) n
+    → 0 < segment_number ((table_of image home).header n) → 5 ≤ n
 late-header image home n sound live some = elim (cases_lt 4 n) [
   | inl late ↦ omega (arith, late)
   | inr low ↦ elim (cases_eq n 1) [
@@ -103,19 +111,23 @@ late-header image home n sound live some = elim (cases_lt 4 n) [
 ]
 
 -- Header n of a file was written, so that it links to none, or isn't live: those behind it hang there, and are of no file.
-module _ (t u : Table) (f n : ℕ) (others : KeepsOtherSlots n t u) (chained : IsChained t) (bytes : HasByteSegments t) (whole : IsWholeFile t f) (of_file : IsHeaderOf t f n)
+module _ (t u : Table) (f n : ℕ) (others : KeepsOtherSlots n t u) (chained : IsChained t) (bytes : HasByteSegments t)
+    (whole : IsWholeFile t f) (of_file : IsHeaderOf t f n)
     (was : (m : ℕ) → m ≢ n → IsInFile u m → IsInFile t m) (ends : (m : ℕ) → ¬ IsNext u n m) where
   behind : (m p : ℕ) → IsNext t p m → segment_number (t.header n) ≤ segment_number (t.header p) → m ≢ n
   behind m p goes early same = let there = ap (λ (k : ℕ). segment_number (t.header k)) same in omega (arith, goes.segment, early, there)
 
   -- the next of a header that is of no file, or of the one that was written
-  unlinked-next : (p : ℕ) → IsHeaderOf t f p → segment_number (t.header n) ≤ segment_number (t.header p) → (p ≢ n → ¬ IsInFile u p) → (m : ℕ) → IsNext t p m → IsUnlinked u m
+  unlinked-next : (p : ℕ) → IsHeaderOf t f p → segment_number (t.header n) ≤ segment_number (t.header p) → (p ≢ n → ¬ IsInFile u p)
+      → (m : ℕ) → IsNext t p m → IsUnlinked u m
   unlinked-next p of early fileless m goes a in_file links =
       let from : a ≢ n = λ is. ends m (subst (λ (k : ℕ). IsNext u k m) is links) in
-      let here : a ≡ p = chained.one a p m (was a from in_file) (record { file = f; of = of }) (next-was t u n others a m from (behind m p goes early) links) goes in
+      let here : a ≡ p = chained.one a p m (was a from in_file) (record { file = f; of = of })
+      (next-was t u n others a m from (behind m p goes early) links) goes in
       fileless (λ is. from (here ∙ is)) (subst (IsInFile u) here in_file)
 
-  hangs-on : (most p : ℕ) → IsHeaderOf t f p → most ≡ 255 - segment_number (t.header p) → segment_number (t.header n) ≤ segment_number (t.header p) → (p ≢ n → ¬ IsInFile u p)
+  hangs-on : (most p : ℕ) → IsHeaderOf t f p → most ≡ 255 - segment_number (t.header p)
+      → segment_number (t.header n) ≤ segment_number (t.header p) → (p ≢ n → ¬ IsInFile u p)
       → HangsBehind u (t.header p) (headers_from most t (link_number t p))
   hangs-on zero p of fuel early fileless = elim (whole.links p of) [
     | inl none ↦ subst (HangsBehind u (t.header p)) (sym (ap (headers_from zero t) none ∙ headers_from-none zero t)) none
@@ -128,7 +140,8 @@ module _ (t u : Table) (f n : ℕ) (others : KeepsOtherSlots n t u) (chained : I
         let same : u.header m ≡ t.header m = others.header m (behind m p goes early) goes.to.in_use in
         let unlinked : IsUnlinked u m = unlinked-next p of early fileless m goes in
         let later : 0 < segment_number (u.header m) = let here = ap segment_number same in omega (arith, here, goes.segment) in
-        let rest = hangs-on most m (next of goes) (omega (arith, fuel, goes.segment)) (omega (arith, goes.segment, early)) (λ _. unlinked-none u m unlinked later) in
+        let rest = hangs-on most m (next of goes) (omega (arith, fuel, goes.segment)) (omega (arith, goes.segment, early))
+        (λ _. unlinked-none u m unlinked later) in
         subst (HangsBehind u (t.header p)) (sym (headers_from-some most t m (live-some goes.to))) (
           record {
             to = record {

@@ -1,5 +1,6 @@
 -- Headers behind one in hand that go, one after another.
-use Rattle.std.proofs.Common.{◌≡◌, ◌≢◌, ◌+◌, ◌*◌, ◌<◌, ◌≤◌, ℕ, true, false, IsTrue, List, [], ◌∷◌, None, length, refl, sym, ap, subst, ◌∙◌, arith}
+use Rattle.std.proofs.Common.{◌≡◌, ◌≢◌, ◌+◌, ◌*◌, ◌<◌, ◌≤◌, ℕ, true, false, IsTrue, List, [], ◌∷◌, None, length, refl, sym, ap, subst, ◌∙◌}
+use Rattle.std.proofs.Common.{arith}
 use Rattle.std.proofs.lemmas.List.{length-append}
 use Rattle.std.proofs.lemmas.List.Sums.{sum_by-cons}
 use Rattle.f11_dev.specs.Disk.{Disk}
@@ -29,7 +30,8 @@ use Rattle.f11_volume.specs.Volume.{Volume, volume_of}
 use Rattle.f11_writes.specs.OtherSlots.{KeepsOtherSlots}
 use Rattle.f11_image_store.specs.Allocation.{FreesBlocks, Kills, LosesHeaders}
 use Rattle.f11_files.specs.Answers.{WritesAtMost, refusal_for}
-use Rattle.f11_files.specs.Removing.Drops.{BreaksOff, MayDrop, DropsHeader, DropsBehind, HangsBehind, headers_behind, without_header, without_headers, drop_cost, tail_cost}
+use Rattle.f11_files.specs.Removing.Drops.{BreaksOff, MayDrop, DropsHeader, DropsBehind, HangsBehind, headers_behind, without_header}
+use Rattle.f11_files.specs.Removing.Drops.{without_headers, drop_cost, tail_cost}
 use Rattle.f11_image_store.specs.Freeing.{FreesMore, Freeing}
 use Rattle.f11_store.specs.Pieces.{with_more_free}
 use Rattle.f11_image_store.specs.FileLaws.{pointers_in}
@@ -49,7 +51,8 @@ use Rattle.f11_files.proofs.Opening.Kept.{looked-for}
 use Rattle.f11_image_store.proofs.StoreLemmas.{file-at}
 use Rattle.f11_files.proofs.Removing.Behind.{behind-none, behind-some, hangs-are, hangs-kept, hangs-blocks, hangs-pointers, late-header}
 
--- So far headers behind `from` went, up to the one in the block. The others hang behind that, and with them gone the store is that of the end.
+-- So far headers behind `from` went, up to the one in the block. The others hang behind that, and with them gone the store is that of the
+-- end.
 pub record Dropping (s c : Structure) (from block : List ℕ) (old now : Disk) : Type 0 where
   pub is_for : IsStructureFor c now
   pub home : home_of c ≡ home_of s
@@ -62,7 +65,8 @@ pub record Dropping (s c : Structure) (from block : List ℕ) (old now : Disk) :
       ≤ tail_cost (table_of old.image (home_of s)) (headers_behind (table_of old.image (home_of s)) from)
   pub listed :
       IsTrue old.honest →
-      (m : ℕ) → is_in (headers_behind (table_of now.image (home_of s)) block) m ≡ true → is_in (headers_behind (table_of old.image (home_of s)) from) m ≡ true
+      (m : ℕ) → is_in (headers_behind (table_of now.image (home_of s)) block) m ≡ true
+      → is_in (headers_behind (table_of old.image (home_of s)) from) m ≡ true
   pub frees : IsTrue old.honest → FreesMore (store_on s old) (store_of now.image (home_of s))
   pub loses :
       IsTrue old.honest →
@@ -74,12 +78,14 @@ pub record Dropping (s c : Structure) (from block : List ℕ) (old now : Disk) :
       (table_of old.image (home_of s)) (table_of now.image (home_of s))
   pub store :
       IsTrue old.honest →
-      without_headers (store_of now.image (home_of s)) (table_of now.image (home_of s)) (headers_behind (table_of now.image (home_of s)) block)
+      without_headers (store_of now.image (home_of s)) (table_of now.image (home_of s))
+      (headers_behind (table_of now.image (home_of s)) block)
       ≡ without_headers (store_on s old) (table_of old.image (home_of s)) (headers_behind (table_of old.image (home_of s)) from)
   pub hangs : IsTrue old.honest → HangsBehind (table_of now.image (home_of s)) block (headers_behind (table_of now.image (home_of s)) block)
 
 pub dropping-none : (s : Structure) (from : List ℕ) (old : Disk) → IsStructureFor s old → IsTrue (holds_header from)
-    → (IsTrue old.honest → HangsBehind (table_of old.image (home_of s)) from (headers_behind (table_of old.image (home_of s)) from)) → Dropping s s from from old old
+    → (IsTrue old.honest → HangsBehind (table_of old.image (home_of s)) from (headers_behind (table_of old.image (home_of s)) from))
+    → Dropping s s from from old old
 dropping-none s from old for holds hangs = record {
   is_for = for;
   home = refl;
@@ -115,10 +121,16 @@ module _ (s c : Structure) (from block : List ℕ) (old now : Disk) (d : Droppin
   sound-now honest = subst (HasSoundVolume now.image) d.home (d.is_for.sound (now-honest honest))
 
   -- what only reads costs no more than one header
-  more-reads : (reads faults : ℕ) (new : Disk) → reads ≤ 1 → (IsTrue old.honest → (link_of block).number ≢ 0) → Looked now new reads faults → WritesAtMost (Freeing h (store_on s old) old) most old new faults
+  more-reads : (reads faults : ℕ) (new : Disk) → reads ≤ 1 → (IsTrue old.honest → (link_of block).number ≢ 0) → Looked now new reads faults
+      → WritesAtMost (Freeing h (store_on s old) old) most old new faults
   more-reads reads faults new few some looked =
       writes-within (λ honest. go (headers_behind u block) (d.few honest) (d.hangs honest) honest)
-      (writes-then (λ image is. is) d.writes (record { transfers = 1; went = went_within _ (went_looked (Freeing h (store_on s old) old) looked) few; few = λ _. omega arith }))
+      (writes-then (λ image is. is) d.writes
+      (record {
+        transfers = 1;
+        went = went_within _ (went_looked (Freeing h (store_on s old) old) looked) few;
+        few = λ _. omega arith;
+      }))
     where
       go : (ns : List ℕ) → d.spent + tail_cost u ns ≤ most → HangsBehind u block ns → IsTrue old.honest → d.spent + 1 ≤ most
       go [] cost none honest = absurd (some honest none)
@@ -145,17 +157,21 @@ module _ (s c : Structure) (from block : List ℕ) (old now : Disk) (d : Droppin
     store = λ honest.
         let none : headers_behind u block ≡ [] = behind-none u block last.no_link in
         let sum : (store_of now.image h).free ≡ (store_of now.image h).free + 0 = omega arith in
-        ap (λ (free : ℕ). record (store_of now.image h) { free = free }) sum ∙ ap (without_headers (store_of now.image h) u) (sym none) ∙ d.store honest;
+        ap (λ (free : ℕ). record (store_of now.image h) { free = free }) sum ∙ ap (without_headers (store_of now.image h) u) (sym none)
+        ∙ d.store honest;
     loses = all-lost after new last;
     blocks = λ honest. (all-killed after new last honest).stays;
     writes = writes-within (λ honest. let few = d.few honest in omega (arith, few)) d.writes;
   })
 
   pub dropped-stays : (after : List ℕ) (new : Disk) → FindsLast block after now new → StaysFor false s c new
-  dropped-stays after new last = subst (StaysFor false s c) (sym last.disk_stays) (record { home = d.home; lies = λ _. d.is_for.lies; sound = d.is_for.sound; keeps = λ _. d.is_for.keeps })
+  dropped-stays after new last =
+      subst (StaysFor false s c) (sym last.disk_stays)
+      (record { home = d.home; lies = λ _. d.is_for.lies; sound = d.is_for.sound; keeps = λ _. d.is_for.keeps })
 
   -- the next one wasn't to be had
-  pub no-next : (fault : ChainFault) (new : Disk) → ¬ (fault ≡ chain.EndOfFile) → (fault ≡ chain.Damaged → FindsWrongLink (index_in c) block now new)
+  pub no-next : (fault : ChainFault) (new : Disk) → ¬ (fault ≡ chain.EndOfFile)
+      → (fault ≡ chain.Damaged → FindsWrongLink (index_in c) block now new)
       → (fault ≡ chain.DeviceFault → FailsToReadNext block now new) → BreaksOff h (store_on s old) most (refusal_for fault) old new
   no-next chain.EndOfFile new never damaged failed = absurd (never refl)
   no-next chain.Damaged new never damaged failed = record {
@@ -167,7 +183,8 @@ module _ (s c : Structure) (from block : List ℕ) (old now : Disk) (d : Droppin
       go : (ns : List ℕ) → HangsBehind u block ns → IsTrue old.honest → ⊥
       go [] none honest = (damaged refl).some_link none
       go (n ∷ ns) hangs honest =
-          (damaged refl).wrong (now-honest honest) n (subst (λ (t : Table). IsNextOf t block n) (sym (same-table (now-honest honest))) hangs.0)
+          (damaged refl).wrong (now-honest honest) n
+          (subst (λ (t : Table). IsNextOf t block n) (sym (same-table (now-honest honest))) hangs.0)
   no-next chain.DeviceFault new never damaged failed = record {
     fatal = refl;
     undamaged = λ _ is. let no : 19 ≡ 20 = ap refusal_number is in omega (arith, no);
@@ -190,13 +207,17 @@ module _ (s c : Structure) (from block : List ℕ) (old now : Disk) (d : Droppin
       header-is = reads.header.block_is (now-honest honest) ∙ ap (λ (t : Table). t.header n) (same-table (now-honest honest))
 
       live : IsLive u n
-      live = subst (λ (t : Table). IsLive t n) (same-table (now-honest honest)) (HoldsHeader-live (index_in c) n following now reads.header (now-honest honest))
+      live =
+          subst (λ (t : Table). IsLive t n) (same-table (now-honest honest))
+          (HoldsHeader-live (index_in c) n following now reads.header (now-honest honest))
 
       segment : segment_number (u.header n) ≡ segment_number block + 1
       segment = ap segment_number (sym header-is) ∙ reads.segment
 
       list : headers_behind u block ≡ n ∷ rest
-      list = behind-some u block n reads.number (live-some live) reads.not_last segment ∙ ap (λ (b : List ℕ). n ∷ headers_behind u b) (sym header-is)
+      list =
+          behind-some u block n reads.number (live-some live) reads.not_last segment
+          ∙ ap (λ (b : List ℕ). n ∷ headers_behind u b) (sym header-is)
 
       all-hang : HangsBehind u block (n ∷ rest)
       all-hang = subst (HangsBehind u block) list (d.hangs honest)
@@ -206,7 +227,8 @@ module _ (s c : Structure) (from block : List ℕ) (old now : Disk) (d : Droppin
 
       no-file : with_file (store_of now.image h) n None ≡ store_of now.image h
       no-file = with_file-same (store_of now.image h) n None
-          (file-stored now.image h n ∙ file-at now.image u n None (λ file. let first = file.first in absurd (omega (arith, first, segment))) (λ _. refl))
+          (file-stored now.image h n ∙ file-at now.image u n None (λ file. let first = file.first in absurd (omega (arith, first, segment)))
+          (λ _. refl))
 
       cost : d.spent + (3 + 4 * pointers_in following) + tail_cost u rest ≤ most
       cost =
@@ -225,17 +247,25 @@ module _ (s c : Structure) (from block : List ℕ) (old now : Disk) (d : Droppin
     -- the images that stand while it goes
     read-frees : IsTrue old.honest → FreesMore (store_on s old) (with_file (store_of read.image (home_of c)) n None)
     read-frees honest =
-        read-home (λ i k. FreesMore (store_on s old) (with_file (store_of i k) n None)) (subst (FreesMore (store_on s old)) (sym (no-file honest)) (d.frees honest))
+        read-home (λ i k. FreesMore (store_on s old) (with_file (store_of i k) n None))
+        (subst (FreesMore (store_on s old)) (sym (no-file honest)) (d.frees honest))
 
     so-far : WritesAtMost (Freeing h (store_on s old) old) (d.spent + 1) old read 0
-    so-far = writes-then (λ image is. is) d.writes (record { transfers = 1; went = went_looked (Freeing h (store_on s old) old) reads.looked; few = λ _. omega arith })
+    so-far =
+        writes-then (λ image is. is) d.writes
+        (record { transfers = 1; went = went_looked (Freeing h (store_on s old) old) reads.looked; few = λ _. omega arith })
 
-    pub next-breaks : (r : Refusal) (new : Disk) → BreaksOff (home_of c) (with_file (store_on c read) n None) (drop_cost following) r read new → BreaksOff h (store_on s old) most r old new
+    pub next-breaks : (r : Refusal) (new : Disk)
+        → BreaksOff (home_of c) (with_file (store_on c read) n None) (drop_cost following) r read new
+        → BreaksOff h (store_on s old) most r old new
     next-breaks r new breaks =
         breaks-within (λ honest. let few = cost honest in omega (arith, few))
-        (breaks-then read-frees so-far (subst (λ (k : HomeFields). BreaksOff k (with_file (store_of read.image (home_of c)) n None) (drop_cost following) r read new) d.home breaks))
+        (breaks-then read-frees so-far
+        (subst (λ (k : HomeFields). BreaksOff k (with_file (store_of read.image (home_of c)) n None) (drop_cost following) r read new)
+        d.home breaks))
 
-    module _ (c' : Structure) (new : Disk) (drops : DropsHeader (home_of c) n following read new) (stays : StaysFor false c c' new) (is_image : IsImage new.image) where
+    module _ (c' : Structure) (new : Disk) (drops : DropsHeader (home_of c) n following read new) (stays : StaysFor false c c' new)
+        (is_image : IsImage new.image) where
       abbrev v : Table
       v = table_of new.image h
 
@@ -248,7 +278,8 @@ module _ (s c : Structure) (from block : List ℕ) (old now : Disk) (d : Droppin
       others : IsTrue old.honest → KeepsOtherSlots n u v
       others honest =
           subst (λ (i : Image). KeepsOtherSlots n (table_of i h) v) reads.looked.image
-          (subst (λ (k : HomeFields). KeepsOtherSlots n (table_of read.image k) (table_of new.image k)) d.home (drops.others (read-honest honest)))
+          (subst (λ (k : HomeFields). KeepsOtherSlots n (table_of read.image k) (table_of new.image k)) d.home
+          (drops.others (read-honest honest)))
 
       gone : IsTrue old.honest → ¬ IsLive v n
       gone honest is = let used = sym (unused honest) ∙ is.in_use in cc
@@ -259,64 +290,81 @@ module _ (s c : Structure) (from block : List ℕ) (old now : Disk) (d : Droppin
       hangs-now : IsTrue old.honest → HangsBehind v following rest
       hangs-now honest =
           subst (λ (b : List ℕ). HangsBehind v b rest) (sym (header-is honest))
-          (hangs-kept u v n (segment_number (u.header n)) (others honest) (later honest) (gone honest) (u.header n) rest (omega arith) (all-hang honest).2)
+          (hangs-kept u v n (segment_number (u.header n)) (others honest) (later honest) (gone honest) (u.header n) rest (omega arith)
+          (all-hang honest).2)
 
       rest-is : IsTrue old.honest → headers_behind v following ≡ rest
       rest-is honest = hangs-are v following rest (table-bytes new.image (index_of new.image h) is_image) (hangs-now honest)
 
       store-was : IsTrue old.honest → store_of new.image h ≡ without_header (store_of now.image h) n (length (blocks_named following))
       store-was honest =
-          subst (λ (k : HomeFields). store_of new.image k ≡ without_header (store_of read.image k) n (length (blocks_named following))) d.home (drops.store (read-honest honest))
+          subst (λ (k : HomeFields). store_of new.image k ≡ without_header (store_of read.image k) n (length (blocks_named following)))
+          d.home (drops.store (read-honest honest))
           ∙ ap (λ (i : Image). without_header (store_of i h) n (length (blocks_named following))) reads.looked.image
 
       blocks-stay : IsTrue old.honest → blocks_by v rest ≡ blocks_by u rest
-      blocks-stay honest = hangs-blocks u v n (segment_number (u.header n)) (others honest) (later honest) (u.header n) rest (omega arith) (all-hang honest).2
+      blocks-stay honest =
+          hangs-blocks u v n (segment_number (u.header n)) (others honest) (later honest) (u.header n) rest (omega arith)
+          (all-hang honest).2
 
       blocks-freed : IsTrue old.honest → FreesBlocks (blocks_named (u.header n)) (volume_of now.image h) (volume_of new.image h)
       blocks-freed honest =
           subst (λ (b : List ℕ). FreesBlocks (blocks_named b) (volume_of now.image h) (volume_of new.image h)) (header-is honest)
           (subst (λ (i : Image). FreesBlocks (blocks_named following) (volume_of i h) (volume_of new.image h)) reads.looked.image
-          (subst (λ (k : HomeFields). FreesBlocks (blocks_named following) (volume_of read.image k) (volume_of new.image k)) d.home (drops.frees (read-honest honest))))
+          (subst (λ (k : HomeFields). FreesBlocks (blocks_named following) (volume_of read.image k) (volume_of new.image k)) d.home
+          (drops.frees (read-honest honest))))
 
       loses-one : IsTrue old.honest → LosesAlike (n ∷ rest) rest (volume_of now.image h) (volume_of new.image h)
       unfolding volume_of
-      loses-one honest = loses-first n rest (volume_of now.image h) (volume_of new.image h) (others honest) (unused honest) (blocks-freed honest) (blocks-stay honest)
+      loses-one honest =
+          loses-first n rest (volume_of now.image h) (volume_of new.image h) (others honest) (unused honest) (blocks-freed honest)
+          (blocks-stay honest)
 
-      loses-now : IsTrue old.honest → LosesAlike (headers_behind (table_of old.image h) from) (headers_behind v following) (volume_of old.image h) (volume_of new.image h)
+      loses-now : IsTrue old.honest
+          → LosesAlike (headers_behind (table_of old.image h) from) (headers_behind v following) (volume_of old.image h)
+          (volume_of new.image h)
       loses-now honest =
           let hs : List ℕ = headers_behind (table_of old.image h) from in
           loses-then hs (n ∷ rest) (headers_behind v following) (volume_of old.image h) (volume_of now.image h) (volume_of new.image h)
           (subst (λ (ns : List ℕ). LosesAlike hs ns (volume_of old.image h) (volume_of now.image h)) (list honest) (d.loses honest))
-          (subst (λ (ns : List ℕ). LosesAlike (n ∷ rest) ns (volume_of now.image h) (volume_of new.image h)) (sym (rest-is honest)) (loses-one honest))
+          (subst (λ (ns : List ℕ). LosesAlike (n ∷ rest) ns (volume_of now.image h) (volume_of new.image h)) (sym (rest-is honest))
+          (loses-one honest))
 
       others-stay : IsTrue old.honest → KeepsOtherBlocks n u v
       others-stay honest =
           subst (λ (i : Image). KeepsOtherBlocks n (table_of i h) v) reads.looked.image
-          (subst (λ (k : HomeFields). KeepsOtherBlocks n (table_of read.image k) (table_of new.image k)) d.home (drops.blocks (read-honest honest)))
+          (subst (λ (k : HomeFields). KeepsOtherBlocks n (table_of read.image k) (table_of new.image k)) d.home
+          (drops.blocks (read-honest honest)))
 
       killed-now : IsTrue old.honest → Kills n u v
-      killed-now honest = ap (λ (k : HomeFields). (table_of new.image k).header n) (sym d.home) ∙ drops.dead (read-honest honest) ∙ ap dead_header (header-is honest)
+      killed-now honest =
+          ap (λ (k : HomeFields). (table_of new.image k).header n) (sym d.home) ∙ drops.dead (read-honest honest)
+          ∙ ap dead_header (header-is honest)
 
       kills-one : IsTrue old.honest → KillsAlike (n ∷ rest) rest u v
       kills-one honest =
           let place = in_use-place now.image h n (live honest).in_use in
           kills-first n rest u v (others-stay honest) (record { some = place.0; within = place.1; kills = killed-now honest })
 
-      kills-now : IsTrue old.honest → KillsAlike (headers_behind (table_of old.image h) from) (headers_behind v following) (table_of old.image h) v
+      kills-now : IsTrue old.honest
+          → KillsAlike (headers_behind (table_of old.image h) from) (headers_behind v following) (table_of old.image h) v
       kills-now honest =
           let hs : List ℕ = headers_behind (table_of old.image h) from in
           kills-then hs (n ∷ rest) (headers_behind v following) (table_of old.image h) u v
           (subst (λ (ns : List ℕ). KillsAlike hs ns (table_of old.image h) u) (list honest) (d.kills honest))
           (subst (λ (ns : List ℕ). KillsAlike (n ∷ rest) ns u v) (sym (rest-is honest)) (kills-one honest))
 
-      store-now : IsTrue old.honest → without_headers (store_of new.image h) v (headers_behind v following) ≡ without_headers (store_of now.image h) u (headers_behind u block)
+      store-now : IsTrue old.honest
+          → without_headers (store_of new.image h) v (headers_behind v following) ≡ without_headers (store_of now.image h) u
+          (headers_behind u block)
       store-now honest =
           let ns : List ℕ = rest in
           let s1 : Store = store_of now.image h in
           let named : ℕ = length (blocks_named following) in
           let more : ℕ = length (blocks_by u ns) in
           let counted : named + more ≡ length (blocks_by u (n ∷ ns)) =
-          ap (λ (b : List ℕ). length (blocks_named b) + more) (header-is honest) ∙ sym (length-append (blocks_named (u.header n)) (blocks_by u ns)) in
+          ap (λ (b : List ℕ). length (blocks_named b) + more) (header-is honest)
+          ∙ sym (length-append (blocks_named (u.header n)) (blocks_by u ns)) in
           ap (without_headers (store_of new.image h) v) (rest-is honest)
           ∙ ap (λ (bs : List ℕ). with_more_free (without_slots (store_of new.image h) ns) (length bs)) (blocks-stay honest)
           ∙ ap (λ (x : Store). with_more_free (without_slots x ns) more) (store-was honest)
@@ -329,19 +377,25 @@ module _ (s c : Structure) (from block : List ℕ) (old now : Disk) (d : Droppin
       cost-now honest =
           let cost-was = cost honest in
           let same = ap (λ (ns : List ℕ). tail_cost v ns) (rest-is honest) in
-          let pointers = hangs-pointers u v n (segment_number (u.header n)) (others honest) (later honest) (u.header n) rest (omega arith) (all-hang honest).2 in
+          let pointers = hangs-pointers u v n (segment_number (u.header n)) (others honest) (later honest) (u.header n) rest (omega arith)
+          (all-hang honest).2 in
           omega (arith, cost-was, same, pointers)
 
-      listed-now : IsTrue old.honest → (m : ℕ) → is_in (headers_behind v following) m ≡ true → is_in (headers_behind (table_of old.image h) from) m ≡ true
+      listed-now : IsTrue old.honest → (m : ℕ) → is_in (headers_behind v following) m ≡ true
+          → is_in (headers_behind (table_of old.image h) from) m ≡ true
       listed-now honest m is =
           d.listed honest m
-          (ap (λ (ns : List ℕ). is_in ns m) (list honest) ∙ in-behind (n ∷ []) rest m (ap (λ (ns : List ℕ). is_in ns m) (sym (rest-is honest)) ∙ is))
+          (ap (λ (ns : List ℕ). is_in ns m) (list honest)
+          ∙ in-behind (n ∷ []) rest m (ap (λ (ns : List ℕ). is_in ns m) (sym (rest-is honest)) ∙ is))
 
       frees-now : IsTrue old.honest → FreesMore (store_on s old) (store_of new.image h)
       frees-now honest =
           frees-then (store_on s old) (store_of now.image h) (store_of new.image h) (d.frees honest)
-          (subst (FreesMore (store_of now.image h)) (sym (store-was honest ∙ ap (λ (x : Store). with_more_free (with_use x n false) (length (blocks_named following))) (no-file honest)))
-          (frees-then (store_of now.image h) (with_use (store_of now.image h) n false) (with_more_free (with_use (store_of now.image h) n false) (length (blocks_named following)))
+          (subst (FreesMore (store_of now.image h))
+          (sym (store-was honest ∙ ap (λ (x : Store). with_more_free (with_use x n false) (length (blocks_named following)))
+          (no-file honest)))
+          (frees-then (store_of now.image h) (with_use (store_of now.image h) n false)
+          (with_more_free (with_use (store_of now.image h) n false) (length (blocks_named following)))
           (frees-slot (store_of now.image h) n) (frees-blocks (with_use (store_of now.image h) n false) (length (blocks_named following)))))
 
       pub dropping-next : Dropping s c' from following old new
@@ -351,8 +405,12 @@ module _ (s c : Structure) (from block : List ℕ) (old now : Disk) (d : Droppin
         holds = reads.header.valid.holds;
         spent = d.spent + (3 + 4 * pointers_in following);
         writes = writes-within (λ _. omega arith) (
-            writes-then (freeing-more h (store_on s old) (with_file (store_of read.image h) n None) old read (reads.looked.honest ∙ d.writes.went.honest) (λ honest. subst (λ (k : HomeFields). FreesMore (store_on s old) (with_file (store_of read.image k) n None)) d.home (read-frees honest)))
-            so-far (subst (λ (k : HomeFields). WritesAtMost (Freeing k (with_file (store_of read.image k) n None) read) (drop_cost following) read new 0) d.home drops.writes)
+            writes-then (freeing-more h (store_on s old) (with_file (store_of read.image h) n None) old read
+            (reads.looked.honest ∙ d.writes.went.honest)
+            (λ honest. subst (λ (k : HomeFields). FreesMore (store_on s old) (with_file (store_of read.image k) n None)) d.home
+            (read-frees honest)))
+            so-far (subst (λ (k : HomeFields). WritesAtMost (Freeing k (with_file (store_of read.image k) n None) read)
+            (drop_cost following) read new 0) d.home drops.writes)
             );
         few = cost-now;
         listed = listed-now;

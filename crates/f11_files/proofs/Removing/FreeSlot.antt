@@ -43,7 +43,8 @@ use Rattle.f11_files.proofs.WriteLemmas.{keeps-storage}
 use Rattle.f11_files.proofs.Finding.First.{table-of}
 use Rattle.f11_files.proofs.Removing.Freeing.{sound-freed}
 use Rattle.f11_image_store.proofs.FreeingLemmas.{dead-sequence, frees-none, frees-slot}
-use Rattle.f11_image_store.proofs.InstanceLemmas.{with_file-same, unlive-fileless, blocks-but, headers-stay, fileless-written, fileless-set, file-killed}
+use Rattle.f11_image_store.proofs.InstanceLemmas.{with_file-same, unlive-fileless, blocks-but, headers-stay, fileless-written, fileless-set}
+use Rattle.f11_image_store.proofs.InstanceLemmas.{file-killed}
 use Rattle.f11_files.proofs.Finding.Named.{file-stored}
 use Rattle.f11_image_store.proofs.StoreLemmas.{first-is-tested, file-at}
 
@@ -52,8 +53,10 @@ unlinked-fileless : (t : Table) (n : ℕ) → MayDrop t n → ¬ IsFile t n → 
 unlinked-fileless t n may none f (first file) = none file
 unlinked-fileless t n may none f (next {n = m} of goes) = may.unlinked m (record { file = f; of = of }) goes
 
-module _ (s : Structure) (n lbn : ℕ) (block dead : List ℕ) (old : Disk) (for : IsStructureFor s old) (holds : HoldsHeader (index_in s) n block old)
-    (may : IsTrue old.honest → MayDrop (table_of old.image (home_of s)) n) (is_dead : dead ≡ dead_header block) (killed_is : IsDead dead) (at : lbn ≡ header_lbn (index_in s) n) where
+module _ (s : Structure) (n lbn : ℕ) (block dead : List ℕ) (old : Disk) (for : IsStructureFor s old)
+    (holds : HoldsHeader (index_in s) n block old)
+    (may : IsTrue old.honest → MayDrop (table_of old.image (home_of s)) n) (is_dead : dead ≡ dead_header block) (killed_is : IsDead dead)
+    (at : lbn ≡ header_lbn (index_in s) n) where
   abbrev home : HomeFields
   home = home_of s
 
@@ -92,7 +95,8 @@ module _ (s : Structure) (n lbn : ℕ) (block dead : List ℕ) (old : Disk) (for
     one : WritesHeader n dead home old.image killed
     one =
         let slot : n ≤ slots (index_of old.image home) = let count = ap slots (for.keeps honest).index_is in omega (arith, few, count) in
-        subst (WritesHeader n dead home old.image) (sym is-killed) (kill-keeps old.image home (for.sound honest) n dead (may honest).late slot killed_is (may honest).unlinked)
+        subst (WritesHeader n dead home old.image) (sym is-killed)
+        (kill-keeps old.image home (for.sound honest) n dead (may honest).late slot killed_is (may honest).unlinked)
 
     abbrev u : Table
     u = table_of killed home
@@ -113,8 +117,10 @@ module _ (s : Structure) (n lbn : ℕ) (block dead : List ℕ) (old : Disk) (for
         go true is = file-killed old.image killed home n dead one sequence ((first-is-tested t n).0 is) killed_is
         go false is =
             let none : ¬ IsFile t n = λ file. let no : true ≡ false = sym ((first-is-tested t n).1 file) ∙ is in cc in
-            fileless-written old.image killed home n dead one sequence (unlinked-fileless t n (may honest) none) (unlive-fileless u n not-live)
-            ∙ sym (with_file-same (store_on s old) n None (file-stored old.image home n ∙ file-at old.image t n None (λ file. absurd (none file)) (λ _. refl)))
+            fileless-written old.image killed home n dead one sequence (unlinked-fileless t n (may honest) none)
+            (unlive-fileless u n not-live)
+            ∙ sym (with_file-same (store_on s old) n None
+            (file-stored old.image home n ∙ file-at old.image t n None (λ file. absurd (none file)) (λ _. refl)))
 
     -- the bit was cleared
     module _ (after : Index) (bit : SetsBit false n (index_in s) after) where
@@ -123,7 +129,8 @@ module _ (s : Structure) (n lbn : ℕ) (block dead : List ℕ) (old : Disk) (for
 
       two : WritesSlotBit n after home killed cleared
       two =
-          clear-keeps killed home n after one.slot.sound (record { in_use = ap (λ (f : ℕ → Bool). f n) one.in_use ∙ live.in_use; dead = dead-now })
+          clear-keeps killed home n after one.slot.sound
+          (record { in_use = ap (λ (f : ℕ → Bool). f n) one.in_use ∙ live.in_use; dead = dead-now })
           (subst (λ (x : Index). SetsBit false n x after) ((for.keeps honest).index_is ∙ sym one.index_file.index) bit)
 
       unused-now : (table_of cleared home).in_use n ≡ false
@@ -131,7 +138,8 @@ module _ (s : Structure) (n lbn : ℕ) (block dead : List ℕ) (old : Disk) (for
 
       store-cleared : store_of cleared home ≡ with_use gone n false
       store-cleared =
-          fileless-set killed cleared home n after two (unlive-fileless u n not-live) (unlive-fileless (table_of cleared home) n (λ now. let used = sym unused-now ∙ now.in_use in cc))
+          fileless-set killed cleared home n after two (unlive-fileless u n not-live)
+          (unlive-fileless (table_of cleared home) n (λ now. let used = sym unused-now ∙ now.in_use in cc))
           ∙ ap (λ (x : Store). with_use x n ((table_of cleared home).in_use n)) store-killed ∙ ap (with_use gone n) unused-now
 
       others-now : KeepsOtherSlots n t (table_of cleared home)
@@ -167,27 +175,34 @@ module _ (s : Structure) (n lbn : ℕ) (block dead : List ℕ) (old : Disk) (for
           let own = own-names v n (for.sound honest).sound live in
           let volume = two.slot.volume ∙ ap (λ (w : Volume). record w { table = table_of cleared home }) one.slot.volume in
           subst (AreAllUnreferenced (volume_of cleared home)) (ap blocks_named (sym header-is)) (record {
-            inside = λ i k has. let within = own.inside i k has in let size = ap (λ (w : Volume). w.size) volume in omega (arith, within, size);
+            inside = λ i k has. let within = own.inside i k has in let size = ap (λ (w : Volume). w.size) volume in
+                omega (arith, within, size);
             used = λ i k has. ap (λ (w : Volume). w.free k) volume ∙ own.used i k has;
-            unnamed = λ i k has. lost-unnamed v (volume_of cleared home) n i k (for.sound honest).sound others-now (record { live = live; names = has })
+            unnamed =
+                λ i k has. lost-unnamed v (volume_of cleared home) n i k (for.sound honest).sound others-now
+                (record { live = live; names = has })
                 (λ j cell. let used = sym unused-now ∙ cell.live.in_use in cc);
             apart = own.apart;
           })
 
   -- the images that stand meanwhile
   killed-moment : P killed
-  killed-moment honest = record { sound = (one honest).slot.sound; frees = subst (FreesMore gone) (sym (store-killed honest)) (frees-none gone) }
+  killed-moment honest =
+      record { sound = (one honest).slot.sound; frees = subst (FreesMore gone) (sym (store-killed honest)) (frees-none gone) }
 
-  bit-moment : (now : Disk) → now.honest ≡ old.honest → now.image ≡ killed → (image : Image) → HasBitWritten false n (index_in s) now.image image → P image
+  bit-moment : (now : Disk) → now.honest ≡ old.honest → now.image ≡ killed → (image : Image)
+      → HasBitWritten false n (index_in s) now.image image → P image
   bit-moment now honest_is is image wrote honest =
-      let image_is : image ≡ with_bitmap_block killed wrote.written n = wrote.image_is ∙ ap (λ (i : Image). with_bitmap_block i wrote.written n) is in
+      let image_is : image ≡ with_bitmap_block killed wrote.written n = wrote.image_is
+      ∙ ap (λ (i : Image). with_bitmap_block i wrote.written n) is in
       subst (λ (i : Image). IsFreeing home gone i) (sym image_is) (record {
         sound = (two honest wrote.written wrote.bit).slot.sound;
         frees = subst (FreesMore gone) (sym (store-cleared honest wrote.written wrote.bit)) (frees-slot gone n);
       })
 
   -- the header couldn't be written
-  pub fails-killed : (new : Disk) → (new ≡ with_transfer false old) ⊎ (new ≡ with_transfer false (with_block_at lbn dead old)) → BreaksOff home gone 2 DeviceFault old new
+  pub fails-killed : (new : Disk) → (new ≡ with_transfer false old) ⊎ (new ≡ with_transfer false (with_block_at lbn dead old))
+      → BreaksOff home gone 2 DeviceFault old new
   fails-killed new is = record {
     fatal = refl;
     undamaged = λ _ same. let no : 19 ≡ 20 = ap refusal_number same in omega (arith, no);
@@ -212,7 +227,8 @@ module _ (s : Structure) (n lbn : ℕ) (block dead : List ℕ) (old : Disk) (for
       undamaged = λ _ same. let no : 19 ≡ 20 = ap refusal_number same in omega (arith, no);
       writes = record {
         transfers = 2;
-        went = went_more P first-write (went_weaker (HasBitWritten false n (index_in s) now.image) P (bit-moment now honest-now image-now) fails);
+        went = went_more P first-write
+            (went_weaker (HasBitWritten false n (index_in s) now.image) P (bit-moment now honest-now image-now) fails);
         few = λ _. omega arith;
       };
     }
@@ -224,17 +240,21 @@ module _ (s : Structure) (n lbn : ℕ) (block dead : List ℕ) (old : Disk) (for
 
       pub frees_slot : FreesSlot home n block old new
       frees_slot = record {
-        others = λ honest. subst (λ (i : Image). KeepsOtherSlots n t (table_of i home)) (sym image-new) (others-now honest (index_kept after) cleared_is.bit);
+        others = λ honest. subst (λ (i : Image). KeepsOtherSlots n t (table_of i home)) (sym image-new)
+            (others-now honest (index_kept after) cleared_is.bit);
         unused = λ honest. ap (λ (i : Image). (table_of i home).in_use n) image-new ∙ unused-now honest (index_kept after) cleared_is.bit;
         dead = λ honest. ap (λ (i : Image). (table_of i home).header n) image-new ∙ dead-still honest (index_kept after) cleared_is.bit;
-        blocks = λ honest. subst (λ (i : Image). KeepsOtherBlocks n t (table_of i home)) (sym image-new) (blocks-now honest (index_kept after) cleared_is.bit);
+        blocks = λ honest. subst (λ (i : Image). KeepsOtherBlocks n t (table_of i home)) (sym image-new)
+            (blocks-now honest (index_kept after) cleared_is.bit);
         size = λ honest. ap (λ (i : Image). (volume_of i home).size) image-new ∙ size-now honest (index_kept after) cleared_is.bit;
         free = λ honest. ap (λ (i : Image). (volume_of i home).free) image-new ∙ free-now honest (index_kept after) cleared_is.bit;
-        unreferenced = λ honest. subst (λ (i : Image). AreAllUnreferenced (volume_of i home) (blocks_named block)) (sym image-new) (unreferenced-now honest (index_kept after) cleared_is.bit);
+        unreferenced = λ honest. subst (λ (i : Image). AreAllUnreferenced (volume_of i home) (blocks_named block)) (sym image-new)
+            (unreferenced-now honest (index_kept after) cleared_is.bit);
         store = λ honest. ap (λ (i : Image). store_of i home) image-new ∙ store-cleared honest (index_kept after) cleared_is.bit;
         writes = record {
           transfers = 2;
-          went = went_more P first-write (went_weaker (HasBitWritten false n (index_in s) now.image) P (bit-moment now honest-now image-now) cleared_is.went);
+          went = went_more P first-write
+              (went_weaker (HasBitWritten false n (index_in s) now.image) P (bit-moment now honest-now image-now) cleared_is.went);
           few = λ _. omega arith;
         };
       }
@@ -252,7 +272,9 @@ module _ (s : Structure) (n lbn : ℕ) (block dead : List ℕ) (old : Disk) (for
       pub freed-stays : StaysFor false s (record s { index = after }) new
       freed-stays = record {
         home = refl;
-        lies = λ _. subst (FitsOn (record s { index = after })) (sym frees_slot.writes.went.size) (lies-bit s (record s { index = after }) false n (length old.image) refl cleared_is.bit for.lies);
+        lies = λ _. subst (FitsOn (record s { index = after })) (sym frees_slot.writes.went.size)
+            (lies-bit s (record s { index = after }) false n (length old.image) refl cleared_is.bit for.lies);
         sound = sound-freed home gone old new for.sound frees_slot.writes;
-        keeps = λ _ honest. subst (IsStructureOf (record s { index = after })) (sym image-new) (kept-now (sym frees_slot.writes.went.honest ∙ honest));
+        keeps = λ _ honest. subst (IsStructureOf (record s { index = after })) (sym image-new)
+            (kept-now (sym frees_slot.writes.went.honest ∙ honest));
       }

@@ -37,51 +37,67 @@ use Rattle.f11_image_store.proofs.StoreLemmas.{more-free}
 use Rattle.f11_image_store.proofs.FreeingLemmas.{frees-blocks, freeing-more}
 
 -- one call that writes after another
-pub writes-then : {P Q : Image → Type 0} {a b c : Disk} {m n faults : ℕ} → ((image : Image) → Q image → P image) → WritesAtMost P m a b 0 → WritesAtMost Q n b c faults → WritesAtMost P (m + n) a c faults
+pub writes-then : {P Q : Image → Type 0} {a b c : Disk} {m n faults : ℕ} → ((image : Image) → Q image → P image) → WritesAtMost P m a b 0
+    → WritesAtMost Q n b c faults → WritesAtMost P (m + n) a c faults
 writes-then {P = P} {Q = Q} weaker one two = record {
   transfers = one.transfers + two.transfers;
   went = went_more P one.went (went_weaker Q P weaker two.went);
   few = λ honest. let first = one.few honest in let then = two.few (one.went.honest ∙ honest) in omega (arith, first, then);
 }
 
-pub writes-within : {P : Image → Type 0} {old new : Disk} {m n faults : ℕ} → (IsTrue old.honest → m ≤ n) → WritesAtMost P m old new faults → WritesAtMost P n old new faults
-writes-within fewer writes = record { transfers = writes.transfers; went = writes.went; few = λ honest. let few = writes.few honest in omega (arith, few, fewer honest) }
+pub writes-within : {P : Image → Type 0} {old new : Disk} {m n faults : ℕ} → (IsTrue old.honest → m ≤ n) → WritesAtMost P m old new faults
+    → WritesAtMost P n old new faults
+writes-within fewer writes =
+    record {
+      transfers = writes.transfers;
+      went = writes.went;
+      few = λ honest. let few = writes.few honest in
+          omega (arith, few, fewer honest);
+    }
 
 pub writes-none : (P : Image → Type 0) (n : ℕ) (disk : Disk) → WritesAtMost P n disk disk 0
 writes-none P n disk = record { transfers = 0; went = went_looked P (looked_none disk); few = λ _. omega arith }
 
 -- what is broken off after more was done
-pub breaks-behind : {P Q : Image → Type 0} {a b c : Disk} {m n : ℕ} {r : Refusal} → ((image : Image) → Q image → P image) → WritesAtMost P m a b 0 → Breaks Q n r b c → Breaks P (m + n) r a c
+pub breaks-behind : {P Q : Image → Type 0} {a b c : Disk} {m n : ℕ} {r : Refusal} → ((image : Image) → Q image → P image)
+    → WritesAtMost P m a b 0 → Breaks Q n r b c → Breaks P (m + n) r a c
 breaks-behind weaker one breaks = record {
   fatal = breaks.fatal;
   undamaged = λ honest. breaks.undamaged (one.went.honest ∙ honest);
   writes = writes-then weaker one breaks.writes;
 }
 
-pub breaks-then : {home : HomeFields} {s t : Store} {m n : ℕ} {a b c : Disk} {r : Refusal} → (IsTrue a.honest → FreesMore s t) → WritesAtMost (Freeing home s a) m a b 0 → BreaksOff home t n r b c → BreaksOff home s (m + n) r a c
-breaks-then {home = home} {s = s} {t = t} {a = a} {b = b} frees one breaks = breaks-behind (freeing-more home s t a b one.went.honest frees) one breaks
+pub breaks-then : {home : HomeFields} {s t : Store} {m n : ℕ} {a b c : Disk} {r : Refusal} → (IsTrue a.honest → FreesMore s t)
+    → WritesAtMost (Freeing home s a) m a b 0 → BreaksOff home t n r b c → BreaksOff home s (m + n) r a c
+breaks-then {home = home} {s = s} {t = t} {a = a} {b = b} frees one breaks =
+    breaks-behind (freeing-more home s t a b one.went.honest frees) one breaks
 
-pub breaks-within : {P : Image → Type 0} {m n : ℕ} {old new : Disk} {r : Refusal} → (IsTrue old.honest → m ≤ n) → Breaks P m r old new → Breaks P n r old new
+pub breaks-within : {P : Image → Type 0} {m n : ℕ} {old new : Disk} {r : Refusal} → (IsTrue old.honest → m ≤ n) → Breaks P m r old new
+    → Breaks P n r old new
 breaks-within fewer breaks = record { fatal = breaks.fatal; undamaged = breaks.undamaged; writes = writes-within fewer breaks.writes }
 
 -- a volume that was sound at each moment is sound at the end
-pub sound-freed : (home : HomeFields) (s : Store) (old new : Disk) {most faults : ℕ} → (IsTrue old.honest → HasSoundVolume old.image home) → WritesAtMost (Freeing home s old) most old new faults
+pub sound-freed : (home : HomeFields) (s : Store) (old new : Disk) {most faults : ℕ} → (IsTrue old.honest → HasSoundVolume old.image home)
+    → WritesAtMost (Freeing home s old) most old new faults
     → IsTrue new.honest → HasSoundVolume new.image home
 sound-freed home s old new sound writes honest =
     let P : Image → Type 0 = λ image. IsTrue old.honest → HasSoundVolume image home in
     went_last P (went_weaker (Freeing home s old) P (λ image is sure. (is sure).sound) writes.went) sound (sym writes.went.honest ∙ honest)
 
 -- so where it was broken off
-pub broken-stays : (s t : Structure) (from : Store) (old new : Disk) {most : ℕ} {r : Refusal} → home_of t ≡ home_of s → IsStructureFor s old → BreaksOff (home_of s) from most r old new → StaysFor true s t new
+pub broken-stays : (s t : Structure) (from : Store) (old new : Disk) {most : ℕ} {r : Refusal} → home_of t ≡ home_of s → IsStructureFor s old
+    → BreaksOff (home_of s) from most r old new → StaysFor true s t new
 broken-stays s t from old new same for breaks = record {
   home = same;
   lies = λ not. absurd cc;
-  sound = subst (λ (h : HomeFields). IsTrue new.honest → HasSoundVolume new.image h) (sym same) (sound-freed (home_of s) from old new for.sound breaks.writes);
+  sound = subst (λ (h : HomeFields). IsTrue new.honest → HasSoundVolume new.image h) (sym same)
+      (sound-freed (home_of s) from old new for.sound breaks.writes);
   keeps = λ not. absurd cc;
 }
 
 -- an error that is handed on
-pub handed-stays : {T : Type 0} (result : Result T Refusal) (r : Refusal) (s t : Structure) (disk : Disk) → IsErrAnd result (λ y. y ≡ r) → is_fatal r ≡ true → StaysFor true s t disk
+pub handed-stays : {T : Type 0} (result : Result T Refusal) (r : Refusal) (s t : Structure) (disk : Disk) → IsErrAnd result (λ y. y ≡ r)
+    → is_fatal r ≡ true → StaysFor true s t disk
     → StaysFor (is_refused is_fatal result) s t disk
 handed-stays (Ok x) r s t disk is fatal stays = absurd is
 handed-stays (Err y) r s t disk is fatal stays = subst (λ (b : Bool). StaysFor b s t disk) (sym (ap is_fatal is ∙ fatal)) stays
@@ -91,21 +107,26 @@ pub stays-for : {s t : Structure} {disk : Disk} → StaysFor false s t disk → 
 stays-for stays = record { lies = stays.lies refl; sound = stays.sound; keeps = stays.keeps refl }
 
 -- what one call leaves after another
-pub stays-then : {failed : Bool} {s c e : Structure} {disk : Disk} → home_of c ≡ home_of s → StaysFor failed c e disk → StaysFor failed s e disk
+pub stays-then : {failed : Bool} {s c e : Structure} {disk : Disk} → home_of c ≡ home_of s → StaysFor failed c e disk
+    → StaysFor failed s e disk
 stays-then same stays = record { home = stays.home ∙ same; lies = stays.lies; sound = stays.sound; keeps = stays.keeps }
 
 -- one run of unreferenced blocks was marked free
-pub run-keeps : (old new : Image) (home : HomeFields) (lbn count : ℕ) → HasSoundVolume old home → AreUnreferenced (volume_of old home) lbn count → Marks true (storage_bitmap old home) lbn count old new
+pub run-keeps : (old new : Image) (home : HomeFields) (lbn count : ℕ) → HasSoundVolume old home
+    → AreUnreferenced (volume_of old home) lbn count → Marks true (storage_bitmap old home) lbn count old new
     → KeepsButFree home old new
 unfolding volume_of
 run-keeps old new home lbn count sound unreferenced marks = free-keeps old new home lbn count sound marks unreferenced.unnamed
 
-pub run-store : (old new : Image) (home : HomeFields) (lbn count : ℕ) → HasSoundVolume old home → AreUnreferenced (volume_of old home) lbn count → Marks true (storage_bitmap old home) lbn count old new
+pub run-store : (old new : Image) (home : HomeFields) (lbn count : ℕ) → HasSoundVolume old home
+    → AreUnreferenced (volume_of old home) lbn count → Marks true (storage_bitmap old home) lbn count old new
     → store_of new home ≡ with_more_free (store_of old home) count
 unfolding volume_of
-run-store old new home lbn count sound unreferenced marks = more-free old new home lbn count (run-keeps old new home lbn count sound unreferenced marks) marks unreferenced.inside unreferenced.used
+run-store old new home lbn count sound unreferenced marks =
+    more-free old new home lbn count (run-keeps old new home lbn count sound unreferenced marks) marks unreferenced.inside unreferenced.used
 
-module _ (s : Structure) (lbn count : ℕ) (old : Disk) (for : IsStructureFor s old) (unreferenced : IsTrue old.honest → AreUnreferenced (volume_of old.image (home_of s)) lbn count) where
+module _ (s : Structure) (lbn count : ℕ) (old : Disk) (for : IsStructureFor s old)
+    (unreferenced : IsTrue old.honest → AreUnreferenced (volume_of old.image (home_of s)) lbn count) where
   abbrev home : HomeFields
   home = home_of s
 
@@ -114,21 +135,26 @@ module _ (s : Structure) (lbn count : ℕ) (old : Disk) (for : IsStructureFor s 
 
   pub run-within : IsTrue old.honest → lbn + count ≤ (bitmap_in s).size
   unfolding volume_of
-  run-within honest = let size = ap (λ (b : Bitmap). b.size) (bitmap honest) in let inside = (unreferenced honest).inside in omega (arith, size, inside)
+  run-within honest =
+      let size = ap (λ (b : Bitmap). b.size) (bitmap honest) in let inside = (unreferenced honest).inside in omega (arith, size, inside)
 
   pub run-used : IsTrue old.honest → (k : ℕ) → lbn ≤ k → k < lbn + count → is_free old.image (bitmap_in s) k ≡ false
   unfolding volume_of
   run-used honest k low high = ap (λ (b : Bitmap). is_free old.image b k) (bitmap honest) ∙ (unreferenced honest).used k low high
 
-  run-moment : (image : Image) → Changing old.honest true (bitmap_in s) lbn count old.image image → Freeing home (store_of old.image home) old image
+  run-moment : (image : Image) → Changing old.honest true (bitmap_in s) lbn count old.image image
+      → Freeing home (store_of old.image home) old image
   run-moment image is honest =
       let marking = is.marking honest in
-      let marks : Marks true (storage_bitmap old.image home) lbn marking.part old.image image = subst (λ (b : Bitmap). Marks true b lbn marking.part old.image image) (bitmap honest) marking.marks in
-      let some = part-unreferenced (volume_of old.image home) lbn count lbn marking.part (unreferenced honest) (omega arith) (omega (arith, marking.within)) in
+      let marks : Marks true (storage_bitmap old.image home) lbn marking.part old.image image =
+      subst (λ (b : Bitmap). Marks true b lbn marking.part old.image image) (bitmap honest) marking.marks in
+      let some = part-unreferenced (volume_of old.image home) lbn count lbn marking.part (unreferenced honest) (omega arith)
+      (omega (arith, marking.within)) in
       let sound = for.sound honest in
       record {
         sound = (run-keeps old.image image home lbn marking.part sound some marks).sound;
-        frees = subst (FreesMore (store_of old.image home)) (sym (run-store old.image image home lbn marking.part sound some marks)) (frees-blocks (store_of old.image home) marking.part);
+        frees = subst (FreesMore (store_of old.image home)) (sym (run-store old.image image home lbn marking.part sound some marks))
+            (frees-blocks (store_of old.image home) marking.part);
       }
 
   few-touched : count ≤ 256 → 2 * blocks_touched lbn count ≤ 4
@@ -140,18 +166,21 @@ module _ (s : Structure) (lbn count : ℕ) (old : Disk) (for : IsStructureFor s 
     marks = λ honest. subst (λ (b : Bitmap). Marks true b lbn count old.image new.image) (bitmap honest) (gives.marks honest);
     writes = record {
       transfers = 2 * blocks_touched lbn count;
-      went = went_weaker (Changing old.honest true (bitmap_in s) lbn count old.image) (Freeing home (store_of old.image home) old) run-moment gives.went;
+      went = went_weaker (Changing old.honest true (bitmap_in s) lbn count old.image) (Freeing home (store_of old.image home) old)
+          run-moment gives.went;
       few = λ _. few-touched few;
     };
   }
 
-  pub fails-run : (new : Disk) → count ≤ 256 → FailsToGive (bitmap_in s) lbn count old new → BreaksOff home (store_of old.image home) 4 DeviceFault old new
+  pub fails-run : (new : Disk) → count ≤ 256 → FailsToGive (bitmap_in s) lbn count old new
+      → BreaksOff home (store_of old.image home) 4 DeviceFault old new
   fails-run new few fails = record {
     fatal = refl;
     undamaged = λ _ is. let no : 19 ≡ 20 = ap refusal_number is in omega (arith, no);
     writes = record {
       transfers = 2 * blocks_touched lbn count;
-      went = went_weaker (Changing old.honest true (bitmap_in s) lbn count old.image) (Freeing home (store_of old.image home) old) run-moment fails;
+      went = went_weaker (Changing old.honest true (bitmap_in s) lbn count old.image) (Freeing home (store_of old.image home) old)
+          run-moment fails;
       few = λ _. few-touched few;
     };
   }
@@ -159,13 +188,15 @@ module _ (s : Structure) (lbn count : ℕ) (old : Disk) (for : IsStructureFor s 
   pub outside-run : ¬ (lbn + count ≤ (bitmap_in s).size) → BreaksOff home (store_of old.image home) 4 Damaged old old
   outside-run outside = record { fatal = refl; undamaged = λ honest. absurd (outside (run-within honest)); writes = writes-none _ 4 old }
 
-  pub run-stays : (t : Storage) (new : Disk) → bitmap_of t ≡ bitmap_in s → storage.IsFor t new → GivesRun home lbn count old new → StaysFor false s (record s { storage = t }) new
+  pub run-stays : (t : Storage) (new : Disk) → bitmap_of t ≡ bitmap_in s → storage.IsFor t new → GivesRun home lbn count old new
+      → StaysFor false s (record s { storage = t }) new
   run-stays t new same is gives = record {
     home = refl;
     lies = λ _. record {
       index = subst (λ (n : ℕ). IndexLiesWithin (index_in s) n) (sym gives.writes.went.size) for.lies.index;
       bitmap = is.within;
-      volume = let size = ap (λ (b : Bitmap). b.size) same in let device = gives.writes.went.size in let was = for.lies.volume in omega (arith, size, device, was);
+      volume = let size = ap (λ (b : Bitmap). b.size) same in let device = gives.writes.went.size in let was = for.lies.volume in
+          omega (arith, size, device, was);
     };
     sound = sound-freed home (store_of old.image home) old new for.sound gives.writes;
     keeps = λ _ honest.

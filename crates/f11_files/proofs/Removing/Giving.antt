@@ -1,5 +1,6 @@
 -- Blocks of a header that are marked free, a pointer's after another.
-use Rattle.std.proofs.Common.{◌≡◌, ◌+◌, ◌-◌, ◌*◌, ◌<◌, ◌≤◌, ◌⊎◌, ℕ, false, true, IsTrue, List, [], ◌++◌, length, drop, min, Some, inl, inr, refl, sym, ap, subst, ◌∙◌, arith}
+use Rattle.std.proofs.Common.{◌≡◌, ◌+◌, ◌-◌, ◌*◌, ◌<◌, ◌≤◌, ◌⊎◌, ℕ, false, true, IsTrue, List, [], ◌++◌, length, drop, min, Some, inl, inr}
+use Rattle.std.proofs.Common.{refl, sym, ap, subst, ◌∙◌, arith}
 use Rattle.std.specs.List.{slice_get, range_with_len}
 use Rattle.std.proofs.lemmas.Bool.{cases_lt}
 use Rattle.std.proofs.lemmas.List.{drop_all, length-append}
@@ -26,19 +27,23 @@ use Rattle.f11_store.specs.Pieces.{with_more_free}
 use Rattle.f11_image_store.specs.StoreOf.{store_of}
 use Rattle.f11_files.specs.Structure.{home_of, store_on, IsStructureFor, StaysFor}
 use Rattle.f11_files.specs.declared.structure.Structure.{Structure}
-use Rattle.f11_files.proofs.Removing.Freeing.{writes-then, writes-within, writes-none, breaks-then, breaks-within, stays-for, run-keeps, run-store}
+use Rattle.f11_files.proofs.Removing.Freeing.{writes-then, writes-within, writes-none, breaks-then, breaks-within, stays-for, run-keeps}
+use Rattle.f11_files.proofs.Removing.Freeing.{run-store}
 use Rattle.f11_image_store.proofs.FreeingLemmas.{frees-none, frees-then, frees-blocks, freeing-more}
 use Rattle.f11_files.proofs.Removing.Loss.{FreeAlike, frees-run, frees-nothing, alike-same, alike-then, first-freed, all-freed}
 
 -- what is left of a header's blocks: those of this pointer, and those of the ones behind it
 pub left-split : (runs : List (ℕ × ℕ)) (i left kept : ℕ) (run : ℕ × ℕ) → slice_get runs i ≡ Some run → kept ≡ min left run.1
-    → drop left (blocks_in (drop i runs)) ≡ range_with_len (run.0 + kept) (run.1 - kept) ++ drop (left - kept) (blocks_in (drop (i + 1) runs))
+    → drop left (blocks_in (drop i runs)) ≡ range_with_len (run.0 + kept) (run.1 - kept) ++ drop (left - kept)
+    (blocks_in (drop (i + 1) runs))
 left-split runs i left kept run at is =
     let behind : List ℕ = blocks_in (drop (i + 1) runs) in
-    let rest : left - length (range_with_len run.0 run.1) ≡ left - kept = let count = length-range_with_len run.0 run.1 in omega (arith, count, is) in
+    let rest : left - length (range_with_len run.0 run.1) ≡ left - kept = let count = length-range_with_len run.0 run.1 in
+    omega (arith, count, is) in
     ap (drop left) (blocks_in-drop runs i run at) ∙ drop-append left (range_with_len run.0 run.1) behind
     ∙ ap (λ (n : ℕ). drop left (range_with_len run.0 run.1) ++ drop n behind) rest
-    ∙ ap (λ (front : List ℕ). front ++ drop (left - kept) behind) (drop-range_with_len run.0 run.1 left ∙ ap (λ (k : ℕ). range_with_len (run.0 + k) (run.1 - k)) (sym is))
+    ∙ ap (λ (front : List ℕ). front ++ drop (left - kept) behind)
+    (drop-range_with_len run.0 run.1 left ∙ ap (λ (k : ℕ). range_with_len (run.0 + k) (run.1 - k)) (sym is))
 
 module _ (lbn count : ℕ) (rest : List ℕ) where
   abbrev all : List ℕ
@@ -47,17 +52,20 @@ module _ (lbn count : ℕ) (rest : List ℕ) where
   front-at : (k : ℕ) → lbn ≤ k → k < lbn + count → slice_get all (k - lbn) ≡ Some k
   front-at k low high =
       let place : lbn + (k - lbn) ≡ k = omega (arith, low) in
-      slice_get-append_front (range_with_len lbn count) rest (k - lbn) k (range-slice_get lbn count (k - lbn) (omega (arith, low, high)) ∙ ap Some place)
+      slice_get-append_front (range_with_len lbn count) rest (k - lbn) k
+      (range-slice_get lbn count (k - lbn) (omega (arith, low, high)) ∙ ap Some place)
 
   back-at : (i k : ℕ) → slice_get rest i ≡ Some k → slice_get all (count + i) ≡ Some k
   back-at i k at =
       let place : count + i - count ≡ i = omega arith in
-      slice_get-append_back (range_with_len lbn count) rest (count + i) count (sym (length-range_with_len lbn count)) (omega arith) ∙ ap (slice_get rest) place ∙ at
+      slice_get-append_back (range_with_len lbn count) rest (count + i) count (sym (length-range_with_len lbn count)) (omega arith)
+      ∙ ap (slice_get rest) place ∙ at
 
   -- the first of them are unreferenced
   pub front-unreferenced : (v : Volume) → AreAllUnreferenced v all → 0 < count → AreUnreferenced v lbn count
   front-unreferenced v unreferenced some = record {
-    inside = let last = unreferenced.inside _ (lbn + count - 1) (front-at (lbn + count - 1) (omega (arith, some)) (omega (arith, some))) in omega (arith, last, some);
+    inside = let last = unreferenced.inside _ (lbn + count - 1) (front-at (lbn + count - 1) (omega (arith, some)) (omega (arith, some))) in
+        omega (arith, last, some);
     used = λ k low high. unreferenced.used _ k (front-at k low high);
     unnamed = λ k low high. unreferenced.unnamed _ k (front-at k low high);
   }
@@ -67,13 +75,15 @@ module _ (lbn count : ℕ) (rest : List ℕ) where
   outside v unreferenced i k at = elim (cases_lt k lbn) [
     | inl below ↦ inl below
     | inr above ↦ elim (cases_lt k (lbn + count)) [
-      | inl inside ↦ let same = unreferenced.apart _ _ k (front-at k above inside) (back-at i k at) in absurd (omega (arith, same, above, inside))
+      | inl inside ↦ let same =
+          unreferenced.apart _ _ k (front-at k above inside) (back-at i k at) in absurd (omega (arith, same, above, inside))
       | inr past ↦ inr past
     ]
   ]
 
   -- once those are marked free the others are unreferenced still
-  pub rest-unreferenced : (old new : Image) (home : HomeFields) → HasSoundVolume old home → AreAllUnreferenced (volume_of old home) all → 0 < count → Marks true (storage_bitmap old home) lbn count old new
+  pub rest-unreferenced : (old new : Image) (home : HomeFields) → HasSoundVolume old home → AreAllUnreferenced (volume_of old home) all
+      → 0 < count → Marks true (storage_bitmap old home) lbn count old new
       → AreAllUnreferenced (volume_of new home) rest
   unfolding volume_of
   rest-unreferenced old new home sound unreferenced some marks =
@@ -95,14 +105,16 @@ record Gave (home : HomeFields) (lbn count : ℕ) (rest : List ℕ) (old new : I
   frees : FreesBlocks (range_with_len lbn count) (volume_of old home) (volume_of new home)
   unreferenced : AreAllUnreferenced (volume_of new home) rest
 
-gave : (home : HomeFields) (lbn count : ℕ) (rest : List ℕ) (old new : Disk) → HasSoundVolume old.image home → AreAllUnreferenced (volume_of old.image home) (range_with_len lbn count ++ rest)
+gave : (home : HomeFields) (lbn count : ℕ) (rest : List ℕ) (old new : Disk) → HasSoundVolume old.image home
+    → AreAllUnreferenced (volume_of old.image home) (range_with_len lbn count ++ rest)
     → (0 < count) ⊎ (count ≤ 0) → IsTrue old.honest → GivesRun home lbn count old new → Gave home lbn count rest old.image new.image
 gave home lbn count rest old new sound unreferenced (inl some) honest gives =
     let one = front-unreferenced lbn count rest (volume_of old.image home) unreferenced some in
     record {
       table = (run-keeps old.image new.image home lbn count sound one (gives.marks honest)).index_file.table;
       store = run-store old.image new.image home lbn count sound one (gives.marks honest);
-      frees = frees-run old.image new.image home lbn count (run-keeps old.image new.image home lbn count sound one (gives.marks honest)) (gives.marks honest);
+      frees = frees-run old.image new.image home lbn count (run-keeps old.image new.image home lbn count sound one (gives.marks honest))
+          (gives.marks honest);
       unreferenced = rest-unreferenced lbn count rest old.image new.image home sound unreferenced some (gives.marks honest);
     }
 gave home lbn count rest old new sound unreferenced (inr none) honest gives =
@@ -125,12 +137,14 @@ pub record Giving (s t : Structure) (all rest : List ℕ) (pointers : ℕ) (old 
   pub home : home_of t ≡ home_of s
   pub writes : WritesAtMost (Freeing (home_of s) (store_on s old) old) (4 * pointers) old now 0
   pub table : IsTrue old.honest → table_of now.image (home_of s) ≡ table_of old.image (home_of s)
-  pub free : IsTrue old.honest → with_more_free (store_of now.image (home_of s)) (length rest) ≡ with_more_free (store_on s old) (length all)
+  pub free : IsTrue old.honest
+      → with_more_free (store_of now.image (home_of s)) (length rest) ≡ with_more_free (store_on s old) (length all)
   pub frees : IsTrue old.honest → FreesMore (store_on s old) (store_of now.image (home_of s))
   pub bits : IsTrue old.honest → FreeAlike all rest (volume_of old.image (home_of s)) (volume_of now.image (home_of s))
   pub unreferenced : IsTrue old.honest → AreAllUnreferenced (volume_of now.image (home_of s)) rest
 
-pub giving-none : (s : Structure) (lbns : List ℕ) (old : Disk) → IsStructureFor s old → (IsTrue old.honest → AreAllUnreferenced (volume_of old.image (home_of s)) lbns) → Giving s s lbns lbns 0 old old
+pub giving-none : (s : Structure) (lbns : List ℕ) (old : Disk) → IsStructureFor s old
+    → (IsTrue old.honest → AreAllUnreferenced (volume_of old.image (home_of s)) lbns) → Giving s s lbns lbns 0 old old
 giving-none s lbns old for unreferenced = record {
   is_for = for;
   home = refl;
@@ -143,27 +157,33 @@ giving-none s lbns old for unreferenced = record {
 }
 
 -- the pointer's blocks first
-pub giving-at : {s t : Structure} {lbns : List ℕ} {old now : Disk} (runs : List (ℕ × ℕ)) (i left kept : ℕ) (run : ℕ × ℕ) → slice_get runs i ≡ Some run → kept ≡ min left run.1
+pub giving-at : {s t : Structure} {lbns : List ℕ} {old now : Disk} (runs : List (ℕ × ℕ)) (i left kept : ℕ) (run : ℕ × ℕ)
+    → slice_get runs i ≡ Some run → kept ≡ min left run.1
     → Giving s t lbns (drop left (blocks_in (drop i runs))) i old now
     → Giving s t lbns (range_with_len (run.0 + kept) (run.1 - kept) ++ drop (left - kept) (blocks_in (drop (i + 1) runs))) i old now
-giving-at {s} {t} {lbns} {old} {now} runs i left kept run at is giving = subst (λ (rest : List ℕ). Giving s t lbns rest i old now) (left-split runs i left kept run at is) giving
+giving-at {s} {t} {lbns} {old} {now} runs i left kept run at is giving =
+    subst (λ (rest : List ℕ). Giving s t lbns rest i old now) (left-split runs i left kept run at is) giving
 
 -- behind the last pointer none is left
-pub giving-end : {s t : Structure} {lbns : List ℕ} {old now : Disk} (runs : List (ℕ × ℕ)) (i left : ℕ) → length runs ≤ i → Giving s t lbns (drop left (blocks_in (drop i runs))) i old now → Giving s t lbns [] i old now
+pub giving-end : {s t : Structure} {lbns : List ℕ} {old now : Disk} (runs : List (ℕ × ℕ)) (i left : ℕ) → length runs ≤ i
+    → Giving s t lbns (drop left (blocks_in (drop i runs))) i old now → Giving s t lbns [] i old now
 giving-end {s} {t} {lbns} {old} {now} runs i left past giving =
-    let none : drop left (blocks_in (drop i runs)) ≡ [] = ap (λ (rs : List (ℕ × ℕ)). drop left (blocks_in rs)) (drop_all i runs past) ∙ drop_all left [] (omega arith) in
+    let none : drop left (blocks_in (drop i runs)) ≡ [] = ap (λ (rs : List (ℕ × ℕ)). drop left (blocks_in rs)) (drop_all i runs past)
+    ∙ drop_all left [] (omega arith) in
     subst (λ (rest : List ℕ). Giving s t lbns rest i old now) none giving
 
 -- so many free blocks more, and then more
 more-twice : (s : Store) (m n : ℕ) → with_more_free (with_more_free s m) n ≡ with_more_free s (m + n)
 more-twice s m n = let sum : s.free + m + n ≡ s.free + (m + n) = omega arith in ap (λ (free : ℕ). record s { free = free }) sum
 
-module _ (s t : Structure) (all : List ℕ) (lbn count : ℕ) (rest : List ℕ) (pointers : ℕ) (old now : Disk) (giving : Giving s t all (range_with_len lbn count ++ rest) pointers old now) where
+module _ (s t : Structure) (all : List ℕ) (lbn count : ℕ) (rest : List ℕ) (pointers : ℕ) (old now : Disk)
+    (giving : Giving s t all (range_with_len lbn count ++ rest) pointers old now) where
   -- in the words of what is kept now
   pub next-unreferenced : IsTrue now.honest → 0 < count → AreUnreferenced (volume_of now.image (home_of t)) lbn count
   next-unreferenced honest some =
       subst (λ (h : HomeFields). AreUnreferenced (volume_of now.image h) lbn count) (sym giving.home)
-      (front-unreferenced lbn count rest (volume_of now.image (home_of s)) (giving.unreferenced (sym giving.writes.went.honest ∙ honest)) some)
+      (front-unreferenced lbn count rest (volume_of now.image (home_of s)) (giving.unreferenced (sym giving.writes.went.honest ∙ honest))
+      some)
 
   module _ (u : Structure) (new : Disk) where
     pub giving-next : GivesRun (home_of t) lbn count now new → StaysFor false t u new → Giving s u all rest (pointers + 1) old new
@@ -172,14 +192,18 @@ module _ (s t : Structure) (all : List ℕ) (lbn count : ℕ) (rest : List ℕ) 
         record {
           is_for = stays-for stays;
           home = stays.home ∙ giving.home;
-          writes = writes-within (λ _. omega arith) (writes-then (freeing-more (home_of s) (store_on s old) (store_of now.image (home_of s)) old now giving.writes.went.honest giving.frees) giving.writes gives.writes);
+          writes = writes-within (λ _. omega arith)
+              (writes-then (freeing-more (home_of s) (store_on s old) (store_of now.image (home_of s)) old now giving.writes.went.honest
+              giving.frees) giving.writes gives.writes);
           table = λ honest. (done honest).table ∙ giving.table honest;
           free = λ honest.
-              ap (λ (x : Store). with_more_free x (length rest)) (done honest).store ∙ more-twice (store_of now.image (home_of s)) count (length rest)
+              ap (λ (x : Store). with_more_free x (length rest)) (done honest).store
+              ∙ more-twice (store_of now.image (home_of s)) count (length rest)
               ∙ ap (λ (n : ℕ). with_more_free (store_of now.image (home_of s)) n) (sym counted) ∙ giving.free honest;
           frees = λ honest.
               frees-then (store_on s old) (store_of now.image (home_of s)) (store_of new.image (home_of s)) (giving.frees honest)
-              (subst (FreesMore (store_of now.image (home_of s))) (sym (done honest).store) (frees-blocks (store_of now.image (home_of s)) count));
+              (subst (FreesMore (store_of now.image (home_of s))) (sym (done honest).store)
+              (frees-blocks (store_of now.image (home_of s)) count));
           bits = λ honest.
               let was : Volume = volume_of now.image (home_of s) in
               let is : Volume = volume_of new.image (home_of s) in
@@ -194,11 +218,13 @@ module _ (s t : Structure) (all : List ℕ) (lbn count : ℕ) (rest : List ℕ) 
         done : IsTrue old.honest → Gave (home_of s) lbn count rest now.image new.image
         done honest =
             let now_honest : IsTrue now.honest = giving.writes.went.honest ∙ honest in
-            gave (home_of s) lbn count rest now new (subst (HasSoundVolume now.image) giving.home (giving.is_for.sound now_honest)) (giving.unreferenced honest) (cases_lt 0 count) now_honest
+            gave (home_of s) lbn count rest now new (subst (HasSoundVolume now.image) giving.home (giving.is_for.sound now_honest))
+            (giving.unreferenced honest) (cases_lt 0 count) now_honest
             (subst (λ (h : HomeFields). GivesRun h lbn count now new) giving.home given)
 
 -- it was broken off
-pub giving-breaks : {s t : Structure} {lbns rest : List ℕ} {pointers : ℕ} {old now new : Disk} {r : Refusal} → Giving s t lbns rest pointers old now → (most : ℕ) → pointers < most
+pub giving-breaks : {s t : Structure} {lbns rest : List ℕ} {pointers : ℕ} {old now new : Disk} {r : Refusal}
+    → Giving s t lbns rest pointers old now → (most : ℕ) → pointers < most
     → BreaksOff (home_of t) (store_on t now) 4 r now new → BreaksOff (home_of s) (store_on s old) (4 * most) r old new
 giving-breaks {now = now} {new = new} {r = r} giving most more breaks =
     let here = subst (λ (h : HomeFields). BreaksOff h (store_of now.image h) 4 r now new) giving.home breaks in
@@ -217,7 +243,8 @@ module _ (s t : Structure) (all : List ℕ) (pointers : ℕ) (old now : Disk) (g
   }
 
 -- and what is kept is the disk's
-pub giving-stays : {s t : Structure} {lbns rest : List ℕ} {pointers : ℕ} {old now : Disk} → Giving s t lbns rest pointers old now → StaysFor false s t now
+pub giving-stays : {s t : Structure} {lbns rest : List ℕ} {pointers : ℕ} {old now : Disk} → Giving s t lbns rest pointers old now
+    → StaysFor false s t now
 giving-stays giving = record {
   home = giving.home;
   lies = λ _. giving.is_for.lies;

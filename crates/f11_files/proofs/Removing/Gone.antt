@@ -1,5 +1,6 @@
 -- A file that is deleted.
-use Rattle.std.proofs.Common.{◌≡◌, ◌≢◌, ◌+◌, ◌-◌, ◌*◌, ◌<◌, ◌≤◌, ℕ, suc, Bool, true, false, cond, IsTrue, List, [], ◌∷◌, Option, Some, None, unwrap_or, length, refl, sym, ap, subst, ◌∙◌, arith}
+use Rattle.std.proofs.Common.{◌≡◌, ◌≢◌, ◌+◌, ◌-◌, ◌*◌, ◌<◌, ◌≤◌, ℕ, suc, Bool, true, false, cond, IsTrue, List, [], ◌∷◌, Option, Some, None}
+use Rattle.std.proofs.Common.{unwrap_or, length, refl, sym, ap, subst, ◌∙◌, arith}
 use Rattle.std.specs.List.{slice_get, sum_by}
 use Rattle.std.proofs.lemmas.List.{length-append, length-map}
 use Rattle.std.proofs.lemmas.List.Sums.{sum_by-cons}
@@ -36,7 +37,8 @@ use Rattle.f11_image_store.specs.Allocation.{FreesBlocks, Kills, LosesHeaders}
 use Rattle.f11_files.specs.Answers.{IsRight, WritesAtMost, FailsToWrite, Meanwhile, is_fatal}
 use Rattle.f11_files.proofs.AnswerLemmas.{fatal-no-cause}
 use Rattle.f11_files.specs.Removing.Delete.{Deletes, FailsToDelete}
-use Rattle.f11_files.specs.Removing.Drops.{BreaksOff, DropsHeader, DropsBehind, HangsBehind, KeepsBlocksBut, headers_behind, drop_cost, tail_cost, without_header, without_headers}
+use Rattle.f11_files.specs.Removing.Drops.{BreaksOff, DropsHeader, DropsBehind, HangsBehind, KeepsBlocksBut, headers_behind, drop_cost}
+use Rattle.f11_files.specs.Removing.Drops.{tail_cost, without_header, without_headers}
 use Rattle.f11_image_store.specs.Freeing.{FreesMore, Freeing}
 use Rattle.f11_store.specs.Pieces.{with_more_free}
 use Rattle.f11_image_store.specs.FileLaws.{pointers_in}
@@ -60,21 +62,29 @@ use Rattle.f11_files.proofs.Removing.Behind.{hangs-from, hangs-are, hangs-blocks
 -- a store with no less free than that without the file lags by its going
 pub frees-gone : (s t : Store) (k : ℕ) → FreesMore (with_file s k None) t → LagsBy (go_work k) t s
 frees-gone s t k frees = frees_lags (go_work k) s t
-    (λ n. subst (λ (o : Option File). AreLike o ((with_file s k None).file n)) (sym (frees.files n)) (alike ((with_file s k None).file n))) frees.slots
+    (λ n. subst (λ (o : Option File). AreLike o ((with_file s k None).file n)) (sym (frees.files n)) (alike ((with_file s k None).file n)))
+    frees.slots
     (record {
       others = λ n out. frees.files n ∙ ap (λ (b : Bool). cond b None (s.file n)) out;
       free = frees.free;
       unused = frees.unused;
       last = frees.last;
       slots = frees.slots;
-      limits = record { bitmap_blocks = frees.limits.bitmap_blocks; index_bitmap_blocks = frees.limits.index_bitmap_blocks; limit = frees.limits.limit };
+      limits = record {
+        bitmap_blocks = frees.limits.bitmap_blocks;
+        index_bitmap_blocks = frees.limits.index_bitmap_blocks;
+        limit = frees.limits.limit;
+      };
     })
 
-pub gone-moment : (home : HomeFields) (k : ℕ) (old : Disk) (image : Image) → Freeing home (with_file (store_of old.image home) k None) old image → Meanwhile (go_work k) home old image
-gone-moment home k old image is honest = let there = is honest in record { sound = there.sound; lags = frees-gone (store_of old.image home) (store_of image home) k there.frees }
+pub gone-moment : (home : HomeFields) (k : ℕ) (old : Disk) (image : Image)
+    → Freeing home (with_file (store_of old.image home) k None) old image → Meanwhile (go_work k) home old image
+gone-moment home k old image is honest =
+    let there = is honest in record { sound = there.sound; lags = frees-gone (store_of old.image home) (store_of image home) k there.frees }
 
 -- what was broken off was refused, whatever the causes
-pub breaks-right : {home : HomeFields} {s : Store} {most : ℕ} {r : Refusal} {old new : Disk} (causes : List Cause) → BreaksOff home s most r old new → IsRight false old.honest causes r
+pub breaks-right : {home : HomeFields} {s : Store} {most : ℕ} {r : Refusal} {old new : Disk} (causes : List Cause)
+    → BreaksOff home s most r old new → IsRight false old.honest causes r
 breaks-right {r = r} causes breaks = record {
   volume = λ is. let no : true ≡ false = sym breaks.fatal ∙ ap is_fatal is in cc;
   among = λ is. absurd (fatal-no-cause r breaks.fatal is);
@@ -82,15 +92,22 @@ breaks-right {r = r} causes breaks = record {
   undamaged = breaks.undamaged;
 }
 
-pub breaks-fails : {home : HomeFields} {s : Store} {most : ℕ} {r : Refusal} {old new : Disk} (causes : List Cause) (work : Work) → (IsTrue old.honest → first_of causes ≡ None)
+pub breaks-fails : {home : HomeFields} {s : Store} {most : ℕ} {r : Refusal} {old new : Disk} (causes : List Cause) (work : Work)
+    → (IsTrue old.honest → first_of causes ≡ None)
     → ((image : Image) → Freeing home s old image → Meanwhile work home old image)
     → BreaksOff home s most r old new → FailsToWrite false causes most work home r old new
 breaks-fails {home = home} {s = s} {old = old} causes work none moments breaks =
     breaks-off none breaks.fatal (breaks-right causes breaks)
-    (record { transfers = breaks.writes.transfers; went = went_weaker (Freeing home s old) (Meanwhile work home old) moments breaks.writes.went; few = breaks.writes.few })
+    (record {
+      transfers = breaks.writes.transfers;
+      went = went_weaker (Freeing home s old) (Meanwhile work home old) moments
+          breaks.writes.went;
+      few = breaks.writes.few;
+    })
 
 -- a file's first header in hand, on an honest disk
-module _ (s : Structure) (f : FileId) (block : List ℕ) (disk : Disk) (for : IsStructureFor s disk) (holds : HoldsFile (index_in s) f block disk) (honest : IsTrue disk.honest) where
+module _ (s : Structure) (f : FileId) (block : List ℕ) (disk : Disk) (for : IsStructureFor s disk)
+    (holds : HoldsFile (index_in s) f block disk) (honest : IsTrue disk.honest) where
   abbrev t : Table
   t = table_of disk.image (home_of s)
 
@@ -102,7 +119,8 @@ module _ (s : Structure) (f : FileId) (block : List ℕ) (disk : Disk) (for : Is
   pointers-are =
       ap (λ (g : File). g.pointers) (held-named s f block disk for holds honest)
       ∙ seen-same (λ (g : File). g.pointers) (λ g. refl) f.number (file_in (home_of s) f.number disk.image)
-      ∙ ap (sum_by (pointer_count t)) (reached-are 256 t f.number (whole s f block disk for holds honest) (first (whole s f block disk for holds honest).file))
+      ∙ ap (sum_by (pointer_count t))
+      (reached-are 256 t f.number (whole s f block disk for holds honest) (first (whole s f block disk for holds honest).file))
 
   first-is : segment_number (t.header f.number) ≡ 0
   first-is = (whole s f block disk for holds honest).file.first
@@ -122,16 +140,19 @@ module _ (s : Structure) (f : FileId) (block : List ℕ) (disk : Disk) (for : Is
   pub file-is : 4 ≤ f.number → (store_on s disk).file f.number ≡ Some named
   file-is own =
       file-stored disk.image (home_of s) f.number
-      ∙ file-at disk.image t f.number (Some named) (λ _. ap Some (sym (held-named s f block disk for holds honest))) (λ none. absurd (none (whole s f block disk for holds honest).file))
+      ∙ file-at disk.image t f.number (Some named) (λ _. ap Some (sym (held-named s f block disk for holds honest)))
+      (λ none. absurd (none (whole s f block disk for holds honest).file))
 
   pub length-is : 4 ≤ f.number → length_of named ≡ length (blocks_by t (headers_of t f.number))
   unfolding file_blocks
   length-is own =
       ap length_of (held-named s f block disk for holds honest ∙ seen-own f.number (file_in (home_of s) f.number disk.image) own)
-      ∙ ap (λ (bs : List (List ℕ)). length bs) (file-blocks-are disk.image t f.number (whole s f block disk for holds honest)) ∙ length-map (file_blocks t f.number) _
+      ∙ ap (λ (bs : List (List ℕ)). length bs) (file-blocks-are disk.image t f.number (whole s f block disk for holds honest))
+      ∙ length-map (file_blocks t f.number) _
 
 -- the file goes, its first header first
-module _ (s : Structure) (f : FileId) (block : List ℕ) (old read : Disk) (for : IsStructureFor s old) (late : 6 ≤ f.number) (finds : FindsFile (index_in s) f block old read) (old_image : IsImage old.image) where
+module _ (s : Structure) (f : FileId) (block : List ℕ) (old read : Disk) (for : IsStructureFor s old) (late : 6 ≤ f.number)
+    (finds : FindsFile (index_in s) f block old read) (old_image : IsImage old.image) where
   abbrev h : HomeFields
   h = home_of s
 
@@ -147,19 +168,25 @@ module _ (s : Structure) (f : FileId) (block : List ℕ) (old read : Disk) (for 
   read-writes : WritesAtMost (Freeing h (with_file (store_on s old) n None) old) 1 old read 0
   read-writes = record { transfers = 1; went = went_looked _ finds.looked; few = λ _. omega arith }
 
-  cost-was : IsTrue old.honest → 5 * (1 + length (headers_behind was (was.header n))) + 4 * (pointers_in block + sum_by (pointer_count was) (headers_behind was (was.header n))) ≤ most
+  cost-was : IsTrue old.honest
+      → 5 * (1 + length (headers_behind was (was.header n))) + 4
+      * (pointers_in block + sum_by (pointer_count was) (headers_behind was (was.header n))) ≤ most
   cost-was honest =
-      let held = ap (λ (hs : List ℕ). length hs) (held-are s f block old for finds.holds honest ∙ headers-are s f block old for finds.holds honest) in
-      let pointers = pointers-are s f block old for finds.holds honest ∙ ap (sum_by (pointer_count was)) (headers-are s f block old for finds.holds honest)
+      let held = ap (λ (hs : List ℕ). length hs)
+      (held-are s f block old for finds.holds honest ∙ headers-are s f block old for finds.holds honest) in
+      let pointers = pointers-are s f block old for finds.holds honest
+      ∙ ap (sum_by (pointer_count was)) (headers-are s f block old for finds.holds honest)
       ∙ sum_by-cons (pointer_count was) n (headers_behind was (was.header n)) in
       let own = ap pointers_in (block-is s f block old for finds.holds honest) in
       omega (arith, held, pointers, own)
 
-  pub gone-first : (r : Refusal) (new : Disk) → BreaksOff h (with_file (store_of read.image h) n None) (drop_cost block) r read new → FailsToDelete false h f r old new
+  pub gone-first : (r : Refusal) (new : Disk) → BreaksOff h (with_file (store_of read.image h) n None) (drop_cost block) r read new
+      → FailsToDelete false h f r old new
   gone-first r new breaks =
       let whole-breaks = breaks-then (λ _. frees-none (with_file (store_on s old) n None)) read-writes
       (subst (λ (i : Image). BreaksOff h (with_file (store_of i h) n None) (drop_cost block) r read new) finds.looked.image breaks) in
-      breaks-fails (file_causes (store_on s old) f) (go_work n) (λ honest. no-file-cause s f block old for finds.holds honest) (gone-moment h n old) (breaks-within (λ honest. let cost = cost-was honest in omega (arith, cost)) whole-breaks)
+      breaks-fails (file_causes (store_on s old) f) (go_work n) (λ honest. no-file-cause s f block old for finds.holds honest)
+      (gone-moment h n old) (breaks-within (λ honest. let cost = cost-was honest in omega (arith, cost)) whole-breaks)
 
   module _ (c : Structure) (now : Disk) (drops : DropsHeader h n block read now) (same : home_of c ≡ h) (is_image : IsImage now.image) where
     abbrev u : Table
@@ -196,7 +223,8 @@ module _ (s : Structure) (f : FileId) (block : List ℕ) (old read : Disk) (for 
           (λ m goes. gone goes.from)
 
       behind-is : headers_behind u block ≡ hs
-      behind-is = ap (headers_behind u) header-is ∙ hangs-are u (was.header n) hs (table-bytes now.image (index_of now.image h) is_image) hangs
+      behind-is =
+          ap (headers_behind u) header-is ∙ hangs-are u (was.header n) hs (table-bytes now.image (index_of now.image h) is_image) hangs
 
       away : (m : ℕ) → IsLive u m → 0 < segment_number (u.header m) → m ≢ n
       away m live more is = gone (subst (IsLive u) is live)
@@ -212,7 +240,8 @@ module _ (s : Structure) (f : FileId) (block : List ℕ) (old read : Disk) (for 
       blocks-freed : FreesBlocks (blocks_named (was.header n)) (volume_of old.image h) (volume_of now.image h)
       blocks-freed =
           subst (λ (b : List ℕ). FreesBlocks (blocks_named b) (volume_of old.image h) (volume_of now.image h)) header-is
-          (subst (λ (i : Image). FreesBlocks (blocks_named block) (volume_of i h) (volume_of now.image h)) finds.looked.image (drops.frees read-honest))
+          (subst (λ (i : Image). FreesBlocks (blocks_named block) (volume_of i h) (volume_of now.image h)) finds.looked.image
+          (drops.frees read-honest))
 
       loses-one : LosesAlike (n ∷ hs) hs (volume_of old.image h) (volume_of now.image h)
       unfolding volume_of
@@ -232,7 +261,8 @@ module _ (s : Structure) (f : FileId) (block : List ℕ) (old read : Disk) (for 
       places m is =
           let there = in-at hs m is in
           let listed = ap (λ (l : List ℕ). slice_get l (suc there.0)) (headers-are s f block old for finds.holds honest) ∙ there.1 in
-          in_use-place old.image h m (live_of-header (place-has was n m (suc there.0) (whole s f block old for finds.holds honest) listed).of).in_use
+          in_use-place old.image h m
+          (live_of-header (place-has was n m (suc there.0) (whole s f block old for finds.holds honest) listed).of).in_use
 
       -- and then the others went
       module _ (new : Image) (loses : LosesHeaders (headers_behind u block) (volume_of now.image h) (volume_of new h))
@@ -243,7 +273,8 @@ module _ (s : Structure) (f : FileId) (block : List ℕ) (old read : Disk) (for 
         all-killed : (m : ℕ) → is_in (n ∷ hs) m ≡ true → Kills m was (table_of new h)
         unfolding volume_of
         all-killed =
-            killed-both n hs was u (table_of new h) others-stay is-killed (subst (λ (ns : List ℕ). KeepsBlocksBut ns u (table_of new h)) behind-is stays) places rest-lost.killed
+            killed-both n hs was u (table_of new h) others-stay is-killed
+            (subst (λ (ns : List ℕ). KeepsBlocksBut ns u (table_of new h)) behind-is stays) places rest-lost.killed
 
         loses-file : LosesHeaders (headers_of was n) (volume_of old.image h) (volume_of new h)
         unfolding volume_of
@@ -255,13 +286,15 @@ module _ (s : Structure) (f : FileId) (block : List ℕ) (old read : Disk) (for 
             (loses-all (n ∷ hs) v x (loses-then (n ∷ hs) hs [] v w x loses-one (lost-all hs w x rest-lost)) all-killed)
 
       store-now : store_of now.image h ≡ without_header (store_on s old) n (length (blocks_named block))
-      store-now = drops.store read-honest ∙ ap (λ (i : Image). without_header (store_of i h) n (length (blocks_named block))) finds.looked.image
+      store-now =
+          drops.store read-honest ∙ ap (λ (i : Image). without_header (store_of i h) n (length (blocks_named block))) finds.looked.image
 
       frees-now : FreesMore (with_file (store_on s old) n None) (store_of now.image h)
       frees-now =
           let gone_store : Store = with_file (store_on s old) n None in
           subst (FreesMore gone_store) (sym store-now)
-          (frees-then gone_store (with_use gone_store n false) (without_header (store_on s old) n (length (blocks_named block))) (frees-slot gone_store n)
+          (frees-then gone_store (with_use gone_store n false) (without_header (store_on s old) n (length (blocks_named block)))
+          (frees-slot gone_store n)
           (frees-blocks (with_use gone_store n false) (length (blocks_named block))))
 
       cost-behind : 1 + drop_cost block + tail_cost u (headers_behind u block) ≤ most
@@ -270,52 +303,70 @@ module _ (s : Structure) (f : FileId) (block : List ℕ) (old read : Disk) (for 
           let cost = cost-was honest in
           omega (arith, same_list, pointers-behind, cost)
 
-      gone-store : with_more_free (without_slots (without_header (store_on s old) n (length (blocks_named block))) hs) (length (blocks_by was hs)) ≡ without_file_at (store_on s old) n
+      gone-store : with_more_free (without_slots (without_header (store_on s old) n (length (blocks_named block))) hs)
+          (length (blocks_by was hs)) ≡ without_file_at (store_on s old) n
       gone-store =
           let st : Store = store_on s old in
           let g : File = file_named st f in
           let own : 4 ≤ n = omega (arith, late) in
-          let held : n ∷ hs ≡ g.held = sym (held-are s f block old for finds.holds honest ∙ headers-are s f block old for finds.holds honest) in
+          let held : n ∷ hs ≡ g.held =
+          sym (held-are s f block old for finds.holds honest ∙ headers-are s f block old for finds.holds honest) in
           let counted : length (blocks_named block) + length (blocks_by was hs) ≡ length_of g =
-          ap (λ (b : List ℕ). length (blocks_named b) + length (blocks_by was hs)) header-is ∙ sym (length-append (blocks_named (was.header n)) (blocks_by was hs))
-          ∙ ap (λ (ns : List ℕ). length (blocks_by was ns)) (sym (headers-are s f block old for finds.holds honest)) ∙ sym (length-is s f block old for finds.holds honest own) in
+          ap (λ (b : List ℕ). length (blocks_named b) + length (blocks_by was hs)) header-is
+          ∙ sym (length-append (blocks_named (was.header n)) (blocks_by was hs))
+          ∙ ap (λ (ns : List ℕ). length (blocks_by was ns)) (sym (headers-are s f block old for finds.holds honest))
+          ∙ sym (length-is s f block old for finds.holds honest own) in
           drop-store st n (length (blocks_named block)) (length (blocks_by was hs)) hs
-          ∙ ap (λ (ns : List ℕ). with_more_free (with_file (without_slots st ns) n None) (length (blocks_named block) + length (blocks_by was hs))) held
+          ∙ ap (λ (ns : List ℕ). with_more_free (with_file (without_slots st ns) n None)
+          (length (blocks_named block) + length (blocks_by was hs))) held
           ∙ ap (with_more_free (with_file (without_slots st g.held) n None)) counted
           ∙ ap (λ (o : Option File). without_file st n (unwrap_or o no_file)) (sym (file-is s f block old for finds.holds honest own))
 
     now-honest : IsTrue now.honest → IsTrue old.honest
     now-honest honest = sym finds.looked.honest ∙ sym drops.writes.went.honest ∙ honest
 
-    pub behind-hangs : IsTrue now.honest → HangsBehind (table_of now.image (home_of c)) block (headers_behind (table_of now.image (home_of c)) block)
+    pub behind-hangs : IsTrue now.honest
+        → HangsBehind (table_of now.image (home_of c)) block (headers_behind (table_of now.image (home_of c)) block)
     behind-hangs honest =
         let sure = now-honest honest in
         subst (λ (k : HomeFields). HangsBehind (table_of now.image k) block (headers_behind (table_of now.image k) block)) (sym same)
-        (subst (λ (b : List ℕ). HangsBehind u b (headers_behind u block)) (sym (header-is sure)) (subst (HangsBehind u (was.header n)) (sym (behind-is sure)) (hangs sure)))
+        (subst (λ (b : List ℕ). HangsBehind u b (headers_behind u block)) (sym (header-is sure))
+        (subst (HangsBehind u (was.header n)) (sym (behind-is sure)) (hangs sure)))
 
     -- those are of the file, too
-    pub behind-listed : IsTrue old.honest → (m : ℕ) → is_in (headers_behind (table_of now.image (home_of c)) block) m ≡ true → is_in (headers_of was n) m ≡ true
+    pub behind-listed : IsTrue old.honest → (m : ℕ) → is_in (headers_behind (table_of now.image (home_of c)) block) m ≡ true
+        → is_in (headers_of was n) m ≡ true
     behind-listed honest m is =
-        let here : is_in (headers_behind u block) m ≡ true = subst (λ (k : HomeFields). is_in (headers_behind (table_of now.image k) block) m ≡ true) same is in
+        let here : is_in (headers_behind u block) m ≡ true =
+        subst (λ (k : HomeFields). is_in (headers_behind (table_of now.image k) block) m ≡ true) same is in
         ap (λ (ns : List ℕ). is_in ns m) (headers-are s f block old for finds.holds honest)
         ∙ in-behind (n ∷ []) (hs honest) m (ap (λ (ns : List ℕ). is_in ns m) (sym (behind-is honest)) ∙ here)
 
     first-writes : WritesAtMost (Freeing h (with_file (store_on s old) n None) old) (1 + drop_cost block) old now 0
     first-writes =
         let here : WritesAtMost (Freeing h (with_file (store_on s old) n None) read) (drop_cost block) read now 0 =
-        subst (λ (i : Image). WritesAtMost (Freeing h (with_file (store_of i h) n None) read) (drop_cost block) read now 0) finds.looked.image drops.writes in
-        writes-then (freeing-more h (with_file (store_on s old) n None) (with_file (store_on s old) n None) old read finds.looked.honest (λ _. frees-none (with_file (store_on s old) n None))) read-writes here
+        subst (λ (i : Image). WritesAtMost (Freeing h (with_file (store_of i h) n None) read) (drop_cost block) read now 0)
+        finds.looked.image drops.writes in
+        writes-then (freeing-more h (with_file (store_on s old) n None) (with_file (store_on s old) n None) old read finds.looked.honest
+        (λ _. frees-none (with_file (store_on s old) n None))) read-writes here
 
-    pub gone-behind : (r : Refusal) (new : Disk) → BreaksOff (home_of c) (store_on c now) (tail_cost (table_of now.image (home_of c)) (headers_behind (table_of now.image (home_of c)) block)) r now new
+    pub gone-behind : (r : Refusal) (new : Disk)
+        → BreaksOff (home_of c) (store_on c now)
+        (tail_cost (table_of now.image (home_of c)) (headers_behind (table_of now.image (home_of c)) block)) r now new
         → FailsToDelete false h f r old new
     gone-behind r new breaks =
-        let here = subst (λ (k : HomeFields). BreaksOff k (store_of now.image k) (tail_cost (table_of now.image k) (headers_behind (table_of now.image k) block)) r now new) same breaks in
-        breaks-fails (file_causes (store_on s old) f) (go_work n) (λ honest. no-file-cause s f block old for finds.holds honest) (gone-moment h n old) (breaks-within cost-behind (breaks-then frees-now first-writes here))
+        let here = subst (λ (k : HomeFields).
+        BreaksOff k (store_of now.image k) (tail_cost (table_of now.image k) (headers_behind (table_of now.image k) block)) r now new)
+        same breaks in
+        breaks-fails (file_causes (store_on s old) f) (go_work n) (λ honest. no-file-cause s f block old for finds.holds honest)
+        (gone-moment h n old) (breaks-within cost-behind (breaks-then frees-now first-writes here))
 
     pub deletes-file : (new : Disk) → DropsBehind (home_of c) block now new → Deletes h f old new
     deletes-file new behind =
         let here : DropsBehind h block now new = subst (λ (k : HomeFields). DropsBehind k block now new) same behind in
-        let wrote = writes-within cost-behind (writes-then (freeing-more h (with_file (store_on s old) n None) (store_of now.image h) old now (drops.writes.went.honest ∙ finds.looked.honest) frees-now) first-writes here.writes) in
+        let wrote = writes-within cost-behind
+        (writes-then (freeing-more h (with_file (store_on s old) n None) (store_of now.image h) old now
+        (drops.writes.went.honest ∙ finds.looked.honest) frees-now) first-writes here.writes) in
         record {
           no_cause = λ honest. no-file-cause s f block old for finds.holds honest;
           makes = λ honest.
@@ -329,7 +380,8 @@ module _ (s : Structure) (f : FileId) (block : List ℕ) (old read : Disk) (for 
               loses-file honest new.image (here.loses sure) (here.blocks sure);
           writes = record {
             transfers = wrote.transfers;
-            went = went_weaker (Freeing h (with_file (store_on s old) n None) old) (Meanwhile (go_work n) h old) (gone-moment h n old) wrote.went;
+            went = went_weaker (Freeing h (with_file (store_on s old) n None) old) (Meanwhile (go_work n) h old) (gone-moment h n old)
+                wrote.went;
             few = wrote.few;
           };
         }

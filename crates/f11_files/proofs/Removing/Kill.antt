@@ -1,5 +1,6 @@
 -- Headers that are killed, one after another, while each other slot keeps its block.
-use Rattle.std.proofs.Common.{◌≡◌, ◌≢◌, ◌<◌, ◌≤◌, ◌==◌, ◌||◌, ℕ, Bool, true, false, List, ◌∷◌, set, inl, inr, refl, sym, ap, subst, ◌∙◌, arith}
+use Rattle.std.proofs.Common.{◌≡◌, ◌≢◌, ◌<◌, ◌≤◌, ◌==◌, ◌||◌, ℕ, Bool, true, false, List, ◌∷◌, set, inl, inr, refl, sym, ap, subst, ◌∙◌}
+use Rattle.std.proofs.Common.{arith}
 use Rattle.std.proofs.Math.Bool.{or-true}
 use Rattle.std.proofs.lemmas.Bool.{cases_Bool, cases_eq, eq-eqb, false≢true, ne_eqb}
 use Rattle.std.proofs.lemmas.List.{set-set, set_comm}
@@ -26,13 +27,15 @@ dead-twice b =
     let three : List ℕ = set two 510 0 in
     let first : set (dead_header b) 2 0 ≡ dead_header b =
     put-again three 2 511 (omega arith) (put-again two 2 510 (omega arith) (put-again one 2 3 (omega arith) (set-set b 2 0 0))) in
-    let second : set (dead_header b) 3 0 ≡ dead_header b = put-again three 3 511 (omega arith) (put-again two 3 510 (omega arith) (set-set one 3 0 0)) in
+    let second : set (dead_header b) 3 0 ≡ dead_header b =
+    put-again three 3 511 (omega arith) (put-again two 3 510 (omega arith) (set-set one 3 0 0)) in
     let third : set (dead_header b) 510 0 ≡ dead_header b = put-again three 510 511 (omega arith) (set-set two 510 0 0) in
     ap (λ (l : List ℕ). set (set (set l 3 0) 510 0) 511 0) first ∙ ap (λ (l : List ℕ). set (set l 510 0) 511 0) second
     ∙ ap (λ (l : List ℕ). set l 511 0) third ∙ set-set three 511 0 0
 
 -- a slot in use is one of the table's
-pub in_use-place : (image : Image) (home : HomeFields) (n : ℕ) → (table_of image home).in_use n ≡ true → (0 < n) × (n ≤ (table_of image home).slots)
+pub in_use-place : (image : Image) (home : HomeFields) (n : ℕ) → (table_of image home).in_use n ≡ true
+    → (0 < n) × (n ≤ (table_of image home).slots)
 unfolding table_in
 in_use-place image home n used = (in_use-some (index_of image home) n used, in_use-slot (index_of image home) n used)
 
@@ -58,7 +61,8 @@ kills-same xs t = record {
 }
 
 -- a header that was killed before is as it was then
-stays-killed : (ns : List ℕ) (t u v : Table) (n : ℕ) → KeepsBlocksBut ns u v → u.slots ≡ t.slots → is_in ns n ≡ false → IsKilled n t u → IsKilled n t v
+stays-killed : (ns : List ℕ) (t u v : Table) (n : ℕ) → KeepsBlocksBut ns u v → u.slots ≡ t.slots → is_in ns n ≡ false → IsKilled n t u
+    → IsKilled n t v
 stays-killed ns t u v n stays count out was = record {
   some = was.some;
   within = was.within;
@@ -110,14 +114,16 @@ kills-first n ns t u others killed = record {
   stays = record { slots = others.slots; header = λ m some within out. others.header m some within (out-first n m ns out) };
   fewer = λ m out. out-rest n m ns out;
   alike = λ m some within. elim (cases_eq m n) [
-    | inl here ↦ subst (λ (k : ℕ). dead_header (u.header k) ≡ dead_header (t.header k)) (sym here) (ap dead_header killed.kills ∙ dead-twice (t.header n))
+    | inl here ↦ subst (λ (k : ℕ). dead_header (u.header k) ≡ dead_header (t.header k)) (sym here)
+        (ap dead_header killed.kills ∙ dead-twice (t.header n))
     | inr away ↦ ap dead_header (others.header m some within away)
   ];
   killed = λ m is out. subst (λ (k : ℕ). IsKilled k t u) (is-first n m ns is out) killed;
 }
 
 -- it was killed before the others were
-pub killed-both : (n : ℕ) (ns : List ℕ) (t u v : Table) → KeepsOtherBlocks n t u → IsKilled n t u → KeepsBlocksBut ns u v → ((m : ℕ) → is_in ns m ≡ true → (0 < m) × (m ≤ t.slots))
+pub killed-both : (n : ℕ) (ns : List ℕ) (t u v : Table) → KeepsOtherBlocks n t u → IsKilled n t u → KeepsBlocksBut ns u v
+    → ((m : ℕ) → is_in ns m ≡ true → (0 < m) × (m ≤ t.slots))
     → ((m : ℕ) → is_in ns m ≡ true → Kills m u v) → (m : ℕ) → is_in (n ∷ ns) m ≡ true → Kills m t v
 killed-both n ns t u v others killed stays places rest m is = elim (cases_Bool (is_in ns m)) [
   | inl behind ↦ rest m behind ∙ (kills-first n ns t u others killed).alike m (places m behind).0 (places m behind).1

@@ -1,5 +1,6 @@
 -- Blocks that are free once others were marked so, and what headers name once some are gone or name less.
-use Rattle.std.proofs.Common.{◌≡◌, ◌≢◌, ◌⊎◌, ◌+◌, ◌-◌, ◌<◌, ◌≤◌, ◌==◌, ◌||◌, ℕ, zero, suc, Bool, true, false, cond, if◌then◌else◌, List, [], ◌∷◌, ◌++◌, Some, None, length, take, drop, inl, inr, refl, sym, ap, subst, ◌∙◌, append_assoc, arith}
+use Rattle.std.proofs.Common.{◌≡◌, ◌≢◌, ◌⊎◌, ◌+◌, ◌-◌, ◌<◌, ◌≤◌, ◌==◌, ◌||◌, ℕ, zero, suc, Bool, true, false, cond, if◌then◌else◌, List, []}
+use Rattle.std.proofs.Common.{◌∷◌, ◌++◌, Some, None, length, take, drop, inl, inr, refl, sym, ap, subst, ◌∙◌, append_assoc, arith}
 use Rattle.std.specs.List.{range_with_len, slice_get}
 use Rattle.std.proofs.Math.Bool.{or_assoc, or-false, or-true}
 use Rattle.std.proofs.Math.Seq.{drop-append-add, drop-append_seam, take-append_seam}
@@ -64,11 +65,13 @@ pub out-run : (a count k : ℕ) → (k < a) ⊎ (a + count ≤ k) → is_in (ran
 out-run a zero k out = refl
 out-run a (suc count) k out =
     let away : a ≢ k = λ same. elim out [ inl below ↦ omega (arith, same, below) | inr above ↦ omega (arith, same, above) ] in
-    let rest : (k < a + 1) ⊎ (a + 1 + count ≤ k) = elim out [ inl below ↦ inl (omega (arith, below)) | inr above ↦ inr (omega (arith, above)) ] in
+    let rest : (k < a + 1) ⊎ (a + 1 + count ≤ k) =
+    elim out [ inl below ↦ inl (omega (arith, below)) | inr above ↦ inr (omega (arith, above)) ] in
     ap (λ (b : Bool). b || is_in (range_with_len (a + 1) count) k) (ne_eqb a k away) ∙ out-run (a + 1) count k rest
 
 -- a run was marked free
-pub frees-run : (old new : Image) (home : HomeFields) (lbn count : ℕ) → KeepsButFree home old new → Marks true (storage_bitmap old home) lbn count old new
+pub frees-run : (old new : Image) (home : HomeFields) (lbn count : ℕ) → KeepsButFree home old new
+    → Marks true (storage_bitmap old home) lbn count old new
     → FreesBlocks (range_with_len lbn count) (volume_of old home) (volume_of new home)
 unfolding volume_of
 frees-run old new home lbn count kept marks = record { size = ap (λ (v : Volume). v.size) kept.volume; free = now-free }
@@ -134,7 +137,8 @@ loses-then xs ys zs u v w one two = record {
 }
 
 -- all of them went
-pub loses-all : (xs : List ℕ) (v w : Volume) → LosesAlike xs [] v w → ((n : ℕ) → is_in xs n ≡ true → Kills n v.table w.table) → LosesHeaders xs v w
+pub loses-all : (xs : List ℕ) (v w : Volume) → LosesAlike xs [] v w → ((n : ℕ) → is_in xs n ≡ true → Kills n v.table w.table)
+    → LosesHeaders xs v w
 loses-all xs v w loses killed = record { names = loses.names; killed = killed; free = all-freed (blocks_by v.table xs) v w loses.free }
 
 pub lost-all : (xs : List ℕ) (v w : Volume) → LosesHeaders xs v w → LosesAlike xs [] v w
@@ -213,14 +217,16 @@ module _ (old new : Image) (home : HomeFields) (f : ℕ) (whole : IsWholeFile (t
 
   file-is : (image : Image) → IsFile (table_of image home) f → (store_of image home).file f ≡ Some (as_seen f (file_in home f image))
   file-is image file =
-      file-stored image home f ∙ file-at image (table_of image home) f (Some (as_seen f (file_in home f image))) (λ _. refl) (λ none. absurd (none file))
+      file-stored image home f
+      ∙ file-at image (table_of image home) f (Some (as_seen f (file_in home f image))) (λ _. refl) (λ none. absurd (none file))
 
   held-as : IsFile q f → IsWholeFile q f × (headers_of q f ≡ headers_of p f)
   held-as file =
       let seen = same_Some _ _ (sym (file-is new file) ∙ same ∙ file-is old whole.file) in
       let whole_now = ((image-files new home sound).each f file).whole in (
         whole_now,
-        sym (file-headers-are new q f whole_now) ∙ sym (seen-same (λ (g : File). g.held) (λ g. refl) f (file_in home f new)) ∙ ap (λ (g : File). g.held) seen
+        sym (file-headers-are new q f whole_now) ∙ sym (seen-same (λ (g : File). g.held) (λ g. refl) f (file_in home f new))
+            ∙ ap (λ (g : File). g.held) seen
             ∙ seen-same (λ (g : File). g.held) (λ g. refl) f (file_in home f old) ∙ file-headers-are old p f whole,
       )
 
@@ -294,7 +300,8 @@ module _ (f n keep to : ℕ) (v w x : Volume) (cut : CutsThere f n keep to v w) 
 
   taken : take k (headers_of t f) ≡ behind
   taken =
-      ap (take k) (list ∙ append_assoc behind (n ∷ []) hs) ∙ ap (λ (c : ℕ). take c (behind ++ n ∷ hs)) (sym comes.1.count) ∙ take-append_seam behind (n ∷ hs)
+      ap (take k) (list ∙ append_assoc behind (n ∷ []) hs) ∙ ap (λ (c : ℕ). take c (behind ++ n ∷ hs)) (sym comes.1.count)
+      ∙ take-append_seam behind (n ∷ hs)
 
   ends : EndsWith f n k t u
   ends = ends-with t u f n cut.of cut.few (stay-before t u f n cut.others) cut.no_link
@@ -315,7 +322,8 @@ module _ (f n keep to : ℕ) (v w x : Volume) (cut : CutsThere f n keep to v w) 
   -- a header that is listed still
   listed-live : (i m : ℕ) → slice_get front i ≡ Some m → IsLive u m
   listed-live i m at =
-      let was = live_of-header (place-has t f m i cut.whole (ap (λ (l : List ℕ). slice_get l i) list ∙ slice_get-append_front front hs i m at)).of in
+      let was = live_of-header
+      (place-has t f m i cut.whole (ap (λ (l : List ℕ). slice_get l i) list ∙ slice_get-append_front front hs i m at)).of in
       elim (cases_eq m n) [
         | inl here ↦ subst (IsLive u) (sym here) cut.live
         | inr away ↦ live-was u t n (turned t u n cut.others) m away was
@@ -376,9 +384,12 @@ module _ (f n keep to : ℕ) (v w x : Volume) (cut : CutsThere f n keep to v w) 
     was-header m is =
         let there = in-at hs m is in
         let place : length front + there.0 - length front ≡ there.0 = omega arith in
-        let at = slice_get-append_back front hs (length front + there.0) (length front) refl (omega arith) ∙ ap (slice_get hs) place ∙ there.1 in
-        let of = (place-has t f m (length front + there.0) cut.whole (ap (λ (l : List ℕ). slice_get l (length front + there.0)) list ∙ at)).of in
-        cut.others.header m (λ same_one. false≢true (sym (listed-out (length behind) n own-place) ∙ ap (is_in hs) (sym same_one) ∙ is)) (live_of-header of).in_use
+        let at = slice_get-append_back front hs (length front + there.0) (length front) refl (omega arith) ∙ ap (slice_get hs) place
+        ∙ there.1 in
+        let of = (place-has t f m (length front + there.0) cut.whole
+        (ap (λ (l : List ℕ). slice_get l (length front + there.0)) list ∙ at)).of in
+        cut.others.header m (λ same_one. false≢true (sym (listed-out (length behind) n own-place) ∙ ap (is_in hs) (sym same_one) ∙ is))
+        (live_of-header of).in_use
 
     -- those before it stay as they were
     before-same : (m : ℕ) → is_in (take k (headers_of t f)) m ≡ true → now.header m ≡ t.header m
@@ -388,7 +399,8 @@ module _ (f n keep to : ℕ) (v w x : Volume) (cut : CutsThere f n keep to v w) 
         let early : there.0 < length behind = slice_get_within behind there.0 m there.1 in
         let away : m ≢ n =
         λ same_one.
-        let one_place = headers-apart t f cut.whole there.0 (length behind) n (listed-at there.0 m at ∙ ap Some same_one) (listed-at (length behind) n own-place) in
+        let one_place = headers-apart t f cut.whole there.0 (length behind) n (listed-at there.0 m at ∙ ap Some same_one)
+        (listed-at (length behind) n own-place) in
         omega (arith, one_place, early) in
         rest m (listed-out there.0 m at) (listed-live there.0 m at)
         ∙ cut.others.header m away (live_of-header (place-has t f m there.0 cut.whole (listed-at there.0 m at)).of).in_use
@@ -396,7 +408,8 @@ module _ (f n keep to : ℕ) (v w x : Volume) (cut : CutsThere f n keep to v w) 
     -- and it is the end
     is-end : (m : ℕ) → slice_get (headers_of t f) k ≡ Some m → IsEnd (t.header m) (now.header m)
     is-end m at =
-        let place : slice_get (headers_of t f) k ≡ Some n = ap (slice_get (headers_of t f)) (sym comes.1.count) ∙ listed-at (length behind) n own-place in
+        let place : slice_get (headers_of t f) k ≡ Some n = ap (slice_get (headers_of t f)) (sym comes.1.count)
+        ∙ listed-at (length behind) n own-place in
         let same_one : n ≡ m = same_Some n m (sym place ∙ at) in
         subst (λ (j : ℕ). IsEnd (t.header j) (now.header j)) same_one
         (subst (IsEnd (t.header n)) (sym (rest n (listed-out (length behind) n own-place) cut.live)) cut.ends)
@@ -407,8 +420,10 @@ module _ (f n keep to : ℕ) (v w x : Volume) (cut : CutsThere f n keep to v w) 
       | inl is ↦
           let there = in-at hs m is in
           let place : length front + there.0 - length front ≡ there.0 = omega arith in
-          let at = slice_get-append_back front hs (length front + there.0) (length front) refl (omega arith) ∙ ap (slice_get hs) place ∙ there.1 in
-          absurd (none (place-has t f m (length front + there.0) cut.whole (ap (λ (l : List ℕ). slice_get l (length front + there.0)) list ∙ at)).of)
+          let at = slice_get-append_back front hs (length front + there.0) (length front) refl (omega arith) ∙ ap (slice_get hs) place
+          ∙ there.1 in
+          absurd (none (place-has t f m (length front + there.0) cut.whole
+          (ap (λ (l : List ℕ). slice_get l (length front + there.0)) list ∙ at)).of)
       | inr out ↦ stays m out ∙ named-others t u n m cut.others (λ same_one. none (subst (IsHeaderOf t f) (sym same_one) cut.of))
     ]
 
@@ -422,7 +437,8 @@ module _ (f n keep to : ℕ) (v w x : Volume) (cut : CutsThere f n keep to v w) 
       same = before-same;
       ends = is-end;
       gone = λ m is. goes m (ap (λ (l : List ℕ). is_in l m) (sym rest-left) ∙ is);
-      killed = λ m is. let gone = ap (λ (l : List ℕ). is_in l m) (sym rest-left) ∙ is in loses.killed m gone ∙ ap dead_header (was-header m gone);
+      killed = λ m is. let gone = ap (λ (l : List ℕ). is_in l m) (sym rest-left) ∙ is in loses.killed m gone
+          ∙ ap dead_header (was-header m gone);
       others = away-from;
       free =
           subst (λ (l : List ℕ). FreesBlocks l v x) (sym lost-blocks)

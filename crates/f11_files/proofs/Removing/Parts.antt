@@ -20,15 +20,19 @@ use Rattle.f11_files.proofs.Removing.Gone.{first-listed}
 use Rattle.f11_files.proofs.Confining.Parts.{header-failed, header-wrote, of-none, of-only, parts-behind, parts-then, stands-same, to-parts}
 
 -- its first header was read, and then written
-pub first-parts : (s : Structure) (f : FileId) (block : List ℕ) (old read : Disk) {now : Disk} → IsStructureFor s old → FindsFile (index_in s) f block old read → IsTrue old.honest → WritesParts s (only_header f.number) read now
+pub first-parts : (s : Structure) (f : FileId) (block : List ℕ) (old read : Disk) {now : Disk} → IsStructureFor s old
+    → FindsFile (index_in s) f block old read → IsTrue old.honest → WritesParts s (only_header f.number) read now
     → WritesParts s (is_in (headers_of (table_of old.image (home_of s)) f.number)) old now
 first-parts s f block old read for found honest one =
     let all = is_in (headers_of (table_of old.image (home_of s)) f.number) in
-    parts-behind s all found.looked (to-parts s all (only_header f.number) [] (of-only all f.number (first-listed s f block old for found.holds honest)) one)
+    parts-behind s all found.looked
+    (to-parts s all (only_header f.number) [] (of-only all f.number (first-listed s f block old for found.holds honest)) one)
 
 -- the last header that stays was found
-module _ (s : Structure) (f : FileId) (to n keep lbn : ℕ) (block cut : List ℕ) (old read : Disk) (for : IsStructureFor s old) (own : 4 ≤ f.number)
-    (finds : FindsLastKept (home_of s) (index_in s) f to n keep block old read) (cuts : CutsOff keep block cut) (at : lbn ≡ header_lbn (index_in s) n) (old_image : IsImage old.image) (honest : IsTrue old.honest) where
+module _ (s : Structure) (f : FileId) (to n keep lbn : ℕ) (block cut : List ℕ) (old read : Disk) (for : IsStructureFor s old)
+    (own : 4 ≤ f.number)
+    (finds : FindsLastKept (home_of s) (index_in s) f to n keep block old read) (cuts : CutsOff keep block cut)
+    (at : lbn ≡ header_lbn (index_in s) n) (old_image : IsImage old.image) (honest : IsTrue old.honest) where
   abbrev all : ℕ → Bool
   all = is_in (headers_of (table_of old.image (home_of s)) f.number)
 
@@ -36,7 +40,8 @@ module _ (s : Structure) (f : FileId) (to n keep lbn : ℕ) (block cut : List �
   one-of = listed s f to n keep lbn block cut old read for own finds cuts at old_image honest
 
   -- it wasn't written
-  pub cut-failed : (new : Disk) → (new ≡ with_transfer false read) ⊎ (new ≡ with_transfer false (with_block_at lbn cut read)) → WritesParts s all old new
+  pub cut-failed : (new : Disk) → (new ≡ with_transfer false read) ⊎ (new ≡ with_transfer false (with_block_at lbn cut read))
+      → WritesParts s all old new
   cut-failed new is = parts-behind s all finds.looked (header-failed s all n lbn cut read new one-of finds.header.in_use at is)
 
   module _ (now : Disk) (wrote : now ≡ with_transfer true (with_block_at lbn cut read)) where
@@ -47,9 +52,14 @@ module _ (s : Structure) (f : FileId) (to n keep lbn : ℕ) (block cut : List �
         parts-then s s all (stands-same s) written (to-parts s all no_header [] (of-none all) gives)
 
     -- and then the headers behind it dropped
-    pub cut-dropped : (c : Structure) (given new : Disk) → GivesBlocks (home_of s) (drop keep (blocks_named block)) (pointers_in block) now given → home_of c ≡ home_of s → IsImage given.image → StandsAlike s c → WritesParts s no_header now given
-        → (IsTrue given.honest → WritesParts c (is_in (headers_behind (table_of given.image (home_of c)) block)) given new) → WritesParts s all old new
+    pub cut-dropped : (c : Structure) (given new : Disk)
+        → GivesBlocks (home_of s) (drop keep (blocks_named block)) (pointers_in block) now given → home_of c ≡ home_of s
+        → IsImage given.image → StandsAlike s c → WritesParts s no_header now given
+        → (IsTrue given.honest → WritesParts c (is_in (headers_behind (table_of given.image (home_of c)) block)) given new)
+        → WritesParts s all old new
     cut-dropped c given new gives same is_image places one two =
-        let some = behind-listed s f to n keep lbn block cut old read for own finds cuts at old_image now wrote c given gives same is_image honest in
-        let sure = gives.writes.went.honest ∙ honest-now s f to n keep lbn block cut old read for own finds cuts at old_image now wrote ∙ honest in
+        let some = behind-listed s f to n keep lbn block cut old read for own finds cuts at old_image now wrote c given gives same is_image
+        honest in
+        let sure = gives.writes.went.honest ∙ honest-now s f to n keep lbn block cut old read for own finds cuts at old_image now wrote
+        ∙ honest in
         parts-then s c all places (cut-given one) (to-parts c all _ [] some (two sure))

@@ -88,5 +88,6 @@ pub record AppendsRun (s after : Structure) (tail later : Tail) (lbn count most 
       (table_of new.image (home_of s))
   pub slots : IsTrue old.honest → AddsZeroSlots (table_of old.image (home_of s)) (table_of new.image (home_of s))
   pub grew :
-      Grew (AppendingRun s tail count old) (home_of s) (with_more_free (store_on s old) count) tail.file.number count (run_pointers count) most old
+      Grew (AppendingRun s tail count old) (home_of s) (with_more_free (store_on s old) count) tail.file.number count (run_pointers count)
+      most old
       new

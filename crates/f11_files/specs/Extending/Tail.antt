@@ -47,8 +47,8 @@ growth_headers s tail = either (only_header tail.number) (new_header (index_in s
 abbrev pub WritesGrowth : Structure → Tail → List ℕ → Disk → Disk → Type 0
 WritesGrowth s tail others old new = ConfinesTo s (growth_headers s tail) others old new
 
--- A block that is neither of those headers, of the bitmaps nor one of these is none of those headers, nor of the bitmaps, afterwards; and each
--- header is where it was, or is one of these.
+-- A block that is neither of those headers, of the bitmaps nor one of these is none of those headers, nor of the bitmaps, afterwards; and
+-- each header is where it was, or is one of these.
 pub record GrowthStandsWithin (s : Structure) (tail : Tail) (others : List ℕ) (after : Structure) (later : Tail) : Type 0 where
   pub grown : StandsWithin s (growth_headers s tail) others after (growth_headers after later)
   pub all : (headers : ℕ → Bool) → StandsWithin s headers others after headers

@@ -42,7 +42,8 @@ pub record LaysRun (s after : Structure) (tail : Tail) (lbn n : ℕ) (old new : 
   pub free : IsTrue old.honest → SameFree (home_of s) old.image new.image
   pub names :
       IsTrue old.honest →
-      NamesMore tail.file.number (ownership_of tail) (range_with_len lbn n) (table_of old.image (home_of s)) (table_of new.image (home_of s))
+      NamesMore tail.file.number (ownership_of tail) (range_with_len lbn n) (table_of old.image (home_of s))
+      (table_of new.image (home_of s))
   pub adds :
       IsTrue old.honest →
       AddsBlocks (run_free s n old) tail.file.number n (run_pointers n) (zero_blocks n) (store_of new.image (home_of s))

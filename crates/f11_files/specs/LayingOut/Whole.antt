@@ -1,5 +1,5 @@
--- What laying a file out does (profile: blocks of zeros in one run, the lowest place that has so many free ones; a pointer of 256 blocks after
--- another, and the rest in one more).
+-- What laying a file out does (profile: blocks of zeros in one run, the lowest place that has so many free ones; a pointer of 256 blocks
+-- after another, and the rest in one more).
 use Rattle.std.specs.Prelude.{◌≡◌, ◌≢◌, ℕ, ◌-◌, ◌==◌, if◌then◌else◌, Bool, true, false, IsTrue, List, None}
 use Rattle.std.specs.List.{range_with_len}
 use Rattle.f11_bits.specs.Run.{IsFirstRunOf, NoRunOf}
@@ -27,8 +27,8 @@ use Rattle.f11_image_store.specs.StoreOf.{store_of}
 use Rattle.f11_files.specs.Structure.{home_of, store_on}
 use Rattle.f11_files.specs.declared.structure.Structure.{Structure}
 
--- File f, which had no block, has n in a row, from the lowest place on that had so many free: no others, and all others are free as they were.
--- The headers that it has more say this ownership alone.
+-- File f, which had no block, has n in a row, from the lowest place on that had so many free: no others, and all others are free as they
+-- were. The headers that it has more say this ownership alone.
 pub record GainsRunAs (f : ℕ) (ownership : Uic × ℕ) (n : ℕ) (old new : Volume) : Type 0 where
   pub lbn : ℕ
   pub first : IsFirstRunOf old.free n lbn
@@ -40,8 +40,8 @@ pub record GainsRunAs (f : ℕ) (ownership : Uic × ℕ) (n : ℕ) (old new : Vo
 abbrev pub GainsRun : ℕ → ℕ → Volume → Volume → Type 0
 GainsRun f n old new = GainsRunAs f (ownership_in (old.table.header f)) n old new
 
--- A file was laid out in one run of n blocks of zeros, and then marked contiguous: one transfer less than the cost, which counts a look at its
--- right.
+-- A file was laid out in one run of n blocks of zeros, and then marked contiguous: one transfer less than the cost, which counts a look at
+-- its right.
 abbrev pub LaysOutFile : HomeFields → FileId → ℕ → Disk → Disk → Type 0
 LaysOutFile home f n old new =
     let s = store_of old.image home in
@@ -59,7 +59,8 @@ pub record FailsToLayOut (failed : Bool) (home : HomeFields) (f : FileId) (n : �
       WritesAtMost
       (Meanwhile (work_if (first_of (contiguous_causes s f n)) (contiguous_work f.number (file_named s f).room n)) home old)
       (contiguous_cost s (file_named s f) n - 1) old new (faults_of refusal)
-  pub unchanged : let s = store_of old.image home in is_fatal refusal ≡ false → ReadsAtMost (contiguous_cost s (file_named s f) n - 1) old new 0
+  pub unchanged : let s = store_of old.image home in is_fatal refusal ≡ false
+      → ReadsAtMost (contiguous_cost s (file_named s f) n - 1) old new 0
 
 -- A file's first header is in hand, and its last, and there is room for a run of n blocks.
 pub record HoldsRunRoom (s : Structure) (f : FileId) (n : ℕ) (end : FileEnd) (first last : List ℕ) (disk : Disk) : Type 0 where

@@ -1,5 +1,6 @@
 -- Blocks that hold no record of a directory.
-use Rattle.std.proofs.Common.{◌≡◌, ◌≤◌, ◌<◌, ◌+◌, ◌/◌, ◌%◌, ◌==◌, ◌||◌, inl, inr, ℕ, false, true, List, [], get_or, refl, ap, sym, subst, ◌∙◌, arith}
+use Rattle.std.proofs.Common.{◌≡◌, ◌≤◌, ◌<◌, ◌+◌, ◌/◌, ◌%◌, ◌==◌, ◌||◌, inl, inr, ℕ, false, true, List, [], get_or, refl, ap, sym, subst}
+use Rattle.std.proofs.Common.{◌∙◌, arith}
 use Rattle.std.proofs.lemmas.Bool.{both_ways, eq-eqb, eqb-true, or_cases, or_left, or_right}
 use Rattle.f11_dev.specs.Image.{Image}
 use Rattle.f11_store.specs.Directory.{is_empty, record_in, record_at}
@@ -14,7 +15,8 @@ pub blank-none : (image : Image) (known : Bits) → ((lbn : ℕ) → has known l
 blank-none image known none lbn is = absurd (both_ways _ (none lbn) is)
 
 -- a block more
-pub blank-more : (image : Image) (lbn : ℕ) (b : List ℕ) (old new : Bits) → AddsBlank lbn b old new → block_or_zeros image lbn ≡ b → HoldNoRecord old image → HoldNoRecord new image
+pub blank-more : (image : Image) (lbn : ℕ) (b : List ℕ) (old new : Bits) → AddsBlank lbn b old new → block_or_zeros image lbn ≡ b
+    → HoldNoRecord old image → HoldNoRecord new image
 blank-more image lbn b old new adds is known j has_j = elim ((adds.adds j).0 has_j) [
   | inl was ↦ known j was
   | inr put ↦ subst (λ (x : List ℕ). HoldsNoRecord x) (sym is ∙ ap (block_or_zeros image) (sym put.0)) put.1.1
@@ -22,9 +24,11 @@ blank-more image lbn b old new adds is known j has_j = elim ((adds.adds j).0 has
 
 -- nothing is put into a set where it may not be, and one block where it may
 pub adds-none : (lbn : ℕ) (b : List ℕ) (known : Bits) → ¬ MayAdd known lbn b → AddsBlank lbn b known known
-adds-none lbn b known not_so = record { limit = refl; adds = λ j. (λ was. inl was, λ s. elim s [ inl was ↦ was | inr put ↦ absurd (not_so put.1) ]) }
+adds-none lbn b known not_so =
+    record { limit = refl; adds = λ j. (λ was. inl was, λ s. elim s [ inl was ↦ was | inr put ↦ absurd (not_so put.1) ]) }
 
-pub adds-one : (lbn : ℕ) (b : List ℕ) (old new : Bits) → MayAdd old lbn b → limit_of new ≡ limit_of old → ((j : ℕ) → has new j ≡ (has old j || (j == lbn))) → AddsBlank lbn b old new
+pub adds-one : (lbn : ℕ) (b : List ℕ) (old new : Bits) → MayAdd old lbn b → limit_of new ≡ limit_of old
+    → ((j : ℕ) → has new j ≡ (has old j || (j == lbn))) → AddsBlank lbn b old new
 adds-one lbn b old new may limit each = record {
   limit = limit;
   adds = λ j. (
@@ -34,7 +38,8 @@ adds-one lbn b old new may limit each = record {
 }
 
 -- the records before an end of a directory's block that holds none
-pub block-empty : (end at : ℕ) (blocks : List (List ℕ)) (b : List ℕ) → get_or blocks at [] ≡ b → HoldsNoRecord b → (k : ℕ) → until end at ≤ k → k < until end (at + 1) → is_empty (record_at blocks k) ≡ true
+pub block-empty : (end at : ℕ) (blocks : List (List ℕ)) (b : List ℕ) → get_or blocks at [] ≡ b → HoldsNoRecord b → (k : ℕ)
+    → until end at ≤ k → k < until end (at + 1) → is_empty (record_at blocks k) ≡ true
 unfolding record_at
 block-empty end at blocks b is none k low high =
     let place : k / 32 ≡ at = omega (arith, low, high) in

@@ -7,7 +7,8 @@ use Rattle.f11_vfy.specs.Directory.Flaws.{NamesFileAt, EntersIn}
 pub enters-none : (t : Table) (blocks : List (List ℕ)) (A : Type 0) (n : ℕ) → A ↔ (A ⊎ EntersIn t blocks 0 n)
 enters-none t blocks A n = (λ a. inl a, λ s. elim s [ inl a ↦ a | inr e ↦ absurd (omega (arith, e.below)) ])
 
-pub enters-more : (t : Table) (blocks : List (List ℕ)) (k n : ℕ) (A B C : Type 0) → B ↔ (A ⊎ EntersIn t blocks k n) → C ↔ (B ⊎ NamesFileAt t blocks k n) → C ↔ (A ⊎ EntersIn t blocks (k + 1) n)
+pub enters-more : (t : Table) (blocks : List (List ℕ)) (k n : ℕ) (A B C : Type 0) → B ↔ (A ⊎ EntersIn t blocks k n)
+    → C ↔ (B ⊎ NamesFileAt t blocks k n) → C ↔ (A ⊎ EntersIn t blocks (k + 1) n)
 enters-more t blocks k n A B C before here = (λ c. first (here.0 c), λ s. here.1 (back s))
   where
     more : A ⊎ EntersIn t blocks k n → A ⊎ EntersIn t blocks (k + 1) n
@@ -20,7 +21,8 @@ enters-more t blocks k n A B C before here = (λ c. first (here.0 c), λ s. here
 
     which : (e : EntersIn t blocks (k + 1) n) → (e.place < k) ⊎ (k ≤ e.place) → B ⊎ NamesFileAt t blocks k n
     which e (inl less) = inl (before.1 (inr (record { place = e.place; below = less; enters = e.enters })))
-    which e (inr most) = let same : e.place ≡ k = omega (arith, e.below, most) in inr (subst (λ (p : ℕ). NamesFileAt t blocks p n) same e.enters)
+    which e (inr most) =
+        let same : e.place ≡ k = omega (arith, e.below, most) in inr (subst (λ (p : ℕ). NamesFileAt t blocks p n) same e.enters)
 
     back : A ⊎ EntersIn t blocks (k + 1) n → B ⊎ NamesFileAt t blocks k n
     back (inl a) = inl (before.1 (inl a))

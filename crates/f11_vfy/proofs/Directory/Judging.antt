@@ -1,5 +1,6 @@
 -- What is found of all directories.
-use Rattle.std.proofs.Common.{◌≡◌, ◌⊎◌, ◌<◌, ◌≤◌, ◌+◌, ◌-◌, inl, inr, ℕ, false, true, List, [], length, get_or, refl, ap, sym, subst, ◌∙◌, arith, eq-eqb}
+use Rattle.std.proofs.Common.{◌≡◌, ◌⊎◌, ◌<◌, ◌≤◌, ◌+◌, ◌-◌, inl, inr, ℕ, false, true, List, [], length, get_or, refl, ap, sym, subst, ◌∙◌}
+use Rattle.std.proofs.Common.{arith, eq-eqb}
 use Rattle.std.proofs.lemmas.Bool.{both_ways, and_from, cond-true, false_from_ne_true}
 use Rattle.f11_bits.specs.Bitmap.{Bitmap}
 use Rattle.f11_dev.specs.Disk.{Disk}
@@ -16,7 +17,8 @@ use Rattle.f11_vfy.specs.Directory.Reading.{LooksFor, TakesDirectory, most_reads
 use Rattle.f11_vfy.specs.Directory.Notes.{IsLaterNote, has_directory, reads_at, JudgesSlot, JudgesUpTo, LooksAt, LooksUpTo, LooksThrough}
 use Rattle.f11_findings.specs.Found.{Finds, FoundAmong}
 use Rattle.f11_vfy.specs.Directory.Later.{FlawsUpTo, IsNewLater, ShowsLater}
-use Rattle.f11_volume.specs.Notes.{IsDirectory, IsEntered, IsVolumeNote, blocks_lost, header_dead, orphan, marked, not_closed, in_no_directory, names_no_file, name_repeated, no_name, not_contiguous}
+use Rattle.f11_volume.specs.Notes.{IsDirectory, IsEntered, IsVolumeNote, blocks_lost, header_dead, orphan, marked, not_closed}
+use Rattle.f11_volume.specs.Notes.{in_no_directory, names_no_file, name_repeated, no_name, not_contiguous}
 use Rattle.f11_vfy.specs.Scanning.Reading.{ShowsVolume, volume_in}
 use Rattle.f11_vfy.specs.Scanning.Scans.{IsFileSlot}
 use Rattle.f11_vfy.specs.Surveying.Slot.{KeepsSlot, kept_slot}
@@ -45,20 +47,30 @@ module _ (image : Image) (t : Table) (d : ℕ) (s : Slot) (keeps : KeepsSlot t d
   pub directory-here : IsFileSlot s → s.directory ≡ true → IsDirectory image t d
   directory-here file is =
       let first = sym (keeps.header file.0).segment ∙ file.1 in
-      record { file = record { live = live-from t d _ keeps.state file.0; first = first }; directory = directory-said image t d ∙ sym ((keeps.header file.0).directory first) ∙ is }
+      record {
+        file = record { live = live-from t d _ keeps.state file.0; first = first };
+        directory = directory-said image t d
+            ∙ sym ((keeps.header file.0).directory first) ∙ is;
+      }
 
   pub directory-there : IsDirectory image t d → IsFileSlot s × (s.directory ≡ true)
   directory-there is =
-      let alive = live-to t d s.state keeps.state is.file.live in
-      ((alive, (keeps.header alive).segment ∙ is.file.first), (keeps.header alive).directory is.file.first ∙ sym (directory-said image t d) ∙ is.directory)
+      let alive = live-to t d s.state keeps.state is.file.live in (
+        (alive, (keeps.header alive).segment ∙ is.file.first),
+        (keeps.header alive).directory is.file.first ∙ sym (directory-said image t d)
+            ∙ is.directory,
+      )
 
 directory-tested : (image : Image) (t : Table) (d : ℕ) → IsDirectory image t d → has_directory image t d ≡ true
 unfolding has_directory
 directory-tested image t d is = and_from _ _ ((live-tested t d).1 is.file.live) (and_from _ _ (eq-eqb _ _ is.file.first) is.directory)
 
-module _ (index : Index) (r : Reading) (k : ℕ) (s : Slot) (old new : Disk) (below : k < length r.survey.slots.items) (at : s ≡ get_or r.survey.slots.items k s) where
+module _ (index : Index) (r : Reading) (k : ℕ) (s : Slot) (old new : Disk) (below : k < length r.survey.slots.items)
+    (at : s ≡ get_or r.survey.slots.items k s) where
   kept-here : (bitmap : Bitmap) → ShowsVolume (volume_in old.image index bitmap) r → KeepsSlot (table_in old.image index) (k + 1) s
-  kept-here bitmap is = subst (λ (x : Slot). KeepsSlot (table_in old.image index) (k + 1) x) (sym at) (is.surveys.slots.each k s (omega (arith, below, is.surveys.slots.count)))
+  kept-here bitmap is =
+      subst (λ (x : Slot). KeepsSlot (table_in old.image index) (k + 1) x) (sym at)
+      (is.surveys.slots.each k s (omega (arith, below, is.surveys.slots.count)))
 
   pub judges-none : (later : Later) → ¬ (IsFileSlot s × (s.directory ≡ true)) → JudgesSlot index r k later later old old
   judges-none later none = record {
@@ -69,7 +81,8 @@ module _ (index : Index) (r : Reading) (k : ℕ) (s : Slot) (old new : Disk) (be
   }
 
   module _ (file : IsFileSlot s × (s.directory ≡ true)) where
-    directory-at : (bitmap : Bitmap) → ShowsVolume (volume_in old.image index bitmap) r → IsDirectory old.image (table_in old.image index) (k + 1)
+    directory-at : (bitmap : Bitmap) → ShowsVolume (volume_in old.image index bitmap) r
+        → IsDirectory old.image (table_in old.image index) (k + 1)
     directory-at bitmap is = directory-here old.image (table_in old.image index) (k + 1) s (kept-here bitmap is) file.0 file.1
 
     pub looks-at : (faults : ℕ) → LooksFor index r.chains.nexts.items (k + 1) old new faults → LooksAt index r k old new faults
@@ -79,22 +92,27 @@ module _ (index : Index) (r : Reading) (k : ℕ) (s : Slot) (old new : Disk) (be
       few = λ honest bitmap is.
           let dir = directory-at bitmap is in
           let few = looks.few honest (knows-nexts (volume_in old.image index bitmap) r is) dir.file.live in
-          let all : reads_at old.image (table_in old.image index) k ≡ most_reads old.image (table_in old.image index) (k + 1) = cond-true _ _ _ (directory-tested old.image (table_in old.image index) (k + 1) dir) in
+          let all : reads_at old.image (table_in old.image index) k ≡ most_reads old.image (table_in old.image index) (k + 1) =
+          cond-true _ _ _ (directory-tested old.image (table_in old.image index) (k + 1) dir) in
           omega (arith, few, all);
     }
 
-    pub judges-directory : (before after : Later) → TakesDirectory index r.survey.slots.items r.chains.nexts.items (k + 1) before after old new → JudgesSlot index r k before after old new
+    pub judges-directory : (before after : Later)
+        → TakesDirectory index r.survey.slots.items r.chains.nexts.items (k + 1) before after old new
+        → JudgesSlot index r k before after old new
     judges-directory before after takes = record {
       shows = λ honest bitmap is shows.
           let v = volume_in old.image index bitmap in
           let here = directory-at bitmap is in
-          later-next old.image v is.fit.low k here before after shows (takes.takes honest (knows-nexts v r is) (keeps-table v r is) here.file.live shows.blank);
+          later-next old.image v is.fit.low k here before after shows
+          (takes.takes honest (knows-nexts v r is) (keeps-table v r is) here.file.live shows.blank);
       limit = takes.limit;
       looked = looks-at 0 takes.looked;
     }
 
 -- before the first slot
-pub judged-none : (index : Index) (r : Reading) (later : Later) (disk : Disk) → IsNewLater later → later.entered.limit ≡ length r.survey.slots.items + 1 → JudgesUpTo index r 0 later disk disk
+pub judged-none : (index : Index) (r : Reading) (later : Later) (disk : Disk) → IsNewLater later
+    → later.entered.limit ≡ length r.survey.slots.items + 1 → JudgesUpTo index r 0 later disk disk
 judged-none index r later disk new limit = record {
   shows = λ honest bitmap is. later-new disk.image (volume_in disk.image index bitmap) is.fit.low later new;
   limit = limit;
@@ -102,27 +120,32 @@ judged-none index r later disk new limit = record {
 }
 
 -- one slot after others
-pub looked-on : (index : Index) (r : Reading) (k : ℕ) (old now new : Disk) (faults : ℕ) → LooksUpTo index r k old now 0 → LooksAt index r k now new faults → LooksUpTo index r (k + 1) old new faults
+pub looked-on : (index : Index) (r : Reading) (k : ℕ) (old now new : Disk) (faults : ℕ) → LooksUpTo index r k old now 0
+    → LooksAt index r k now new faults → LooksUpTo index r (k + 1) old new faults
 looked-on index r k old now new faults before here = record {
   reads = before.reads + here.reads;
   looked = looked_more before.looked here.looked;
   few = λ honest bitmap is.
       let first = before.few honest bitmap is in
-      let at = subst (λ (i : Image). ShowsVolume (volume_in i index bitmap) r → here.reads ≤ reads_at i (table_in i index) k) before.looked.image (here.few (before.looked.honest ∙ honest) bitmap) is in
+      let at = subst (λ (i : Image). ShowsVolume (volume_in i index bitmap) r → here.reads ≤ reads_at i (table_in i index) k)
+      before.looked.image (here.few (before.looked.honest ∙ honest) bitmap) is in
       omega (arith, first, at, sum_to-more (reads_at old.image (table_in old.image index)) k);
 }
 
-pub judged-more : (index : Index) (r : Reading) (k : ℕ) (later after : Later) (old now new : Disk) → JudgesUpTo index r k later old now → JudgesSlot index r k later after now new → JudgesUpTo index r (k + 1) after old new
+pub judged-more : (index : Index) (r : Reading) (k : ℕ) (later after : Later) (old now new : Disk) → JudgesUpTo index r k later old now
+    → JudgesSlot index r k later after now new → JudgesUpTo index r (k + 1) after old new
 judged-more index r k later after old now new before here = record {
   shows = λ honest bitmap is.
-      subst (λ (i : Image). ShowsVolume (volume_in i index bitmap) r → ShowsLater i (volume_in i index bitmap) k later → ShowsLater i (volume_in i index bitmap) (k + 1) after) before.looked.looked.image
+      subst (λ (i : Image). ShowsVolume (volume_in i index bitmap) r → ShowsLater i (volume_in i index bitmap) k later
+      → ShowsLater i (volume_in i index bitmap) (k + 1) after) before.looked.looked.image
       (here.shows (before.looked.looked.honest ∙ honest) bitmap) is (before.shows honest bitmap is);
   limit = here.limit ∙ before.limit;
   looked = looked-on index r k old now new 0 before.looked here.looked;
 }
 
 -- all slots
-pub looked-all : (index : Index) (r : Reading) (n : ℕ) (old new : Disk) (faults : ℕ) → n ≤ length r.survey.slots.items → LooksUpTo index r n old new faults → LooksThrough index r old new faults
+pub looked-all : (index : Index) (r : Reading) (n : ℕ) (old new : Disk) (faults : ℕ) → n ≤ length r.survey.slots.items
+    → LooksUpTo index r n old new faults → LooksThrough index r old new faults
 looked-all index r n old new faults below looks = record {
   reads = looks.reads;
   looked = looks.looked;
@@ -132,9 +155,12 @@ looked-all index r n old new faults below looks = record {
 }
 
 -- the notes of the directories, a list after another
-module _ (image : Image) (v : Volume) (r : Reading) (is : ShowsVolume v r) (later : Later) (shows : ShowsLater image v (length r.survey.slots.items) later) where
+module _ (image : Image) (v : Volume) (r : Reading) (is : ShowsVolume v r) (later : Later)
+    (shows : ShowsLater image v (length r.survey.slots.items) later) where
   abbrev pub Unentered : ℕ → ℕ → ℕ → Type 0
-  Unentered = FoundAmong (λ k. IsFileSlot (kept_slot r.survey.slots.items k) × (has later.entered (k + 1) ≡ false)) (λ k. finding 6 (k + 1) 0) (length r.survey.slots.items)
+  Unentered =
+      FoundAmong (λ k. IsFileSlot (kept_slot r.survey.slots.items k) × (has later.entered (k + 1) ≡ false)) (λ k. finding 6 (k + 1) 0)
+      (length r.survey.slots.items)
 
   abbrev pub Of : List Finding → ℕ → ℕ → ℕ → Type 0
   Of list code a b = Contains list (finding code a b)
@@ -146,17 +172,30 @@ module _ (image : Image) (v : Volume) (r : Reading) (is : ShowsVolume v r) (late
   kept k below = is.surveys.slots.each k _ (omega (arith, below, is.surveys.slots.count))
 
   all-entered : (n : ℕ) → IsEntered image v.table n → has later.entered n ≡ true
-  all-entered n e = (shows.entered n).1 (record { entered = e; within = let high = is.fit.high e.directory e.entry.directory.file.live.in_use in omega (arith, high, is.surveys.slots.count) })
+  all-entered n e =
+      (shows.entered n).1 (record {
+        entered = e;
+        within = let high = is.fit.high e.directory e.entry.directory.file.live.in_use in
+            omega (arith, high, is.surveys.slots.count);
+      })
 
-  unentered-noted : (f : Finding) (k : ℕ) → k < length r.survey.slots.items → IsFileSlot (kept_slot r.survey.slots.items k) → has later.entered (k + 1) ≡ false → f ≡ finding 6 (k + 1) 0 → IsLaterNote image v f.code f.a f.b
+  unentered-noted : (f : Finding) (k : ℕ) → k < length r.survey.slots.items → IsFileSlot (kept_slot r.survey.slots.items k)
+      → has later.entered (k + 1) ≡ false → f ≡ finding 6 (k + 1) 0 → IsLaterNote image v f.code f.a f.b
   unentered-noted f k below file none same = subst (λ (g : Finding). IsLaterNote image v g.code g.a g.b) (sym same) (record {
     later = omega arith;
     early = omega arith;
-    note = in_no_directory (k + 1) (record { live = live-from v.table (k + 1) _ (kept k below).state file.0; first = sym ((kept k below).header file.0).segment ∙ file.1 })
+    note =
+        in_no_directory (k + 1)
+        (record {
+          live = live-from v.table (k + 1) _ (kept k below).state file.0;
+          first = sym ((kept k below).header file.0).segment
+              ∙ file.1;
+        })
         (λ e. both_ways _ none (all-entered (k + 1) e));
   })
 
-  flaw-found : (flaw : Flaw) (list : List Finding) → Finds (FlawsUpTo image v flaw (length r.survey.slots.items)) [] list → (code a b : ℕ) → Of list code a b → IsLaterNote image v code a b
+  flaw-found : (flaw : Flaw) (list : List Finding) → Finds (FlawsUpTo image v flaw (length r.survey.slots.items)) [] list → (code a b : ℕ)
+      → Of list code a b → IsLaterNote image v code a b
   flaw-found flaw list finds code a b c = elim (finds.no_others (finding code a b) c) [
     | inl none ↦ absurd (omega (arith, none.1))
     | inr f ↦ record { later = omega (arith, f.0, flaw-low flaw); early = omega (arith, f.0, flaw-high flaw); note = f.1.1 }
@@ -187,17 +226,26 @@ module _ (image : Image) (v : Volume) (r : Reading) (is : ShowsVolume v r) (late
       inl (inl (inl (record {
         number = n - 1;
         below = below;
-        holds = ((alive, (here.header alive).segment ∙ file.first), false_from_ne_true _ (λ e. none ((shows.entered n).0 (ap (has later.entered) (sym same) ∙ e)).entered));
+        holds = (
+          (alive, (here.header alive).segment ∙ file.first),
+          false_from_ne_true _ (λ e. none ((shows.entered n).0 (ap (has later.entered) (sym same) ∙ e)).entered),
+        );
         is = ap (λ (m : ℕ). finding 6 m 0) (sym same);
       })))
-  noted-found code a b (names_no_file d i bytes e none) past early = inl (inl (inr (shows.no_file.added 7 d i (refl, (within d e.directory, names_no_file d i bytes e none)))))
-  noted-found code a b (name_repeated d i bytes e again) past early = inl (inr (shows.repeated.added 8 d i (refl, (within d e.directory, name_repeated d i bytes e again))))
-  noted-found code a b (no_name d i bytes e none) past early = inr (shows.no_name.added 9 d i (refl, (within d e.directory, no_name d i bytes e none)))
+  noted-found code a b (names_no_file d i bytes e none) past early =
+      inl (inl (inr (shows.no_file.added 7 d i (refl, (within d e.directory, names_no_file d i bytes e none)))))
+  noted-found code a b (name_repeated d i bytes e again) past early =
+      inl (inr (shows.repeated.added 8 d i (refl, (within d e.directory, name_repeated d i bytes e again))))
+  noted-found code a b (no_name d i bytes e none) past early =
+      inr (shows.no_name.added 9 d i (refl, (within d e.directory, no_name d i bytes e none)))
   noted-found code a b (not_contiguous n file mark apart) past early = absurd (omega (arith, early))
 
   both : (R S : ℕ → ℕ → ℕ → Type 0) (a b c : List Finding) → Finds R a b → Finds S b c → Finds (λ code x y. R code x y ⊎ S code x y) a c
-  both R S a b c one other = finds-more R S (λ code x y. R code x y ⊎ S code x y) a b c one other (λ code x y h. inl h) (λ code x y h. inr h) (λ code x y h. h)
+  both R S a b c one other =
+      finds-more R S (λ code x y. R code x y ⊎ S code x y) a b c one other (λ code x y h. inl h) (λ code x y h. inr h) (λ code x y h. h)
 
-  pub later-found : (a b c d e : List Finding) → Finds Unentered a b → Finds (Of later.no_file) b c → Finds (Of later.repeated) c d → Finds (Of later.no_name) d e → Finds (IsLaterNote image v) a e
+  pub later-found : (a b c d e : List Finding) → Finds Unentered a b → Finds (Of later.no_file) b c → Finds (Of later.repeated) c d
+      → Finds (Of later.no_name) d e → Finds (IsLaterNote image v) a e
   later-found a b c d e one two three four =
-      finds-same Found _ a e (both _ _ a d e (both _ _ a c d (both _ _ a b c one two) three) four) found-noted (λ code x y n. noted-found code x y n.note n.later n.early)
+      finds-same Found _ a e (both _ _ a d e (both _ _ a c d (both _ _ a b c one two) three) four) found-noted
+      (λ code x y n. noted-found code x y n.note n.later n.early)

@@ -1,5 +1,6 @@
 -- Which candidates for the home block headers name.
-use Rattle.std.proofs.Common.{◌≡◌, ◌≤◌, ◌<◌, ◌+◌, ◌⊎◌, ◌||◌, inl, inr, ℕ, refl, ap, sym, ◌∙◌, subst, arith, Bool, true, false, List, ◌++◌, Some, length, take, min, eqb, eqb-true, eq-eqb, ◌↔◌}
+use Rattle.std.proofs.Common.{◌≡◌, ◌≤◌, ◌<◌, ◌+◌, ◌⊎◌, ◌||◌, inl, inr, ℕ, refl, ap, sym, ◌∙◌, subst, arith, Bool, true, false, List, ◌++◌}
+use Rattle.std.proofs.Common.{Some, length, take, min, eqb, eqb-true, eq-eqb, ◌↔◌}
 use Rattle.std.specs.Prelude.{Contains, IsTrue}
 use Rattle.std.specs.List.{slice_get, range_with_len}
 use Rattle.std.proofs.lemmas.Bool.{cases_lt}
@@ -29,7 +30,8 @@ use Rattle.f11_volume.proofs.MemberLemmas.{in-front, in-back, in-either, in-rang
 pub puts-none : (P : ℕ → Type 0) (b : Bits) → ((k : ℕ) → ¬ P k) → Puts P b b
 puts-none P b none = record { limit = refl; kept = λ k is. is; all = λ k below holds. absurd (none k holds); only = λ k is. inl is }
 
-pub puts-then : (P Q R : ℕ → Type 0) (a b c : Bits) → Puts P a b → Puts Q b c → ((k : ℕ) → P k → R k) → ((k : ℕ) → Q k → R k) → ((k : ℕ) → R k → P k ⊎ Q k) → Puts R a c
+pub puts-then : (P Q R : ℕ → Type 0) (a b c : Bits) → Puts P a b → Puts Q b c → ((k : ℕ) → P k → R k) → ((k : ℕ) → Q k → R k)
+    → ((k : ℕ) → R k → P k ⊎ Q k) → Puts R a c
 puts-then P Q R a b c one two p q r = record {
   limit = two.limit ∙ one.limit;
   kept = λ k is. two.kept k (one.kept k is);
@@ -81,7 +83,8 @@ pub record InRun (first k end j : ℕ) : Type 0 where
 pub run-none : (first end : ℕ) (b : Bits) → Puts (InRun first first end) b b
 run-none first end b = puts-none _ b (λ k r. omega (arith, r.low, r.so_far))
 
-pub run-more : (first k end : ℕ) (a b c : Bits) → first ≤ k → k < end → Puts (InRun first k end) a b → limit_of c ≡ limit_of b → ((j : ℕ) → has c j ≡ (has b j || eqb j k))
+pub run-more : (first k end : ℕ) (a b c : Bits) → first ≤ k → k < end → Puts (InRun first k end) a b → limit_of c ≡ limit_of b
+    → ((j : ℕ) → has c j ≡ (has b j || eqb j k))
     → Puts (InRun first (k + 1) end) a c
 run-more first k end a b c low high puts limit adds =
     puts-then (InRun first k end) (λ j. j ≡ k) (InRun first (k + 1) end) a b c puts (puts-one b c k limit adds)
@@ -92,9 +95,11 @@ run-more first k end a b c low high puts limit adds =
       | inr here ↦ inr (omega (arith, here, r.so_far))
     ])
 
-pub run-all : (lbn end k stop : ℕ) (a b : Bits) → stop ≡ min (candidates end) (limit_of a) → stop ≤ k → Puts (InRun (candidates lbn) k stop) a b
+pub run-all : (lbn end k stop : ℕ) (a b : Bits) → stop ≡ min (candidates end) (limit_of a) → stop ≤ k
+    → Puts (InRun (candidates lbn) k stop) a b
     → Puts (λ j. (lbn ≤ candidate j) × (candidate j < end)) a b
-run-all lbn end k stop a b is past puts = puts-same (InRun (candidates lbn) k stop) (λ j. (lbn ≤ candidate j) × (candidate j < end)) a b puts to from
+run-all lbn end k stop a b is past puts =
+    puts-same (InRun (candidates lbn) k stop) (λ j. (lbn ≤ candidate j) × (candidate j < end)) a b puts to from
   where
     to : (j : ℕ) → InRun (candidates lbn) k stop j → (lbn ≤ candidate j) × (candidate j < end)
     to j r = (
@@ -122,22 +127,28 @@ run-all lbn end k stop a b is past puts = puts-same (InRun (candidates lbn) k st
 pub header-none : (runs : List (ℕ × ℕ)) (b : Bits) → Puts (λ k. Contains (blocks_in (take 0 runs)) (candidate k)) b b
 header-none runs b = puts-none (λ k. Contains (blocks_in (take 0 runs)) (candidate k)) b (λ k has. omega (arith, has.1))
 
-pub header-more : (runs : List (ℕ × ℕ)) (i : ℕ) (run : ℕ × ℕ) (a b c : Bits) → slice_get runs i ≡ Some run → Puts (λ k. Contains (blocks_in (take i runs)) (candidate k)) a b
-    → Puts (λ k. (run.0 ≤ candidate k) × (candidate k < run.0 + run.1)) b c → Puts (λ k. Contains (blocks_in (take (i + 1) runs)) (candidate k)) a c
+pub header-more : (runs : List (ℕ × ℕ)) (i : ℕ) (run : ℕ × ℕ) (a b c : Bits) → slice_get runs i ≡ Some run
+    → Puts (λ k. Contains (blocks_in (take i runs)) (candidate k)) a b
+    → Puts (λ k. (run.0 ≤ candidate k) × (candidate k < run.0 + run.1)) b c
+    → Puts (λ k. Contains (blocks_in (take (i + 1) runs)) (candidate k)) a c
 header-more runs i run a b c at one two =
     let before : List ℕ = blocks_in (take i runs) in
     let here : List ℕ = range_with_len run.0 run.1 in
     let more : blocks_in (take (i + 1) runs) ≡ before ++ here = blocks_in-more runs i run at in
     subst (λ (xs : List ℕ). Puts (λ k. Contains xs (candidate k)) a c) (sym more)
-    (puts-then (λ k. Contains before (candidate k)) (λ k. (run.0 ≤ candidate k) × (candidate k < run.0 + run.1)) (λ k. Contains (before ++ here) (candidate k)) a b c one two
+    (puts-then (λ k. Contains before (candidate k)) (λ k. (run.0 ≤ candidate k) × (candidate k < run.0 + run.1))
+    (λ k. Contains (before ++ here) (candidate k)) a b c one two
     (λ k has. in-front before here (candidate k) has)
     (λ k r. in-back before here (candidate k) (range-has run.0 run.1 (candidate k) r.0 r.1))
-    (λ k has. elim (in-either before here (candidate k) has) [ inl front ↦ inl front | inr back ↦ inr (in-range run.0 run.1 (candidate k) back) ]))
+    (λ k has. elim (in-either before here (candidate k) has)
+    [ inl front ↦ inl front | inr back ↦ inr (in-range run.0 run.1 (candidate k) back) ]))
 
 pub header-all : (b : List ℕ) (n : ℕ) (old new : Bits) → length (runs_of (map_area b)) ≤ n
-    → Puts (λ k. Contains (blocks_in (take n (runs_of (map_area b)))) (candidate k)) old new → Puts (λ k. Contains (blocks_named b) (candidate k)) old new
+    → Puts (λ k. Contains (blocks_in (take n (runs_of (map_area b)))) (candidate k)) old new
+    → Puts (λ k. Contains (blocks_named b) (candidate k)) old new
 unfolding blocks_named
-header-all b n old new all puts = subst (λ (rs : List (ℕ × ℕ)). Puts (λ k. Contains (blocks_in rs) (candidate k)) old new) (take_all n (runs_of (map_area b)) all) puts
+header-all b n old new all puts =
+    subst (λ (rs : List (ℕ × ℕ)). Puts (λ k. Contains (blocks_in rs) (candidate k)) old new) (take_all n (runs_of (map_area b)) all) puts
 
 module _ (t : Table) (f : ℕ) where
   -- a header of file f of a segment before this names candidate j
@@ -150,12 +161,18 @@ module _ (t : Table) (f : ℕ) where
   pub file-none : (b : Bits) → Puts (IsNamedBefore 0) b b
   file-none b = puts-none (IsNamedBefore 0) b (λ k r. omega (arith, r.before))
 
-  pub file-more : (m k : ℕ) (block : List ℕ) (a b c : Bits) → IsHeaderOf t f m → segment_number (t.header m) ≡ k → block ≡ t.header m → Puts (IsNamedBefore k) a b
+  pub file-more : (m k : ℕ) (block : List ℕ) (a b c : Bits) → IsHeaderOf t f m → segment_number (t.header m) ≡ k → block ≡ t.header m
+      → Puts (IsNamedBefore k) a b
       → Puts (λ j. Contains (blocks_named block) (candidate j)) b c → Puts (IsNamedBefore (k + 1)) a c
   file-more m k block a b c of segment is one two =
       puts-then (IsNamedBefore k) (λ j. Contains (blocks_named block) (candidate j)) (IsNamedBefore (k + 1)) a b c one two
       (λ j r. record { header = r.header; of = r.of; before = omega (arith, r.before); names = r.names })
-      (λ j has. record { header = m; of = of; before = omega (arith, segment); names = subst (λ (x : List ℕ). Contains (blocks_named x) (candidate j)) is has })
+      (λ j has. record {
+        header = m;
+        of = of;
+        before = omega (arith, segment);
+        names = subst (λ (x : List ℕ). Contains (blocks_named x) (candidate j)) is has;
+      })
       (λ j r. elim (cases_lt (segment_number (t.header r.header)) k) [
         | inl early ↦ inl (record { header = r.header; of = r.of; before = early; names = r.names })
         | inr here ↦
@@ -163,7 +180,8 @@ module _ (t : Table) (f : ℕ) where
             inr (subst (λ (x : List ℕ). Contains (blocks_named x) (candidate j)) (ap t.header same ∙ sym is) r.names)
       ])
 
-  pub file-all : (m k : ℕ) (a b : Bits) → IsHeaderOf t f m → segment_number (t.header m) ≡ k → ((to : ℕ) → ¬ IsNext t m to) → Puts (IsNamedBefore (k + 1)) a b
+  pub file-all : (m k : ℕ) (a b : Bits) → IsHeaderOf t f m → segment_number (t.header m) ≡ k → ((to : ℕ) → ¬ IsNext t m to)
+      → Puts (IsNamedBefore (k + 1)) a b
       → Puts (λ j. IsNamedIn t f (candidate j)) a b
   file-all m k a b of segment last puts =
       puts-same (IsNamedBefore (k + 1)) (λ j. IsNamedIn t f (candidate j)) a b puts
@@ -173,7 +191,8 @@ module _ (t : Table) (f : ℕ) where
         of = r.1;
         before = elim (cases_lt k (segment_number (t.header r.0))) [
           | inl behind ↦
-              let before : Links t f (segment_number (t.header m)) = links-before (segment_number (t.header m)) r.1 (omega (arith, behind, segment)) in
+              let before : Links t f (segment_number (t.header m)) = links-before (segment_number (t.header m)) r.1
+              (omega (arith, behind, segment)) in
               absurd (last before.to (subst (λ (x : ℕ). IsNext t x before.to) (same-segment before.of of before.number) before.goes))
           | inr within ↦ omega (arith, within)
         ];
@@ -181,42 +200,50 @@ module _ (t : Table) (f : ℕ) where
       })
 
 -- headers of a file were read so far
-module _ (index : Index) (n m k : ℕ) (behind : List ℕ) (block : List ℕ) (old now : Disk) (along : Along index n m k behind block old now) where
-  pub along-puts : (a b c : Bits) → (IsTrue old.honest → Puts (IsNamedBefore (table index old) n k) a b) → Puts (λ j. Contains (blocks_named block) (candidate j)) b c
-      → IsTrue old.honest → Puts (IsNamedBefore (table index old) n (k + 1)) a c
-  along-puts a b c one two honest =
-      let at = along.reached honest in
-      file-more (table index old) n m k block a b c at.of at.segment (block-is index n m k behind block old now along honest) (one honest) two
+module _ (index : Index) (n m k : ℕ) (behind : List ℕ) (block : List ℕ) (old now : Disk) (along : Along index n m k behind block old now)
+  where
+    pub along-puts : (a b c : Bits) → (IsTrue old.honest → Puts (IsNamedBefore (table index old) n k) a b)
+        → Puts (λ j. Contains (blocks_named block) (candidate j)) b c
+        → IsTrue old.honest → Puts (IsNamedBefore (table index old) n (k + 1)) a c
+    along-puts a b c one two honest =
+        let at = along.reached honest in
+        file-more (table index old) n m k block a b c at.of at.segment (block-is index n m k behind block old now along honest) (one honest)
+        two
 
-  -- and as far as there are
-  pub looked-on : (new : Disk) (faults : ℕ) → Looked now new (next_reads block) faults → Looked old new 256 faults
-  looked-on new faults looked = looked_within (looked_more along.looked looked) (omega (arith, along.few, along.segment))
+    -- and as far as there are
+    pub looked-on : (new : Disk) (faults : ℕ) → Looked now new (next_reads block) faults → Looked old new 256 faults
+    looked-on new faults looked = looked_within (looked_more along.looked looked) (omega (arith, along.few, along.segment))
 
-  no-next : (new : Disk) → FindsWrongLink index block now new → IsTrue old.honest → (to : ℕ) → ¬ IsNext (table index old) m to
-  no-next new finds honest to next =
-      let same : table index now ≡ table index old = table-stays index old now along.reads along.looked in
-      let here : block ≡ (table index old).header m = block-is index n m k behind block old now along honest in
-      let none : (x : ℕ) → ¬ IsNextOf (table index old) block x =
-      subst (λ (t : Table). (x : ℕ) → ¬ IsNextOf t block x) same (finds.wrong (honest-stays index old now along.reads along.looked honest)) in
-      none to record {
-        to = next.to;
-        number = ap (λ (b : List ℕ). (link_of b).number) here ∙ next.number;
-        sequence = ap (λ (b : List ℕ). (link_of b).sequence) here ∙ next.sequence;
-        segment = next.segment ∙ ap (λ (b : List ℕ). segment_number b + 1) (sym here);
-      }
+    no-next : (new : Disk) → FindsWrongLink index block now new → IsTrue old.honest → (to : ℕ) → ¬ IsNext (table index old) m to
+    no-next new finds honest to next =
+        let same : table index now ≡ table index old = table-stays index old now along.reads along.looked in
+        let here : block ≡ (table index old).header m = block-is index n m k behind block old now along honest in
+        let none : (x : ℕ) → ¬ IsNextOf (table index old) block x =
+        subst (λ (t : Table). (x : ℕ) → ¬ IsNextOf t block x) same
+        (finds.wrong (honest-stays index old now along.reads along.looked honest))
+        in
+        none to record {
+          to = next.to;
+          number = ap (λ (b : List ℕ). (link_of b).number) here ∙ next.number;
+          sequence = ap (λ (b : List ℕ). (link_of b).sequence) here ∙ next.sequence;
+          segment = next.segment ∙ ap (λ (b : List ℕ). segment_number b + 1) (sym here);
+        }
 
-  none-linked : (link_of block).number ≡ 0 → IsTrue old.honest → (to : ℕ) → ¬ IsNext (table index old) m to
-  none-linked none honest to next =
-      let here : block ≡ (table index old).header m = block-is index n m k behind block old now along honest in
-      let zero_is = sym next.number ∙ ap (λ (b : List ℕ). (link_of b).number) (sym here) ∙ none in
-      omega (arith, zero_is, live-some next.to)
+    none-linked : (link_of block).number ≡ 0 → IsTrue old.honest → (to : ℕ) → ¬ IsNext (table index old) m to
+    none-linked none honest to next =
+        let here : block ≡ (table index old).header m = block-is index n m k behind block old now along honest in
+        let zero_is = sym next.number ∙ ap (λ (b : List ℕ). (link_of b).number) (sym here) ∙ none in
+        omega (arith, zero_is, live-some next.to)
 
-  all-put : (a b : Bits) → (IsTrue old.honest → (to : ℕ) → ¬ IsNext (table index old) m to) → (IsTrue old.honest → Puts (IsNamedBefore (table index old) n (k + 1)) a b)
-      → IsTrue old.honest → Puts (λ j. IsNamedIn (table index old) n (candidate j)) a b
-  all-put a b last puts honest = let at = along.reached honest in file-all (table index old) n m k a b at.of at.segment (last honest) (puts honest)
+    all-put : (a b : Bits) → (IsTrue old.honest → (to : ℕ) → ¬ IsNext (table index old) m to)
+        → (IsTrue old.honest → Puts (IsNamedBefore (table index old) n (k + 1)) a b)
+        → IsTrue old.honest → Puts (λ j. IsNamedIn (table index old) n (candidate j)) a b
+    all-put a b last puts honest =
+        let at = along.reached honest in file-all (table index old) n m k a b at.of at.segment (last honest) (puts honest)
 
 -- the headers of file 3 were read
-module _ (index : Index) (m k : ℕ) (behind : List ℕ) (block : List ℕ) (old now : Disk) (along : Along index 3 m k behind block old now) (a b : Bits)
+module _ (index : Index) (m k : ℕ) (behind : List ℕ) (block : List ℕ) (old now : Disk) (along : Along index 3 m k behind block old now)
+    (a b : Bits)
     (puts : IsTrue old.honest → Puts (IsNamedBefore (table index old) 3 (k + 1)) a b) where
   pub puts-last : (after : List ℕ) (new : Disk) → FindsLast block after now new → PutsNamed index a b old new
   puts-last after new finds = rw finds.disk_stays (record {
@@ -238,7 +265,8 @@ puts-absent index b old new finds = record {
 }
 
 -- it is known of each candidate before the LBN whether it is named
-pub judges : (index : Index) (lbn : ℕ) (named : Bool) (a b : Bits) (old new : Disk) → limit_of a ≡ candidates lbn → ((k : ℕ) → has a k ≡ false) → PutsNamed index a b old new
+pub judges : (index : Index) (lbn : ℕ) (named : Bool) (a b : Bits) (old new : Disk) → limit_of a ≡ candidates lbn
+    → ((k : ℕ) → has a k ≡ false) → PutsNamed index a b old new
     → limit_of b ≡ limit_of a → IsTrue named ↔ ((k : ℕ) → k < limit_of b → has b k ≡ true) → JudgesEarlier index lbn named old new
 judges index lbn named a b old new limit none puts same is = record { right = right; looked = puts.looked }
   where
@@ -248,7 +276,8 @@ judges index lbn named a b old new limit none puts same is = record { right = ri
     right : IsTrue old.honest → IsTrue named ↔ AreNamedBefore (table_in old.image index) lbn
     right honest = (
       λ yes k below. sound honest k (is.0 yes k (let counted = candidates-above k lbn below in omega (arith, counted, limit, same))),
-      λ all. is.1 (λ k below. (puts.puts honest).all k (omega (arith, below, same)) (all k (candidate-below k lbn (omega (arith, below, same, limit))))),
+      λ all. is.1 (λ k below. (puts.puts honest).all k (omega (arith, below, same))
+          (all k (candidate-below k lbn (omega (arith, below, same, limit))))),
     )
 
 -- there is no candidate before it

@@ -1,5 +1,6 @@
 -- What is found of a frame, part after part.
-use Rattle.std.proofs.Common.{◌≡◌, ◌≢◌, ◌≤◌, ◌<◌, ◌+◌, ◌/◌, ℕ, zero, suc, refl, ap, sym, ◌∙◌, subst, arith, true, false, List, [], ◌∷◌, ◌++◌, Some, length, take, drop, ◌↔◌}
+use Rattle.std.proofs.Common.{◌≡◌, ◌≢◌, ◌≤◌, ◌<◌, ◌+◌, ◌/◌, ℕ, zero, suc, refl, ap, sym, ◌∙◌, subst, arith, true, false, List, [], ◌∷◌}
+use Rattle.std.proofs.Common.{◌++◌, Some, length, take, drop, ◌↔◌}
 use Rattle.std.specs.Prelude.{All, IsTrue, slice_index, Result, Ok, Err, IfOk}
 use Rattle.std.specs.List.{slice_get}
 use Rattle.std.proofs.lemmas.Bool.{both_ways}
@@ -20,7 +21,9 @@ use Rattle.f11_index.specs.Table.{Table, table_in, table_of}
 use Rattle.f11_chain.specs.FileHeaders.{IsSoundFile}
 use Rattle.f11_vfy.specs.Frames.Earlier.{JudgesEarlier}
 use Rattle.f11_volume.specs.Earlier.{AreNamedBefore}
-use Rattle.f11_volume.specs.Faults.{IsOwnFile, IsFirstNoFile, HasIndexFile, HasOwnFiles, HasBitmapFile, HasControlBlock, IsFaultBehindHome, index_misplaced, own_file_bad, bitmap_file_bad, control_block_wrong, bit_past_slots, no_home, behind_home}
+use Rattle.f11_volume.specs.Faults.{IsOwnFile, IsFirstNoFile, HasIndexFile, HasOwnFiles, HasBitmapFile, HasControlBlock, IsFaultBehindHome}
+use Rattle.f11_volume.specs.Faults.{index_misplaced, own_file_bad, bitmap_file_bad, control_block_wrong, bit_past_slots, no_home}
+use Rattle.f11_volume.specs.Faults.{behind_home}
 use Rattle.f11_vfy.specs.Frames.Read.{frame_index, frame_bitmap, IsIndexOf, IsBehindHome, ReadsBehind, FindsBehind, FramesBehind, Frames}
 use Rattle.f11_vfy.specs.declared.frame.framing.Framing.{Framing}
 use Rattle.f11_vfy.specs.declared.frame.framing.Framing.TheVariants.{Framed, Faulty}
@@ -43,7 +46,8 @@ rest-places : (n : ℕ) (xs : List ℕ) → n ≤ 126 → take n (drop 1 (needed
 rest-places n xs few = ap (take n) (rest-take 126 xs) ∙ take-take n 126 (drop 1 xs) few
 
 -- a control block is judged by as many blocks of its file as are needed
-control-whole : (control xs : List ℕ) (device : ℕ) → IsControlBlock control (length (needed xs)) device → IsControlBlock control (length xs) device
+control-whole : (control xs : List ℕ) (device : ℕ) → IsControlBlock control (length (needed xs)) device
+    → IsControlBlock control (length xs) device
 control-whole control xs device is = record {
   some_bitmap = is.some_bitmap;
   few_bitmap = is.few_bitmap;
@@ -53,7 +57,8 @@ control-whole control xs device is = record {
   on_device = is.on_device;
 }
 
-control-needed : (control xs : List ℕ) (device : ℕ) → IsControlBlock control (length xs) device → IsControlBlock control (length (needed xs)) device
+control-needed : (control xs : List ℕ) (device : ℕ) → IsControlBlock control (length xs) device
+    → IsControlBlock control (length (needed xs)) device
 control-needed control xs device is = record {
   some_bitmap = is.some_bitmap;
   few_bitmap = is.few_bitmap;
@@ -64,13 +69,15 @@ control-needed control xs device is = record {
 }
 
 -- the bitmap that a control block tells of
-bitmap-same : (image : Image) (home : HomeFields) (count size : ℕ) (first block : List ℕ) → count ≡ bitmap_count block → size ≡ stated_size block
+bitmap-same : (image : Image) (home : HomeFields) (count size : ℕ) (first block : List ℕ) → count ≡ bitmap_count block
+    → size ≡ stated_size block
     → first ≡ needed (bitmap_file (table_of image home)) → block ≡ control_block image (table_of image home) → count ≤ 126
     → bitmap_at (take count (drop 1 first)) size ≡ storage_bitmap image home
 unfolding storage_bitmap
 bitmap-same image home count size first block count_is size_is are is few =
     let file : List ℕ = bitmap_file (table_of image home) in
-    let places : take count (drop 1 first) ≡ take count (drop 1 file) = ap (λ (xs : List ℕ). take count (drop 1 xs)) are ∙ rest-places count file few in
+    let places : take count (drop 1 first) ≡ take count (drop 1 file) = ap (λ (xs : List ℕ). take count (drop 1 xs)) are
+    ∙ rest-places count file few in
     let counted : count ≡ bitmap_count (control_block image (table_of image home)) = count_is ∙ ap bitmap_count is in
     let sized : size ≡ stated_size (control_block image (table_of image home)) = size_is ∙ ap stated_size is in
     ap (λ (xs : List ℕ). bitmap_at xs size) (places ∙ ap (λ (n : ℕ). take n (drop 1 file)) counted)
@@ -95,7 +102,8 @@ module _ (home : HomeFields) (index : Index) (old : Disk) (known : IsTrue old.ho
     pub bad-earlier : (new : Disk) → most ≡ 0 → JudgesEarlier index home.lbn false now new → FindsBehind home 2 0 old new
     bad-earlier new none judges = record {
       fault = λ honest. index_misplaced (λ has.
-          let right = to-old (λ (image : Image). IsTrue false ↔ AreNamedBefore (table_in image index) home.lbn) (judges.right (still honest)) in
+          let right = to-old (λ (image : Image). IsTrue false ↔ AreNamedBefore (table_in image index) home.lbn)
+          (judges.right (still honest)) in
           let named = to-table (λ (t : Table). IsTrue false ↔ AreNamedBefore t home.lbn) honest right in
           both_ways false refl (named.1 has.earlier));
       looked = looked_within (looked_more looked judges.looked) (omega (arith, none));
@@ -103,7 +111,8 @@ module _ (home : HomeFields) (index : Index) (old : Disk) (known : IsTrue old.ho
 
     pub good-earlier : (new : Disk) → JudgesEarlier index home.lbn true now new → Known HasIndexFile
     good-earlier new judges honest =
-        let right = to-old (λ (image : Image). IsTrue true ↔ AreNamedBefore (table_in image index) home.lbn) (judges.right (still honest)) in
+        let right = to-old (λ (image : Image). IsTrue true ↔ AreNamedBefore (table_in image index) home.lbn) (judges.right (still honest))
+        in
         let named = to-table (λ (t : Table). IsTrue true ↔ AreNamedBefore t home.lbn) honest right in
         record { file = (known honest).sound; earlier = named.0 refl }
 
@@ -131,21 +140,25 @@ module _ (home : HomeFields) (index : Index) (old : Disk) (known : IsTrue old.ho
           looked = looked_within (looked_more looked finds.looked) (omega (arith, few));
         }
 
-        sound-file : (first : List ℕ) (new : Disk) → ReadsBitmapFile index first now new → IsTrue old.honest → IsSoundFile (table_of old.image home) 2 (length old.image)
+        sound-file : (first : List ℕ) (new : Disk) → ReadsBitmapFile index first now new → IsTrue old.honest
+            → IsSoundFile (table_of old.image home) 2 (length old.image)
         sound-file first new reads honest =
             let sound = to-old (λ (image : Image). IsSoundFile (table_in image index) 2 (length image)) (reads.sound (still honest)) in
             to-table (λ (t : Table). IsSoundFile t 2 (length old.image)) honest sound
 
-        pub first-are : (first : List ℕ) (new : Disk) → ReadsBitmapFile index first now new → IsTrue old.honest → first ≡ needed (bitmap_file (table_of old.image home))
+        pub first-are : (first : List ℕ) (new : Disk) → ReadsBitmapFile index first now new → IsTrue old.honest
+            → first ≡ needed (bitmap_file (table_of old.image home))
         first-are first new reads honest =
             let are = to-old (λ (image : Image). first ≡ needed (bitmap_file (table_in image index))) (reads.first_are (still honest)) in
             to-table (λ (t : Table). first ≡ needed (bitmap_file t)) honest are
 
-        pub no-block : (first : List ℕ) (new : Disk) → most ≤ 259 → length first ≡ 0 → ReadsBitmapFile index first now new → FindsBehind home 4 0 old new
+        pub no-block : (first : List ℕ) (new : Disk) → most ≤ 259 → length first ≡ 0 → ReadsBitmapFile index first now new
+            → FindsBehind home 4 0 old new
         no-block first new few empty reads = record {
           fault = λ honest. bitmap_file_bad (indexed honest) (own honest) (λ has.
               let size = ap length (first-are first new reads honest) in
-              has.some (no-length (bitmap_file (table_of old.image home)) (omega (arith, size, empty, length-take 127 (bitmap_file (table_of old.image home))))));
+              has.some (no-length (bitmap_file (table_of old.image home))
+              (omega (arith, size, empty, length-take 127 (bitmap_file (table_of old.image home))))));
           looked = looked_within (looked_more looked reads.looked) (omega (arith, few));
         }
           where
@@ -163,13 +176,16 @@ module _ (home : HomeFields) (index : Index) (old : Disk) (known : IsTrue old.ho
         on-device first new reads = to-old (λ (image : Image). All (λ lbn. lbn < length image) first) reads.within
 
         -- the storage bitmap file is as it should be, these are its first blocks, and the first of them was read
-        module _ (file : Known HasBitmapFile) (first : List ℕ) (are : IsTrue old.honest → first ≡ needed (bitmap_file (table_of old.image home))) (within : All (λ lbn. lbn < length old.image) first)
+        module _ (file : Known HasBitmapFile) (first : List ℕ)
+            (are : IsTrue old.honest → first ≡ needed (bitmap_file (table_of old.image home)))
+            (within : All (λ lbn. lbn < length old.image) first)
             (lbn : ℕ) (block : List ℕ) (new : Disk) (at : lbn ≡ slice_index first 0) (counts : new ≡ with_transfer true now)
             (gives : IsTrue now.honest → slice_get now.image lbn ≡ Some block) (few : most ≤ 515) where
           block-is : IsTrue old.honest → block ≡ control_block old.image (table_of old.image home)
           unfolding control_block
           block-is honest =
-              let read : slice_get old.image lbn ≡ Some block = to-old (λ (image : Image). slice_get image lbn ≡ Some block) (gives (still honest)) in
+              let read : slice_get old.image lbn ≡ Some block = to-old (λ (image : Image). slice_get image lbn ≡ Some block)
+              (gives (still honest)) in
               let place : lbn ≡ slice_index (bitmap_file (table_of old.image home)) 0 =
               at ∙ ap (λ (xs : List ℕ). slice_index xs 0) (are honest) ∙ first-block (bitmap_file (table_of old.image home)) in
               sym (image_block-read old.image lbn block read) ∙ ap (image_block old.image) place
@@ -186,19 +202,23 @@ module _ (home : HomeFields) (index : Index) (old : Disk) (known : IsTrue old.ho
           pub bad-control : ¬ IsControlBlock block (length first) (length old.image) → FindsBehind home 5 0 old new
           bad-control not = record {
             fault = λ honest. control_block_wrong (indexed honest) (own honest) (file honest) (λ has.
-                let there = subst (λ (b : List ℕ). IsControlBlock b (length (bitmap_file (table_of old.image home))) (length old.image)) (sym (block-is honest)) has in
-                not (subst (λ (xs : List ℕ). IsControlBlock block (length xs) (length old.image)) (sym (are honest)) (control-needed block (bitmap_file (table_of old.image home)) (length old.image) there)));
+                let there = subst (λ (b : List ℕ). IsControlBlock b (length (bitmap_file (table_of old.image home))) (length old.image))
+                (sym (block-is honest)) has in
+                not (subst (λ (xs : List ℕ). IsControlBlock block (length xs) (length old.image)) (sym (are honest))
+                (control-needed block (bitmap_file (table_of old.image home)) (length old.image) there)));
             looked = all-looked;
           }
 
           module _ (control : IsControlBlock block (length first) (length old.image)) where
             pub bad-past : (n : ℕ) → IsFirstPast index n → FindsBehind home 6 n old new
             bad-past n past = record {
-              fault = λ honest. bit_past_slots n (indexed honest) (own honest) (file honest) (has-control control honest) (subst (λ (i : Index). IsFirstPast i n) (known honest).index_is past);
+              fault = λ honest. bit_past_slots n (indexed honest) (own honest) (file honest) (has-control control honest)
+                  (subst (λ (i : Index). IsFirstPast i n) (known honest).index_is past);
               looked = all-looked;
             }
 
-            pub reads-behind : (count size : ℕ) → count ≡ bitmap_count block → size ≡ stated_size block → IndexLiesWithin index (length old.image) → HasNonePast index
+            pub reads-behind : (count size : ℕ) → count ≡ bitmap_count block → size ≡ stated_size block
+                → IndexLiesWithin index (length old.image) → HasNonePast index
                 → ReadsBehind home index (bitmap_at (take count (drop 1 first)) size) old new
             reads-behind count size count_is size_is lies none = record {
               lie = record {
@@ -229,13 +249,17 @@ module _ (home : HomeFields) (index : Index) (old : Disk) (known : IsTrue old.ho
                 all-places =
                     let split : first ≡ take 1 first ++ drop 1 first = sym (take-append-drop 1 first) in
                     all-take (λ l. l < length old.image) count (drop 1 first)
-                    (all-back (λ l. l < length old.image) (take 1 first) (drop 1 first) (subst (All (λ l. l < length old.image)) split within))
+                    (all-back (λ l. l < length old.image) (take 1 first) (drop 1 first)
+                    (subst (All (λ l. l < length old.image)) split within))
 
                 same-bitmap : IsTrue old.honest → bitmap_at (take count (drop 1 first)) size ≡ storage_bitmap old.image home
-                same-bitmap honest = bitmap-same old.image home count size first block count_is size_is (are honest) (block-is honest) (omega (arith, count_is, control.few_bitmap))
+                same-bitmap honest =
+                    bitmap-same old.image home count size first block count_is size_is (are honest) (block-is honest)
+                    (omega (arith, count_is, control.few_bitmap))
 
 -- the parts one after another
-module _ (home : HomeFields) (index : Index) (old d1 : Disk) (known : IsTrue old.honest → IsIndexOf old.image home index) (e : JudgesEarlier index home.lbn true old d1) where
+module _ (home : HomeFields) (index : Index) (old d1 : Disk) (known : IsTrue old.honest → IsIndexOf old.image home index)
+    (e : JudgesEarlier index home.lbn true old d1) where
   indexed_is : IsTrue old.honest → HasIndexFile old.image home
   indexed_is = good-earlier home index old known old 0 (looked_none old) d1 e
 
@@ -259,19 +283,30 @@ module _ (home : HomeFields) (index : Index) (old d1 : Disk) (known : IsTrue old
       looked_three : Looked old d3 515 0
       looked_three = looked_within (looked_more looked_two b.looked) (omega arith)
 
-      module _ (some : length first ≢ 0) (lbn : ℕ) (block : List ℕ) (d4 : Disk) (at : lbn ≡ slice_index first 0) (counts : d4 ≡ with_transfer true d3)
-          (gives : IsTrue d3.honest → slice_get d3.image lbn ≡ Some block) (file device : ℕ) (file_is : file ≡ length first) (device_is : device ≡ length d4.image) where
+      module _ (some : length first ≢ 0) (lbn : ℕ) (block : List ℕ) (d4 : Disk) (at : lbn ≡ slice_index first 0)
+          (counts : d4 ≡ with_transfer true d3)
+          (gives : IsTrue d3.honest → slice_get d3.image lbn ≡ Some block) (file device : ℕ) (file_is : file ≡ length first)
+          (device_is : device ≡ length d4.image) where
         file_has : IsTrue old.honest → HasBitmapFile old.image home
         file_has = good-bitmap home index old known d2 259 looked_two indexed_is own_is first d2 some first_b
           where
             first_b : ReadsBitmapFile index first d2 d2
-            first_b = record { sound = b.sound; first_are = b.first_are; within = b.within; few = b.few; looked = looked_within (looked_none d2) (omega arith) }
+            first_b =
+                record {
+                  sound = b.sound;
+                  first_are = b.first_are;
+                  within = b.within;
+                  few = b.few;
+                  looked = looked_within (looked_none d2) (omega arith);
+                }
 
         device_was : device ≡ length old.image
         device_was = device_is ∙ ap (λ (d : Disk). length d.image) counts ∙ ap (λ (i : Image). length i) looked_three.image
 
         judged : IsControlBlock block file device → IsControlBlock block (length first) (length old.image)
-        judged is = subst (λ (n : ℕ). IsControlBlock block (length first) n) device_was (subst (λ (n : ℕ). IsControlBlock block n device) file_is is)
+        judged is =
+            subst (λ (n : ℕ). IsControlBlock block (length first) n) device_was
+            (subst (λ (n : ℕ). IsControlBlock block n device) file_is is)
 
         first_is : IsTrue old.honest → first ≡ needed (bitmap_file (table_of old.image home))
         first_is = first-are home index old known d2 259 looked_two indexed_is own_is first d3 b
@@ -281,17 +316,22 @@ module _ (home : HomeFields) (index : Index) (old d1 : Disk) (known : IsTrue old
 
         pub control-fault : ¬ IsControlBlock block file device → FindsBehind home 5 0 old d4
         control-fault not =
-            bad-control home index old known d3 515 looked_three indexed_is own_is file_has first first_is on_disk lbn block d4 at counts gives (omega arith)
-            (λ is. not (subst (λ (n : ℕ). IsControlBlock block n device) (sym file_is) (subst (λ (n : ℕ). IsControlBlock block (length first) n) (sym device_was) is)))
+            bad-control home index old known d3 515 looked_three indexed_is own_is file_has first first_is on_disk lbn block d4 at counts
+            gives (omega arith)
+            (λ is. not (subst (λ (n : ℕ). IsControlBlock block n device) (sym file_is)
+            (subst (λ (n : ℕ). IsControlBlock block (length first) n) (sym device_was) is)))
 
         pub past-fault : IsControlBlock block file device → (n : ℕ) → IsFirstPast index n → FindsBehind home 6 n old d4
         past-fault control n past =
-            bad-past home index old known d3 515 looked_three indexed_is own_is file_has first first_is on_disk lbn block d4 at counts gives (omega arith) (judged control) n past
+            bad-past home index old known d3 515 looked_three indexed_is own_is file_has first first_is on_disk lbn block d4 at counts gives
+            (omega arith) (judged control) n past
 
-        pub behind-read : IsControlBlock block file device → (count size : ℕ) → count ≡ bitmap_count block → size ≡ stated_size block → IndexLiesWithin index (length old.image) → HasNonePast index
+        pub behind-read : IsControlBlock block file device → (count size : ℕ) → count ≡ bitmap_count block → size ≡ stated_size block
+            → IndexLiesWithin index (length old.image) → HasNonePast index
             → ReadsBehind home index (bitmap_at (take count (drop 1 first)) size) old d4
         behind-read control count size count_is size_is lies none =
-            reads-behind home index old known d3 515 looked_three indexed_is own_is file_has first first_is on_disk lbn block d4 at counts gives (omega arith) (judged control) count size count_is size_is lies none
+            reads-behind home index old known d3 515 looked_three indexed_is own_is file_has first first_is on_disk lbn block d4 at counts
+            gives (omega arith) (judged control) count size count_is size_is lies none
 
 -- there is no home block
 pub no-home : (old new : Disk) → FindsNoHome old new → FindsFrameFault 1 0 old new
@@ -304,7 +344,9 @@ enough lbn n below some = grind (arith, nat_tests)
 -- it was found
 module _ (home : HomeFields) (old now : Disk) (finds : FindsHome old now home) where
   home-looked : Looked old now (candidates (length old.image)) 0
-  home-looked = looked_within finds.looked (enough home.lbn (length old.image) finds.sound.within (omega (arith, finds.sound.valid.fields.index_within)))
+  home-looked =
+      looked_within finds.looked
+      (enough home.lbn (length old.image) finds.sound.within (omega (arith, finds.sound.valid.fields.index_within)))
 
   small : home.index_blocks ≤ 16
   small = omega (arith, ap (λ (h : HomeFields). h.index_blocks) finds.sound.fields, finds.sound.valid.fields.small_bitmap)
@@ -326,7 +368,8 @@ module _ (home : HomeFields) (old now : Disk) (finds : FindsHome old now home) w
 
     frame-fault : (code a : ℕ) → FindsBehind home code a then new → FindsFrameFault code a old new
     frame-fault code a bad = record {
-      fault = λ honest. behind_home home code a (finds.is_home honest) (subst (λ (image : Image). IsFaultBehindHome image home code a) looked_then.image (bad.fault (still-then honest)));
+      fault = λ honest. behind_home home code a (finds.is_home honest)
+          (subst (λ (image : Image). IsFaultBehindHome image home code a) looked_then.image (bad.fault (still-then honest)));
       looked = looked_within (looked_more looked_then bad.looked) (omega arith);
     }
 
@@ -337,7 +380,14 @@ module _ (home : HomeFields) (old now : Disk) (finds : FindsHome old now home) w
       are = λ honest.
           let is = subst (λ (image : Image). IsBehindHome image home index bitmap) looked_then.image (read.behind (still-then honest)) in
           record {
-            framed = record { home_is = finds.is_home honest; indexed = is.indexed; own_files = is.own_files; bitmap = is.file; control = is.control; none_past = is.none_past };
+            framed = record {
+              home_is = finds.is_home honest;
+              indexed = is.indexed;
+              own_files = is.own_files;
+              bitmap = is.file;
+              control = is.control;
+              none_past = is.none_past;
+            };
             index_is = is.index_is;
             bitmap_is = is.bitmap_is;
           };
@@ -348,6 +398,7 @@ module _ (home : HomeFields) (old now : Disk) (finds : FindsHome old now home) w
     frames-one (Framed frame) is = frame-read (frame_index frame) (frame_bitmap frame) is
     frames-one (Faulty code a) is = frame-fault code a is
 
-    pub frames-on : {E : Type 0} (r : Result Framing E) → IfOk r (λ framing. FramesBehind home framing then new) → IfOk r (λ framing. Frames framing old new)
+    pub frames-on : {E : Type 0} (r : Result Framing E) → IfOk r (λ framing. FramesBehind home framing then new)
+        → IfOk r (λ framing. Frames framing old new)
     frames-on (Ok framing) is = frames-one framing is
     frames-on (Err fault) is = is

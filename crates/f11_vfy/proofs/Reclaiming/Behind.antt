@@ -12,7 +12,8 @@ use Rattle.f11_index.specs.IndexFile.{Index, index_of}
 use Rattle.f11_vfy.specs.Frames.Frame.{frame_reads, AreOf, ReadsFrame, FindsFrameFault}
 use Rattle.f11_vfy.specs.Reclaiming.Moments.{IsReclaiming, Moment}
 use Rattle.f11_vfy.specs.Reclaiming.Slots.{none}
-use Rattle.f11_vfy.specs.Reclaiming.Whole.{IsSoundWith, HasReclaimed, Costs, GoesOn, GivesBack, LacksRoom, IsFrameOf, IsReadAs, reclaim_reads, Reclaims}
+use Rattle.f11_vfy.specs.Reclaiming.Whole.{IsSoundWith, HasReclaimed, Costs, GoesOn, GivesBack, LacksRoom, IsFrameOf, IsReadAs}
+use Rattle.f11_vfy.specs.Reclaiming.Whole.{reclaim_reads, Reclaims}
 use Rattle.f11_vfy.specs.Scanning.Reading.{ShowsVolume, ReadsVolume, volume_in, most_read}
 use Rattle.f11_vfy.specs.declared.findings.reading.Reading.{Reading}
 use Rattle.f11_volume.specs.Space.{storage_bitmap}
@@ -22,7 +23,8 @@ use Rattle.f11_volume.proofs.AcceptedLemmas.{accepted-sound}
 use Rattle.f11_volume.proofs.FileLemmas.{bitmap-is}
 
 -- it was read no further
-module _ (L : HomeFields → Image → Type 0) (reads : HomeFields → ℕ) (n : ℕ) (d0 d1 : Disk) (few : IsTrue d0.honest → (home : HomeFields) → L home d0.image → n ≤ reads home) where
+module _ (L : HomeFields → Image → Type 0) (reads : HomeFields → ℕ) (n : ℕ) (d0 d1 : Disk)
+    (few : IsTrue d0.honest → (home : HomeFields) → L home d0.image → n ≤ reads home) where
   pub reads-failed : {faults : ℕ} → Looked d0 d1 n faults → GoesOn L reads d0 d1 faults
   reads-failed looked = record {
     most = n;
@@ -51,7 +53,8 @@ module _ (L : HomeFields → Image → Type 0) (reads : HomeFields → ℕ) (n :
 
 -- it was, and then more was done
 module _ (K L : HomeFields → Image → Type 0) (less reads : HomeFields → ℕ) (n : ℕ) (d0 d1 d2 : Disk) (looked : Looked d0 d1 n 0)
-    (known : IsTrue d0.honest → (home : HomeFields) → L home d0.image → K home d1.image) (few : IsTrue d0.honest → (home : HomeFields) → L home d0.image → n + less home ≤ reads home) where
+    (known : IsTrue d0.honest → (home : HomeFields) → L home d0.image → K home d1.image)
+    (few : IsTrue d0.honest → (home : HomeFields) → L home d0.image → n + less home ≤ reads home) where
   still : IsTrue d0.honest → IsTrue d1.honest
   still honest = looked.honest ∙ honest
 
@@ -61,7 +64,8 @@ module _ (K L : HomeFields → Image → Type 0) (less reads : HomeFields → �
     few = λ honest home is.
         let enough = few honest home is in
         let costs : Costs home d0.image d2.image (less home) faults goes.most =
-        subst (λ (i : Image). Costs home i d2.image (less home) faults goes.most) looked.image (goes.few (still honest) home (known honest home is)) in
+        subst (λ (i : Image). Costs home i d2.image (less home) faults goes.most) looked.image
+        (goes.few (still honest) home (known honest home is)) in
         record {
           orphan_slots = costs.orphan_slots;
           orphans = costs.orphans;
@@ -79,12 +83,14 @@ module _ (K L : HomeFields → Image → Type 0) (less reads : HomeFields → �
         };
     went = went_more (Moment L d0) (went_looked (Moment L d0) looked)
         (went_weaker (Moment K d1) (Moment L d0)
-        (λ image stands honest home is. subst (λ (i : Image). IsReclaiming home i image) looked.image (stands (still honest) home (known honest home is))) goes.went);
+        (λ image stands honest home is. subst (λ (i : Image). IsReclaiming home i image) looked.image
+        (stands (still honest) home (known honest home is))) goes.went);
   }
 
   pub gives-behind : GivesBack K less d1 d2 → GivesBack L reads d0 d2
   gives-behind gives = record {
-    reclaimed = λ honest home is. subst (λ (i : Image). HasReclaimed home i d2.image) looked.image (gives.reclaimed (still honest) home (known honest home is));
+    reclaimed = λ honest home is. subst (λ (i : Image). HasReclaimed home i d2.image) looked.image
+        (gives.reclaimed (still honest) home (known honest home is));
     goes = goes-behind gives.goes;
   }
 
@@ -99,7 +105,8 @@ module _ (K L : HomeFields → Image → Type 0) (less reads : HomeFields → �
   }
 
 -- what was read of a volume is a reading of it
-pub read-as : (index : Index) (bitmap : Bitmap) (r : Reading) (d0 d1 : Disk) → ReadsVolume index bitmap r d0 d1 → IsTrue d0.honest → (home : HomeFields) → IsFrameOf index bitmap home d0.image
+pub read-as : (index : Index) (bitmap : Bitmap) (r : Reading) (d0 d1 : Disk) → ReadsVolume index bitmap r d0 d1 → IsTrue d0.honest
+    → (home : HomeFields) → IsFrameOf index bitmap home d0.image
     → IsReadAs index bitmap r home d1.image
 unfolding volume_of
 read-as index bitmap r d0 d1 reads honest home is = subst (IsReadAs index bitmap r home) (sym reads.looked.image) (record {
@@ -113,14 +120,17 @@ module _ (index : Index) (bitmap : Bitmap) (d0 d1 : Disk) (reads : ReadsFrame in
   framed-at : IsTrue d0.honest → (home : HomeFields) → IsSoundWith home d0.image → AreOf d0.image home index bitmap
   framed-at honest home is =
       let are = reads.are honest in
-      subst (λ (h : HomeFields). AreOf d0.image h index bitmap) (home-unique d0.image reads.home home are.framed.home_is is.framed.home_is) are
+      subst (λ (h : HomeFields). AreOf d0.image h index bitmap) (home-unique d0.image reads.home home are.framed.home_is is.framed.home_is)
+      are
 
   pub frame-of : IsTrue d0.honest → (home : HomeFields) → IsSoundWith home d0.image → IsFrameOf index bitmap home d1.image
   frame-of honest home is =
       let are = framed-at honest home is in
-      subst (IsFrameOf index bitmap home) (sym reads.looked.image) (record { sound = is; index_is = are.index_is; bitmap_is = are.bitmap_is })
+      subst (IsFrameOf index bitmap home) (sym reads.looked.image)
+      (record { sound = is; index_is = are.index_is; bitmap_is = are.bitmap_is })
 
-  pub frame-cost : IsTrue d0.honest → (home : HomeFields) → IsSoundWith home d0.image → frame_reads d0 + most_read index bitmap ≤ reclaim_reads d0 home
+  pub frame-cost : IsTrue d0.honest → (home : HomeFields) → IsSoundWith home d0.image
+      → frame_reads d0 + most_read index bitmap ≤ reclaim_reads d0 home
   frame-cost honest home is =
       let are = framed-at honest home is in
       let same : most_read index bitmap ≡ most_read (index_of d0.image home) (storage_bitmap d0.image home) =
@@ -141,7 +151,8 @@ no-fault code a d0 d1 accepted finds = record {
 }
 
 -- what comes back is accepted
-pub accepted-then : (d0 d1 : Disk) → IsImage d0.image → IsImage d1.image → (IsTrue d0.honest → IsAccepted d0.image) → Reclaims d0 d1 → IsTrue d1.honest → IsAccepted d1.image
+pub accepted-then : (d0 d1 : Disk) → IsImage d0.image → IsImage d1.image → (IsTrue d0.honest → IsAccepted d0.image) → Reclaims d0 d1
+    → IsTrue d1.honest → IsAccepted d1.image
 accepted-then d0 d1 was_image is_image accepted reclaims honest =
     let before : IsTrue d0.honest = sym reclaims.goes.went.honest ∙ honest in
     let sound = (accepted-sound d0.image was_image).0 (accepted before) in

@@ -1,5 +1,6 @@
 -- What a volume has after each part of reclaiming.
-use Rattle.std.proofs.Common.{◌≡◌, ◌↔◌, ◌||◌, ◌*◌, ◌<◌, ◌≤◌, ℕ, Bool, true, false, not, List, length, inl, inr, refl, sym, ap, subst, ◌∙◌, arith}
+use Rattle.std.proofs.Common.{◌≡◌, ◌↔◌, ◌||◌, ◌*◌, ◌<◌, ◌≤◌, ℕ, Bool, true, false, not, List, length, inl, inr, refl, sym, ap, subst, ◌∙◌}
+use Rattle.std.proofs.Common.{arith}
 use Rattle.std.specs.List.{slice_get}
 use Rattle.std.proofs.lemmas.Bool.{both_ways, cases_Bool, leb-true, le-leb}
 use Rattle.f11_bits.specs.Bitmap.{Bitmap, is_free}
@@ -28,7 +29,8 @@ use Rattle.f11_vfy.proofs.Reclaiming.Space.{free-unnamed}
 use Rattle.f11_vfy.proofs.Reclaiming.Storage.{storage-then}
 use Rattle.f11_vfy.proofs.Scanning.Reading.{table-slots}
 use Rattle.f11_vfy.proofs.Surveying.Cells.{named-some, some-named}
-use Rattle.f11_volume.specs.Notes.{IsVolumeNote, IsLost, blocks_lost, header_dead, orphan, marked, not_closed, in_no_directory, names_no_file, name_repeated, no_name, not_contiguous}
+use Rattle.f11_volume.specs.Notes.{IsVolumeNote, IsLost, blocks_lost, header_dead, orphan, marked, not_closed, in_no_directory}
+use Rattle.f11_volume.specs.Notes.{names_no_file, name_repeated, no_name, not_contiguous}
 use Rattle.f11_volume.specs.Sound.{HasSoundVolume}
 use Rattle.f11_volume.specs.Space.{storage_bitmap}
 use Rattle.f11_volume.specs.Verdict.{IsNote}
@@ -51,7 +53,8 @@ unreferenced-may false unreferenced is = refl
 
 -- a cell of a header that says the same
 same-cell : (t u : Table) (m place lbn : ℕ) → IsLive u m → u.header m ≡ t.header m → IsCell t m place lbn → IsCell u m place lbn
-same-cell t u m place lbn live same cell = record { live = live; names = ap (λ (b : List ℕ). slice_get (blocks_named b) place) same ∙ cell.names }
+same-cell t u m place lbn live same cell =
+    record { live = live; names = ap (λ (b : List ℕ). slice_get (blocks_named b) place) same ∙ cell.names }
 
 module _ (index : Index) (bitmap : Bitmap) (r : Reading) (home : HomeFields) (a : Image) (is : IsReadAs index bitmap r home a) where
   abbrev t : Table
@@ -115,10 +118,20 @@ module _ (index : Index) (bitmap : Bitmap) (r : Reading) (home : HomeFields) (a 
 
     -- the idle slots are those that were
     pub idle-was : (m : ℕ) → IsIdle u m → IsIdle t m
-    idle-was m idle = record { in_use = ap (λ (f : ℕ → Bool). f m) (sym one.table.in_use) ∙ idle.in_use; of_none = λ within. idle.of_none (in-new t u files-one m within) }
+    idle-was m idle =
+        record {
+          in_use = ap (λ (f : ℕ → Bool). f m) (sym one.table.in_use) ∙ idle.in_use;
+          of_none = λ within.
+              idle.of_none (in-new t u files-one m within);
+        }
 
     pub was-idle : (m : ℕ) → IsIdle t m → IsIdle u m
-    was-idle m idle = record { in_use = ap (λ (f : ℕ → Bool). f m) one.table.in_use ∙ idle.in_use; of_none = λ within. idle.of_none (in-old t u files-one m within) }
+    was-idle m idle =
+        record {
+          in_use = ap (λ (f : ℕ → Bool). f m) one.table.in_use ∙ idle.in_use;
+          of_none = λ within.
+              idle.of_none (in-old t u files-one m within);
+        }
 
     -- the idle slots left use
     module _ (after : Index) (c : Image) (two : HasClearedUpTo (slots index) after home b c) where
@@ -144,20 +157,26 @@ module _ (index : Index) (bitmap : Bitmap) (r : Reading) (home : HomeFields) (a 
       pub files-used : UsedAreOfFiles v
       files-used n = (used-in n, λ within. (live_of-header within.of).in_use)
 
-      may-unnamed : (before_is : (k : ℕ) → has before k ≡ false) (lbn : ℕ) → may_be_free r.survey.tally.once unreferenced lbn ≡ true → ¬ IsNamed v lbn
+      may-unnamed : (before_is : (k : ℕ) → has before k ≡ false) (lbn : ℕ) → may_be_free r.survey.tally.once unreferenced lbn ≡ true
+          → ¬ IsNamed v lbn
       may-unnamed before_is lbn may named =
           let two_was = files-two.was named.header named.cell.live in
           let one_was = files-one.was named.header two_was.0 in
-          let cell : IsCell t named.header named.place lbn = same-cell v t named.header named.place lbn one_was.0 (sym (two_was.1 ∙ one_was.1)) named.cell in
-          let unreferenced_has = unreferenced-told _ _ ((named-is lbn).1 (record { header = named.header; place = named.place; cell = cell })) may in
+          let cell : IsCell t named.header named.place lbn = same-cell v t named.header named.place lbn one_was.0
+          (sym (two_was.1 ∙ one_was.1)) named.cell in
+          let unreferenced_has = unreferenced-told _ _
+          ((named-is lbn).1 (record { header = named.header; place = named.place; cell = cell })) may in
           elim (one.puts.only lbn unreferenced_has) [
             | inl was ↦ both_ways _ (before_is lbn) was
             | inr of ↦
-                let other : IsCell t of.header of.names.0 lbn = record { live = of.orphan.live; names = at-place (blocks_named (t.header of.header)) lbn of.names } in
-                of.orphan.of_none (subst (IsInFile t) (cells-apart named.header named.place of.header of.names.0 lbn cell other) (in-old t u files-one named.header (live-in named.header two_was.0)))
+                let other : IsCell t of.header of.names.0 lbn =
+                record { live = of.orphan.live; names = at-place (blocks_named (t.header of.header)) lbn of.names } in
+                of.orphan.of_none (subst (IsInFile t) (cells-apart named.header named.place of.header of.names.0 lbn cell other)
+                (in-old t u files-one named.header (live-in named.header two_was.0)))
           ]
 
-      unnamed-may_be : limit_of before ≡ bitmap.size → (lbn : ℕ) → lbn < bitmap.size → ¬ IsNamed v lbn → may_be_free r.survey.tally.once unreferenced lbn ≡ true
+      unnamed-may_be : limit_of before ≡ bitmap.size → (lbn : ℕ) → lbn < bitmap.size → ¬ IsNamed v lbn
+          → may_be_free r.survey.tally.once unreferenced lbn ≡ true
       unnamed-may_be limit lbn inside unnamed = elim (cases_Bool (has r.survey.tally.once lbn)) [
         | inr none ↦ unnamed-may _ (has unreferenced lbn) none
         | inl once ↦
@@ -168,7 +187,11 @@ module _ (index : Index) (bitmap : Bitmap) (r : Reading) (home : HomeFields) (a 
                   let one_live = files-one.stays named.header within in
                   let two_live = files-two.stays named.header (in-new t u files-one named.header within) in
                   let same = (files-two.was named.header two_live).1 ∙ (files-one.was named.header one_live).1 in
-                  absurd (unnamed (record { header = named.header; place = named.place; cell = same-cell t v named.header named.place lbn two_live same named.cell }))
+                  absurd (unnamed (record {
+                    header = named.header;
+                    place = named.place;
+                    cell = same-cell t v named.header named.place lbn two_live same named.cell;
+                  }))
               | inr out ↦
                   unreferenced-may (has r.survey.tally.once lbn) _
                   (one.puts.all lbn (omega (arith, inside, limit)) (record {
@@ -188,7 +211,8 @@ module _ (index : Index) (bitmap : Bitmap) (r : Reading) (home : HomeFields) (a 
           is.shows.free.each lbn ∙ sym (is_free-kept (storage_bitmap a home) a c lbn (bitmap-is a home is.frame.sound).0 kept)
           ∙ ap (λ (x : Bitmap). is_free c x lbn) (sym is.frame.bitmap_is)
 
-      pub told-so : ((k : ℕ) → has before k ≡ false) → limit_of before ≡ bitmap.size → IsTold bitmap r.free r.survey.tally.once unreferenced home c
+      pub told-so : ((k : ℕ) → has before k ≡ false) → limit_of before ≡ bitmap.size
+          → IsTold bitmap r.free r.survey.tally.once unreferenced home c
       told-so before_is limit = record {
         sound = two.places.reclaiming.freeing.sound;
         slots = files-used;
@@ -201,7 +225,8 @@ module _ (index : Index) (bitmap : Bitmap) (r : Reading) (home : HomeFields) (a 
       places-two = places-then home a b c one.places two.places
 
       -- and blocks that no header names became free
-      module _ (d : Image) (covered : bitmap.size ≤ 4096 * length bitmap.places) (three : HasFreedUpTo (length bitmap.places) bitmap home c d) where
+      module _ (d : Image) (covered : bitmap.size ≤ 4096 * length bitmap.places)
+          (three : HasFreedUpTo (length bitmap.places) bitmap home c d) where
         sound-last : HasSoundVolume d home
         sound-last = three.places.reclaiming.freeing.sound
 
@@ -243,7 +268,8 @@ module _ (index : Index) (bitmap : Bitmap) (r : Reading) (home : HomeFields) (a 
         no-note : (code x y : ℕ) → code ≤ 3 → ¬ IsNote d code x y
         no-note code x y few note =
             no-first code x y few
-            (subst (λ (h : HomeFields). IsVolumeNote d (volume_of d h) code x y) (home-unique d note.home home note.framed.home_is sound-last.framed.home_is) note.note)
+            (subst (λ (h : HomeFields). IsVolumeNote d (volume_of d h) code x y)
+            (home-unique d note.home home note.framed.home_is sound-last.framed.home_is) note.note)
 
         pub reclaimed-so : HasReclaimed home a d
         reclaimed-so = record { reclaiming = places-last.reclaiming; blocks = blocks-last; slots = slots-last; no_note = no-note }

@@ -39,7 +39,8 @@ in-file-kept t u n (killed_orphan orphan dead) within = absurd (orphan.of_none w
 
 -- an orphan whose header is dead was killed
 pub orphan-dead : (t u : Table) (n : ℕ) → IsKeptOrKilled t u n → IsOrphan t n → IsDead (u.header n) → u.header n ≡ dead_header (t.header n)
-orphan-dead t u n (as_it_was same) orphan dead = absurd (dead-not-valid (u.header n) n dead (subst (λ (b : List ℕ). IsHeader b n) (sym same) orphan.live.valid))
+orphan-dead t u n (as_it_was same) orphan dead =
+    absurd (dead-not-valid (u.header n) n dead (subst (λ (b : List ℕ). IsHeader b n) (sym same) orphan.live.valid))
 orphan-dead t u n (killed_orphan was is) orphan dead = is
 
 -- what is kept or killed twice is so once, where an orphan between was one before
@@ -51,7 +52,8 @@ kept-then t u v n was (killed_orphan before one) (killed_orphan orphan two) =
     killed_orphan before (two ∙ ap dead_header (live-kept t u n (killed_orphan before one) orphan.live))
 
 -- a slot that has left use, by its two steps
-pub left-then : (t u v : Table) (n : ℕ) → (u.in_use n ≡ false → IsDead (u.header n)) → LeavesDead u v → IsKeptOrKilled u v n → v.in_use n ≡ false → IsDead (v.header n)
+pub left-then : (t u v : Table) (n : ℕ) → (u.in_use n ≡ false → IsDead (u.header n)) → LeavesDead u v → IsKeptOrKilled u v n
+    → v.in_use n ≡ false → IsDead (v.header n)
 left-then t u v n one two (as_it_was same) gone = elim (cases_Bool (u.in_use n)) [
   | inl used ↦ two n used gone
   | inr unused ↦ subst IsDead (sym same) (one unused)

@@ -101,7 +101,8 @@ module _ (n : ℕ) (t u : Table) (fit : IsFit t) (kills : KillsUpTo n t u) where
   }
 
   -- or it is, and was killed
-  pub killed-more : (v : Table) (block : List ℕ) → v.in_use ≡ u.in_use → KeepsOtherBlocks (n + 1) u v → v.header (n + 1) ≡ block → IsDead block → IsOrphan t (n + 1)
+  pub killed-more : (v : Table) (block : List ℕ) → v.in_use ≡ u.in_use → KeepsOtherBlocks (n + 1) u v → v.header (n + 1) ≡ block
+      → IsDead block → IsOrphan t (n + 1)
       → KillsUpTo (n + 1) t v
   killed-more v block used blocks here dead orphan = record {
     slots = blocks.slots ∙ kills.slots;
@@ -110,7 +111,8 @@ module _ (n : ℕ) (t u : Table) (fit : IsFit t) (kills : KillsUpTo n t u) where
       | inl same ↦ λ live. dead-not-valid block m dead (subst (λ (b : List ℕ). IsHeader b m) (ap v.header same ∙ here) live.valid)
       | inr apart ↦ λ live. kills.killed m (omega (arith, within, apart)) is (record {
         in_use = ap (λ (f : ℕ → Bool). f m) (sym used) ∙ live.in_use;
-        valid = subst (λ (b : List ℕ). IsHeader b m) (blocks.header m (live-some live) (omega (arith, fit.high m is.live.in_use, kills.slots)) apart) live.valid;
+        valid = subst (λ (b : List ℕ). IsHeader b m)
+            (blocks.header m (live-some live) (omega (arith, fit.high m is.live.in_use, kills.slots)) apart) live.valid;
       })
     ];
     others = λ m some few but.
@@ -126,8 +128,11 @@ module _ (n : ℕ) (t u : Table) (clears : ClearsUpTo n t u) where
   pub cleared-keeps : KeepsFiles t u
   cleared-keeps = record {
     was = λ m live.
-        let same = clears.others m (live-some live) (λ within idle. both_ways _ (clears.cleared m (live-some live) within idle) live.in_use) in
-        (record { in_use = sym same ∙ live.in_use; valid = subst (λ (b : List ℕ). IsHeader b m) (header-alike m) live.valid }, header-alike m);
+        let same = clears.others m (live-some live) (λ within idle. both_ways _ (clears.cleared m (live-some live) within idle) live.in_use)
+        in (
+          record { in_use = sym same ∙ live.in_use; valid = subst (λ (b : List ℕ). IsHeader b m) (header-alike m) live.valid },
+          header-alike m,
+        );
     stays = λ m within.
         let live = live_of-header within.of in
         let same = clears.others m (live-some live) (λ _ idle. idle.of_none within) in
@@ -151,7 +156,8 @@ module _ (n : ℕ) (t u : Table) (clears : ClearsUpTo n t u) where
   }
 
   -- or is, and left use
-  pub cleared-more : (v : Table) → v.slots ≡ u.slots → v.header ≡ u.header → v.in_use (n + 1) ≡ false → ((m : ℕ) → m ≢ n + 1 → v.in_use m ≡ u.in_use m) → IsIdle t (n + 1)
+  pub cleared-more : (v : Table) → v.slots ≡ u.slots → v.header ≡ u.header → v.in_use (n + 1) ≡ false
+      → ((m : ℕ) → m ≢ n + 1 → v.in_use m ≡ u.in_use m) → IsIdle t (n + 1)
       → ClearsUpTo (n + 1) t v
   cleared-more v slots header here others idle = record {
     slots = slots ∙ clears.slots;

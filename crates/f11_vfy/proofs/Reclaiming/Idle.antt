@@ -82,10 +82,12 @@ module _ (index : Index) (r : Reading) (k : ℕ) (mid : Index) (old now : Disk) 
     -- the next slot is in use as the index file says
     used-is : t.in_use (k + 1) ≡ is_in_use mid (k + 1)
     used-is =
-        sym (next-used k t u so.table) ∙ ap (λ (x : Index). (table_in now.image x).in_use (k + 1)) (sym so.index_is) ∙ table-in_use mid now (k + 1)
+        sym (next-used k t u so.table) ∙ ap (λ (x : Index). (table_in now.image x).in_use (k + 1)) (sym so.index_is)
+        ∙ table-in_use mid now (k + 1)
 
   -- the next slot isn't idle
-  pub idle-other : ((home : HomeFields) → (honest : IsTrue old.honest) → IsSwept index r home old.image → ¬ IsIdle (table_of old.image home) (k + 1)) → ClearsIdle index r (k + 1) mid old now
+  pub idle-other : ((home : HomeFields) → (honest : IsTrue old.honest) → IsSwept index r home old.image
+      → ¬ IsIdle (table_of old.image home) (k + 1)) → ClearsIdle index r (k + 1) mid old now
   idle-other none_here = record {
     same = so_far.same;
     clears = λ honest home swept.
@@ -108,7 +110,8 @@ module _ (index : Index) (r : Reading) (k : ℕ) (mid : Index) (old now : Disk) 
   idle-of_file within = idle-other (λ home honest swept idle. idle.of_none ((swept.tells (k + 1)).0 within))
 
   -- or it is
-  module _ (used : is_in_use mid (k + 1) ≡ true) (out : has r.chains.in_file (k + 1) ≡ false) (low : k + 1 ≤ slots index) (fits : slots mid ≤ 4096 * length mid.bitmap) where
+  module _ (used : is_in_use mid (k + 1) ≡ true) (out : has r.chains.in_file (k + 1) ≡ false) (low : k + 1 ≤ slots index)
+      (fits : slots mid ≤ 4096 * length mid.bitmap) where
     few : k + 1 ≤ slots mid
     few = let count = ap (λ (xs : List ℕ). length xs) so_far.same.headers in omega (arith, low, count)
 
@@ -127,7 +130,8 @@ module _ (index : Index) (r : Reading) (k : ℕ) (mid : Index) (old now : Disk) 
       dead = elim (here.places.reclaiming.freeing.sound.sound.headers (k + 1) now-used) [
         | inl is ↦ record { in_use = now-used; dead = is }
         | inr valid ↦
-            let was = (cleared-keeps k (t honest home swept) (u honest home swept) here.table).was (k + 1) (record { in_use = now-used; valid = valid }) in
+            let was = (cleared-keeps k (t honest home swept) (u honest home swept) here.table).was (k + 1)
+            (record { in_use = now-used; valid = valid }) in
             absurd (swept.no_orphan (k + 1) (record { live = was.0; of_none = idle.of_none }))
       ]
 
@@ -164,25 +168,31 @@ module _ (index : Index) (r : Reading) (k : ℕ) (mid : Index) (old now : Disk) 
         table : ClearsUpTo (k + 1) (t honest home swept) (table_of cleared home)
         table =
             let is = writes.index_file.table in
-            cleared-more k (t honest home swept) (u honest home swept) here.table (table_of cleared home) (ap (λ (v : Table). v.slots) is) (ap (λ (v : Table). v.header) is)
+            cleared-more k (t honest home swept) (u honest home swept) here.table (table_of cleared home) (ap (λ (v : Table). v.slots) is)
+            (ap (λ (v : Table). v.header) is)
             (ap (λ (v : Table). v.in_use (k + 1)) is ∙ SetsBit-in_use false (k + 1) mid after (omega arith) few bit)
             (λ m apart. writes.slot.others.in_use m apart) idle
 
         no-orphan : HasNoOrphan (table_of cleared home)
         no-orphan n orphan =
             swept.no_orphan n
-            (orphan-was (t honest home swept) (table_of cleared home) (cleared-keeps (k + 1) (t honest home swept) (table_of cleared home) table) n orphan)
+            (orphan-was (t honest home swept) (table_of cleared home)
+            (cleared-keeps (k + 1) (t honest home swept) (table_of cleared home) table) n orphan)
 
         reclaiming : IsReclaiming home now.image cleared
         reclaiming = record {
           freeing = dead-freed now.image home (k + 1) here.places.reclaiming.freeing.sound after dead bit-of;
-          spares = spares-other any_header (index_of now.image home) (storage_bitmap now.image home) [] now.image (after.bitmap_lbn + bitmap_place (k + 1)) (bitmap_block after (k + 1))
+          spares =
+              spares-other any_header (index_of now.image home) (storage_bitmap now.image home) [] now.image
+              (after.bitmap_lbn + bitmap_place (k + 1)) (bitmap_block after (k + 1))
               (λ l no out_of is.
               let size = ap (λ (x : Index). length x.bitmap) here.index_is in
-              no.index_bitmap (bitmap_place (k + 1)) (omega (arith, few, fits, size)) (let lbn = same.bitmap_lbn in omega (arith, lbn, is)));
+              no.index_bitmap (bitmap_place (k + 1)) (omega (arith, few, fits, size))
+              (let lbn = same.bitmap_lbn in omega (arith, lbn, is)));
           headers = λ m some within. as_it_was (ap (λ (v : Table). v.header m) writes.index_file.table);
           left = λ m before gone. elim (cases_eq m (k + 1)) [
-            | inl it ↦ subst IsDead (ap (λ (v : Table). v.header (k + 1)) (sym writes.index_file.table) ∙ ap (table_of cleared home).header (sym it)) dead.dead
+            | inl it ↦ subst IsDead (ap (λ (v : Table). v.header (k + 1)) (sym writes.index_file.table)
+                ∙ ap (table_of cleared home).header (sym it)) dead.dead
             | inr apart ↦ absurd (both_ways _ gone (writes.slot.others.in_use m apart ∙ before))
           ];
           past = past-kept (storage_bitmap now.image home) now.image cleared storage;
@@ -212,17 +222,20 @@ module _ (index : Index) (r : Reading) (k : ℕ) (mid : Index) (old now : Disk) 
           table = table;
         }
 
-    count-more : (honest : IsTrue old.honest) (home : HomeFields) (swept : IsSwept index r home old.image) → CountsUpTo (IsIdle (table_of old.image home)) (k + 1) (so_far.count + 1)
+    count-more : (honest : IsTrue old.honest) (home : HomeFields) (swept : IsSwept index r home old.image)
+        → CountsUpTo (IsIdle (table_of old.image home)) (k + 1) (so_far.count + 1)
     count-more honest home swept = such k so_far.count (so_far.counts honest home swept) (idle honest home swept)
 
     abbrev P : Image → Type 0
     P = Moment (IsSwept index r) old
 
-    went-on : (new : Disk) (faults : ℕ) → Went (HasBitWritten false (k + 1) mid now.image) now new 1 faults → Went P old new (so_far.count + 1) faults
+    went-on : (new : Disk) (faults : ℕ) → Went (HasBitWritten false (k + 1) mid now.image) now new 1 faults
+        → Went P old new (so_far.count + 1) faults
     went-on new faults went =
         went_more P so_far.went
         (went_weaker (HasBitWritten false (k + 1) mid now.image) P
-        (λ image has honest home swept. subst (IsReclaiming home old.image) (sym has.image_is) (stands honest home swept has.written has.bit)) went)
+        (λ image has honest home swept. subst (IsReclaiming home old.image) (sym has.image_is)
+        (stands honest home swept has.written has.bit)) went)
 
     pub idle-more : (after : Index) (new : Disk) → WritesBit false (k + 1) mid after now new → ClearsIdle index r (k + 1) after old new
     idle-more after new did = record {
@@ -233,7 +246,8 @@ module _ (index : Index) (r : Reading) (k : ℕ) (mid : Index) (old now : Disk) 
             bitmap_lbn = last.bitmap_lbn ∙ so_far.same.bitmap_lbn;
             blocks = last.blocks ∙ so_far.same.blocks;
           };
-      clears = λ honest home swept. subst (HasClearedUpTo (k + 1) after home old.image) (sym did.image) (more honest home swept after did.bit);
+      clears = λ honest home swept. subst (HasClearedUpTo (k + 1) after home old.image) (sym did.image)
+          (more honest home swept after did.bit);
       count = so_far.count + 1;
       counts = count-more;
       went = went-on new 0 did.went;

@@ -20,7 +20,8 @@ use Rattle.f11_vfy.specs.declared.survey.bits.Bits.{Bits}
 pub kill-unread : (index : Index) (n : ℕ) (old now : Disk) → now ≡ with_transfer false old → FailsToKill index n old now
 kill-unread index n old now failed = went_looked (HasKilled index n old) (looked_within (looked_failed_read old now failed) (omega arith))
 
-module _ (index : Index) (n lbn : ℕ) (block : List ℕ) (old now : Disk) (at : lbn ≡ header_lbn index n) (counts : now ≡ with_transfer true old)
+module _ (index : Index) (n lbn : ℕ) (block : List ℕ) (old now : Disk) (at : lbn ≡ header_lbn index n)
+    (counts : now ≡ with_transfer true old)
     (gives : IsTrue old.honest → slice_get old.image lbn ≡ Some block) where
   read-is : IsTrue old.honest → block ≡ header_at index n old.image
   read-is honest = table-header index old n lbn block at (gives honest)
@@ -42,14 +43,16 @@ module _ (index : Index) (n lbn : ℕ) (block : List ℕ) (old now : Disk) (at :
         let block_is : dead ≡ dead_header (header_at index n old.image) = is_dead ∙ ap dead_header (read-is honest) in
         record {
           dead = subst IsDead block_is killed;
-          image_is = ap (λ (i : Image). set i lbn dead) now-image ∙ ap (λ (l : ℕ). set old.image l dead) at ∙ ap (set old.image (header_lbn index n)) block_is;
+          image_is = ap (λ (i : Image). set i lbn dead) now-image ∙ ap (λ (l : ℕ). set old.image l dead) at
+              ∙ ap (set old.image (header_lbn index n)) block_is;
         }
 
     first-read : Went (HasKilled index n old) old now 1 0
     first-read = went_looked (HasKilled index n old) (looked_read old now counts)
 
     -- it was written
-    pub kill-done : (before after : Bits) → Puts (Contains (blocks_named block)) before after → new ≡ with_transfer true (with_block_at lbn dead now) → KillsHeader index n before after old new
+    pub kill-done : (before after : Bits) → Puts (Contains (blocks_named block)) before after
+        → new ≡ with_transfer true (with_block_at lbn dead now) → KillsHeader index n before after old new
     kill-done before after puts wrote = record {
       killed = λ honest valid. subst (HasDead index n old.image) (ap (λ (d : Disk). d.image) (sym wrote)) (written honest valid);
       puts = λ honest valid. subst (λ (b : List ℕ). Puts (Contains (blocks_named b)) before after) (read-is honest) puts;
@@ -57,5 +60,6 @@ module _ (index : Index) (n lbn : ℕ) (block : List ℕ) (old now : Disk) (at :
     }
 
     -- or wasn't
-    pub kill-unwritten : (new ≡ with_transfer false now) ⊎ (new ≡ with_transfer false (with_block_at lbn dead now)) → FailsToKill index n old new
+    pub kill-unwritten : (new ≡ with_transfer false now) ⊎ (new ≡ with_transfer false (with_block_at lbn dead now))
+        → FailsToKill index n old new
     kill-unwritten is = went_more (HasKilled index n old) first-read (went_failed_write (HasKilled index n old) now new lbn dead is written)

@@ -24,7 +24,8 @@ use Rattle.f11_vfy.specs.Chain.{IsFit}
 use Rattle.f11_vfy.specs.Frames.Earlier.{Puts}
 use Rattle.f11_vfy.specs.Reclaiming.Moments.{any_header, IsReclaiming, KeepsPlaces, Moment}
 use Rattle.f11_vfy.specs.Reclaiming.Slots.{CountsUpTo, IsOrphan, IsOfOrphan, as_it_was, killed_orphan, none, such, other}
-use Rattle.f11_vfy.specs.Reclaiming.Steps.{header_at, HasDead, HasKilled, KillsHeader, FailsToKill, IsShown, HasKilledUpTo, KillsOrphans, FailsToKillOrphans}
+use Rattle.f11_vfy.specs.Reclaiming.Steps.{header_at, HasDead, HasKilled, KillsHeader, FailsToKill, IsShown, HasKilledUpTo, KillsOrphans}
+use Rattle.f11_vfy.specs.Reclaiming.Steps.{FailsToKillOrphans}
 use Rattle.f11_vfy.specs.Scanning.Reading.{ShowsVolume}
 use Rattle.f11_vfy.specs.declared.findings.reading.Reading.{Reading}
 use Rattle.f11_vfy.specs.declared.survey.bits.Bits.{Bits}
@@ -40,7 +41,8 @@ use Rattle.f11_writes.specs.Kept.{WritesHeader}
 use Rattle.f11_writes.proofs.SlotLemmas.{header-placed-at}
 
 -- what a reading tells of each volume that it is of
-shown-is : (P : Table → Type 0) (index : Index) (r : Reading) (home : HomeFields) (image : Image) → IsShown index r home image → ((v : Volume) → ShowsVolume v r → P v.table)
+shown-is : (P : Table → Type 0) (index : Index) (r : Reading) (home : HomeFields) (image : Image) → IsShown index r home image
+    → ((v : Volume) → ShowsVolume v r → P v.table)
     → P (table_of image home)
 unfolding volume_of
 shown-is P index r home image shown is = is (volume_of image home) shown.shows
@@ -49,7 +51,8 @@ fit-is : (index : Index) (r : Reading) (home : HomeFields) (image : Image) → I
 fit-is index r home image shown = shown-is IsFit index r home image shown (λ v shows. shows.fit)
 
 -- none so far
-pub orphans-none : (index : Index) (r : Reading) (unreferenced : Bits) (disk : Disk) → KillsOrphans index r 0 unreferenced unreferenced disk disk
+pub orphans-none : (index : Index) (r : Reading) (unreferenced : Bits) (disk : Disk)
+    → KillsOrphans index r 0 unreferenced unreferenced disk disk
 orphans-none index r unreferenced disk = record {
   kills = λ honest home shown. record {
     storage = λ i within. refl;
@@ -61,14 +64,16 @@ orphans-none index r unreferenced disk = record {
       killed = λ m within orphan. let some = live-some orphan.live in absurd (omega (arith, within, some));
       others = λ m some few but. refl;
     };
-    puts = puts-none (IsOfOrphan (table_of disk.image home) 0) unreferenced (λ lbn of. let some = live-some of.orphan.live in omega (arith, of.within, some));
+    puts = puts-none (IsOfOrphan (table_of disk.image home) 0) unreferenced
+        (λ lbn of. let some = live-some of.orphan.live in omega (arith, of.within, some));
   };
   count = 0;
   counts = λ honest home shown. none;
   went = went_within (Moment (IsShown index r) disk) (went_looked (Moment (IsShown index r) disk) (looked_none disk)) (omega arith);
 }
 
-module _ (index : Index) (r : Reading) (k : ℕ) (before mid : Bits) (old now : Disk) (so_far : KillsOrphans index r k before mid old now) (low : k + 1 ≤ slots index) where
+module _ (index : Index) (r : Reading) (k : ℕ) (before mid : Bits) (old now : Disk) (so_far : KillsOrphans index r k before mid old now)
+    (low : k + 1 ≤ slots index) where
   -- the next header is no orphan
   pub orphans-other : ((v : Volume) → ShowsVolume v r → ¬ IsOrphan v.table (k + 1)) → KillsOrphans index r (k + 1) before mid old now
   orphans-other none_here = record {
@@ -94,7 +99,8 @@ module _ (index : Index) (r : Reading) (k : ℕ) (before mid : Bits) (old now : 
               });
         };
     count = so_far.count;
-    counts = λ honest home shown. other k so_far.count (so_far.counts honest home shown) (shown-is (λ u. ¬ IsOrphan u (k + 1)) index r home old.image shown none_here);
+    counts = λ honest home shown. other k so_far.count (so_far.counts honest home shown)
+        (shown-is (λ u. ¬ IsOrphan u (k + 1)) index r home old.image shown none_here);
     went = so_far.went;
   }
 
@@ -117,7 +123,9 @@ module _ (index : Index) (r : Reading) (k : ℕ) (before mid : Bits) (old now : 
       fit = fit-is index r home old.image shown
 
       few : k + 1 ≤ t.slots
-      few = let count = ap slots shown.index_is in let same = table-slots old.image (index_of old.image home) in omega (arith, low, count, same)
+      few =
+          let count = ap slots shown.index_is in let same = table-slots old.image (index_of old.image home) in
+          omega (arith, low, count, same)
 
       still : IsTrue now.honest
       still = so_far.went.honest ∙ honest
@@ -156,9 +164,13 @@ module _ (index : Index) (r : Reading) (k : ℕ) (before mid : Bits) (old now : 
 
         reclaiming : IsReclaiming home now.image killed
         reclaiming = record {
-          freeing = orphan-killed now.image home (k + 1) so.places.reclaiming.freeing.sound block live fileless dead (dead-sequence (u.header (k + 1)));
-          spares = spares-other any_header (index_of now.image home) (storage_bitmap now.image home) [] now.image (header_lbn (index_of now.image home) (k + 1)) block
-              (λ l none out. header-apart any_header (index_of now.image home) (storage_bitmap now.image home) (k + 1) (header_lbn (index_of now.image home) (k + 1))
+          freeing = orphan-killed now.image home (k + 1) so.places.reclaiming.freeing.sound block live fileless dead
+              (dead-sequence (u.header (k + 1)));
+          spares =
+              spares-other any_header (index_of now.image home) (storage_bitmap now.image home) [] now.image
+              (header_lbn (index_of now.image home) (k + 1)) block
+              (λ l none out. header-apart any_header (index_of now.image home) (storage_bitmap now.image home) (k + 1)
+              (header_lbn (index_of now.image home) (k + 1))
               refl (omega arith) (let count = ap slots index-is in omega (arith, low, count)) refl l none);
           headers = λ m some within. elim (cases_eq m (k + 1)) [
             | inl here ↦
@@ -174,20 +186,33 @@ module _ (index : Index) (r : Reading) (k : ℕ) (before mid : Bits) (old now : 
         places : KeepsPlaces home now.image killed
         places = places-same home now.image killed reclaiming writes.index_file.index writes.slot.bitmap
 
-        more : (after : Bits) → Puts (Contains (blocks_named (header_at index (k + 1) now.image))) mid after → HasKilledUpTo (k + 1) before after home old.image killed
+        more : (after : Bits) → Puts (Contains (blocks_named (header_at index (k + 1) now.image))) mid after
+            → HasKilledUpTo (k + 1) before after home old.image killed
         more after puts = record {
           places = places-then home old.image now.image killed so.places places;
           index = writes.index_file.index ∙ so.index;
           storage = storage-then old.image now.image killed home so.places.bitmap so.storage storage;
-          table = killed-more k t u fit so.table (table_of killed home) block writes.in_use (blocks-but now.image killed home (k + 1) block writes) writes.index_file.header dead orphan;
+          table = killed-more k t u fit so.table (table_of killed home) block writes.in_use
+              (blocks-but now.image killed home (k + 1) block writes) writes.index_file.header dead orphan;
           puts =
               let same : header_at index (k + 1) now.image ≡ t.header (k + 1) = header-is ∙ next-same k t u fit so.table few in
-              puts-then (IsOfOrphan t k) (Contains (blocks_named (header_at index (k + 1) now.image))) (IsOfOrphan t (k + 1)) before mid after so.puts puts
+              puts-then (IsOfOrphan t k) (Contains (blocks_named (header_at index (k + 1) now.image))) (IsOfOrphan t (k + 1)) before mid
+              after so.puts puts
               (λ lbn of. record { header = of.header; within = omega (arith, of.within); orphan = of.orphan; names = of.names })
-              (λ lbn has. record { header = k + 1; within = omega arith; orphan = orphan; names = subst (λ (b : List ℕ). Contains (blocks_named b) lbn) same has })
+              (λ lbn has. record {
+                header = k + 1;
+                within = omega arith;
+                orphan = orphan;
+                names = subst (λ (b : List ℕ). Contains (blocks_named b) lbn) same has;
+              })
               (λ lbn of. elim (cases_eq of.header (k + 1)) [
                 | inl here ↦ inr (subst (λ (b : List ℕ). Contains (blocks_named b) lbn) (ap t.header here ∙ sym same) of.names)
-                | inr apart ↦ inl (record { header = of.header; within = omega (arith, of.within, apart); orphan = of.orphan; names = of.names })
+                | inr apart ↦ inl (record {
+                  header = of.header;
+                  within = omega (arith, of.within, apart);
+                  orphan = of.orphan;
+                  names = of.names;
+                })
               ]);
         }
 
@@ -196,7 +221,8 @@ module _ (index : Index) (r : Reading) (k : ℕ) (before mid : Bits) (old now : 
       dead-block image is = subst (λ (b : List ℕ). IsDead (dead_header b)) header-is is.dead
 
       dead-image : (image : Image) → HasDead index (k + 1) now.image image → image ≡ killed
-      dead-image image is = is.image_is ∙ ap (λ (x : Index). set now.image (header_lbn x (k + 1)) (dead_header (header_at x (k + 1) now.image))) index-is
+      dead-image image is =
+          is.image_is ∙ ap (λ (x : Index). set now.image (header_lbn x (k + 1)) (dead_header (header_at x (k + 1) now.image))) index-is
 
       stands : (image : Image) → HasKilled index (k + 1) now image → IsReclaiming home old.image image
       stands image has =
@@ -204,22 +230,28 @@ module _ (index : Index) (r : Reading) (k : ℕ) (before mid : Bits) (old now : 
           reclaiming-then home old.image now.image image so.places
           (subst (IsReclaiming home now.image) (sym (dead-image image is)) (reclaiming (dead-block image is)))
 
-    count-more : (honest : IsTrue old.honest) (home : HomeFields) (shown : IsShown index r home old.image) → CountsUpTo (IsOrphan (table_of old.image home)) (k + 1) (so_far.count + 1)
+    count-more : (honest : IsTrue old.honest) (home : HomeFields) (shown : IsShown index r home old.image)
+        → CountsUpTo (IsOrphan (table_of old.image home)) (k + 1) (so_far.count + 1)
     count-more honest home shown = such k so_far.count (so_far.counts honest home shown) (orphan honest home shown)
 
     abbrev P : Image → Type 0
     P = Moment (IsShown index r) old
 
-    went-on : (new : Disk) (faults : ℕ) → Went (HasKilled index (k + 1) now) now new 2 faults → Went P old new (2 * (so_far.count + 1)) faults
+    went-on : (new : Disk) (faults : ℕ) → Went (HasKilled index (k + 1) now) now new 2 faults
+        → Went P old new (2 * (so_far.count + 1)) faults
     went-on new faults went =
-        went_within P (went_more P so_far.went (went_weaker (HasKilled index (k + 1) now) P (λ image has honest home shown. stands honest home shown image has) went)) (omega arith)
+        went_within P (went_more P so_far.went
+        (went_weaker (HasKilled index (k + 1) now) P (λ image has honest home shown. stands honest home shown image has) went))
+        (omega arith)
 
-    pub orphans-more : (after : Bits) (new : Disk) → KillsHeader index (k + 1) mid after now new → KillsOrphans index r (k + 1) before after old new
+    pub orphans-more : (after : Bits) (new : Disk) → KillsHeader index (k + 1) mid after now new
+        → KillsOrphans index r (k + 1) before after old new
     orphans-more after new did = record {
       kills = λ honest home shown.
           let is = did.killed (still honest home shown) (valid honest home shown) in
           subst (HasKilledUpTo (k + 1) before after home old.image) (sym (dead-image honest home shown new.image is))
-          (more honest home shown (dead-block honest home shown new.image is) after (did.puts (still honest home shown) (valid honest home shown)));
+          (more honest home shown (dead-block honest home shown new.image is) after
+          (did.puts (still honest home shown) (valid honest home shown)));
       count = so_far.count + 1;
       counts = count-more;
       went = went-on new 0 did.went;

@@ -25,11 +25,13 @@ use Rattle.f11_volume.specs.Sound.{HasSoundVolume}
 use Rattle.f11_volume.specs.Space.{storage_bitmap}
 
 -- slots that are in use, and as many
-used-slot : (image : Image) (home : HomeFields) (n : ℕ) → (table_of image home).in_use n ≡ true → (0 < n) × (n ≤ (table_of image home).slots)
+used-slot : (image : Image) (home : HomeFields) (n : ℕ) → (table_of image home).in_use n ≡ true
+    → (0 < n) × (n ≤ (table_of image home).slots)
 unfolding table_in
 used-slot image home n used = (in_use-some (index_of image home) n used, in_use-slot (index_of image home) n used)
 
-slots-alike : (a b : Image) (home : HomeFields) → (index_of b home).headers ≡ (index_of a home).headers → (table_of b home).slots ≡ (table_of a home).slots
+slots-alike : (a b : Image) (home : HomeFields) → (index_of b home).headers ≡ (index_of a home).headers
+    → (table_of b home).slots ≡ (table_of a home).slots
 unfolding table_in
 slots-alike a b home same = ap (λ (xs : List ℕ). length xs) same
 
@@ -113,16 +115,19 @@ reclaiming-then home a b c one two = record {
     frees = frees-then (store_of a home) (store_of b home) (store_of c home) one.reclaiming.freeing.frees two.freeing.frees;
   };
   spares = λ lbn none out.
-      two.spares lbn (alike-part any_header (index_of a home) (index_of b home) (storage_bitmap a home) (storage_bitmap b home) one.alike lbn none) out
+      two.spares lbn (alike-part any_header (index_of a home) (index_of b home) (storage_bitmap a home) (storage_bitmap b home) one.alike
+      lbn none) out
       ∙ one.reclaiming.spares lbn none out;
   headers = λ n some few.
       let slots = slots-alike a b home one.alike.headers in
       kept-then (table_of a home) (table_of b home) (table_of c home) n
-      (orphan-was (table_of a home) (table_of b home) (reclaiming-keeps home a b one.reclaiming) n) (one.reclaiming.headers n some few) (two.headers n some (omega (arith, few, slots)));
+      (orphan-was (table_of a home) (table_of b home) (reclaiming-keeps home a b one.reclaiming) n) (one.reclaiming.headers n some few)
+      (two.headers n some (omega (arith, few, slots)));
   left = λ n used gone.
       let slots = slots-alike a b home one.alike.headers in
       let (some, few) = used-slot a home n used in
-      left-then (table_of a home) (table_of b home) (table_of c home) n (one.reclaiming.left n used) two.left (two.headers n some (omega (arith, few, slots))) gone;
+      left-then (table_of a home) (table_of b home) (table_of c home) n (one.reclaiming.left n used) two.left
+      (two.headers n some (omega (arith, few, slots))) gone;
   past = λ k high below. subst (λ (x : Bitmap). KeepsPast x b c) one.bitmap two.past k high below ∙ one.reclaiming.past k high below;
   order = order-then home a b c (reclaiming-keeps home b c two) (used-was home b c two) one.bitmap one.reclaiming.order two.order;
 }
@@ -140,7 +145,8 @@ places-then home a b c one two = record {
 }
 
 -- an index file at the same places
-pub places-same : (home : HomeFields) (a b : Image) → IsReclaiming home a b → index_of b home ≡ index_of a home → storage_bitmap b home ≡ storage_bitmap a home → KeepsPlaces home a b
+pub places-same : (home : HomeFields) (a b : Image) → IsReclaiming home a b → index_of b home ≡ index_of a home
+    → storage_bitmap b home ≡ storage_bitmap a home → KeepsPlaces home a b
 places-same home a b reclaiming index bitmap = record {
   reclaiming = reclaiming;
   alike = record {

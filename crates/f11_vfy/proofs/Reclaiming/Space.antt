@@ -1,5 +1,6 @@
 -- Blocks that no header names, which become free, a block of the storage bitmap after another.
-use Rattle.std.proofs.Common.{◌≡◌, ◌≢◌, ◌⊎◌, ◌+◌, ◌-◌, ◌*◌, ◌/◌, ◌%◌, ◌<◌, ℕ, Bool, true, false, IsTrue, [], List, length, get_or, inl, inr, refl, sym, ap, subst, ◌∙◌, arith}
+use Rattle.std.proofs.Common.{◌≡◌, ◌≢◌, ◌⊎◌, ◌+◌, ◌-◌, ◌*◌, ◌/◌, ◌%◌, ◌<◌, ℕ, Bool, true, false, IsTrue, [], List, length, get_or, inl, inr}
+use Rattle.std.proofs.Common.{refl, sym, ap, subst, ◌∙◌, arith}
 use Rattle.std.specs.List.{slice_get}
 use Rattle.std.proofs.lemmas.Bool.{both_ways, cases_eq, cases_lt}
 use Rattle.f11_bits.specs.Bitmap.{Bitmap, is_free, KeepsOthers}
@@ -34,11 +35,13 @@ use Rattle.f11_writes.proofs.BitmapLemmas.{bitmap-keeps}
 -- the next bit
 pub bit-more : (named unreferenced : Bits) (size i k : ℕ) (before after : List ℕ) (value : Bool)
     → ((j : ℕ) → j < k → 4096 * i + j < size → bit before j ≡ may_be_free named unreferenced (4096 * i + j))
-    → (4096 * i + k < size → value ≡ may_be_free named unreferenced (4096 * i + k)) → bit after k ≡ value → ((j : ℕ) → j ≢ k → bit after j ≡ bit before j)
+    → (4096 * i + k < size → value ≡ may_be_free named unreferenced (4096 * i + k)) → bit after k ≡ value
+    → ((j : ℕ) → j ≢ k → bit after j ≡ bit before j)
     → (j : ℕ) → j < k + 1 → 4096 * i + j < size → bit after j ≡ may_be_free named unreferenced (4096 * i + j)
 bit-more named unreferenced size i k before after value so_far is here others j below inside = elim (cases_eq j k) [
   | inl same ↦
-      ap (bit after) same ∙ here ∙ is (omega (arith, inside, same)) ∙ ap (λ (x : ℕ). may_be_free named unreferenced (4096 * i + x)) (sym same)
+      ap (bit after) same ∙ here ∙ is (omega (arith, inside, same))
+      ∙ ap (λ (x : ℕ). may_be_free named unreferenced (4096 * i + x)) (sym same)
   | inr apart ↦ others j apart ∙ so_far j (omega (arith, below, apart)) inside
 ]
 
@@ -50,7 +53,8 @@ free-inside image bitmap lbn free = elim (cases_lt lbn bitmap.size) [
 ]
 
 -- and no header names it
-pub free-unnamed : (image : Image) (home : HomeFields) (lbn : ℕ) → HasSoundVolume image home → is_free image (storage_bitmap image home) lbn ≡ true → ¬ IsNamed (table_of image home) lbn
+pub free-unnamed : (image : Image) (home : HomeFields) (lbn : ℕ) → HasSoundVolume image home
+    → is_free image (storage_bitmap image home) lbn ≡ true → ¬ IsNamed (table_of image home) lbn
 unfolding volume_of
 free-unnamed image home lbn sound free named = both_ways _ (sound.sound.taken named.header named.place lbn named.cell) free
 
@@ -62,7 +66,8 @@ same-unless true false not_other = absurd (not_other (λ same. cc))
 same-unless false true not_other = absurd (not_other (λ same. cc))
 
 -- none so far
-pub space-none : (bitmap : Bitmap) (known named unreferenced : Bits) (disk : Disk) → FreesUnnamed bitmap known named unreferenced 0 disk disk
+pub space-none : (bitmap : Bitmap) (known named unreferenced : Bits) (disk : Disk)
+    → FreesUnnamed bitmap known named unreferenced 0 disk disk
 space-none bitmap known named unreferenced disk = record {
   frees = λ honest home told. record {
     places = places-none home disk.image told.sound;
@@ -72,25 +77,33 @@ space-none bitmap known named unreferenced disk = record {
   };
   count = 0;
   counts = λ honest home told. none;
-  went = went_within (Moment (IsTold bitmap known named unreferenced) disk) (went_looked (Moment (IsTold bitmap known named unreferenced) disk) (looked_none disk)) (omega arith);
+  went = went_within (Moment (IsTold bitmap known named unreferenced) disk)
+      (went_looked (Moment (IsTold bitmap known named unreferenced) disk) (looked_none disk)) (omega arith);
 }
 
-module _ (bitmap : Bitmap) (known named unreferenced : Bits) (i : ℕ) (old now : Disk) (so_far : FreesUnnamed bitmap known named unreferenced i old now)
+module _ (bitmap : Bitmap) (known named unreferenced : Bits) (i : ℕ) (old now : Disk)
+    (so_far : FreesUnnamed bitmap known named unreferenced i old now)
     (few : i < length bitmap.places) where
-  so-until : (honest : IsTrue old.honest) (home : HomeFields) → IsTold bitmap known named unreferenced home old.image → HasFreedUpTo i bitmap home old.image now.image
+  so-until : (honest : IsTrue old.honest) (home : HomeFields) → IsTold bitmap known named unreferenced home old.image
+      → HasFreedUpTo i bitmap home old.image now.image
   so-until honest home told = so_far.frees honest home told
 
   -- this bitmap block is as it was until then
-  still : (honest : IsTrue old.honest) (home : HomeFields) → IsTold bitmap known named unreferenced home old.image → ¬ BitmapBlockChanges bitmap i old.image now.image
-  still honest home told changes = (so-until honest home told).rest (i + 1) (omega arith) (omega (arith, few)) (block-changed bitmap old.image now.image i changes)
+  still : (honest : IsTrue old.honest) (home : HomeFields) → IsTold bitmap known named unreferenced home old.image
+      → ¬ BitmapBlockChanges bitmap i old.image now.image
+  still honest home told changes =
+      (so-until honest home told).rest (i + 1) (omega arith) (omega (arith, few)) (block-changed bitmap old.image now.image i changes)
 
   -- so a block is free in it as it was read
-  as-read : (honest : IsTrue old.honest) (home : HomeFields) → IsTold bitmap known named unreferenced home old.image → (lbn : ℕ) → lbn / 4096 ≡ i
+  as-read : (honest : IsTrue old.honest) (home : HomeFields) → IsTold bitmap known named unreferenced home old.image → (lbn : ℕ)
+      → lbn / 4096 ≡ i
       → is_free now.image bitmap lbn ≡ has known lbn
   as-read honest home told lbn here =
       same-unless _ _ (λ differs. still honest home told (λ same.
       differs (is_free-same old.image now.image bitmap lbn
-      (bitmap_bit-same bitmap old.image now.image lbn (subst (λ (x : ℕ). slice_get now.image (get_or bitmap.places x 0) ≡ slice_get old.image (get_or bitmap.places x 0)) (sym here) same))
+      (bitmap_bit-same bitmap old.image now.image lbn
+      (subst (λ (x : ℕ). slice_get now.image (get_or bitmap.places x 0) ≡ slice_get old.image (get_or bitmap.places x 0)) (sym here)
+      same))
       ∙ sym (told.free_are lbn))))
 
   -- no bit of it is to change
@@ -112,11 +125,13 @@ module _ (bitmap : Bitmap) (known named unreferenced : Bits) (i : ℕ) (old now 
         };
     count = so_far.count;
     counts = λ honest home told.
-        other i so_far.count (so_far.counts honest home told) (λ changed. still honest home told (changed-block bitmap old.image now.image i changed));
+        other i so_far.count (so_far.counts honest home told)
+        (λ changed. still honest home told (changed-block bitmap old.image now.image i changed));
     went = so_far.went;
   }
 
-module _ (bitmap : Bitmap) (known named unreferenced : Bits) (i : ℕ) (wanted : List ℕ) (old now : Disk) (so_far : FreesUnnamed bitmap known named unreferenced i old now)
+module _ (bitmap : Bitmap) (known named unreferenced : Bits) (i : ℕ) (wanted : List ℕ) (old now : Disk)
+    (so_far : FreesUnnamed bitmap known named unreferenced i old now)
     (wanted_is : (k : ℕ) → k < 4096 → 4096 * i + k < bitmap.size → bit wanted k ≡ may_be_free named unreferenced (4096 * i + k))
     (few : i < length bitmap.places) (change : IsToChange bitmap.size known named unreferenced i) where
   module _ (honest : IsTrue old.honest) (home : HomeFields) (told : IsTold bitmap known named unreferenced home old.image) where
@@ -143,7 +158,8 @@ module _ (bitmap : Bitmap) (known named unreferenced : Bits) (i : ℕ) (wanted :
       only lbn free = elim (cases_eq (lbn / 4096) i) [
         | inl here ↦
             let inside = free-inside image bitmap lbn free in
-            inr (subst (λ (u : Table). ¬ IsNamed u lbn) (sym so.table) ((told.tells lbn inside).0 (sym (wanted-at lbn here inside) ∙ sym (is.here lbn here inside) ∙ free)))
+            inr (subst (λ (u : Table). ¬ IsNamed u lbn) (sym so.table)
+            ((told.tells lbn inside).0 (sym (wanted-at lbn here inside) ∙ sym (is.here lbn here inside) ∙ free)))
         | inr apart ↦ inl (sym (is.elsewhere lbn apart) ∙ free)
       ]
 
@@ -152,7 +168,8 @@ module _ (bitmap : Bitmap) (known named unreferenced : Bits) (i : ℕ) (wanted :
       changes-here same =
           change.otherwise
           (sym (as-read bitmap known named unreferenced i old now so_far few honest home told change.lbn change.here)
-          ∙ ap (λ (x : Image). is_free x bitmap change.lbn) (sym same) ∙ is.here change.lbn change.here change.inside ∙ wanted-at change.lbn change.here change.inside)
+          ∙ ap (λ (x : Image). is_free x bitmap change.lbn) (sym same) ∙ is.here change.lbn change.here change.inside
+          ∙ wanted-at change.lbn change.here change.inside)
 
       -- one that no header names is free then
       here-free : (lbn : ℕ) → lbn / 4096 ≡ i → lbn < bitmap.size → ¬ IsNamed t lbn → is_free image bitmap lbn ≡ true
@@ -162,7 +179,8 @@ module _ (bitmap : Bitmap) (known named unreferenced : Bits) (i : ℕ) (wanted :
       stays lbn free = elim (cases_eq (lbn / 4096) i) [
         | inl here ↦
             here-free lbn here (free-inside now.image bitmap lbn free)
-            (subst (λ (u : Table). ¬ IsNamed u lbn) so.table (free-unnamed now.image home lbn sound (ap (λ (b : Bitmap). is_free now.image b lbn) (sym bitmap-is) ∙ free)))
+            (subst (λ (u : Table). ¬ IsNamed u lbn) so.table
+            (free-unnamed now.image home lbn sound (ap (λ (b : Bitmap). is_free now.image b lbn) (sym bitmap-is) ∙ free)))
         | inr apart ↦ is.elsewhere lbn apart ∙ free
       ]
 
@@ -221,9 +239,11 @@ module _ (bitmap : Bitmap) (known named unreferenced : Bits) (i : ℕ) (wanted :
       (λ image has honest home told. stands honest home told image (has.replaces (so_far.went.honest ∙ honest))) went)
 
   -- how many were other than they were before this one
-  counts-before : (image : Image) → ((j : ℕ) → j < i → ¬ BitmapBlockChanges bitmap j now.image image) → IsTrue old.honest → (home : HomeFields)
+  counts-before : (image : Image) → ((j : ℕ) → j < i → ¬ BitmapBlockChanges bitmap j now.image image) → IsTrue old.honest
+      → (home : HomeFields)
       → IsTold bitmap known named unreferenced home old.image → CountsUpTo (IsChangedBlock bitmap old.image image) i so_far.count
-  counts-before image stay honest home told = counts-on bitmap old.image now.image image i so_far.count stay (so_far.counts honest home told)
+  counts-before image stay honest home told =
+      counts-on bitmap old.image now.image image i so_far.count stay (so_far.counts honest home told)
 
   others-stay : (image : Image) → Replaces bitmap i wanted now.image image → (j : ℕ) → j < i → ¬ BitmapBlockChanges bitmap j now.image image
   others-stay image is j low = is.others j (omega (arith, low, few)) (λ same. omega (arith, same, low))
@@ -233,16 +253,19 @@ module _ (bitmap : Bitmap) (known named unreferenced : Bits) (i : ℕ) (wanted :
     | read_alone looked ↦ record {
       frees = λ honest home told. more honest home told new.image (did.replaces (so_far.went.honest ∙ honest));
       count = so_far.count + 1;
-      counts = λ honest home told. absurd (changes-here honest home told new.image (did.replaces (so_far.went.honest ∙ honest)) looked.image);
+      counts = λ honest home told.
+          absurd (changes-here honest home told new.image (did.replaces (so_far.went.honest ∙ honest)) looked.image);
       went = went_within P (went_more P so_far.went (went_looked P looked)) (omega arith);
     }
     | written went changes ↦ record {
       frees = λ honest home told. more honest home told new.image (did.replaces (so_far.went.honest ∙ honest));
       count = so_far.count + 1;
       counts = λ honest home told.
-          such i so_far.count (counts-before new.image (others-stay new.image (did.replaces (so_far.went.honest ∙ honest))) honest home told)
+          such i so_far.count (counts-before new.image (others-stay new.image (did.replaces (so_far.went.honest ∙ honest))) honest home
+          told)
           (block-changed bitmap old.image new.image i
-          (stays-changed bitmap i old.image now.image new.image (still bitmap known named unreferenced i old now so_far few honest home told) (changes (so_far.went.honest ∙ honest))));
+          (stays-changed bitmap i old.image now.image new.image
+          (still bitmap known named unreferenced i old now so_far few honest home told) (changes (so_far.went.honest ∙ honest))));
       went = went_within P (went-on new 2 0 went) (omega arith);
     }
   ]
@@ -255,7 +278,8 @@ module _ (bitmap : Bitmap) (known named unreferenced : Bits) (i : ℕ) (wanted :
     counts = λ honest.
         counts-before new.image
         (went_last (λ (image : Image). (j : ℕ) → j < i → ¬ BitmapBlockChanges bitmap j now.image image)
-        (went_weaker (Replacing now.honest bitmap i wanted now.image) (λ (image : Image). (j : ℕ) → j < i → ¬ BitmapBlockChanges bitmap j now.image image)
+        (went_weaker (Replacing now.honest bitmap i wanted now.image)
+        (λ (image : Image). (j : ℕ) → j < i → ¬ BitmapBlockChanges bitmap j now.image image)
         (λ image has. others-stay image (has.replaces (so_far.went.honest ∙ honest))) fails)
         (λ j low changes. changes refl))
         honest;

@@ -19,7 +19,8 @@ pub counts-same : (P Q : ℕ → Type 0) (n count : ℕ) → ((m : ℕ) → m < 
     → CountsUpTo P n count → CountsUpTo Q n count
 counts-same P Q n count to from none = none
 counts-same P Q n count to from (such k c counts holds) =
-    such k c (counts-same P Q k c (λ m low. to m (omega (arith, low))) (λ m low. from m (omega (arith, low))) counts) (to k (omega arith) holds)
+    such k c (counts-same P Q k c (λ m low. to m (omega (arith, low))) (λ m low. from m (omega (arith, low))) counts)
+    (to k (omega arith) holds)
 counts-same P Q n count to from (other k c counts fails) =
     other k c (counts-same P Q k c (λ m low. to m (omega (arith, low))) (λ m low. from m (omega (arith, low))) counts)
     (λ holds. fails (from k (omega arith) holds))
@@ -48,7 +49,8 @@ pub changed-block : (bitmap : Bitmap) (a b : Image) (i : ℕ) → IsChangedBlock
 changed-block bitmap a b i = subst (λ (j : ℕ). BitmapBlockChanges bitmap j a b) (omega arith)
 
 -- as many changed from a to b as from c to d, where the same did
-counts-blocks : (bitmap : Bitmap) (a b c d : Image) (n count : ℕ) → ((i : ℕ) → i < n → BitmapBlockChanges bitmap i a b → BitmapBlockChanges bitmap i c d)
+counts-blocks : (bitmap : Bitmap) (a b c d : Image) (n count : ℕ)
+    → ((i : ℕ) → i < n → BitmapBlockChanges bitmap i a b → BitmapBlockChanges bitmap i c d)
     → ((i : ℕ) → i < n → BitmapBlockChanges bitmap i c d → BitmapBlockChanges bitmap i a b)
     → CountsUpTo (IsChangedBlock bitmap a b) n count → CountsUpTo (IsChangedBlock bitmap c d) n count
 counts-blocks bitmap a b c d n count to from = counts-same (IsChangedBlock bitmap a b) (IsChangedBlock bitmap c d) n count

@@ -19,15 +19,18 @@ not-false : (b : Bool) → ¬ (b ≡ true) → not b ≡ true
 not-false false none = refl
 not-false true none = absurd (none refl)
 
-module _ (v : Volume) (r : Reading) (n at : ℕ) (s : Slot) (shows : ShowsVolume v r) (slot : (0 < n) × (n ≤ length r.survey.slots.items)) (at_is : at ≡ n)
+module _ (v : Volume) (r : Reading) (n at : ℕ) (s : Slot) (shows : ShowsVolume v r) (slot : (0 < n) × (n ≤ length r.survey.slots.items))
+    (at_is : at ≡ n)
     (is : s ≡ get_or r.survey.slots.items (at - 1) s) (live : Bool) (live_is : IsTrue live ↔ (s.state ≡ Live)) where
   kept : KeepsSlot v.table n s
   kept =
       let below : at - 1 < v.table.slots = omega (arith, at_is, slot.0, slot.1, shows.surveys.slots.count) in
       let number : at - 1 + 1 ≡ n = omega (arith, at_is, slot.0) in
-      subst (λ m. KeepsSlot v.table m s) number (subst (KeepsSlot v.table (at - 1 + 1)) (sym is) (shows.surveys.slots.each (at - 1) s below))
+      subst (λ m. KeepsSlot v.table m s) number
+      (subst (KeepsSlot v.table (at - 1 + 1)) (sym is) (shows.surveys.slots.each (at - 1) s below))
 
-  pub told-live : live ≡ true → (in_file : Bool) → in_file ≡ has r.chains.in_file n → (IsTrue (not in_file) → IsOrphan v.table n) × (IsOrphan v.table n → IsTrue (not in_file))
+  pub told-live : live ≡ true → (in_file : Bool) → in_file ≡ has r.chains.in_file n
+      → (IsTrue (not in_file) → IsOrphan v.table n) × (IsOrphan v.table n → IsTrue (not in_file))
   told-live holds in_file told = (
     λ out. record {
       live = live-from v.table n s.state kept.state (live_is.0 holds);

@@ -14,7 +14,8 @@ use Rattle.f11_vfy.proofs.Frames.Earlier.{InRun, puts-none, puts-then, puts-same
 use Rattle.f11_volume.proofs.MemberLemmas.{in-front, in-back, in-either, in-range, range-has}
 
 -- the numbers of a run
-pub range-all : (first end k stop : ℕ) (a b : Bits) → stop ≡ min end (limit_of a) → stop ≤ k → Puts (InRun first k stop) a b → Puts (λ j. (first ≤ j) × (j < end)) a b
+pub range-all : (first end k stop : ℕ) (a b : Bits) → stop ≡ min end (limit_of a) → stop ≤ k → Puts (InRun first k stop) a b
+    → Puts (λ j. (first ≤ j) × (j < end)) a b
 range-all first end k stop a b is past puts =
     puts-same (InRun first k stop) (λ j. (first ≤ j) × (j < end)) a b puts (λ j r. (r.low, omega (arith, r.high, is)))
     (λ j below r.
@@ -25,7 +26,8 @@ range-all first end k stop a b is past puts =
 pub blocks-none : (runs : List (ℕ × ℕ)) (b : Bits) → Puts (Contains (blocks_in (take 0 runs))) b b
 blocks-none runs b = puts-none (Contains (blocks_in (take 0 runs))) b (λ k has. omega (arith, has.1))
 
-pub blocks-more : (runs : List (ℕ × ℕ)) (i : ℕ) (run : ℕ × ℕ) (a b c : Bits) → slice_get runs i ≡ Some run → Puts (Contains (blocks_in (take i runs))) a b
+pub blocks-more : (runs : List (ℕ × ℕ)) (i : ℕ) (run : ℕ × ℕ) (a b c : Bits) → slice_get runs i ≡ Some run
+    → Puts (Contains (blocks_in (take i runs))) a b
     → Puts (λ k. (run.0 ≤ k) × (k < run.0 + run.1)) b c → Puts (Contains (blocks_in (take (i + 1) runs))) a c
 blocks-more runs i run a b c at one two =
     let before : List ℕ = blocks_in (take i runs) in
@@ -36,7 +38,9 @@ blocks-more runs i run a b c at one two =
     (λ k has. in-front before here k has) (λ k r. in-back before here k (range-has run.0 run.1 k r.0 r.1))
     (λ k has. elim (in-either before here k has) [ inl front ↦ inl front | inr back ↦ inr (in-range run.0 run.1 k back) ]))
 
-pub blocks-all : (b : List ℕ) (n : ℕ) (old new : Bits) → length (runs_of (map_area b)) ≤ n → Puts (Contains (blocks_in (take n (runs_of (map_area b))))) old new
+pub blocks-all : (b : List ℕ) (n : ℕ) (old new : Bits) → length (runs_of (map_area b)) ≤ n
+    → Puts (Contains (blocks_in (take n (runs_of (map_area b))))) old new
     → Puts (Contains (blocks_named b)) old new
 unfolding blocks_named
-blocks-all b n old new all puts = subst (λ (rs : List (ℕ × ℕ)). Puts (Contains (blocks_in rs)) old new) (take_all n (runs_of (map_area b)) all) puts
+blocks-all b n old new all puts =
+    subst (λ (rs : List (ℕ × ℕ)). Puts (Contains (blocks_in rs)) old new) (take_all n (runs_of (map_area b)) all) puts

@@ -1,6 +1,8 @@
 -- Runs of lost blocks, by a test.
-use Rattle.std.proofs.Common.{◌≡◌, ◌≤◌, ◌<◌, ◌+◌, ◌-◌, ◌*◌, ◌⊎◌, ◌↔◌, ◌&&◌, ◌||◌, inl, inr, ℕ, zero, suc, refl, ap, sym, subst, ◌∙◌, arith, Bool, true, false, cond, not, ltb, List, add-one}
-use Rattle.std.proofs.lemmas.Bool.{cases_lt, and_parts, and_from, not-true, not_from_false, false_from_ne_true, ltb-true, lt-ltb, leb-true, le-leb, both_ways, cond-true, cond-false}
+use Rattle.std.proofs.Common.{◌≡◌, ◌≤◌, ◌<◌, ◌+◌, ◌-◌, ◌*◌, ◌⊎◌, ◌↔◌, ◌&&◌, ◌||◌, inl, inr, ℕ, zero, suc, refl, ap, sym, subst, ◌∙◌, arith}
+use Rattle.std.proofs.Common.{Bool, true, false, cond, not, ltb, List, add-one}
+use Rattle.std.proofs.lemmas.Bool.{cases_lt, and_parts, and_from, not-true, not_from_false, false_from_ne_true, ltb-true, lt-ltb, leb-true}
+use Rattle.std.proofs.lemmas.Bool.{le-leb, both_ways, cond-true, cond-false}
 use Rattle.f11_findings.specs.Finding.{finding}
 use Rattle.f11_findings.specs.declared.finding.Finding.{Finding}
 use Rattle.f11_vfy.specs.Surveying.Bits.{has, limit_of}
@@ -28,7 +30,8 @@ pub start-moves : (p : ℕ → Bool) (k : ℕ) → p k ≡ false → k + 1 ≡ s
 start-moves p k gap = sym (cond-false (p k) _ _ gap) ∙ sym (start-next p k)
 
 -- what the test means
-pub lost-means : (v : Volume) (t : Tally) (free : Bits) → IsFit v.table → Shows t (times_named v.table v.table.slots) → ShowsFree v free → (k : ℕ) → is_lost t.once free k ≡ true ↔ IsLost v k
+pub lost-means : (v : Volume) (t : Tally) (free : Bits) → IsFit v.table → Shows t (times_named v.table v.table.slots) → ShowsFree v free
+    → (k : ℕ) → is_lost t.once free k ≡ true ↔ IsLost v k
 unfolding is_lost
 lost-means v t free fit shows space k = (λ e. there (and_parts _ _ e), back)
   where
@@ -39,7 +42,8 @@ lost-means v t free fit shows space k = (λ e. there (and_parts _ _ e), back)
         record {
           inside = omega (arith, below, space.limit);
           used = sym (space.each k) ∙ not-true (has free k) rest.1;
-          unnamed = λ named. both_ways (has t.once k) (not-true (has t.once k) rest.0) (shows.once k ∙ le-leb 1 _ (some-named v.table fit k named));
+          unnamed = λ named. both_ways (has t.once k) (not-true (has t.once k) rest.0)
+              (shows.once k ∙ le-leb 1 _ (some-named v.table fit k named));
         }
 
     back : IsLost v k → (ltb k (limit_of free) && (not (has t.once k) && not (has free k))) ≡ true
@@ -60,8 +64,10 @@ known-not_lost named free k some = go (has named k) (has free k) some (ltb k (li
 
 -- none of the blocks from one on is lost, so no run ends there
 pub no-runs : (named free : Bits) (i end : ℕ) (old : List Finding) → ((k : ℕ) → 64 * i ≤ k → k < end → is_lost named free k ≡ false)
-    → Finds (FoundAmong (λ k. (64 * i ≤ k) × (ends_lost named free k ≡ true)) (λ k. finding 1 (start_of (is_lost named free) k) k) end) old old
-no-runs named free i end old none = finds-none _ old (λ code a b f. both_ways (is_lost named free f.number) (none f.number f.holds.0 f.below) (and_parts _ _ f.holds.1).0)
+    → Finds (FoundAmong (λ k. (64 * i ≤ k) × (ends_lost named free k ≡ true)) (λ k. finding 1 (start_of (is_lost named free) k) k) end) old
+    old
+no-runs named free i end old none =
+    finds-none _ old (λ code a b f. both_ways (is_lost named free f.number) (none f.number f.holds.0 f.below) (and_parts _ _ f.holds.1).0)
 
 -- behind a block that isn't lost a run may begin
 pub starts-behind : (lost : ℕ → Bool) (end : ℕ) → 0 < end → lost (end - 1) ≡ false → end ≡ start_of lost end
@@ -138,6 +144,9 @@ module _ (v : Volume) (lost : ℕ → Bool) (means : (k : ℕ) → lost k ≡ tr
       some = run.some
 
       go : (a < start_of lost b) ⊎ (start_of lost b ≤ a) → (start_of lost b < a) ⊎ (a ≤ start_of lost b) → a ≡ start_of lost b
-      go (inl x) y = absurd (not-lost (start_of lost b - 1) (start-fails b (start_of lost b - 1) (omega (arith, x))) (run.each (start_of lost b - 1) (omega (arith, x)) (omega (arith, x, low))))
-      go (inr x) (inl y) = absurd (run.before (omega arith) ((means (a - 1)).0 (start-holds b (a - 1) (omega arith) (omega (arith, some, y)))))
+      go (inl x) y =
+          absurd (not-lost (start_of lost b - 1) (start-fails b (start_of lost b - 1) (omega (arith, x)))
+          (run.each (start_of lost b - 1) (omega (arith, x)) (omega (arith, x, low))))
+      go (inr x) (inl y) =
+          absurd (run.before (omega arith) ((means (a - 1)).0 (start-holds b (a - 1) (omega arith) (omega (arith, some, y)))))
       go (inr x) (inr y) = omega arith

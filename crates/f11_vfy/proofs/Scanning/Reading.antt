@@ -37,7 +37,8 @@ unfolding table_in
 table-slots image index = refl
 
 -- the bitmap was read, then the headers, and then their chains were found
-pub reads-volume : (index : Index) (bitmap : Bitmap) (r : Reading) (old now new : Disk) → IsImage old.image → IsIndex index → ReadsFree bitmap r.free old now → SurveysDisk index bitmap.size r.survey now new
+pub reads-volume : (index : Index) (bitmap : Bitmap) (r : Reading) (old now new : Disk) → IsImage old.image → IsIndex index
+    → ReadsFree bitmap r.free old now → SurveysDisk index bitmap.size r.survey now new
     → ((t : Table) → KeepsTable t r.survey.slots.items → ShowsChains t r.chains) → ReadsVolume index bitmap r old new
 reads-volume index bitmap r old now new image valid free surveys chains = record {
   slots = surveys.is_survey.count;
@@ -64,7 +65,8 @@ reads-volume index bitmap r old now new image valid free surveys chains = record
           free = record {
             limit = free.limit;
             each = free.each honest;
-            within = λ lbn is. elim (cases_lt lbn bitmap.size) [ inl inside ↦ inside | inr past ↦ absurd (both_ways _ (is_free-past old.image bitmap lbn past) is) ];
+            within = λ lbn is. elim (cases_lt lbn bitmap.size)
+                [ inl inside ↦ inside | inr past ↦ absurd (both_ways _ (is_free-past old.image bitmap lbn past) is) ];
           };
         }
 
@@ -74,6 +76,7 @@ unfolding file_of is_directory says_directory
 directory-said image t n = refl
 
 -- the volume of an image is the one that its index file and its storage bitmap tell
-pub volume-read : (image : Image) (home : HomeFields) → volume_of image home ≡ volume_in image (index_of image home) (storage_bitmap image home)
+pub volume-read : (image : Image) (home : HomeFields)
+    → volume_of image home ≡ volume_in image (index_of image home) (storage_bitmap image home)
 unfolding volume_of
 volume-read image home = refl

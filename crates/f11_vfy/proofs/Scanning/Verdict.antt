@@ -19,7 +19,8 @@ use Rattle.f11_volume.specs.Volume.{Volume, volume_of}
 use Rattle.f11_volume.proofs.FrameLemmas.{frame-none, frame-only}
 
 -- a list is exactly a relation where it is another that holds of the same
-pub exactly-same : (R S : ℕ → ℕ → ℕ → Type 0) (found : List Finding) → ((code a b : ℕ) → R code a b → S code a b) → ((code a b : ℕ) → S code a b → R code a b)
+pub exactly-same : (R S : ℕ → ℕ → ℕ → Type 0) (found : List Finding) → ((code a b : ℕ) → R code a b → S code a b)
+    → ((code a b : ℕ) → S code a b → R code a b)
     → IsExactly R found → IsExactly S found
 exactly-same R S found to from is = record {
   each = λ k d below. to _ _ _ (is.each k d below);
@@ -28,7 +29,8 @@ exactly-same R S found to from is = record {
 }
 
 -- a fault of the frame is the only one, and there is no note beside it
-pub one-fault : (image : Image) (code a : ℕ) (found : List Finding) → IsFrameFault image code a → AddsFindings [] found (finding code a 0 ∷ []) → IsExactly (IsFault image) found
+pub one-fault : (image : Image) (code a : ℕ) (found : List Finding) → IsFrameFault image code a
+    → AddsFindings [] found (finding code a 0 ∷ []) → IsExactly (IsFault image) found
 one-fault image code a found fault adds =
     exactly (IsFault image) found (finds-if (IsFault image) true (finding code a 0) [] found adds (λ _. of_frame code a fault) (λ c x y is.
     let same = frame-only image code a c x y fault is in
@@ -45,7 +47,8 @@ no-note image code a fault = record {
 }
 
 -- the notes of a volume are those of the first five codes, those of directories, and the last
-pub volume-notes : (image : Image) (v : Volume) (old now new : List Finding) → IsExactly (IsFirstNote image v) old → Finds (IsLaterNote image v) old now → Finds (IsLastNote image v) now new
+pub volume-notes : (image : Image) (v : Volume) (old now new : List Finding) → IsExactly (IsFirstNote image v) old
+    → Finds (IsLaterNote image v) old now → Finds (IsLastNote image v) now new
     → IsExactly (IsVolumeNote image v) new
 volume-notes image v old now new is later last = record {
   each = λ k d below. elim (last.no_others (get_or new k d) (Contains-get_or new k d below)) [
@@ -73,10 +76,13 @@ module _ (image : Image) (home : HomeFields) (framed : IsFramed image home) wher
       from : (code a b : ℕ) → IsFault image code a b → IsVolumeFault (volume_of image home) code a b
       from code a b (of_frame c d fault) = absurd (frame-none image home c d framed fault)
       from code a b (of_volume other c d e also fault) =
-          subst (λ (h : HomeFields). IsVolumeFault (volume_of image h) c d e) (home-unique image other home also.home_is framed.home_is) fault
+          subst (λ (h : HomeFields). IsVolumeFault (volume_of image h) c d e) (home-unique image other home also.home_is framed.home_is)
+          fault
 
   volume-note : (code a b : ℕ) → IsNote image code a b → IsVolumeNote image (volume_of image home) code a b
-  volume-note code a b note = subst (λ (h : HomeFields). IsVolumeNote image (volume_of image h) code a b) (home-unique image note.home home note.framed.home_is framed.home_is) note.note
+  volume-note code a b note =
+      subst (λ (h : HomeFields). IsVolumeNote image (volume_of image h) code a b)
+      (home-unique image note.home home note.framed.home_is framed.home_is) note.note
 
   -- and so are its notes
   pub image-notes : (found : List Finding) → IsExactly (IsVolumeNote image (volume_of image home)) found → IsExactly (IsNote image) found

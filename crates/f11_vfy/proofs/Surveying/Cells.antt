@@ -98,10 +98,24 @@ module _ (t : Table) (fit : IsFit t) where
 
       go : (named.one ≡ named.other) ⊎ ((named.one < named.other) ⊎ (named.other < named.one)) → 2 ≤ times_named t t.slots l
       go (inl same) =
-          let there : slice_get (blocks_named (t.header named.one)) named.other_place ≡ Some l = subst (λ n. slice_get (blocks_named (t.header n)) named.other_place ≡ Some l) (sym same) named.other_cell.names in
-          let two = places_two (blocks_named (t.header named.one)) named.place named.other_place l named.cell.names there (places same named.apart) in
+          let there : slice_get (blocks_named (t.header named.one)) named.other_place ≡ Some l =
+          subst (λ n. slice_get (blocks_named (t.header n)) named.other_place ≡ Some l) (sym same) named.other_cell.names in
+          let two = places_two (blocks_named (t.header named.one)) named.place named.other_place l named.cell.names there
+          (places same named.apart) in
           let by : 2 ≤ times_by t named.one l = omega (arith, two, times-live t named.one l named.cell.live) in
           let here : 2 ≤ at l (named.one - 1) = subst (λ m. 2 ≤ times_by t m l) (omega (arith, one.2)) by in
           omega (arith, here, term (at l) t.slots (named.one - 1) one.1)
-      go (inr (inl less)) = omega (arith, two_terms (at l) t.slots (named.one - 1) (named.other - 1) (omega (arith, one.2, other.2, less)) other.1, one.0, other.0)
-      go (inr (inr more)) = omega (arith, two_terms (at l) t.slots (named.other - 1) (named.one - 1) (omega (arith, one.2, other.2, more)) one.1, one.0, other.0)
+      go (inr (inl less)) =
+          omega (
+            arith,
+            two_terms (at l) t.slots (named.one - 1) (named.other - 1) (omega (arith, one.2, other.2, less)) other.1,
+            one.0,
+            other.0,
+          )
+      go (inr (inr more)) =
+          omega (
+            arith,
+            two_terms (at l) t.slots (named.other - 1) (named.one - 1) (omega (arith, one.2, other.2, more)) one.1,
+            one.0,
+            other.0,
+          )

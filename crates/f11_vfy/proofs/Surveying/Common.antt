@@ -1,5 +1,6 @@
 -- The numbers that are in two sets, a word at a time.
-use Rattle.std.proofs.Common.{◌≡◌, ◌≢◌, ◌≤◌, ◌<◌, ◌+◌, ◌*◌, ◌/◌, ◌%◌, ◌⊎◌, ◌&&◌, ◌||◌, inl, inr, ℕ, ap, sym, ◌∙◌, arith, true, false, eqb, bit_and, List}
+use Rattle.std.proofs.Common.{◌≡◌, ◌≢◌, ◌≤◌, ◌<◌, ◌+◌, ◌*◌, ◌/◌, ◌%◌, ◌⊎◌, ◌&&◌, ◌||◌, inl, inr, ℕ, ap, sym, ◌∙◌, arith, true, false, eqb}
+use Rattle.std.proofs.Common.{bit_and, List}
 use Rattle.std.specs.Int.{bit_at}
 use Rattle.std.proofs.lemmas.Bool.{cases_lt, eq-eqb, ne_eqb}
 use Rattle.std.proofs.Math.Bool.{or-false}
@@ -27,8 +28,10 @@ in_word-here : (mask i k : ℕ) → k / 64 ≡ i → in_word mask i k ≡ eqb (b
 unfolding in_word
 in_word-here mask i k here = ap (λ b. b && eqb (bit_at mask (k % 64)) 1) (eq-eqb (k / 64) i here)
 
-module _ (one other old new : Bits) (i x y : ℕ) (before : CommonTo one other old (64 * i)) (of_one : (k : ℕ) → k / 64 ≡ i → has one k ≡ eqb (bit_at x (k % 64)) 1)
-    (of_other : (k : ℕ) → k / 64 ≡ i → has other k ≡ eqb (bit_at y (k % 64)) 1) (adds : (k : ℕ) → has new k ≡ (has old k || in_word (bit_and x y) i k)) where
+module _ (one other old new : Bits) (i x y : ℕ) (before : CommonTo one other old (64 * i))
+    (of_one : (k : ℕ) → k / 64 ≡ i → has one k ≡ eqb (bit_at x (k % 64)) 1)
+    (of_other : (k : ℕ) → k / 64 ≡ i → has other k ≡ eqb (bit_at y (k % 64)) 1)
+    (adds : (k : ℕ) → has new k ≡ (has old k || in_word (bit_and x y) i k)) where
   elsewhere : (k : ℕ) → k / 64 ≢ i → has new k ≡ has old k
   elsewhere k other_word = adds k ∙ ap (λ b. has old k || b) (in_word-other (bit_and x y) i k other_word) ∙ or-false (has old k)
 
@@ -47,14 +50,21 @@ module _ (one other old new : Bits) (i x y : ℕ) (before : CommonTo one other o
       go k below (inl earlier) = elsewhere k (λ is. omega (arith, is, earlier)) ∙ before.each k earlier
       go k below (inr from) = here k (omega (arith, below, from))
 
-pub common-all : (one other both : Bits) (i : ℕ) → limit_of other ≤ 64 * i → limit_of both ≡ limit_of other → CommonTo one other both (64 * i) → IsCommon one other both
+pub common-all : (one other both : Bits) (i : ℕ) → limit_of other ≤ 64 * i → limit_of both ≡ limit_of other
+    → CommonTo one other both (64 * i) → IsCommon one other both
 common-all one other both i all limit common = record { limit = limit; each = λ k below. common.each k (omega (arith, below, all)) }
 
 -- what is found of those of the set is found of those of both
-pub common-found : (one other both : Bits) (found : ℕ → Finding) (old new : List Finding) → IsCommon one other both → Finds (FoundAmong (λ k. has both k ≡ true) found (limit_of both)) old new
+pub common-found : (one other both : Bits) (found : ℕ → Finding) (old new : List Finding) → IsCommon one other both
+    → Finds (FoundAmong (λ k. has both k ≡ true) found (limit_of both)) old new
     → Finds (FoundAmong (λ k. (has one k && has other k) ≡ true) found (limit_of other)) old new
 common-found one other both found old new common finds = finds-same _ _ old new finds
     (λ code a b f.
     let below : f.number < limit_of other = omega (arith, f.below, common.limit) in
     record { number = f.number; below = below; holds = sym (common.each f.number below) ∙ f.holds; is = f.is })
-    (λ code a b f. record { number = f.number; below = omega (arith, f.below, common.limit); holds = common.each f.number f.below ∙ f.holds; is = f.is })
+    (λ code a b f. record {
+      number = f.number;
+      below = omega (arith, f.below, common.limit);
+      holds = common.each f.number f.below ∙ f.holds;
+      is = f.is;
+    })

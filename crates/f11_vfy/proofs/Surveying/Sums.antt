@@ -28,7 +28,9 @@ two_terms f (suc n) m k l h = go (cases_lt k n) (two_terms f n m k l)
   where
     go : (k < n) ⊎ (n ≤ k) → (k < n → f m + f k ≤ sum_to f n) → f m + f k ≤ sum_to f n + f n
     go (inl x) r = let y : f m + f k ≤ sum_to f n = r x in omega arith
-    go (inr x) r = let e : k ≡ n = omega arith in subst (λ z. f m + f z ≤ sum_to f n + f n) (sym e) (let y : f m ≤ sum_to f n = term f n m (omega arith) in omega arith)
+    go (inr x) r =
+        let e : k ≡ n = omega arith in
+        subst (λ z. f m + f z ≤ sum_to f n + f n) (sym e) (let y : f m ≤ sum_to f n = term f n m (omega arith) in omega arith)
 
 -- a sum that reaches one has a term that does
 pub some_term : (f : ℕ → ℕ) (n : ℕ) → 1 ≤ sum_to f n → (m : ℕ) × (m < n) × (1 ≤ f m)
@@ -57,9 +59,11 @@ pair_of_terms f (suc n) h = go (cases_lt 1 (f n)) (cases_lt 0 (f n)) (pair_of_te
   where
     earlier : ((m : ℕ) × (m < n) × (2 ≤ f m)) ⊎ Pair f n → ((m : ℕ) × (m < suc n) × (2 ≤ f m)) ⊎ Pair f (suc n)
     earlier (inl r) = inl (r.0, omega arith, r.2)
-    earlier (inr p) = inr (record { low = p.low; high = p.high; apart = p.apart; inside = omega arith; at_low = p.at_low; at_high = p.at_high })
+    earlier (inr p) =
+        inr (record { low = p.low; high = p.high; apart = p.apart; inside = omega arith; at_low = p.at_low; at_high = p.at_high })
 
-    go : (1 < f n) ⊎ (f n ≤ 1) → (0 < f n) ⊎ (f n ≤ 0) → (2 ≤ sum_to f n → ((m : ℕ) × (m < n) × (2 ≤ f m)) ⊎ Pair f n) → ((m : ℕ) × (m < suc n) × (2 ≤ f m)) ⊎ Pair f (suc n)
+    go : (1 < f n) ⊎ (f n ≤ 1) → (0 < f n) ⊎ (f n ≤ 0) → (2 ≤ sum_to f n → ((m : ℕ) × (m < n) × (2 ≤ f m)) ⊎ Pair f n)
+        → ((m : ℕ) × (m < suc n) × (2 ≤ f m)) ⊎ Pair f (suc n)
     go (inl x) y z = inl (n, omega arith, omega arith)
     go (inr x) (inl y) z =
         let r : (m : ℕ) × (m < n) × (1 ≤ f m) = some_term f n (omega arith) in

@@ -21,7 +21,8 @@ reads-one : (index : Index) (n : ℕ) → is_in_use index n ≡ true → reads_o
 reads-one index n used = cond-true (is_in_use index n) _ _ used
 
 -- slot n isn't in use, so nothing is read
-pub ReadsSlot-none : (index : Index) (n : ℕ) (block : List ℕ) (disk : Disk) → is_in_use index n ≡ false → ReadsSlot index n Unused block disk disk
+pub ReadsSlot-none : (index : Index) (n : ℕ) (block : List ℕ) (disk : Disk) → is_in_use index n ≡ false
+    → ReadsSlot index n Unused block disk disk
 ReadsSlot-none index n block disk none = record {
   valid = λ is. absurd cc;
   state_is = λ honest. unused (table-in_use index disk n ∙ none);
@@ -30,7 +31,8 @@ ReadsSlot-none index n block disk none = record {
 }
 
 -- the state by what was judged
-state-read : (t : Table) (n : ℕ) (s : State) → t.in_use n ≡ true → (s ≡ Live) ↔ IsHeader (t.header n) n → (s ≡ Dead) ↔ IsDead (t.header n) → s ≢ Unused → HasState t n s
+state-read : (t : Table) (n : ℕ) (s : State) → t.in_use n ≡ true → (s ≡ Live) ↔ IsHeader (t.header n) n → (s ≡ Dead) ↔ IsDead (t.header n)
+    → s ≢ Unused → HasState t n s
 state-read t n Live used valid none some = live (record { in_use = used; valid = valid.0 refl })
 state-read t n Dead used valid none some = dead (record { in_use = used; dead = none.0 refl })
 state-read t n Unused used valid none some = absurd (some refl)
@@ -41,7 +43,8 @@ state-read t n Bad used valid none some = bad (record {
 })
 
 -- its header was read
-pub ReadsSlot-read : (index : Index) (n lbn : ℕ) (s : State) (block : List ℕ) (old new : Disk) → is_in_use index n ≡ true → lbn ≡ header_lbn index n
+pub ReadsSlot-read : (index : Index) (n lbn : ℕ) (s : State) (block : List ℕ) (old new : Disk) → is_in_use index n ≡ true
+    → lbn ≡ header_lbn index n
     → new ≡ with_transfer true old → (IsTrue old.honest → slice_get old.image lbn ≡ Some block)
     → (s ≡ Live) ↔ IsHeader block n → (s ≡ Dead) ↔ IsDead block → s ≢ Unused → ReadsSlot index n s block old new
 ReadsSlot-read index n lbn s block old new used at counts gives valid none some = record {
@@ -49,7 +52,8 @@ ReadsSlot-read index n lbn s block old new used at counts gives valid none some 
   state_is = λ honest.
       let t : Table = table_in old.image index in
       state-read t n s (table-in_use index old n ∙ used)
-      (subst (λ (b : List ℕ). (s ≡ Live) ↔ IsHeader b n) (block_is honest) valid) (subst (λ (b : List ℕ). (s ≡ Dead) ↔ IsDead b) (block_is honest) none) some;
+      (subst (λ (b : List ℕ). (s ≡ Live) ↔ IsHeader b n) (block_is honest) valid)
+      (subst (λ (b : List ℕ). (s ≡ Dead) ↔ IsDead b) (block_is honest) none) some;
   block_is = λ honest _. block_is honest;
   looked = subst (λ (m : ℕ). Looked old new m 0) (sym (reads-one index n used)) (looked_read old new counts);
 }
@@ -69,14 +73,18 @@ pub live-low : (index : Index) (disk : Disk) (n : ℕ) → IsLive (table_in disk
 live-low index disk n is = in_use-some index n (sym (table-in_use index disk n) ∙ is.in_use)
 
 -- the headers so far were read, and then one more
-pub looked-slot : (index : Index) (k : ℕ) {old now new : Disk} {faults : ℕ} → Looked old now (used_of index k) 0 → Looked now new (reads_of index (k + 1)) faults → Looked old new (used_of index (k + 1)) faults
-looked-slot index k {old} {now} {new} {faults} one other = subst (λ m. Looked old new m faults) (sym (used-more index k)) (looked_more one other)
+pub looked-slot : (index : Index) (k : ℕ) {old now new : Disk} {faults : ℕ} → Looked old now (used_of index k) 0
+    → Looked now new (reads_of index (k + 1)) faults → Looked old new (used_of index (k + 1)) faults
+looked-slot index k {old} {now} {new} {faults} one other =
+    subst (λ m. Looked old new m faults) (sym (used-more index k)) (looked_more one other)
 
-pub looked-slots : (index : Index) (k : ℕ) {old new : Disk} {faults : ℕ} → k ≤ slots index → Looked old new (used_of index k) faults → Looked old new (used_slots index) faults
+pub looked-slots : (index : Index) (k : ℕ) {old new : Disk} {faults : ℕ} → k ≤ slots index → Looked old new (used_of index k) faults
+    → Looked old new (used_slots index) faults
 looked-slots index k below looked = looked_within looked (used-within index k below)
 
 -- what was read of a slot after others is the old disk's
-pub state-stays : (index : Index) (old now new : Disk) (most n : ℕ) (s : State) (block : List ℕ) → Looked old now most 0 → ReadsSlot index n s block now new → IsTrue old.honest
+pub state-stays : (index : Index) (old now new : Disk) (most n : ℕ) (s : State) (block : List ℕ) → Looked old now most 0
+    → ReadsSlot index n s block now new → IsTrue old.honest
     → HasState (table_in old.image index) n s × (s ≡ Live → block ≡ (table_in old.image index).header n)
 state-stays index old now new most n s block looked reads honest =
     let same : table_in now.image index ≡ table_in old.image index = ap (λ (i : Image). table_in i index) looked.image in

@@ -1,5 +1,6 @@
 -- One more mark on a tally.
-use Rattle.std.proofs.Common.{◌≡◌, ◌≢◌, ◌≤◌, ◌<◌, ◌+◌, ◌⊎◌, ◌&&◌, ◌||◌, inl, inr, ℕ, refl, ap, sym, subst, ◌∙◌, arith, Bool, true, false, cond, eqb, leb, ltb}
+use Rattle.std.proofs.Common.{◌≡◌, ◌≢◌, ◌≤◌, ◌<◌, ◌+◌, ◌⊎◌, ◌&&◌, ◌||◌, inl, inr, ℕ, refl, ap, sym, subst, ◌∙◌, arith, Bool, true, false}
+use Rattle.std.proofs.Common.{cond, eqb, leb, ltb}
 use Rattle.std.proofs.lemmas.Bool.{cases_lt, cases_eq, eq-eqb, ne_eqb, le-leb, lt-leb, leb-true, leb-false, lt-ltb, le-ltb}
 use Rattle.std.proofs.Math.Bool.{or-false}
 use Rattle.f11_vfy.specs.Surveying.Count.{within, Shows}
@@ -65,14 +66,18 @@ module _ (k l c : ℕ) where
   twice_stays t e not_yet = go (cases_eq l k)
     where
       go : (l ≡ k) ⊎ (l ≢ k) → t ≡ leb 2 (c + within k (k + 1) l)
-      go (inl x) = let z : c < 1 = leb-false 1 c (not_yet x) in e ∙ lt-leb 2 c (omega arith) ∙ sym (lt-leb 2 (c + within k (k + 1) l) (omega (arith, here x)))
+      go (inl x) =
+          let z : c < 1 = leb-false 1 c (not_yet x) in e ∙ lt-leb 2 c (omega arith)
+          ∙ sym (lt-leb 2 (c + within k (k + 1) l) (omega (arith, here x)))
       go (inr x) = e ∙ ap (λ z. leb 2 z) (omega (arith, away x))
 
   pub twice_set : (t : Bool) → t ≡ leb 2 c → (l ≡ k → leb 1 c ≡ true) → (t || eqb l k) ≡ leb 2 (c + within k (k + 1) l)
   twice_set t e came = go (cases_eq l k)
     where
       go : (l ≡ k) ⊎ (l ≢ k) → (t || eqb l k) ≡ leb 2 (c + within k (k + 1) l)
-      go (inl x) = let z : 1 ≤ c = leb-true 1 c (came x) in at_least 2 (omega (arith, here x)) (t || eqb l k) (ap (λ z. t || z) (eq-eqb l k x) ∙ or_true t)
+      go (inl x) =
+          let z : 1 ≤ c = leb-true 1 c (came x) in
+          at_least 2 (omega (arith, here x)) (t || eqb l k) (ap (λ z. t || z) (eq-eqb l k x) ∙ or_true t)
       go (inr x) = ap (λ z. t || z) (ne_eqb l k x) ∙ or-false t ∙ e ∙ ap (λ z. leb 2 z) (omega (arith, away x))
 
 -- a number that came is below the limit

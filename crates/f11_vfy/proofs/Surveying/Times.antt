@@ -1,5 +1,6 @@
 -- How often a number is in a list.
-use Rattle.std.proofs.Common.{◌≡◌, ◌≢◌, ◌≤◌, ◌<◌, ◌+◌, ◌⊎◌, inl, inr, ℕ, zero, suc, refl, ap, sym, ◌∙◌, arith, cond, List, [], ◌∷◌, ◌++◌, Some, eqb}
+use Rattle.std.proofs.Common.{◌≡◌, ◌≢◌, ◌≤◌, ◌<◌, ◌+◌, ◌⊎◌, inl, inr, ℕ, zero, suc, refl, ap, sym, ◌∙◌, arith, cond, List, [], ◌∷◌, ◌++◌}
+use Rattle.std.proofs.Common.{Some, eqb}
 use Rattle.std.specs.List.{slice_get, range_with_len}
 use Rattle.std.proofs.lemmas.Bool.{cases_lt, cases_eq, eq-eqb, ne_eqb}
 use Rattle.std.proofs.lemmas.Option.{same_Some}
@@ -32,14 +33,44 @@ times-append (x ∷ xs) ys l = omega (arith, times-cons x (xs ++ ys) l, times-co
 
 pub times-range : (a n l : ℕ) → times_among (range_with_len a n) l ≡ within a (a + n) l
 times-range a zero l = times-nil l ∙ sym (within-none a l) ∙ ap (λ z. within a z l) (omega arith)
-times-range a (suc n) l = times-cons a (range_with_len (a + 1) n) l ∙ go (times-range (a + 1) n l) (cases_lt l a) (cases_lt a l) (cases_lt l (a + suc n))
+times-range a (suc n) l =
+    times-cons a (range_with_len (a + 1) n) l ∙ go (times-range (a + 1) n l) (cases_lt l a) (cases_lt a l) (cases_lt l (a + suc n))
   where
-    go : times_among (range_with_len (a + 1) n) l ≡ within (a + 1) (a + 1 + n) l → (l < a) ⊎ (a ≤ l) → (a < l) ⊎ (l ≤ a) → (l < a + suc n) ⊎ (a + suc n ≤ l)
+    go : times_among (range_with_len (a + 1) n) l ≡ within (a + 1) (a + 1 + n) l → (l < a) ⊎ (a ≤ l) → (a < l) ⊎ (l ≤ a)
+        → (l < a + suc n) ⊎ (a + suc n ≤ l)
         → same a l + times_among (range_with_len (a + 1) n) l ≡ within a (a + suc n) l
-    go rest (inl x) y z = omega (arith, rest, same-no a l (λ e. omega arith), within-below (a + 1) (a + 1 + n) l (omega arith), within-below a (a + suc n) l x)
-    go rest (inr x) (inl y) (inl z) = omega (arith, rest, same-no a l (λ e. omega arith), within-in (a + 1) (a + 1 + n) l (omega arith) (omega arith), within-in a (a + suc n) l x z)
-    go rest (inr x) (inl y) (inr z) = omega (arith, rest, same-no a l (λ e. omega arith), within-above (a + 1) (a + 1 + n) l (omega arith), within-above a (a + suc n) l z)
-    go rest (inr x) (inr y) z = omega (arith, rest, same-yes a l (omega arith), within-below (a + 1) (a + 1 + n) l (omega arith), within-in a (a + suc n) l x (omega arith))
+    go rest (inl x) y z =
+        omega (
+          arith,
+          rest,
+          same-no a l (λ e. omega arith),
+          within-below (a + 1) (a + 1 + n) l (omega arith),
+          within-below a (a + suc n) l x,
+        )
+    go rest (inr x) (inl y) (inl z) =
+        omega (
+          arith,
+          rest,
+          same-no a l (λ e. omega arith),
+          within-in (a + 1) (a + 1 + n) l (omega arith) (omega arith),
+          within-in a (a + suc n) l x z,
+        )
+    go rest (inr x) (inl y) (inr z) =
+        omega (
+          arith,
+          rest,
+          same-no a l (λ e. omega arith),
+          within-above (a + 1) (a + 1 + n) l (omega arith),
+          within-above a (a + suc n) l z,
+        )
+    go rest (inr x) (inr y) z =
+        omega (
+          arith,
+          rest,
+          same-yes a l (omega arith),
+          within-below (a + 1) (a + 1 + n) l (omega arith),
+          within-in a (a + suc n) l x (omega arith),
+        )
 
 -- a number that is there has a place, and one that has a place is there
 pub some_place : (xs : List ℕ) (l : ℕ) → 1 ≤ times_among xs l → (i : ℕ) × (slice_get xs i ≡ Some l)
@@ -73,7 +104,13 @@ two_places (x ∷ xs) l two = go (two_places xs l) (cases_eq x l)
         record { one = 0; other = suc rest.0; apart = λ same. omega (arith, same); at_one = ap Some e; at_other = rest.1 }
     go rest_of (inr e) =
         let rest : TwoPlaces xs l = rest_of (omega (arith, two, times-cons x xs l, same-no x l e)) in
-        record { one = suc rest.one; other = suc rest.other; apart = λ same. rest.apart (omega (arith, same)); at_one = rest.at_one; at_other = rest.at_other }
+        record {
+          one = suc rest.one;
+          other = suc rest.other;
+          apart = λ same. rest.apart (omega (arith, same));
+          at_one = rest.at_one;
+          at_other = rest.at_other;
+        }
 
 pub places_two : (xs : List ℕ) (i j l : ℕ) → slice_get xs i ≡ Some l → slice_get xs j ≡ Some l → i ≢ j → 2 ≤ times_among xs l
 places_two [] i j l a b apart = absurd cc

@@ -1,12 +1,14 @@
 -- What a new file, and a file that goes, change of the areas of a directory.
-use Rattle.std.proofs.Common.{◌≡◌, ℕ, ◌+◌, ◌-◌, ◌<◌, ◌≤◌, ◌==◌, Bool, true, false, if◌then◌else◌, List, [], ◌∷◌, ◌++◌, length, take, drop, sum_by, refl, sym, ◌∙◌, ap, append_assoc, append-nil, arith, Some}
+use Rattle.std.proofs.Common.{◌≡◌, ℕ, ◌+◌, ◌-◌, ◌<◌, ◌≤◌, ◌==◌, Bool, true, false, if◌then◌else◌, List, [], ◌∷◌, ◌++◌, length, take, drop}
+use Rattle.std.proofs.Common.{sum_by, refl, sym, ◌∙◌, ap, append_assoc, append-nil, arith, Some}
 use Rattle.std.specs.List.{slice_get}
 use Rattle.std.proofs.lemmas.Bool.{and_parts}
 use Rattle.std.proofs.lemmas.List.{drop_more, take_more}
 use Rattle.std.proofs.lemmas.List.Sums.{sum_by-append, sum_by-cons, sum_by-take-drop}
 use Rattle.rt11_volume.specs.Entry.{area_length, empty_entry, file_entry, is_empty}
 use Rattle.rt11_volume.specs.Named.{Placed, placed, placed_in}
-use Rattle.rt11_volume.specs.Operations.{entry_at, joined_length, joins_before, joins_behind, rest_of, with_entries, with_file, without_file}
+use Rattle.rt11_volume.specs.Operations.{entry_at, joined_length, joins_before, joins_behind, rest_of, with_entries, with_file}
+use Rattle.rt11_volume.specs.Operations.{without_file}
 use Rattle.rt11_volume.specs.Segment.{Segment, area_start}
 use Rattle.rt11_volume.proofs.Named.Placing.{all-around, all-entries, at_start, placed-append, placed-more, placed-nil, regroup}
 use Rattle.rt11_volume.proofs.Rewriting.Edit.{before-some, behind-some, joined-sum, three_words, with-sum}
@@ -36,10 +38,12 @@ rest-empty extra area blocks start = by_test (blocks == area)
     by_test false = AreEmpty.one (empty_entry extra (area - blocks)) start refl
 
 -- the entries of a segment with a file in the front of an area
-entries-put : (first extra : ℕ) (es : List (List ℕ)) (i : ℕ) (name : List ℕ) (blocks day : ℕ) → i < length es → length name ≡ 3 → blocks ≤ area_length (entry_at es i)
+entries-put : (first extra : ℕ) (es : List (List ℕ)) (i : ℕ) (name : List ℕ) (blocks day : ℕ) → i < length es → length name ≡ 3
+    → blocks ≤ area_length (entry_at es i)
     → placed first (with_file extra es i name blocks day)
     ≡ placed first (take i es) ++ (at_start (file_entry extra name blocks day) (first + sum_by area_length (take i es))
-    ∷ (placed (first + sum_by area_length (take i es) + blocks) (rest_of extra (area_length (entry_at es i)) blocks) ++ placed (first + sum_by area_length (take (i + 1) es)) (drop (i + 1) es)))
+    ∷ (placed (first + sum_by area_length (take i es) + blocks) (rest_of extra (area_length (entry_at es i)) blocks) ++ placed
+    (first + sum_by area_length (take (i + 1) es)) (drop (i + 1) es)))
 entries-put first extra es i name blocks day inside three fits =
     let file : List ℕ = file_entry extra name blocks day in
     let rest : List (List ℕ) = rest_of extra (area_length (entry_at es i)) blocks in
@@ -51,7 +55,8 @@ entries-put first extra es i name blocks day inside three fits =
     let two = sum_by-cons area_length file (rest ++ more) in
     let four = sum_by-append area_length rest more in
     let parts = sum_by-take-drop area_length es (i + 1) in
-    let next : start + blocks + sum_by area_length rest ≡ first + sum_by area_length (take (i + 1) es) = omega (arith, all, one, two, four, parts, long) in
+    let next : start + blocks + sum_by area_length rest ≡ first + sum_by area_length (take (i + 1) es) =
+    omega (arith, all, one, two, four, parts, long) in
     placed-append first (take i es) (file ∷ (rest ++ more))
     ∙ ap (λ ps. placed first (take i es) ++ ps)
     (placed-more start file (rest ++ more)
@@ -61,7 +66,8 @@ entries-put first extra es i name blocks day inside three fits =
 
 pub put-in : (segs : List Segment) (place : ℕ) (seg : Segment) (extra i : ℕ) (name : List ℕ) (blocks day : ℕ)
     → slice_get segs place ≡ Some seg → i < length seg.entries → length name ≡ 3 → blocks ≤ area_length (entry_at seg.entries i)
-    → IsPut (placed_in segs) (placed_in (with_entries segs place (with_file extra seg.entries i name blocks day))) (entry_at seg.entries i) (file_entry extra name blocks day)
+    → IsPut (placed_in segs) (placed_in (with_entries segs place (with_file extra seg.entries i name blocks day))) (entry_at seg.entries i)
+    (file_entry extra name blocks day)
 put-in segs place seg extra i name blocks day at inside three fits =
     let p : List Placed = placed_in (take place segs) in
     let q : List Placed = placed_in (drop (place + 1) segs) in
@@ -102,8 +108,10 @@ record AreBefore (first : ℕ) (es : List (List ℕ)) (i kept : ℕ) : Type 0 wh
   same : placed first (take i es) ≡ placed first (take kept es) ++ ahead
   empty : AreEmpty ahead
 
-before-are : (first : ℕ) (es : List (List ℕ)) (i : ℕ) (b : Bool) → i < length es → (b ≡ true → 0 < i) → (b ≡ true → is_empty (entry_at es (i - 1)) ≡ true) → AreBefore first es i (if b then i - 1 else i)
-before-are first es i false inside some is = record { ahead = []; same = sym (append-nil (placed first (take i es))); empty = AreEmpty.none }
+before-are : (first : ℕ) (es : List (List ℕ)) (i : ℕ) (b : Bool) → i < length es → (b ≡ true → 0 < i)
+    → (b ≡ true → is_empty (entry_at es (i - 1)) ≡ true) → AreBefore first es i (if b then i - 1 else i)
+before-are first es i false inside some is =
+    record { ahead = []; same = sym (append-nil (placed first (take i es))); empty = AreEmpty.none }
 before-are first es i true inside some is =
     let at : i - 1 + 1 ≡ i = omega (arith, some refl) in
     let start : ℕ = first + sum_by area_length (take (i - 1) es) in
@@ -113,29 +121,34 @@ before-are first es i true inside some is =
           ∙ ap (placed first) (take_more es (i - 1) [] (omega (arith, inside)))
           ∙ placed-append first (take (i - 1) es) (entry_at es (i - 1) ∷ [])
           ∙ ap (λ ps. placed first (take (i - 1) es) ++ ps)
-          (placed-more start (entry_at es (i - 1)) [] ∙ ap (λ ps. at_start (entry_at es (i - 1)) start ∷ ps) (placed-nil (start + area_length (entry_at es (i - 1)))));
+          (placed-more start (entry_at es (i - 1)) [] ∙ ap (λ ps. at_start (entry_at es (i - 1)) start ∷ ps)
+          (placed-nil (start + area_length (entry_at es (i - 1)))));
       empty = AreEmpty.one (entry_at es (i - 1)) start (is refl);
     }
 
 -- The entries behind one, but for an empty one right behind it.
 record AreBehind (first : ℕ) (es : List (List ℕ)) (i kept : ℕ) : Type 0 where
   after : List Placed
-  same : placed (first + sum_by area_length (take (i + 1) es)) (drop (i + 1) es) ≡ after ++ placed (first + sum_by area_length (take kept es)) (drop kept es)
+  same : placed (first + sum_by area_length (take (i + 1) es)) (drop (i + 1) es) ≡ after ++ placed
+      (first + sum_by area_length (take kept es)) (drop kept es)
   empty : AreEmpty after
 
-behind-are : (first : ℕ) (es : List (List ℕ)) (i : ℕ) (b : Bool) → (b ≡ true → i + 1 < length es) → (b ≡ true → is_empty (entry_at es (i + 1)) ≡ true) → AreBehind first es i (if b then i + 2 else i + 1)
+behind-are : (first : ℕ) (es : List (List ℕ)) (i : ℕ) (b : Bool) → (b ≡ true → i + 1 < length es)
+    → (b ≡ true → is_empty (entry_at es (i + 1)) ≡ true) → AreBehind first es i (if b then i + 2 else i + 1)
 behind-are first es i false some is = record { after = []; same = refl; empty = AreEmpty.none }
 behind-are first es i true some is =
     let start : ℕ = first + sum_by area_length (take (i + 1) es) in
     let e : List ℕ = entry_at es (i + 1) in
     let next : i + 1 + 1 ≡ i + 2 = omega arith in
     let taken : sum_by area_length (take (i + 1 + 1) es) ≡ sum_by area_length (take (i + 1) es) + area_length e =
-    ap (sum_by area_length) (take_more es (i + 1) [] (some refl)) ∙ sum_by-append area_length (take (i + 1) es) (e ∷ []) ∙ ap (λ n. sum_by area_length (take (i + 1) es) + n) (sum_by-cons area_length e [] ∙ omega arith) in
+    ap (sum_by area_length) (take_more es (i + 1) [] (some refl)) ∙ sum_by-append area_length (take (i + 1) es) (e ∷ [])
+    ∙ ap (λ n. sum_by area_length (take (i + 1) es) + n) (sum_by-cons area_length e [] ∙ omega arith) in
     record {
       after = at_start e start ∷ [];
       same = ap (placed start) (drop_more es (i + 1) [] (some refl))
           ∙ placed-more start e (drop (i + 1 + 1) es)
-          ∙ ap (λ n. at_start e start ∷ placed n (drop (i + 1 + 1) es)) (let n : start + area_length e ≡ first + sum_by area_length (take (i + 1 + 1) es) = omega (arith, taken) in n)
+          ∙ ap (λ n. at_start e start ∷ placed n (drop (i + 1 + 1) es))
+          (let n : start + area_length e ≡ first + sum_by area_length (take (i + 1 + 1) es) = omega (arith, taken) in n)
           ∙ ap (λ n. at_start e start ∷ placed (first + sum_by area_length (take n es)) (drop n es)) next;
       empty = AreEmpty.one e start (is refl);
     }
@@ -147,8 +160,10 @@ joined-in segs place seg extra i at inside =
     let es : List (List ℕ) = seg.entries in
     let joins : Bool = joins_before es i in
     let follows : Bool = joins_behind es i in
-    let ahead : AreBefore seg.first es i (if joins then i - 1 else i) = before-are seg.first es i joins inside (before-some es i) (λ is. (and_parts _ _ is).1) in
-    let after : AreBehind seg.first es i (if follows then i + 2 else i + 1) = behind-are seg.first es i follows (behind-some es i) (λ is. (and_parts _ _ is).1) in
+    let ahead : AreBefore seg.first es i (if joins then i - 1 else i) = before-are seg.first es i joins inside (before-some es i)
+    (λ is. (and_parts _ _ is).1) in
+    let after : AreBehind seg.first es i (if follows then i + 2 else i + 1) = behind-are seg.first es i follows (behind-some es i)
+    (λ is. (and_parts _ _ is).1) in
     let from : ℕ = if joins then i - 1 else i in
     let to : ℕ = if follows then i + 2 else i + 1 in
     let blocks : ℕ = joined_length joins es (i - 1) + area_length (entry_at es i) + joined_length follows es (i + 1) in

@@ -1,5 +1,6 @@
 -- Where the areas of a directory's entries are, segment by segment and entry by entry.
-use Rattle.std.proofs.Common.{◌≡◌, ℕ, ◌+◌, ◌<◌, List, [], ◌∷◌, ◌++◌, length, get_or, take, drop, sum_by, refl, sym, ◌∙◌, ap, append_assoc, arith, Some}
+use Rattle.std.proofs.Common.{◌≡◌, ℕ, ◌+◌, ◌<◌, List, [], ◌∷◌, ◌++◌, length, get_or, take, drop, sum_by, refl, sym, ◌∙◌, ap, append_assoc}
+use Rattle.std.proofs.Common.{arith, Some}
 use Rattle.std.specs.Prelude.{slice_set}
 use Rattle.std.specs.List.{slice_get}
 use Rattle.std.proofs.lemmas.Grind.{flat_map-append}
@@ -15,17 +16,20 @@ use Rattle.rt11_volume.specs.Segment.{Segment, area_start}
 abbrev pub at_start : List ℕ → ℕ → Placed
 at_start e start = record { entry = e; start = start }
 
-pub placed-append : (start : ℕ) (xs ys : List (List ℕ)) → placed start (xs ++ ys) ≡ placed start xs ++ placed (start + sum_by area_length xs) ys
+pub placed-append : (start : ℕ) (xs ys : List (List ℕ))
+    → placed start (xs ++ ys) ≡ placed start xs ++ placed (start + sum_by area_length xs) ys
 unfolding placed
 placed-append start [] ys = ap (λ n. placed n ys) (let n : start ≡ start + sum_by area_length [] = omega arith in n)
 placed-append start (x ∷ xs) ys =
     let next : ℕ = start + area_length x in
     ap (λ ps. at_start x start ∷ ps)
     (placed-append next xs ys
-    ∙ ap (λ n. placed next xs ++ placed n ys) (let n : next + sum_by area_length xs ≡ start + sum_by area_length (x ∷ xs) = omega (arith, sum_by-cons area_length x xs) in n))
+    ∙ ap (λ n. placed next xs ++ placed n ys) (let n : next + sum_by area_length xs ≡ start + sum_by area_length (x ∷ xs) =
+    omega (arith, sum_by-cons area_length x xs) in n))
 
 -- one entry and those behind it
-pub placed-more : (start : ℕ) (e : List ℕ) (es : List (List ℕ)) → placed start (e ∷ es) ≡ at_start e start ∷ placed (start + area_length e) es
+pub placed-more : (start : ℕ) (e : List ℕ) (es : List (List ℕ))
+    → placed start (e ∷ es) ≡ at_start e start ∷ placed (start + area_length e) es
 unfolding placed
 placed-more start e es = refl
 
@@ -35,7 +39,9 @@ placed-nil start = refl
 
 -- the entries around one of them
 pub placed-around : (start : ℕ) (es : List (List ℕ)) (i : ℕ) → i < length es
-    → placed start es ≡ placed start (take i es) ++ (at_start (get_or es i []) (start + sum_by area_length (take i es)) ∷ placed (start + sum_by area_length (take (i + 1) es)) (drop (i + 1) es))
+    → placed start es ≡ placed start
+    (take i es) ++ (at_start (get_or es i []) (start + sum_by area_length (take i es)) ∷ placed
+    (start + sum_by area_length (take (i + 1) es)) (drop (i + 1) es))
 placed-around start es i inside =
     let before : ℕ = start + sum_by area_length (take i es) in
     let e : List ℕ = get_or es i [] in
@@ -44,10 +50,12 @@ placed-around start es i inside =
     ∙ ap (λ ps. placed start (take i es) ++ ps)
     (placed-more before e (drop (i + 1) es)
     ∙ ap (λ n. at_start e before ∷ placed n (drop (i + 1) es))
-    (let n : before + area_length e ≡ start + sum_by area_length (take (i + 1) es) = omega (arith, sum_by_more area_length es i [] inside) in n))
+    (let n : before + area_length e ≡ start + sum_by area_length (take (i + 1) es) = omega (arith, sum_by_more area_length es i [] inside)
+    in n))
 
 -- and those around and of a segment
-pub segments-placed : (xs : List Segment) (seg : Segment) (ys : List Segment) → placed_in (xs ++ seg ∷ ys) ≡ placed_in xs ++ (placed seg.first seg.entries ++ placed_in ys)
+pub segments-placed : (xs : List Segment) (seg : Segment) (ys : List Segment)
+    → placed_in (xs ++ seg ∷ ys) ≡ placed_in xs ++ (placed seg.first seg.entries ++ placed_in ys)
 unfolding placed_in
 segments-placed xs seg ys = flat_map-append (λ (s : Segment). placed s.first s.entries) xs (seg ∷ ys)
 
@@ -59,10 +67,13 @@ pub segments-nil : placed_in [] ≡ []
 unfolding placed_in
 segments-nil = refl
 
-pub segments-around : (segs : List Segment) (place : ℕ) (seg : Segment) → slice_get segs place ≡ Some seg → segs ≡ take place segs ++ (seg ∷ drop (place + 1) segs)
+pub segments-around : (segs : List Segment) (place : ℕ) (seg : Segment) → slice_get segs place ≡ Some seg
+    → segs ≡ take place segs ++ (seg ∷ drop (place + 1) segs)
 segments-around segs place seg at =
     sym (take-append-drop place segs)
-    ∙ ap (λ xs. take place segs ++ xs) (drop_more segs place seg (slice_get_within segs place seg at) ∙ ap (λ s. s ∷ drop (place + 1) segs) (get_or_from_slice_get segs place seg seg at))
+    ∙ ap (λ xs. take place segs ++ xs)
+    (drop_more segs place seg (slice_get_within segs place seg at)
+    ∙ ap (λ s. s ∷ drop (place + 1) segs) (get_or_from_slice_get segs place seg seg at))
 
 pub entries-around : (segs : List Segment) (place : ℕ) (seg : Segment) (es : List (List ℕ)) → slice_get segs place ≡ Some seg
     → with_entries segs place es ≡ take place segs ++ (record seg { entries = es } ∷ drop (place + 1) segs)
@@ -79,7 +90,9 @@ regroup p a b q = ap (λ xs. p ++ xs) (append_assoc a b q) ∙ sym (append_assoc
 
 pub all-around : (segs : List Segment) (place : ℕ) (seg : Segment) (i : ℕ) → slice_get segs place ≡ Some seg → i < length seg.entries
     → placed_in segs ≡ (placed_in (take place segs) ++ placed seg.first (take i seg.entries))
-    ++ (at_start (get_or seg.entries i []) (area_start seg i) ∷ (placed (seg.first + sum_by area_length (take (i + 1) seg.entries)) (drop (i + 1) seg.entries) ++ placed_in (drop (place + 1) segs)))
+    ++ (at_start (get_or seg.entries i []) (area_start seg i) ∷
+    (placed (seg.first + sum_by area_length (take (i + 1) seg.entries)) (drop (i + 1) seg.entries) ++ placed_in
+    (drop (place + 1) segs)))
 all-around segs place seg i at inside =
     let p : List Placed = placed_in (take place segs) in
     let q : List Placed = placed_in (drop (place + 1) segs) in
@@ -92,10 +105,13 @@ all-around segs place seg i at inside =
 -- a segment with other entries
 pub all-entries : (segs : List Segment) (place : ℕ) (seg : Segment) (es : List (List ℕ)) → slice_get segs place ≡ Some seg
     → placed_in (with_entries segs place es) ≡ placed_in (take place segs) ++ (placed seg.first es ++ placed_in (drop (place + 1) segs))
-all-entries segs place seg es at = ap placed_in (entries-around segs place seg es at) ∙ segments-placed (take place segs) (record seg { entries = es }) (drop (place + 1) segs)
+all-entries segs place seg es at =
+    ap placed_in (entries-around segs place seg es at)
+    ∙ segments-placed (take place segs) (record seg { entries = es }) (drop (place + 1) segs)
 
 -- a segment that is split
-pub split-same : (segs : List Segment) (place number : ℕ) (seg : Segment) → slice_get segs place ≡ Some seg → placed_in (split_at segs place number seg) ≡ placed_in segs
+pub split-same : (segs : List Segment) (place number : ℕ) (seg : Segment) → slice_get segs place ≡ Some seg
+    → placed_in (split_at segs place number seg) ≡ placed_in segs
 split-same segs place number seg at =
     let k : ℕ = kept_of (length seg.entries) in
     let front : List (List ℕ) = take k seg.entries in
@@ -114,16 +130,19 @@ get_seam [] y ys = refl
 get_seam (x ∷ xs) y ys = get_seam xs y ys
 
 -- its halves
-pub front-at : (segs : List Segment) (place number : ℕ) (seg : Segment) → slice_get segs place ≡ Some seg → slice_get (split_at segs place number seg) place ≡ Some (front_half seg)
+pub front-at : (segs : List Segment) (place number : ℕ) (seg : Segment) → slice_get segs place ≡ Some seg
+    → slice_get (split_at segs place number seg) place ≡ Some (front_half seg)
 front-at segs place number seg at =
     let xs : List Segment = split_at segs place number seg in
     let size : length (take place segs) ≡ place = length-take-le place segs (omega (arith, slice_get_within segs place seg at)) in
     ap (λ n. slice_get xs n) (sym size) ∙ get_seam (take place segs) (front_half seg) (back_half number seg ∷ drop (place + 1) segs)
 
-pub back-at : (segs : List Segment) (place number : ℕ) (seg : Segment) → slice_get segs place ≡ Some seg → slice_get (split_at segs place number seg) (place + 1) ≡ Some (back_half number seg)
+pub back-at : (segs : List Segment) (place number : ℕ) (seg : Segment) → slice_get segs place ≡ Some seg
+    → slice_get (split_at segs place number seg) (place + 1) ≡ Some (back_half number seg)
 back-at segs place number seg at =
     let front : List Segment = take place segs ++ front_half seg ∷ [] in
     let rest : List Segment = drop (place + 1) segs in
-    let size : length front ≡ place + 1 = length-append (take place segs) (front_half seg ∷ []) ∙ ap (λ n. n + 1) (length-take-le place segs (omega (arith, slice_get_within segs place seg at))) in
+    let size : length front ≡ place + 1 = length-append (take place segs) (front_half seg ∷ [])
+    ∙ ap (λ n. n + 1) (length-take-le place segs (omega (arith, slice_get_within segs place seg at))) in
     ap (λ xs. slice_get xs (place + 1)) (sym (append_assoc (take place segs) (front_half seg ∷ []) (back_half number seg ∷ rest)))
     ∙ ap (λ n. slice_get (front ++ back_half number seg ∷ rest) n) (sym size) ∙ get_seam front (back_half number seg) rest

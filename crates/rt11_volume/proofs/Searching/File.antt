@@ -1,5 +1,6 @@
 -- A file that was found in hand is the store's.
-use Rattle.std.proofs.Common.{◌≡◌, ◌⊎◌, inl, inr, ℕ, zero, suc, ◌+◌, ◌<◌, ◌≤◌, Bool, false, min, List, [], length, get_or, Some, sym, ◌∙◌, ap, subst, arith}
+use Rattle.std.proofs.Common.{◌≡◌, ◌⊎◌, inl, inr, ℕ, zero, suc, ◌+◌, ◌<◌, ◌≤◌, Bool, false, min, List, [], length, get_or, Some, sym, ◌∙◌}
+use Rattle.std.proofs.Common.{ap, subst, arith}
 use Rattle.std.specs.List.{All, slice_get}
 use Rattle.std.specs.Option.{option_map}
 use Rattle.std.proofs.lemmas.List.{get_or_default}
@@ -18,16 +19,19 @@ use Rattle.rt11_volume.proofs.Searching.Looking.{length-segments}
 use Rattle.rt11_volume.proofs.Verifying.Sound.{IsSoundImage}
 
 -- the segments that are visited, by their place
-pub segments-at : (image : Image) (place k : ℕ) → slice_get (visited image) place ≡ Some k → slice_get (segments_of image) place ≡ Some (segment_of image k)
+pub segments-at : (image : Image) (place k : ℕ) → slice_get (visited image) place ≡ Some k
+    → slice_get (segments_of image) place ≡ Some (segment_of image k)
 segments-at image place k at = slice_get-map (segment_of image) (visited image) place ∙ ap (option_map (segment_of image)) at
 
 -- the segment in hand is the image's
-pub found-segment : (test : List ℕ → Bool) (image : Image) (found : Found) → IsFirstFound test image found → found_segment found ≡ segment_of image found.number
+pub found-segment : (test : List ℕ → Bool) (image : Image) (found : Found) → IsFirstFound test image found
+    → found_segment found ≡ segment_of image found.number
 found-segment test image found is = ap (segment_with found.number) is.words_are
 
 -- what was found is the first such entry of the store
 pub first-found : (test : List ℕ → Bool) (image : Image) (found : Found) (is : IsFirstFound test image found)
-    → IsFirst test (segments_of image) is.place found.i (segment_of image found.number) (get_or (segment_of image found.number).entries found.i [])
+    → IsFirst test (segments_of image) is.place found.i (segment_of image found.number)
+    (get_or (segment_of image found.number).entries found.i [])
 first-found test image found is =
     let es : List (List ℕ) = (segment_of image found.number).entries in
     record {
@@ -46,7 +50,8 @@ first-found test image found is =
     }
 
 -- the file of a name that was found
-unfoldable pub file-found : (name : List ℕ) (image : Image) (found : Found) → IsFirstFound (is_file_named name) image found → HasFile name (rt_store_of image)
+unfoldable pub file-found : (name : List ℕ) (image : Image) (found : Found) → IsFirstFound (is_file_named name) image found
+    → HasFile name (rt_store_of image)
 unfolding rt_store_of
 file-found name image found is = record {
   place = is.place;
@@ -70,16 +75,24 @@ file-start name image found is = ap (λ (seg : Segment). area_start seg found.i)
 pub file-length : (name : List ℕ) (image : Image) (found : Found) (is : IsFirstFound (is_file_named name) image found)
     → area_length (found_entry found) ≡ (file_area (file-found name image found is)).length
 unfolding area_at file-found
-file-length name image found is = ap (λ (seg : Segment). area_length (get_or seg.entries found.i [])) (found-segment (is_file_named name) image found is)
+file-length name image found is =
+    ap (λ (seg : Segment). area_length (get_or seg.entries found.i [])) (found-segment (is_file_named name) image found is)
 
 -- the areas of a sound image lie behind the directory, on the device, and end at block 65535 at most
-pub area-ends : (image : Image) (place k i : ℕ) → IsSoundImage image → slice_get (visited image) place ≡ Some k → i < length (segment_of image k).entries
+pub area-ends : (image : Image) (place k i : ℕ) → IsSoundImage image → slice_get (visited image) place ≡ Some k
+    → i < length (segment_of image k).entries
     → area_start (segment_of image k) i + area_length (get_or (segment_of image k).entries i []) ≤ min (length image) 65535
 area-ends image place k i sound at inside =
     let es : List (List ℕ) = (segment_of image k).entries in
-    omega (arith, area_start-more (segment_of image k) i inside, (sound.each place k at).within i (get_or es i []) (slice_get-get_or es i [] inside))
+    omega (
+      arith,
+      area_start-more (segment_of image k) i inside,
+      (sound.each place k at).within i (get_or es i [])
+          (slice_get-get_or es i [] inside),
+    )
 
-pub area-begins : (image : Image) (place k i : ℕ) → IsSoundImage image → slice_get (visited image) place ≡ Some k → data_start image ≤ area_start (segment_of image k) i
+pub area-begins : (image : Image) (place k i : ℕ) → IsSoundImage image → slice_get (visited image) place ≡ Some k
+    → data_start image ≤ area_start (segment_of image k) i
 unfolding end_before
 area-begins image zero k i sound at = omega (arith, (sound.each zero k at).begins)
 area-begins image (suc place) k i sound at =
@@ -93,21 +106,27 @@ area-begins image (suc place) k i sound at =
 pub file-ends : (name : List ℕ) (image : Image) (found : Found) → IsSoundImage image → IsFirstFound (is_file_named name) image found
     → area_start (found_segment found) found.i + area_length (found_entry found) ≤ min (length image) 65535
 file-ends name image found sound is =
-    subst (λ (seg : Segment). area_start seg found.i + area_length (get_or seg.entries found.i []) ≤ min (length image) 65535) (sym (found-segment (is_file_named name) image found is))
+    subst (λ (seg : Segment). area_start seg found.i + area_length (get_or seg.entries found.i []) ≤ min (length image) 65535)
+    (sym (found-segment (is_file_named name) image found is))
     (area-ends image is.place found.number found.i sound is.visited_at is.first.inside)
 
 -- the place of the file that was found, in words
-pub located : (name : List ℕ) (image : Image) (found : Found) (start length : ℕ) → IsSoundImage image → IsFirstFound (is_file_named name) image found
-    → start ≡ min (area_start (found_segment found) found.i) 65535 → length ≡ area_length (found_entry found) → IsFileAt name (rt_store_of image) start length
+pub located : (name : List ℕ) (image : Image) (found : Found) (start length : ℕ) → IsSoundImage image
+    → IsFirstFound (is_file_named name) image found
+    → start ≡ min (area_start (found_segment found) found.i) 65535 → length ≡ area_length (found_entry found)
+    → IsFileAt name (rt_store_of image) start length
 located name image found start length sound is begins long = record {
   file = file-found name image found is;
-  start_is = begins ∙ (let low : min (area_start (found_segment found) found.i) 65535 ≡ area_start (found_segment found) found.i = omega (arith, file-ends name image found sound is) in low)
+  start_is =
+      begins ∙ (let low : min (area_start (found_segment found) found.i) 65535 ≡ area_start (found_segment found) found.i =
+      omega (arith, file-ends name image found sound is) in low)
       ∙ file-start name image found is;
   length_is = long ∙ file-length name image found is;
 }
 
 -- a block of it that was found in hand, or none
-pub reached : (name : List ℕ) (image : Image) (found : Found) (place lbn blocks : ℕ) → IsFirstFound (is_file_named name) image found → IsPlaceOf found place lbn blocks
+pub reached : (name : List ℕ) (image : Image) (found : Found) (place lbn blocks : ℕ) → IsFirstFound (is_file_named name) image found
+    → IsPlaceOf found place lbn blocks
     → IsBlockAt name (rt_store_of image) place lbn
 reached name image found place lbn blocks is at = record {
   file = file-found name image found is;
@@ -115,8 +134,10 @@ reached name image found place lbn blocks is at = record {
   lbn_is = omega (arith, at.lbn_is, file-start name image found is);
 }
 
-pub not-reached : (name : List ℕ) (image : Image) (found : Found) (place blocks : ℕ) → IsSoundImage image → blocks ≡ length image → IsFirstFound (is_file_named name) image found
-    → (area_length (found_entry found) ≤ place) ⊎ (blocks ≤ area_start (found_segment found) found.i + place) → IsPastEnd name (rt_store_of image) place
+pub not-reached : (name : List ℕ) (image : Image) (found : Found) (place blocks : ℕ) → IsSoundImage image → blocks ≡ length image
+    → IsFirstFound (is_file_named name) image found
+    → (area_length (found_entry found) ≤ place) ⊎ (blocks ≤ area_start (found_segment found) found.i + place)
+    → IsPastEnd name (rt_store_of image) place
 not-reached name image found place blocks sound size is none = record {
   file = file-found name image found is;
   past = elim none [

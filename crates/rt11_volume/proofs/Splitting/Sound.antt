@@ -1,5 +1,6 @@
 -- An image of which a segment was split has no fault where it had none.
-use Rattle.std.proofs.Common.{◌≡◌, ◌≢◌, inl, inr, ℕ, zero, suc, ◌+◌, ◌-◌, ◌*◌, ◌<◌, ◌≤◌, true, false, min, List, [], ◌∷◌, ◌++◌, length, get_or, map, take, drop, sum_by, append_assoc, Some, sym, ◌∙◌, ap, subst, arith}
+use Rattle.std.proofs.Common.{◌≡◌, ◌≢◌, inl, inr, ℕ, zero, suc, ◌+◌, ◌-◌, ◌*◌, ◌<◌, ◌≤◌, true, false, min, List, [], ◌∷◌, ◌++◌, length}
+use Rattle.std.proofs.Common.{get_or, map, take, drop, sum_by, append_assoc, Some, sym, ◌∙◌, ap, subst, arith}
 use Rattle.std.specs.List.{All, slice_get, take-map, drop-map}
 use Rattle.std.proofs.lemmas.Bool.{cases_eq, cases_lt}
 use Rattle.std.proofs.lemmas.List.{length-take, length-drop, get_or-take, get_or-drop, take_more, map-append}
@@ -21,10 +22,12 @@ pub record AreSoundAreas (image : Image) (blocks high k : ℕ) : Type 0 where
   pub ends : HasEnd (extra_bytes (segment_words image k)) (segment_words image k)
   pub low : k ≤ high
   pub one_kind : (i : ℕ) (e : List ℕ) → slice_get (segment_of image k).entries i ≡ Some e → is_one_kind (status e) ≡ true
-  pub within : (i : ℕ) (e : List ℕ) → slice_get (segment_of image k).entries i ≡ Some e → area_start (segment_of image k) (i + 1) ≤ min blocks 65535
+  pub within : (i : ℕ) (e : List ℕ) → slice_get (segment_of image k).entries i ≡ Some e
+      → area_start (segment_of image k) (i + 1) ≤ min blocks 65535
 
 chain-begins : (image : Image) (ks : List ℕ) → visited image ≡ ks → 6 + 2 * count_of image ≤ (segment_of image (get_or ks 0 0)).first
-    → ((j : ℕ) → j + 1 < length ks → areas_end (segment_of image (get_or ks j 0)) ≤ (segment_of image (get_or ks (j + 1) 0)).first) → (place : ℕ) → place < length ks
+    → ((j : ℕ) → j + 1 < length ks → areas_end (segment_of image (get_or ks j 0)) ≤ (segment_of image (get_or ks (j + 1) 0)).first)
+    → (place : ℕ) → place < length ks
     → end_before image place ≤ (segment_of image (get_or ks place 0)).first
 unfolding end_before
 chain-begins image ks visits first then zero inside = first
@@ -36,10 +39,12 @@ chain-begins image ks visits first then (suc place) inside =
     omega (arith, step, here, there)
 
 -- a chain whose areas are sound, each behind the ones before it
-pub chain-sound : (image : Image) (ks : List ℕ) → IsChain image ks → 6 + 2 * count_of image ≤ length image → count_of image ≤ 31 → highest_segment (segment_words image 1) ≤ count_of image
+pub chain-sound : (image : Image) (ks : List ℕ) → IsChain image ks → 6 + 2 * count_of image ≤ length image → count_of image ≤ 31
+    → highest_segment (segment_words image 1) ≤ count_of image
     → ((j : ℕ) → j < length ks → AreSoundAreas image (length image) (highest_segment (segment_words image 1)) (get_or ks j 0))
     → 6 + 2 * count_of image ≤ (segment_of image (get_or ks 0 0)).first
-    → ((j : ℕ) → j + 1 < length ks → areas_end (segment_of image (get_or ks j 0)) ≤ (segment_of image (get_or ks (j + 1) 0)).first) → IsSoundImage image
+    → ((j : ℕ) → j + 1 < length ks → areas_end (segment_of image (get_or ks j 0)) ≤ (segment_of image (get_or ks (j + 1) 0)).first)
+    → IsSoundImage image
 chain-sound image ks chain within few high areas first then = record {
   sized = record { some = omega (arith, chain.low 0 chain.some, chain.positive 0 chain.some); few = few; within = within };
   highest = high;
@@ -53,20 +58,25 @@ chain-sound image ks chain within few high areas first then = record {
     each place k at =
         let inside : place < length ks = slice_get_within ks place k at in
         let is : get_or ks place 0 ≡ k = get_or_from_slice_get ks place k 0 at in
-        let area : AreSoundAreas image (length image) (highest_segment (segment_words image 1)) k = subst (AreSoundAreas image (length image) (highest_segment (segment_words image 1))) is (areas place inside) in
+        let area : AreSoundAreas image (length image) (highest_segment (segment_words image 1)) k =
+        subst (AreSoundAreas image (length image) (highest_segment (segment_words image 1))) is (areas place inside) in
         record {
           right = subst (λ n. is_extra_wrong image n ≡ false) is (chain.right place inside);
           link_in = link_in place k inside is;
-          link_on = λ earlier order back. link_on place k inside is earlier order (ap (λ (xs : List ℕ). slice_get xs earlier) (sym visits) ∙ back);
+          link_on = λ earlier order back.
+              link_on place k inside is earlier order (ap (λ (xs : List ℕ). slice_get xs earlier) (sym visits) ∙ back);
           ends = area.ends;
-          begins = subst (λ n. end_before image place ≤ (segment_of image n).first) is (chain-begins image ks visits first then place inside);
+          begins = subst (λ n. end_before image place ≤ (segment_of image n).first) is
+              (chain-begins image ks visits first then place inside);
           low = area.low;
           one_kind = area.one_kind;
           within = area.within;
         }
       where
         last_next : (place k : ℕ) → place < length ks → get_or ks place 0 ≡ k → length ks ≤ place + 1 → next_of image k ≡ 0
-        last_next place k inside is end = ap (next_of image) (sym is ∙ ap (λ n. get_or ks n 0) (let p : place ≡ length ks - 1 = omega (arith, inside, end) in p)) ∙ chain.last
+        last_next place k inside is end =
+            ap (next_of image) (sym is ∙ ap (λ n. get_or ks n 0) (let p : place ≡ length ks - 1 = omega (arith, inside, end) in p))
+            ∙ chain.last
 
         link_in : (place k : ℕ) → place < length ks → get_or ks place 0 ≡ k → next_of image k ≤ count_of image
         link_in place k inside is = elim (cases_lt (place + 1) (length ks)) [
@@ -74,10 +84,17 @@ chain-sound image ks chain within few high areas first then = record {
           | inr end ↦ omega (arith, last_next place k inside is end)
         ]
 
-        link_on : (place k : ℕ) → place < length ks → get_or ks place 0 ≡ k → (earlier : ℕ) → earlier ≤ place → slice_get ks earlier ≡ Some (next_of image k) → ⊥
+        link_on : (place k : ℕ) → place < length ks → get_or ks place 0 ≡ k → (earlier : ℕ) → earlier ≤ place
+            → slice_get ks earlier ≡ Some (next_of image k) → ⊥
         link_on place k inside is earlier order back = elim (cases_lt (place + 1) (length ks)) [
-          | inl more ↦ chain.apart earlier (place + 1) (omega (arith, order)) more (get_or_from_slice_get ks earlier (next_of image k) 0 back ∙ ap (next_of image) (sym is) ∙ chain.next place more)
-          | inr end ↦ omega (arith, get_or_from_slice_get ks earlier (next_of image k) 0 back, last_next place k inside is end, chain.positive earlier (slice_get_within ks earlier (next_of image k) back))
+          | inl more ↦ chain.apart earlier (place + 1) (omega (arith, order)) more
+              (get_or_from_slice_get ks earlier (next_of image k) 0 back ∙ ap (next_of image) (sym is) ∙ chain.next place more)
+          | inr end ↦ omega (
+            arith,
+            get_or_from_slice_get ks earlier (next_of image k) 0 back,
+            last_next place k inside is end,
+            chain.positive earlier (slice_get_within ks earlier (next_of image k) back),
+          )
         ]
 
 -- Segment k was split: its entries stand in two, the second in a new segment whose areas begin where those of the first end.
@@ -90,7 +107,8 @@ pub record SplitsAreas (old new : Image) (place k number start : ℕ) (front bac
   pub others : (j : ℕ) → j ≢ k → j ≢ number → segment_of new j ≡ segment_of old j
   pub ends_front : HasEnd (extra_bytes (segment_words new k)) (segment_words new k)
   pub ends_back : HasEnd (extra_bytes (segment_words new number)) (segment_words new number)
-  pub ends : (j : ℕ) → j ≢ k → j ≢ number → HasEnd (extra_bytes (segment_words old j)) (segment_words old j) → HasEnd (extra_bytes (segment_words new j)) (segment_words new j)
+  pub ends : (j : ℕ) → j ≢ k → j ≢ number → HasEnd (extra_bytes (segment_words old j)) (segment_words old j)
+      → HasEnd (extra_bytes (segment_words new j)) (segment_words new j)
   pub start_is : start ≡ (segment_of old k).first + sum_by area_length front
   pub sum : sum_by area_length front + sum_by area_length back ≡ sum_by area_length (segment_of old k).entries
   pub some : 0 < length (segment_of old k).entries
@@ -98,8 +116,10 @@ pub record SplitsAreas (old new : Image) (place k number start : ℕ) (front bac
   pub kinds_back : All (λ e. is_one_kind (status e) ≡ true) back
 
 -- areas in a row
-row-areas : (image : Image) (blocks high k number first bound : ℕ) (es : List (List ℕ)) → segment_of image k ≡ record { number = number; first = first; entries = es }
-    → HasEnd (extra_bytes (segment_words image k)) (segment_words image k) → k ≤ high → All (λ e. is_one_kind (status e) ≡ true) es → first + sum_by area_length es ≤ bound → bound ≤ min blocks 65535 → AreSoundAreas image blocks high k
+row-areas : (image : Image) (blocks high k number first bound : ℕ) (es : List (List ℕ))
+    → segment_of image k ≡ record { number = number; first = first; entries = es }
+    → HasEnd (extra_bytes (segment_words image k)) (segment_words image k) → k ≤ high → All (λ e. is_one_kind (status e) ≡ true) es
+    → first + sum_by area_length es ≤ bound → bound ≤ min blocks 65535 → AreSoundAreas image blocks high k
 row-areas image blocks high k number first bound es is ends low kinds within few = record {
   ends = ends;
   low = low;
@@ -115,19 +135,29 @@ row-behind : (image : Image) (place : ℕ) → IsSoundImage image → place + 1 
 unfolding end_before
 row-behind image place sound more =
     let p : place + 1 ≡ suc place = omega arith in
-    let begins = (sound.each (suc place) (get_or (visited image) (suc place) 0) (slice_get-get_or (visited image) (suc place) 0 (omega (arith, more)))).begins in
+    let begins = (sound.each (suc place) (get_or (visited image) (suc place) 0)
+    (slice_get-get_or (visited image) (suc place) 0 (omega (arith, more)))).begins in
     omega (arith, begins, ap (λ n. (segment_of image (get_or (visited image) n 0)).first) p)
 
-row-first : (image : Image) → IsSoundImage image → 0 < length (visited image) → 6 + 2 * count_of image ≤ (segment_of image (get_or (visited image) 0 0)).first
+row-first : (image : Image) → IsSoundImage image → 0 < length (visited image)
+    → 6 + 2 * count_of image ≤ (segment_of image (get_or (visited image) 0 0)).first
 unfolding end_before
 row-first image sound some = (sound.each 0 (get_or (visited image) 0 0) (slice_get-get_or (visited image) 0 0 some)).begins
 
 -- the image has no fault
-pub split-sound : (old new : Image) (place k number start : ℕ) (front back : List (List ℕ)) → IsSoundImage old → SplitsAreas old new place k number start front back → IsSoundImage new
+pub split-sound : (old new : Image) (place k number start : ℕ) (front back : List (List ℕ)) → IsSoundImage old
+    → SplitsAreas old new place k number start front back → IsSoundImage new
 split-sound old new place k number start front back sound is =
-    chain-sound new L (split-chain old new place k number sound is.links) (omega (arith, sound.sized.within, is.links.count, is.size)) (omega (arith, sound.sized.few, is.links.count))
+    chain-sound new L (split-chain old new place k number sound is.links) (omega (arith, sound.sized.within, is.links.count, is.size))
+    (omega (arith, sound.sized.few, is.links.count))
     (omega (arith, is.highest, is.links.room, is.links.count)) areas
-    (omega (arith, row-first old sound (omega (arith, inside_at)), first_same 0 (omega (arith, inside_at)), ap (λ n. (segment_of new n).first) (before 0 (omega arith)), is.links.count)) then
+    (omega (
+      arith,
+      row-first old sound (omega (arith, inside_at)),
+      first_same 0 (omega (arith, inside_at)),
+      ap (λ n. (segment_of new n).first) (before 0 (omega arith)),
+      is.links.count,
+    )) then
   where
     L : List ℕ
     L = split_visited old place number
@@ -187,8 +217,10 @@ split-sound old new place k number start front back sound is =
     olds i inside = elim (cases_eq (V i) k) [
       | inl same ↦
           subst (AreSoundAreas new (length new) (highest_segment (segment_words new 1))) (sym same)
-          (row-areas new (length new) (highest_segment (segment_words new 1)) k k (segment_of old k).first (areas_end (segment_of old k)) front is.front_is is.ends_front
-          (omega (arith, (sound.each place k is.links.at).low, is.highest, is.links.number_is)) is.kinds_front (omega (arith, is.sum)) (omega (arith, whole, is.size)))
+          (row-areas new (length new) (highest_segment (segment_words new 1)) k k (segment_of old k).first (areas_end (segment_of old k))
+          front is.front_is is.ends_front
+          (omega (arith, (sound.each place k is.links.at).low, is.highest, is.links.number_is)) is.kinds_front (omega (arith, is.sum))
+          (omega (arith, whole, is.size)))
       | inr apart ↦
           let at = sound.each i (V i) (here i inside) in
           let seg = is.others (V i) apart (fresh i inside) in
@@ -196,21 +228,29 @@ split-sound old new place k number start front back sound is =
             ends = is.ends (V i) apart (fresh i inside) at.ends;
             low = omega (arith, at.low, is.highest, is.links.number_is);
             one_kind = λ j e entry. at.one_kind j e (ap (λ (s : Segment). slice_get s.entries j) (sym seg) ∙ entry);
-            within = λ j e entry. omega (arith, at.within j e (ap (λ (s : Segment). slice_get s.entries j) (sym seg) ∙ entry), ap (λ (s : Segment). area_start s (j + 1)) seg, is.size);
+            within = λ j e entry. omega (
+              arith,
+              at.within j e (ap (λ (s : Segment). slice_get s.entries j) (sym seg) ∙ entry),
+              ap (λ (s : Segment). area_start s (j + 1)) seg,
+              is.size,
+            );
           }
     ]
 
     areas : (j : ℕ) → j < length L → AreSoundAreas new (length new) (highest_segment (segment_words new 1)) (get_or L j 0)
     areas j within = elim (cases_lt j (place + 1)) [
-      | inl early ↦ subst (AreSoundAreas new (length new) (highest_segment (segment_words new 1))) (sym (before j early)) (olds j (omega (arith, early, inside_at)))
+      | inl early ↦ subst (AreSoundAreas new (length new) (highest_segment (segment_words new 1))) (sym (before j early))
+          (olds j (omega (arith, early, inside_at)))
       | inr late ↦ elim (cases_eq j (place + 1)) [
         | inl same ↦
             subst (AreSoundAreas new (length new) (highest_segment (segment_words new 1))) (sym (ap (λ n. get_or L n 0) same ∙ middle))
-            (row-areas new (length new) (highest_segment (segment_words new 1)) number number start (areas_end (segment_of old k)) back is.back_is is.ends_back (omega (arith, is.highest)) is.kinds_back
+            (row-areas new (length new) (highest_segment (segment_words new 1)) number number start (areas_end (segment_of old k)) back
+            is.back_is is.ends_back (omega (arith, is.highest)) is.kinds_back
             (omega (arith, is.start_is, is.sum)) (omega (arith, whole, is.size)))
         | inr apart ↦
             let there : j - 1 + 1 ≡ j = omega (arith, late, apart) in
-            subst (AreSoundAreas new (length new) (highest_segment (segment_words new 1))) (sym (ap (λ n. get_or L n 0) (sym there) ∙ behind (j - 1) (omega (arith, late, apart))))
+            subst (AreSoundAreas new (length new) (highest_segment (segment_words new 1)))
+            (sym (ap (λ n. get_or L n 0) (sym there) ∙ behind (j - 1) (omega (arith, late, apart))))
             (olds (j - 1) (omega (arith, within, size, late, apart)))
       ]
     ]
@@ -258,7 +298,8 @@ split-sound old new place k number start front back sound is =
                 arith,
                 row-behind old i sound inside,
                 ap (λ n. areas_end (segment_of new n)) (ap (λ n. get_or L n 0) (sym there) ∙ behind i (omega (arith, late, apart, far))),
-                ap (λ n. (segment_of new n).first) (ap (λ n. get_or L (n + 1) 0) (sym there) ∙ behind (i + 1) (omega (arith, late, apart, far))),
+                ap (λ n. (segment_of new n).first)
+                    (ap (λ n. get_or L (n + 1) 0) (sym there) ∙ behind (i + 1) (omega (arith, late, apart, far))),
                 end_same i (omega (arith, inside)) (λ s. omega (arith, s, there, far)),
                 first_same (i + 1) inside,
               )
@@ -267,17 +308,22 @@ split-sound old new place k number start front back sound is =
     ]
 
 -- the segments then: the two where there was one
-pub split-segments : (old new : Image) (place k number start : ℕ) (front back : List (List ℕ)) → IsSoundImage old → SplitsAreas old new place k number start front back
+pub split-segments : (old new : Image) (place k number start : ℕ) (front back : List (List ℕ)) → IsSoundImage old
+    → SplitsAreas old new place k number start front back
     → map (segment_of new) (visited new)
     ≡ take place (map (segment_of old) (visited old))
-    ++ (record { number = k; first = (segment_of old k).first; entries = front } ∷ record { number = number; first = start; entries = back } ∷ drop (place + 1) (map (segment_of old) (visited old)))
+    ++ (record { number = k; first = (segment_of old k).first; entries = front } ∷ record { number = number; first = start; entries = back }
+    ∷ drop (place + 1) (map (segment_of old) (visited old)))
 split-segments old new place k number start front back sound is =
     ap (map (segment_of new)) (chain-visited new (split_visited old place number) (split-chain old new place k number sound is.links))
     ∙ map-append (segment_of new) (take (place + 1) V) (number ∷ drop (place + 1) V)
     ∙ (λ t. map (segment_of new) (upto t) ++ (is.back_is t ∷ ends t))
-    ∙ ap (λ xs. xs ++ (record { number = number; first = start; entries = back } ∷ drop (place + 1) (map (segment_of old) V))) (map-append (segment_of new) (take place V) (k ∷ []))
-    ∙ append_assoc (map (segment_of new) (take place V)) (segment_of new k ∷ []) (record { number = number; first = start; entries = back } ∷ drop (place + 1) (map (segment_of old) V))
-    ∙ (λ t. begins t ++ (is.front_is t ∷ record { number = number; first = start; entries = back } ∷ drop (place + 1) (map (segment_of old) V)))
+    ∙ ap (λ xs. xs ++ (record { number = number; first = start; entries = back } ∷ drop (place + 1) (map (segment_of old) V)))
+    (map-append (segment_of new) (take place V) (k ∷ []))
+    ∙ append_assoc (map (segment_of new) (take place V)) (segment_of new k ∷ [])
+    (record { number = number; first = start; entries = back } ∷ drop (place + 1) (map (segment_of old) V))
+    ∙ (λ t. begins t ++ (is.front_is t ∷ record { number = number; first = start; entries = back } ∷ drop (place + 1)
+    (map (segment_of old) V)))
   where
     V : List ℕ
     V = visited old
@@ -286,7 +332,9 @@ split-segments old new place k number start front back sound is =
     inside_at = slice_get_within (visited old) place k is.links.at
 
     upto : take (place + 1) (visited old) ≡ take place (visited old) ++ k ∷ []
-    upto = take_more (visited old) place 0 inside_at ∙ ap (λ n. take place (visited old) ++ n ∷ []) (get_or_from_slice_get (visited old) place k 0 is.links.at)
+    upto =
+        take_more (visited old) place 0 inside_at
+        ∙ ap (λ n. take place (visited old) ++ n ∷ []) (get_or_from_slice_get (visited old) place k 0 is.links.at)
 
     same : (j n : ℕ) → slice_get (visited old) j ≡ Some n → j ≢ place → segment_of new n ≡ segment_of old n
     same j n at apart = is.others n
@@ -300,7 +348,8 @@ split-segments old new place k number start front back sound is =
     begins =
         map-agree (segment_of new) (segment_of old) (take place (visited old)) (λ j n at.
         let within : j < place = omega (arith, slice_get_within (take place (visited old)) j n at, length-take place (visited old)) in
-        let there : get_or (visited old) j 0 ≡ n = sym (get_or-take place (visited old) j 0 within) ∙ get_or_from_slice_get (take place (visited old)) j n 0 at in
+        let there : get_or (visited old) j 0 ≡ n = sym (get_or-take place (visited old) j 0 within)
+        ∙ get_or_from_slice_get (take place (visited old)) j n 0 at in
         same j n (slice_get-get_or (visited old) j 0 (omega (arith, within, inside_at)) ∙ ap Some there) (λ e. omega (arith, e, within)))
         ∙ sym (take-map (segment_of old) place (visited old))
 
@@ -308,6 +357,8 @@ split-segments old new place k number start front back sound is =
     ends =
         map-agree (segment_of new) (segment_of old) (drop (place + 1) (visited old)) (λ j n at.
         let within : j < length (drop (place + 1) (visited old)) = slice_get_within (drop (place + 1) (visited old)) j n at in
-        let there : get_or (visited old) (place + 1 + j) 0 ≡ n = sym (get_or-drop (place + 1) (visited old) j 0) ∙ get_or_from_slice_get (drop (place + 1) (visited old)) j n 0 at in
-        same (place + 1 + j) n (slice_get-get_or (visited old) (place + 1 + j) 0 (omega (arith, within, length-drop (place + 1) (visited old))) ∙ ap Some there) (λ e. omega (arith, e)))
+        let there : get_or (visited old) (place + 1 + j) 0 ≡ n = sym (get_or-drop (place + 1) (visited old) j 0)
+        ∙ get_or_from_slice_get (drop (place + 1) (visited old)) j n 0 at in
+        same (place + 1 + j) n (slice_get-get_or (visited old) (place + 1 + j) 0
+        (omega (arith, within, length-drop (place + 1) (visited old))) ∙ ap Some there) (λ e. omega (arith, e)))
         ∙ sym (drop-map (segment_of old) (place + 1) (visited old))

@@ -1,5 +1,6 @@
 -- What was written of a segment that is split.
-use Rattle.std.proofs.Common.{◌≡◌, ◌≢◌, inl, inr, ℕ, ◌+◌, ◌-◌, ◌*◌, ◌<◌, ◌≤◌, true, IsTrue, List, ◌++◌, length, take, slice_index, sum_by, Some, sym, ◌∙◌, ap, subst, arith}
+use Rattle.std.proofs.Common.{◌≡◌, ◌≢◌, inl, inr, ℕ, ◌+◌, ◌-◌, ◌*◌, ◌<◌, ◌≤◌, true, IsTrue, List, ◌++◌, length, take, slice_index, sum_by}
+use Rattle.std.proofs.Common.{Some, sym, ◌∙◌, ap, subst, arith}
 use Rattle.std.specs.Prelude.{slice_set, map}
 use Rattle.std.specs.List.{All, before_first, range_with_len, slice_get}
 use Rattle.std.proofs.lemmas.Bool.{cases_eq}
@@ -8,7 +9,8 @@ use Rattle.f11_dev.specs.Image.{Image}
 use Rattle.rt11_volume.specs.Directory.{count_of, next_of, visited, segment_of}
 use Rattle.rt11_volume.specs.Rewriting.Draft.{IsRewritten}
 use Rattle.rt11_volume.specs.Entry.{area_length, status, is_end, is_one_kind}
-use Rattle.rt11_volume.specs.Segment.{Segment, segment_words, segment_with, words_in, entries, entry_place, entry_room, extra_bytes, highest_segment, HasEnd}
+use Rattle.rt11_volume.specs.Segment.{Segment, segment_words, segment_with, words_in, entries, entry_place, entry_room, extra_bytes}
+use Rattle.rt11_volume.specs.Segment.{highest_segment, HasEnd}
 use Rattle.rt11_volume.specs.Rewriting.Split.{back_header, front_header, IsApart, KeepsSplit}
 use Rattle.rt11_volume.proofs.DeleteLemmas.{extra-first}
 use Rattle.rt11_volume.proofs.Verifying.Sound.{IsSoundImage}
@@ -20,7 +22,8 @@ use Rattle.rt11_volume.proofs.Rewriting.Words.{length-words_of}
 entries-set : (extra : ℕ) (s : List ℕ) (n : ℕ) → entries extra (slice_set s 2 n) ≡ entries extra s
 unfolding entries
 entries-set extra s n =
-    let same = λ (i : ℕ). ap (take (entry_place extra (i + 1) - entry_place extra i)) (drop-set-lt (entry_place extra i) s 2 n (omega arith)) in
+    let same = λ (i : ℕ). ap (take (entry_place extra (i + 1) - entry_place extra i))
+    (drop-set-lt (entry_place extra i) s 2 n (omega arith)) in
     λ t. before_first (λ e. is_end (status e)) (map (λ i. same i t) (range_with_len 0 (entry_room extra)))
 
 word-set : (s : List ℕ) (n w : ℕ) → w ≢ 2 → slice_index (slice_set s 2 n) w ≡ slice_index s w
@@ -49,7 +52,8 @@ pub record WritesHalves (old new : Image) (k number start : ℕ) (front back : L
   pub back_is : IsRewritten (back_header (segment_words old k) number start) back (segment_words new number)
   pub first_is : 1 ≢ k → segment_words new 1 ≡ slice_set (segment_words old 1) 2 number
 
-words-apart : (old new : Image) (k number j : ℕ) → KeepsSplit k number old new → j ≢ 1 → j ≢ k → j ≢ number → segment_words new j ≡ segment_words old j
+words-apart : (old new : Image) (k number j : ℕ) → KeepsSplit k number old new → j ≢ 1 → j ≢ k → j ≢ number
+    → segment_words new j ≡ segment_words old j
 unfolding segment_words
 words-apart old new k number j kept a b c =
     let one = kept (4 + 2 * j) (low j 1 a) (low j k b) (low j number c) in
@@ -63,7 +67,8 @@ words-apart old new k number j kept a b c =
     high j n apart = record { low = λ e. omega (arith, e); high = λ e. apart (omega (arith, e)) }
 
 -- a word of a header that was written
-header-word : (header : List ℕ) (es : List (List ℕ)) (s : List ℕ) (w : ℕ) → IsRewritten header es s → w < 5 → slice_index s w ≡ slice_index header w
+header-word : (header : List ℕ) (es : List (List ℕ)) (s : List ℕ) (w : ℕ) → IsRewritten header es s → w < 5
+    → slice_index s w ≡ slice_index header w
 header-word header es s w is few = sym (get_or-take 5 s w 0 few) ∙ ap (λ (ws : List ℕ). slice_index ws w) is.header_is
 
 segment-word : (image : Image) (k : ℕ) → length (segment_words image k) ≡ 512
@@ -71,12 +76,15 @@ unfolding segment_words
 segment-word image k = length-words_of _
 
 -- the segments that were not split
-others-kept : (old new : Image) (k number start : ℕ) (front back : List (List ℕ)) → WritesHalves old new k number start front back → (j : ℕ) → j ≢ k → j ≢ number
-    → (next_of new j ≡ next_of old j) × (segment_of new j ≡ segment_of old j) × (extra_bytes (segment_words new j) ≡ extra_bytes (segment_words old j))
+others-kept : (old new : Image) (k number start : ℕ) (front back : List (List ℕ)) → WritesHalves old new k number start front back → (j : ℕ)
+    → j ≢ k → j ≢ number
+    → (next_of new j ≡ next_of old j) × (segment_of new j ≡ segment_of old j)
+    × (extra_bytes (segment_words new j) ≡ extra_bytes (segment_words old j))
     × (HasEnd (extra_bytes (segment_words old j)) (segment_words old j) → HasEnd (extra_bytes (segment_words new j)) (segment_words new j))
 others-kept old new k number start front back is j a b = elim (cases_eq j 1) [
   | inl same ↦
-      let words : segment_words new j ≡ slice_set (segment_words old j) 2 number = ap (segment_words new) same ∙ is.first_is (λ e. a (same ∙ e)) ∙ ap (λ n. slice_set (segment_words old n) 2 number) (sym same) in
+      let words : segment_words new j ≡ slice_set (segment_words old j) 2 number = ap (segment_words new) same
+      ∙ is.first_is (λ e. a (same ∙ e)) ∙ ap (λ n. slice_set (segment_words old n) 2 number) (sym same) in
       let s : List ℕ = segment_words old j in (
         ap (λ (ws : List ℕ). slice_index ws 1) words ∙ word-set s number 1 (λ e. omega (arith, e)),
         ap (segment_with j) words ∙ segment-set j s number,
@@ -93,11 +101,15 @@ others-kept old new k number start front back is j a b = elim (cases_eq j 1) [
 ]
 
 -- segment 1
-first-count : (old new : Image) (k number start : ℕ) (front back : List (List ℕ)) → WritesHalves old new k number start front back → (count_of new ≡ count_of old) × (highest_segment (segment_words new 1) ≡ number)
+first-count : (old new : Image) (k number start : ℕ) (front back : List (List ℕ)) → WritesHalves old new k number start front back
+    → (count_of new ≡ count_of old) × (highest_segment (segment_words new 1) ≡ number)
 first-count old new k number start front back is = elim (cases_eq 1 k) [
   | inl same ↦ (
-    ap (λ n. slice_index (segment_words new n) 0) same ∙ header-word (front_header (segment_words old k) number) front (segment_words new k) 0 is.front_is (omega arith) ∙ ap (λ n. slice_index (segment_words old n) 0) (sym same),
-    ap (λ n. slice_index (segment_words new n) 2) same ∙ header-word (front_header (segment_words old k) number) front (segment_words new k) 2 is.front_is (omega arith),
+    ap (λ n. slice_index (segment_words new n) 0) same
+        ∙ header-word (front_header (segment_words old k) number) front (segment_words new k) 0 is.front_is (omega arith)
+        ∙ ap (λ n. slice_index (segment_words old n) 0) (sym same),
+    ap (λ n. slice_index (segment_words new n) 2) same
+        ∙ header-word (front_header (segment_words old k) number) front (segment_words new k) 2 is.front_is (omega arith),
   )
   | inr apart ↦
       let words = is.first_is apart in (
@@ -107,7 +119,8 @@ first-count old new k number start front back is = elim (cases_eq 1 k) [
 ]
 
 -- the links then
-halves-links : (old new : Image) (place k number start : ℕ) (front back : List (List ℕ)) → IsSoundImage old → slice_get (visited old) place ≡ Some k → number ≡ highest_segment (segment_words old 1) + 1 → number ≤ count_of old
+halves-links : (old new : Image) (place k number start : ℕ) (front back : List (List ℕ)) → IsSoundImage old
+    → slice_get (visited old) place ≡ Some k → number ≡ highest_segment (segment_words old 1) + 1 → number ≤ count_of old
     → WritesHalves old new k number start front back → SplitsLinks old new place k number
 halves-links old new place k number start front back sound at next room is = record {
   at = at;
@@ -118,10 +131,13 @@ halves-links old new place k number start front back sound at next room is = rec
   next_back = header-word (back_header s number start) back (segment_words new number) 1 is.back_is (omega arith);
   next = λ j a b. (others-kept old new k number start front back is j a b).0;
   extra = λ j b. elim (cases_eq j k) [
-    | inl same ↦ ap (λ n. extra_bytes (segment_words new n)) same ∙ header-word (front_header s number) front (segment_words new k) 3 is.front_is (omega arith) ∙ ap (λ n. extra_bytes (segment_words old n)) (sym same)
+    | inl same ↦ ap (λ n. extra_bytes (segment_words new n)) same
+        ∙ header-word (front_header s number) front (segment_words new k) 3 is.front_is (omega arith)
+        ∙ ap (λ n. extra_bytes (segment_words old n)) (sym same)
     | inr a ↦ (others-kept old new k number start front back is j a b).2
   ];
-  extra_back = header-word (back_header s number start) back (segment_words new number) 3 is.back_is (omega arith) ∙ extra-first old k (sound.each place k at).right;
+  extra_back = header-word (back_header s number start) back (segment_words new number) 3 is.back_is (omega arith)
+      ∙ extra-first old k (sound.each place k at).right;
 }
   where
     s : List ℕ
@@ -136,8 +152,10 @@ pub record AreHalves (seg : Segment) (start : ℕ) (front back : List (List ℕ)
   pub kinds_back : All (λ e. is_one_kind (status e) ≡ true) back
 
 -- the areas then
-pub halves-areas : (old new : Image) (place k number start : ℕ) (front back : List (List ℕ)) → IsSoundImage old → slice_get (visited old) place ≡ Some k → number ≡ highest_segment (segment_words old 1) + 1
-    → number ≤ count_of old → WritesHalves old new k number start front back → AreHalves (segment_of old k) start front back → SplitsAreas old new place k number start front back
+pub halves-areas : (old new : Image) (place k number start : ℕ) (front back : List (List ℕ)) → IsSoundImage old
+    → slice_get (visited old) place ≡ Some k → number ≡ highest_segment (segment_words old 1) + 1
+    → number ≤ count_of old → WritesHalves old new k number start front back → AreHalves (segment_of old k) start front back
+    → SplitsAreas old new place k number start front back
 halves-areas old new place k number start front back sound at next room is are = record {
   links = halves-links old new place k number start front back sound at next room is;
   size = is.size;

@@ -1,5 +1,6 @@
 -- No more segments are visited than are in use.
-use Rattle.std.proofs.Common.{◌≡◌, ◌≢◌, inl, inr, ℕ, zero, suc, ◌+◌, ◌-◌, ◌<◌, ◌≤◌, ◌==◌, true, false, List, length, get_or, map, Some, refl, sym, ◌∙◌, ap, arith}
+use Rattle.std.proofs.Common.{◌≡◌, ◌≢◌, inl, inr, ℕ, zero, suc, ◌+◌, ◌-◌, ◌<◌, ◌≤◌, ◌==◌, true, false, List, length, get_or, map, Some}
+use Rattle.std.proofs.Common.{refl, sym, ◌∙◌, ap, arith}
 use Rattle.std.specs.List.{list_any, remove}
 use Rattle.std.proofs.lemmas.Bool.{cases_lt, cases_Bool, eqb-true, eq-eqb}
 use Rattle.std.proofs.lemmas.List.{length-map, get_or-map, get_or_default}
@@ -18,10 +19,23 @@ record AreDistinct (n : ℕ) (xs : List ℕ) : Type 0 where
   pub apart : (i j : ℕ) → i < j → j < length xs → get_or xs i 0 ≢ get_or xs j 0
 
 -- where a removed element stood
-kept-at : (xs : List ℕ) (p j : ℕ) → p < length xs → (k : ℕ) × (k ≢ p) × (get_or (remove xs p) j 0 ≡ get_or xs k 0) × (j < p → k ≡ j) × (p ≤ j → k ≡ j + 1)
+kept-at : (xs : List ℕ) (p j : ℕ) → p < length xs
+    → (k : ℕ) × (k ≢ p) × (get_or (remove xs p) j 0 ≡ get_or xs k 0) × (j < p → k ≡ j) × (p ≤ j → k ≡ j + 1)
 kept-at xs p j inside = elim (cases_lt j p) [
-  | inl before ↦ (j, (λ same. omega (arith, same, before)), get_or-remove_below xs p 0 j before inside, (λ b. refl), (λ b. omega (arith, before, b)))
-  | inr behind ↦ (j + 1, (λ same. omega (arith, same, behind)), get_or-remove_above xs p 0 j behind inside, (λ b. omega (arith, behind, b)), (λ b. refl))
+  | inl before ↦ (
+    j,
+    (λ same. omega (arith, same, before)),
+    get_or-remove_below xs p 0 j before inside,
+    (λ b. refl),
+    (λ b. omega (arith, before, b)),
+  )
+  | inr behind ↦ (
+    j + 1,
+    (λ same. omega (arith, same, behind)),
+    get_or-remove_above xs p 0 j behind inside,
+    (λ b. omega (arith, behind, b)),
+    (λ b. refl),
+  )
 ]
 
 -- there are n at most
@@ -51,8 +65,10 @@ distinct-few (suc n) xs are = elim (cases_Bool (list_any (λ x. x == n) xs)) [
         let clash : true ≡ false = sym (list_any_at (λ x. x == n) xs j 0 within (eq-eqb (get_or xs j 0) n same)) ∙ none in
         cc
 
-    place-in : (p j k : ℕ) → length (remove xs p) + 1 ≡ length xs → j < length (remove xs p) → (j < p → k ≡ j) → (p ≤ j → k ≡ j + 1) → k < length xs
-    place-in p j k size within below above = elim (cases_lt j p) [ inl b ↦ omega (arith, size, within, below b) | inr a ↦ omega (arith, size, within, above a) ]
+    place-in : (p j k : ℕ) → length (remove xs p) + 1 ≡ length xs → j < length (remove xs p) → (j < p → k ≡ j) → (p ≤ j → k ≡ j + 1)
+        → k < length xs
+    place-in p j k size within below above =
+        elim (cases_lt j p) [ inl b ↦ omega (arith, size, within, below b) | inr a ↦ omega (arith, size, within, above a) ]
 
     in_order : (p i j k l : ℕ) → i < j → (i < p → k ≡ i) → (p ≤ i → k ≡ i + 1) → (j < p → l ≡ j) → (p ≤ j → l ≡ j + 1) → k < l
     in_order p i j k l before ib ia jb ja = elim (cases_lt i p) [
@@ -101,7 +117,14 @@ visited-highest image sound =
           let one = slice_get-get_or V i 0 early in
           let two = slice_get-get_or V j 0 inside in
           let equal : get_or V i 0 ≡ get_or V j 0 =
-          omega (arith, same, value image i early, value image j inside, visited-some image i (get_or V i 0) sound one, visited-some image j (get_or V j 0) sound two) in
+          omega (
+            arith,
+            same,
+            value image i early,
+            value image j inside,
+            visited-some image i (get_or V i 0) sound one,
+            visited-some image j (get_or V j 0) sound two,
+          ) in
           visited-distinct image i j (get_or V j 0) sound before (one ∙ ap Some equal) two;
     }) in
     omega (arith, less, size image)
@@ -109,5 +132,6 @@ visited-highest image sound =
     size : (image : Image) → length (map (λ k. k - 1) (visited image)) ≡ length (visited image)
     size image = simp length-map
 
-    value : (image : Image) (j : ℕ) → j < length (visited image) → get_or (map (λ k. k - 1) (visited image)) j 0 ≡ get_or (visited image) j 0 - 1
+    value : (image : Image) (j : ℕ) → j < length (visited image)
+        → get_or (map (λ k. k - 1) (visited image)) j 0 ≡ get_or (visited image) j 0 - 1
     value image j inside = get_or-map (λ k. k - 1) (visited image) j 0 0 inside

@@ -11,6 +11,14 @@ loop-k-init c = record { so_far = refl; few = omega arith }
 pub loop-k-preserved : goal.loop-k-preserved
 loop-k-preserved c =
     elim c.if-is_set.branch [
-      | then-is_set w ↦ record { so_far = w.count-is ∙ count_below-pass _ _ _ c.loop-k.invariant.so_far (sym w.if-is_set.true ∙ c.is_set.ensures); few = omega arith }
-      | else-is_set w ↦ record { so_far = w.count-is ∙ count_below-fail _ _ _ c.loop-k.invariant.so_far (sym w.if-is_set.false ∙ c.is_set.ensures); few = omega arith }
+      | then-is_set w ↦ record {
+        so_far = w.count-is ∙ count_below-pass _ _ _ c.loop-k.invariant.so_far
+            (sym w.if-is_set.true ∙ c.is_set.ensures);
+        few = omega arith;
+      }
+      | else-is_set w ↦ record {
+        so_far = w.count-is ∙ count_below-fail _ _ _ c.loop-k.invariant.so_far
+            (sym w.if-is_set.false ∙ c.is_set.ensures);
+        few = omega arith;
+      }
     ]

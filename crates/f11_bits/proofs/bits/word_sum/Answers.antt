@@ -9,4 +9,5 @@ pub loop-i-preserved : goal.loop-i-preserved
 loop-i-preserved c = sum-more _ _ _ _ (omega arith) (omega arith) c.words_at-sums.ensures c.loop-i.invariant
 
 pub returns : goal.returns
-returns c = sum-less c.args.block.now (16 * c.loop-i.i) _ _ (omega arith) (c.sum.ensures ∙ c.loop-i.invariant) c.read_word.ensures (omega arith)
+returns c =
+    sum-less c.args.block.now (16 * c.loop-i.i) _ _ (omega arith) (c.sum.ensures ∙ c.loop-i.invariant) c.read_word.ensures (omega arith)

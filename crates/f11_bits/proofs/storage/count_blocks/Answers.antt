@@ -20,7 +20,15 @@ loop-index-init g c = record {
 
 pub overflow_add-count : goal.overflow_add-count
 overflow_add-count g c =
-    omega (arith, c.count_free_to-count.ensures, count_below-le (bit c.read.new.into) c.bits_in.result, c.bits_in.ensures, c.loop-index.invariant.few, c.requires.bitmap.covered, c.requires.bitmap.few)
+    omega (
+      arith,
+      c.count_free_to-count.ensures,
+      count_below-le (bit c.read.new.into) c.bits_in.result,
+      c.bits_in.ensures,
+      c.loop-index.invariant.few,
+      c.requires.bitmap.covered,
+      c.requires.bitmap.few,
+    )
 
 pub loop-index-preserved : goal.loop-index-preserved
 loop-index-preserved g c =
@@ -31,8 +39,15 @@ loop-index-preserved g c =
     record {
       counts = λ honest.
           free_below-more old.image bitmap c.loop-index.index c.loop-index.count c.count_free_to-count.result c.read.new.into
-          (slice_get-read old _ _ _ _ _ c.loop-index.invariant.looked refl c.in_ok-read.ensures.reads.gives honest) (c.loop-index.invariant.counts honest) is;
-      few = omega (arith, is, count_below-le (bit c.read.new.into) (min (c.args.size - 4096 * c.loop-index.index) 4096), c.loop-index.invariant.few);
-      last = λ some honest. slice_get-read old _ _ _ _ _ c.loop-index.invariant.looked (ap (λ (i : ℕ). get_or c.args.places.now i 0) at_last) c.in_ok-read.ensures.reads.gives honest;
+          (slice_get-read old _ _ _ _ _ c.loop-index.invariant.looked refl c.in_ok-read.ensures.reads.gives honest)
+          (c.loop-index.invariant.counts honest) is;
+      few = omega (
+        arith,
+        is,
+        count_below-le (bit c.read.new.into) (min (c.args.size - 4096 * c.loop-index.index) 4096),
+        c.loop-index.invariant.few,
+      );
+      last = λ some honest. slice_get-read old _ _ _ _ _ c.loop-index.invariant.looked
+          (ap (λ (i : ℕ). get_or c.args.places.now i 0) at_last) c.in_ok-read.ensures.reads.gives honest;
       looked = looked_more c.loop-index.invariant.looked (looked_read _ _ c.in_ok-read.ensures.reads.counts);
     }

@@ -5,7 +5,8 @@ use Rattle.f11_bytes.proofs.octal.octal_value.Goals as goal
 
 pub returns-in_err-value : goal.returns-in_err-value
 returns-in_err-value c =
-    rw c.from_residual.ensures (λ v. c.in_err-value.ensures (AllDigits-at c.args.digits.now c.loop-digit.digit-index v.octal_digits c.loop-digit-test.true))
+    rw c.from_residual.ensures
+    (λ v. c.in_err-value.ensures (AllDigits-at c.args.digits.now c.loop-digit.digit-index v.octal_digits c.loop-digit-test.true))
 
 pub returns-then-value-from : goal.returns-then-value-from
 returns-then-value-from c = λ v.

@@ -3,10 +3,12 @@ use Rattle.f11_chain.proofs.AlongLemmas.{break-first, failed-first, handed-on, a
 use Rattle.f11_chain.proofs.blocks.last.Goals as goal
 
 pub returns-in_err-first-clause-damaged : goal.returns-in_err-first-clause-damaged
-returns-in_err-first-clause-damaged g c = λ is. break-first _ _ _ _ c.requires.slot.0 (c.in_err-first.ensures.damaged (handed-on _ _ _ c.from_residual.ensures.1 is))
+returns-in_err-first-clause-damaged g c =
+    λ is. break-first _ _ _ _ c.requires.slot.0 (c.in_err-first.ensures.damaged (handed-on _ _ _ c.from_residual.ensures.1 is))
 
 pub returns-in_err-first-clause-failed : goal.returns-in_err-first-clause-failed
-returns-in_err-first-clause-failed g c = λ is. failed-first _ _ _ _ c.requires.slot.0 (c.in_err-first.ensures.failed (handed-on _ _ _ c.from_residual.ensures.1 is))
+returns-in_err-first-clause-failed g c =
+    λ is. failed-first _ _ _ _ c.requires.slot.0 (c.in_err-first.ensures.failed (handed-on _ _ _ c.from_residual.ensures.1 is))
 
 pub returns-clause-reads : goal.returns-clause-reads
 returns-clause-reads g c = IfOk-weaker _ _ _ (λ last. last-behind _ _ _ _ _ c.in_ok-first.ensures.reads last _ _) c.last_from.ensures.reads

@@ -31,7 +31,8 @@ loop-earlier-preserved g c = record {
   behind = c.loop-earlier.invariant.behind ++ c.loop-earlier.number ∷ [];
   along = Along-next _ _ _ _ _ _ _ _ c.loop-earlier.invariant.along _ _ _ (rw c.in-Some.is at c.in_ok-m.ensures.reads);
   few = omega (arith, c.loop-earlier.invariant.few, c.len_blocks-blocks.ensures.few);
-  blocks_are = counted-more _ _ _ _ _ _ _ _ c.loop-earlier.invariant.along _ _ c.loop-earlier.invariant.blocks_are c.len_blocks-blocks.ensures.count;
+  blocks_are = counted-more _ _ _ _ _ _ _ _ c.loop-earlier.invariant.along _ _ c.loop-earlier.invariant.blocks_are
+      c.len_blocks-blocks.ensures.count;
 }
 
 pub returns-clause-damaged : goal.returns-clause-damaged

@@ -10,7 +10,8 @@ loop-init g c = record { behind = []; along = Along-in-hand _ _ _ _ c.requires.f
 
 pub returns-then-left-named-clause-seeks : goal.returns-then-left-named-clause-seeks
 returns-then-left-named-clause-seeks g c =
-    seeks _ _ _ _ _ _ _ _ c.loop.invariant.along _ _ _ c.loop.invariant.left_is (omega (arith, c.if-left-named.true, c.len_blocks-named.ensures.count)) c.segment.ensures c.loop.invariant.low
+    seeks _ _ _ _ _ _ _ _ c.loop.invariant.along _ _ _ c.loop.invariant.left_is
+    (omega (arith, c.if-left-named.true, c.len_blocks-named.ensures.count)) c.segment.ensures c.loop.invariant.low
 
 pub returns-in_err-to-clause-damaged : goal.returns-in_err-to-clause-damaged
 returns-in_err-to-clause-damaged g c = λ is.
@@ -22,7 +23,8 @@ returns-in_err-to-clause-failed g c = λ is.
 
 pub returns-in_default-clause-end : goal.returns-in_default-clause-end
 returns-in_default-clause-end g c = λ _.
-    finds-end _ _ _ _ _ _ _ _ c.loop.invariant.along _ _ _ _ c.loop.invariant.left_is (omega (arith, c.if-left-named.false, c.len_blocks-named.ensures.count))
+    finds-end _ _ _ _ _ _ _ _ c.loop.invariant.along _ _ _ _ c.loop.invariant.left_is
+    (omega (arith, c.if-left-named.false, c.len_blocks-named.ensures.count))
     (rw c.in_default.is at c.in_ok-to.ensures.last)
 
 pub loop-preserved : goal.loop-preserved
@@ -31,7 +33,9 @@ loop-preserved g c = record {
   along = Along-next _ _ _ _ _ _ _ _ c.loop.invariant.along _ _ _ (rw c.in-Some.is at c.in_ok-to.ensures.reads);
   low = omega (arith, c.loop.invariant.low);
   left_is = λ honest.
-      let more = counted-more _ _ _ _ _ _ _ _ c.loop.invariant.along (length (blocks_by (table (index_kept c.args.index.now) (g.D.Device.disk c.args.device.now)) c.loop.invariant.behind)) _ (λ _. refl) c.len_blocks-named.ensures.count honest in
+      let more = counted-more _ _ _ _ _ _ _ _ c.loop.invariant.along
+      (length (blocks_by (table (index_kept c.args.index.now) (g.D.Device.disk c.args.device.now)) c.loop.invariant.behind)) _
+      (λ _. refl) c.len_blocks-named.ensures.count honest in
       omega (arith, more, c.loop.invariant.left_is honest, c.if-left-named.false);
 }
 

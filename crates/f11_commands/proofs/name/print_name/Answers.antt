@@ -6,7 +6,8 @@ use Rattle.f11_commands.specs.Output.{WriterTakes}
 use Rattle.f11_commands.proofs.name.print_name.Goals as goal
 
 -- a text that isn't read as a name spells none
-spells_none : (r : Result (List ℕ) BadName) (text words : List ℕ) (bad : BadName) → r ≡ Err bad → ((ws : List ℕ) → Spells text ws → r ≡ Ok ws)
+spells_none : (r : Result (List ℕ) BadName) (text words : List ℕ) (bad : BadName) → r ≡ Err bad
+    → ((ws : List ℕ) → Spells text ws → r ≡ Ok ws)
     → Spells text words → ⊥
 spells_none r text words bad is every spells = let same = every words spells in cc
 
@@ -18,10 +19,12 @@ same_words r text words name is every spells = let same = every words spells in 
 pub returns-in_ok-write_words-in-Ok-clause-every : goal.returns-in_ok-write_words-in-Ok-clause-every
 returns-in_ok-write_words-in-Ok-clause-every g c words spells =
     let here = subst (λ text. Spells text words) (sym c.as_bytes.ensures.value) spells in
-    let same = c.words.ensures.value ∙ same_words c.parse.result c.as_bytes.result.now words c.in-Ok.name c.in-Ok.is c.parse.ensures.every here in
+    let same = c.words.ensures.value
+    ∙ same_words c.parse.result c.as_bytes.result.now words c.in-Ok.name c.in-Ok.is c.parse.ensures.every here in
     record {
       done = refl;
-      takes = subst (λ ws. WriterTakes g.W.Write.contents c.args.writer.now c.write_words.new.writer (words_line ws)) same c.in_ok-write_words-in-Ok.ensures;
+      takes = subst (λ ws. WriterTakes g.W.Write.contents c.args.writer.now c.write_words.new.writer (words_line ws)) same
+          c.in_ok-write_words-in-Ok.ensures;
     }
 
 pub returns-in_ok-writeln-in-Err-clause-fault : goal.returns-in_ok-writeln-in-Err-clause-fault

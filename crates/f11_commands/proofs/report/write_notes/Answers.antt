@@ -9,6 +9,10 @@ use Rattle.f11_commands.proofs.report.write_notes.Goals.{in-Some+in_ok-writeln, 
 
 pub loop-i-preserved : goal.loop-i-preserved
 loop-i-preserved g c = elim c.match-get.branch [
-  | in-Some+in_ok-writeln w ↦ rw w.writer-is (rw (lines-more (report_note_line c.args.system) c.args.notes.now c.loop-i.i _ (sym c.get.ensures ∙ w.in-Some.is)) (Appends-trans _ _ _ _ _ c.loop-i.invariant w.in_ok-writeln.ensures.bytes))
-  | in_default w ↦ absurd (w.in_default.not-Some _ (c.get.ensures ∙ slice_get-get_or c.args.notes.now c.loop-i.i (finding 0 0 0) (omega (arith, c.loop-i-test.true, c.len-i-end.ensures))))
+  | in-Some+in_ok-writeln w ↦ rw w.writer-is
+      (rw (lines-more (report_note_line c.args.system) c.args.notes.now c.loop-i.i _ (sym c.get.ensures ∙ w.in-Some.is))
+      (Appends-trans _ _ _ _ _ c.loop-i.invariant w.in_ok-writeln.ensures.bytes))
+  | in_default w ↦ absurd (w.in_default.not-Some _
+      (c.get.ensures ∙ slice_get-get_or c.args.notes.now c.loop-i.i (finding 0 0 0)
+      (omega (arith, c.loop-i-test.true, c.len-i-end.ensures))))
 ]

@@ -7,7 +7,8 @@ returns-in-Ok g c =
     let report = rw c.in-Ok-Accepted.field-0-is at c.in-Ok-Accepted.ensures.report in
     record {
       ends =
-          ends-update c.print_reclaimed.result.1 (g.D.Device.disk c.args.device) (g.D.Device.disk c.print_reclaimed.result.0) g.W.Write.contents c.args.writer.now c.print_reclaimed.new.writer (record {
+          ends-update c.print_reclaimed.result.1 (g.D.Device.disk c.args.device) (g.D.Device.disk c.print_reclaimed.result.0)
+          g.W.Write.contents c.args.writer.now c.print_reclaimed.new.writer (record {
             between = _;
             reported = c.write_accepted.new.writer;
             report = record { faults = _; notes = _; examines = report; verdict = refl; takes = c.in-Ok.ensures.lines };

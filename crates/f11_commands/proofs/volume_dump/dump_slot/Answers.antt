@@ -21,13 +21,16 @@ returns-then-n-eq0-clause-dumps g c =
 
 pub read-requires : goal.read-requires
 read-requires g c = rw c.lbn_of_header.ensures
-    (header-within _ _ _ c.requires.within (omega (arith, c.if-n-eq0.false)) (omega (arith, c.slots.ensures, c.from.ensures, c.if-slots-from.false)))
+    (header-within _ _ _ c.requires.within (omega (arith, c.if-n-eq0.false))
+    (omega (arith, c.slots.ensures, c.from.ensures, c.if-slots-from.false)))
 
 pub returns-clause-dumps : goal.returns-clause-dumps
 returns-clause-dumps g c = on_ok_weaker c.dump_header.result (λ takes. record {
   takes = record {
     text = takes.text;
-    is = λ honest. slot-dump _ _ _ _ _ _ (omega (arith, c.if-n-eq0.false)) (omega (arith, c.slots.ensures, c.from.ensures, c.if-slots-from.false))
+    is =
+        λ honest. slot-dump _ _ _ _ _ _ (omega (arith, c.if-n-eq0.false))
+        (omega (arith, c.slots.ensures, c.from.ensures, c.if-slots-from.false))
         c.lbn_of_header.ensures (c.in_ok-read.ensures.reads.gives honest) takes.is;
     takes = takes.takes;
   };

@@ -6,7 +6,8 @@ use Rattle.f11_dir.proofs.edit.put.Goals as goal
 
 pub returns-clause-bytes : goal.returns-clause-bytes
 returns-clause-bytes c =
-    c.put_words.ensures.bytes ∙ ap (with_bytes c.args.block.now (16 * c.args.i)) (record_bytes-words c.args.id _ _ c.words.ensures.name c.words.ensures.value)
+    c.put_words.ensures.bytes
+    ∙ ap (with_bytes c.args.block.now (16 * c.args.i)) (record_bytes-words c.args.id _ _ c.words.ensures.name c.words.ensures.value)
 
 pub returns-clause-record : goal.returns-clause-record
 returns-clause-record c = c.put_words.ensures.record ∙ record_bytes-words c.args.id _ _ c.words.ensures.name c.words.ensures.value

@@ -10,7 +10,8 @@ returns-then-has_name-clause-first c =
     (has_name_is _ _ _ _ c.record_at-record.ensures c.has_name.ensures ∙ c.if-has_name.true) c.loop-place.invariant)
 
 pub loop-place-preserved : goal.loop-place-preserved
-loop-place-preserved c = below_more _ _ c.loop-place.invariant (has_name_is _ _ _ _ c.record_at-record.ensures c.has_name.ensures ∙ c.if-has_name.false)
+loop-place-preserved c =
+    below_more _ _ c.loop-place.invariant (has_name_is _ _ _ _ c.record_at-record.ensures c.has_name.ensures ∙ c.if-has_name.false)
 
 pub returns-clause-first : goal.returns-clause-first
 returns-clause-first c =

@@ -1,4 +1,5 @@
-use Rattle.f11_entries.proofs.SeenLemmas.{looking_begins, looking_goes_on, name_is_found, looking_ends, entry_is_put, block_is_there, new_block_is_zeros, named_is_there}
+use Rattle.f11_entries.proofs.SeenLemmas.{looking_begins, looking_goes_on, name_is_found, looking_ends, entry_is_put, block_is_there}
+use Rattle.f11_entries.proofs.SeenLemmas.{new_block_is_zeros, named_is_there}
 use Rattle.f11_entries.proofs.laws.looking.Goals as goal
 
 pub returns : goal.returns

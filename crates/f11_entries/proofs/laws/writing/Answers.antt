@@ -1,4 +1,5 @@
-use Rattle.f11_entries.proofs.WritingLemmas.{entering_by_writes, room_is_asked, entering_in_place_by_write, removing_is_one_write, refused_lags_too}
+use Rattle.f11_entries.proofs.WritingLemmas.{entering_by_writes, room_is_asked, entering_in_place_by_write, removing_is_one_write}
+use Rattle.f11_entries.proofs.WritingLemmas.{refused_lags_too}
 use Rattle.f11_entries.proofs.FateLemmas.{enter_keeps_marks}
 use Rattle.f11_entries.proofs.laws.writing.Goals as goal
 

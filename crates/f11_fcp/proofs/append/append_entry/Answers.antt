@@ -20,14 +20,17 @@ use Rattle.f11_fcp.proofs.append.append_entry.Goals as goal
 
 pub returns-in-Err-clause-refused : goal.returns-in-Err-clause-refused
 returns-in-Err-clause-refused g c =
-    breaks-put (home_in c.args.files.now) c.args.directory c.args.tail.now (record_bytes c.args.file c.args.name.now) (disk_in c.args.files.now) (disk_in c.replace_entry.new.files) c.requires.there c.in-Err.ensures.refused
+    breaks-put (home_in c.args.files.now) c.args.directory c.args.tail.now (record_bytes c.args.file c.args.name.now)
+    (disk_in c.args.files.now) (disk_in c.replace_entry.new.files) c.requires.there c.in-Err.ensures.refused
 
 pub returns-in-Ok-write_attr-clause-appended : goal.returns-in-Ok-write_attr-clause-appended
 returns-in-Ok-write_attr-clause-appended g c =
     let home = home_in c.args.files.now in
     let r = record_bytes c.args.file c.args.name.now in
-    appends home c.args.directory c.args.tail.now r (disk_in c.args.files.now) (disk_in c.replace_entry.new.files) c.requires.there c.in-Ok.ensures.replaced c.moved_end-attr.result c.moved_end-attr.ensures (disk_in c.write_attr.new.self)
-    (subst (λ (h : HomeFields). Alters (with_replacement (change.Attr c.moved_end-attr.result)) h c.args.directory (disk_in c.replace_entry.new.files) (disk_in c.write_attr.new.self)) c.in-Ok.ensures.home c.in-Ok-write_attr.ensures.altered)
+    appends home c.args.directory c.args.tail.now r (disk_in c.args.files.now) (disk_in c.replace_entry.new.files) c.requires.there
+    c.in-Ok.ensures.replaced c.moved_end-attr.result c.moved_end-attr.ensures (disk_in c.write_attr.new.self)
+    (subst (λ (h : HomeFields). Alters (with_replacement (change.Attr c.moved_end-attr.result)) h c.args.directory
+    (disk_in c.replace_entry.new.files) (disk_in c.write_attr.new.self)) c.in-Ok.ensures.home c.in-Ok-write_attr.ensures.altered)
 
 pub returns-in-Err-write_attr-clause-refused : goal.returns-in-Err-write_attr-clause-refused
 returns-in-Err-write_attr-clause-refused g c =
@@ -36,14 +39,23 @@ returns-in-Err-write_attr-clause-refused g c =
     let mid = disk_in c.replace_entry.new.files in
     let new = disk_in c.write_attr.new.self in
     let e = c.in-Err-write_attr.refusal in
-    let work = one_part c.args.directory.number (file_changes c.args.directory.number (with_replacement (change.Attr c.moved_end-attr.result))) in
-    subst (λ (x : Refusal). Breaks (Appending home c.args.directory c.args.tail.now r (disk_in c.args.files.now)) (append_cost (file_named (store_in c.args.files.now) c.args.directory)) x (disk_in c.args.files.now) new) (sym c.of_known.ensures)
-    (breaks-move home c.args.directory c.args.tail.now r (disk_in c.args.files.now) mid c.requires.there c.in-Ok.ensures.replaced c.moved_end-attr.result c.moved_end-attr.ensures new
-    (known-breaks (file_causes (store_of mid.image home) c.args.directory) e c.in-Ok.ensures.alive (known-file (store_of mid.image home) c.args.directory e)
-    (append-there home c.args.directory c.args.tail.now r (disk_in c.args.files.now) mid c.requires.there c.in-Ok.ensures.replaced) work home
-    (subst (λ (h : HomeFields). FailsToAlter (has_failed c.replace_entry.new.files) (with_replacement (change.Attr c.moved_end-attr.result)) h c.args.directory e mid new) c.in-Ok.ensures.home c.in-Err-write_attr.ensures.refused)))
+    let work = one_part c.args.directory.number
+    (file_changes c.args.directory.number (with_replacement (change.Attr c.moved_end-attr.result))) in
+    subst (λ (x : Refusal). Breaks (Appending home c.args.directory c.args.tail.now r (disk_in c.args.files.now))
+    (append_cost (file_named (store_in c.args.files.now) c.args.directory)) x (disk_in c.args.files.now) new) (sym c.of_known.ensures)
+    (breaks-move home c.args.directory c.args.tail.now r (disk_in c.args.files.now) mid c.requires.there c.in-Ok.ensures.replaced
+    c.moved_end-attr.result c.moved_end-attr.ensures new
+    (known-breaks (file_causes (store_of mid.image home) c.args.directory) e c.in-Ok.ensures.alive
+    (known-file (store_of mid.image home) c.args.directory e)
+    (append-there home c.args.directory c.args.tail.now r (disk_in c.args.files.now) mid c.requires.there c.in-Ok.ensures.replaced) work
+    home
+    (subst (λ (h : HomeFields). FailsToAlter (has_failed c.replace_entry.new.files) (with_replacement (change.Attr c.moved_end-attr.result))
+    h c.args.directory e mid new) c.in-Ok.ensures.home c.in-Err-write_attr.ensures.refused)))
 
 pub returns-in-Ok-write_attr-clause-rows : goal.returns-in-Ok-write_attr-clause-rows
 returns-in-Ok-write_attr-clause-rows g c =
-    leaves-then c.args.files.now c.replace_entry.new.files c.write_attr.new.self c.replace_entry.ensures.home c.in-Ok.ensures.replaced.writes.went.honest c.in-Ok.ensures.rows
-    (replaced-leaves c.replace_entry.new.files c.write_attr.new.self (g.met.D.Device.is_image c.replace_entry.new.files.device) (g.met.D.Device.is_image c.write_attr.new.self.device) c.in-Ok-write_attr.ensures.answers.home c.args.directory (change.Attr c.moved_end-attr.result) c.in-Ok-write_attr.ensures.altered)
+    leaves-then c.args.files.now c.replace_entry.new.files c.write_attr.new.self c.replace_entry.ensures.home
+    c.in-Ok.ensures.replaced.writes.went.honest c.in-Ok.ensures.rows
+    (replaced-leaves c.replace_entry.new.files c.write_attr.new.self (g.met.D.Device.is_image c.replace_entry.new.files.device)
+    (g.met.D.Device.is_image c.write_attr.new.self.device) c.in-Ok-write_attr.ensures.answers.home c.args.directory
+    (change.Attr c.moved_end-attr.result) c.in-Ok-write_attr.ensures.altered)

@@ -10,32 +10,39 @@ use Rattle.f11_fcp.proofs.append.append_in_block.Goals as goal
 
 pub returns-in-Err-clause-refused : goal.returns-in-Err-clause-refused
 returns-in-Err-clause-refused g c =
-    end-unread (home_in c.args.files.now) c.args.directory (record_bytes c.args.file c.args.name.now) (disk_in c.args.files.now) c.args.found.now c.requires.full c.in-Err.ensures.refused
+    end-unread (home_in c.args.files.now) c.args.directory (record_bytes c.args.file c.args.name.now) (disk_in c.args.files.now)
+    c.args.found.now c.requires.full c.in-Err.ensures.refused
 
 pub append_entry-requires-clause-there : goal.append_entry-requires-clause-there
 append_entry-requires-clause-there g c =
     let t = c.tail_at-tail in
-    λ sure. subst (λ (h : HomeFields). IsDirectoryTail t.result (store_of (disk_in c.end_block.new.files).image h) c.args.directory) (sym c.in-Ok.ensures.home)
-    (end-tail (home_in c.args.files.now) c.args.directory (record_bytes c.args.file c.args.name.now) (disk_in c.args.files.now) c.args.found.now c.requires.full (disk_in c.end_block.new.files) c.in-Ok.ensures.reads
+    λ sure. subst (λ (h : HomeFields). IsDirectoryTail t.result (store_of (disk_in c.end_block.new.files).image h) c.args.directory)
+    (sym c.in-Ok.ensures.home)
+    (end-tail (home_in c.args.files.now) c.args.directory (record_bytes c.args.file c.args.name.now) (disk_in c.args.files.now)
+    c.args.found.now c.requires.full (disk_in c.end_block.new.files) c.in-Ok.ensures.reads
     t.result c.in-Ok.block t.ensures.number t.ensures.place t.ensures.block t.ensures.attr t.ensures.length c.in-Ok.ensures.block sure)
 
 pub returns-in-Ok-append_entry-clause-put : goal.returns-in-Ok-append_entry-clause-put
 returns-in-Ok-append_entry-clause-put g c =
     let t = c.tail_at-tail in
-    end-appended (home_in c.args.files.now) c.args.directory (record_bytes c.args.file c.args.name.now) (disk_in c.args.files.now) c.args.found.now c.requires.full (disk_in c.end_block.new.files) c.in-Ok.ensures.reads
+    end-appended (home_in c.args.files.now) c.args.directory (record_bytes c.args.file c.args.name.now) (disk_in c.args.files.now)
+    c.args.found.now c.requires.full (disk_in c.end_block.new.files) c.in-Ok.ensures.reads
     t.result c.in-Ok.block t.ensures.number t.ensures.place t.ensures.block t.ensures.attr t.ensures.length c.in-Ok.ensures.block
     (appends-at-home c.in-Ok.ensures.home c.in-Ok-append_entry.ensures.appended)
 
 pub returns-in-Err-append_entry-clause-refused : goal.returns-in-Err-append_entry-clause-refused
 returns-in-Err-append_entry-clause-refused g c =
     let t = c.tail_at-tail in
-    end-not-appended (home_in c.args.files.now) c.args.directory (record_bytes c.args.file c.args.name.now) (disk_in c.args.files.now) c.args.found.now c.requires.full (disk_in c.end_block.new.files) c.in-Ok.ensures.reads
+    end-not-appended (home_in c.args.files.now) c.args.directory (record_bytes c.args.file c.args.name.now) (disk_in c.args.files.now)
+    c.args.found.now c.requires.full (disk_in c.end_block.new.files) c.in-Ok.ensures.reads
     t.result c.in-Ok.block t.ensures.number t.ensures.place t.ensures.block t.ensures.attr t.ensures.length c.in-Ok.ensures.block
-    (breaks-at-home c.args.directory t.result (record_bytes c.args.file c.args.name.now) (disk_in c.end_block.new.files) c.in-Ok.ensures.home c.in-Err-append_entry.ensures.refused)
+    (breaks-at-home c.args.directory t.result (record_bytes c.args.file c.args.name.now) (disk_in c.end_block.new.files)
+    c.in-Ok.ensures.home c.in-Err-append_entry.ensures.refused)
 
 pub returns-in-Err-clause-fatal : goal.returns-in-Err-clause-fatal
 returns-in-Err-clause-fatal g c = fatal-alone c.in-Err.refusal c.in-Err.ensures.refused.right
 
 pub returns-in-Ok-append_entry-clause-rows : goal.returns-in-Ok-append_entry-clause-rows
 returns-in-Ok-append_entry-clause-rows g c =
-    leaves-behind c.args.files.now c.end_block.new.files c.append_entry.new.files c.in-Ok.ensures.home c.in-Ok.ensures.reads.looked.honest c.in-Ok.ensures.reads.looked.image c.in-Ok-append_entry.ensures.rows
+    leaves-behind c.args.files.now c.end_block.new.files c.append_entry.new.files c.in-Ok.ensures.home c.in-Ok.ensures.reads.looked.honest
+    c.in-Ok.ensures.reads.looked.image c.in-Ok-append_entry.ensures.rows

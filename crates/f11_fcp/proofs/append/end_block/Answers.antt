@@ -14,6 +14,9 @@ pub returns-in-Err-clause-refused : goal.returns-in-Err-clause-refused
 returns-in-Err-clause-refused g c =
     let s = store_in c.args.files.now in
     let found = c.args.found.now in
-    subst (λ (e : Refusal). FailsToRead false [] (header_count (file_named s c.args.directory) + 1) e (disk_in c.args.files.now) (disk_in c.read_block.new.self)) (sym c.of_known.ensures)
-    (known-fails (length_causes s c.args.directory (found.count / 32 + 1)) c.in-Err.refusal c.requires.alive (known-length s c.args.directory (found.count / 32 + 1) c.in-Err.refusal)
-    (λ honest. blocks-first s c.args.directory (found.count / 32 + 1) (end-there found s c.args.directory c.requires.room (c.requires.there honest))) c.in-Err.ensures.refused)
+    subst (λ (e : Refusal). FailsToRead false [] (header_count (file_named s c.args.directory) + 1) e (disk_in c.args.files.now)
+    (disk_in c.read_block.new.self)) (sym c.of_known.ensures)
+    (known-fails (length_causes s c.args.directory (found.count / 32 + 1)) c.in-Err.refusal c.requires.alive
+    (known-length s c.args.directory (found.count / 32 + 1) c.in-Err.refusal)
+    (λ honest. blocks-first s c.args.directory (found.count / 32 + 1)
+    (end-there found s c.args.directory c.requires.room (c.requires.there honest))) c.in-Err.ensures.refused)

@@ -6,25 +6,32 @@ use Rattle.f11_fcp.proofs.append.put_entry.Goals as goal
 
 pub replace_entry-requires-clause-there : goal.replace_entry-requires-clause-there
 replace_entry-requires-clause-there g c = λ honest.
-    let at = place-of c.args.found.now c.in-Some.spot (store_in c.args.files.now) c.args.directory c.args.empty c.in-Some.is (c.requires.known honest) in
+    let at = place-of c.args.found.now c.in-Some.spot (store_in c.args.files.now) c.args.directory c.args.empty c.in-Some.is
+    (c.requires.known honest) in
     record { there = at.0; in_hand = at.1 }
 
 pub returns-in-Ok-clause-put : goal.returns-in-Ok-clause-put
 returns-in-Ok-clause-put g c =
-    placed (home_in c.args.files.now) c.args.directory (record_bytes c.args.file c.args.name.now) (disk_in c.args.files.now) (disk_in c.replace_entry.new.files) c.in-Some.spot c.in-Some.spot.within
-    (λ honest. place-of c.args.found.now c.in-Some.spot (store_in c.args.files.now) c.args.directory c.args.empty c.in-Some.is (c.requires.known honest)) c.in-Ok.ensures.replaced
+    placed (home_in c.args.files.now) c.args.directory (record_bytes c.args.file c.args.name.now) (disk_in c.args.files.now)
+    (disk_in c.replace_entry.new.files) c.in-Some.spot c.in-Some.spot.within
+    (λ honest. place-of c.args.found.now c.in-Some.spot (store_in c.args.files.now) c.args.directory c.args.empty c.in-Some.is
+    (c.requires.known honest)) c.in-Ok.ensures.replaced
 
 pub returns-in-Err-clause-refused : goal.returns-in-Err-clause-refused
 returns-in-Err-clause-refused g c =
-    not-placed (home_in c.args.files.now) c.args.directory (record_bytes c.args.file c.args.name.now) (disk_in c.args.files.now) (disk_in c.replace_entry.new.files) c.in-Some.spot c.in-Some.spot.within
-    (λ honest. place-of c.args.found.now c.in-Some.spot (store_in c.args.files.now) c.args.directory c.args.empty c.in-Some.is (c.requires.known honest)) c.in-Err.ensures.refused
+    not-placed (home_in c.args.files.now) c.args.directory (record_bytes c.args.file c.args.name.now) (disk_in c.args.files.now)
+    (disk_in c.replace_entry.new.files) c.in-Some.spot c.in-Some.spot.within
+    (λ honest. place-of c.args.found.now c.in-Some.spot (store_in c.args.files.now) c.args.directory c.args.empty c.in-Some.is
+    (c.requires.known honest)) c.in-Err.ensures.refused
 
 pub append_in_block-requires-clause-full : goal.append_in_block-requires-clause-full
 append_in_block-requires-clause-full g c = λ honest.
     let known = c.requires.known honest in
-    full-of c.args.found.now (store_in c.args.files.now) c.args.directory false c.args.empty c.in-None.is known (room-left c.args.found.now (store_in c.args.files.now) c.args.directory known.end c.if-found.false)
+    full-of c.args.found.now (store_in c.args.files.now) c.args.directory false c.args.empty c.in-None.is known
+    (room-left c.args.found.now (store_in c.args.files.now) c.args.directory known.end c.if-found.false)
 
 pub append_in_new_block-requires-clause-full : goal.append_in_new_block-requires-clause-full
 append_in_new_block-requires-clause-full g c = λ honest.
     let known = c.requires.known honest in
-    full-of c.args.found.now (store_in c.args.files.now) c.args.directory true c.args.empty c.in-None.is known (none-left c.args.found.now (store_in c.args.files.now) c.args.directory known.end c.if-found.true)
+    full-of c.args.found.now (store_in c.args.files.now) c.args.directory true c.args.empty c.in-None.is known
+    (none-left c.args.found.now (store_in c.args.files.now) c.args.directory known.end c.if-found.true)

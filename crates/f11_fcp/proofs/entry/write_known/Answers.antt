@@ -15,6 +15,8 @@ returns-in-Err-clause-refused g c =
     let s = store_in c.args.files.now in
     let home = home_in c.args.files.now in
     let work = block_work c.args.directory (c.args.number + 1) c.args.block.now in
-    subst (λ (e : Refusal). Breaks (Meanwhile work home (disk_in c.args.files.now)) (header_count (file_named s c.args.directory) + 1) e (disk_in c.args.files.now) (disk_in c.write_block.new.self)) (sym c.of_known.ensures)
-    (known-breaks (length_causes s c.args.directory (c.args.number + 1)) c.in-Err.refusal c.requires.alive (known-length s c.args.directory (c.args.number + 1) c.in-Err.refusal)
+    subst (λ (e : Refusal). Breaks (Meanwhile work home (disk_in c.args.files.now)) (header_count (file_named s c.args.directory) + 1) e
+    (disk_in c.args.files.now) (disk_in c.write_block.new.self)) (sym c.of_known.ensures)
+    (known-breaks (length_causes s c.args.directory (c.args.number + 1)) c.in-Err.refusal c.requires.alive
+    (known-length s c.args.directory (c.args.number + 1) c.in-Err.refusal)
     (λ honest. blocks-first s c.args.directory (c.args.number + 1) (c.requires.there honest)) work home c.in-Err.ensures.refused)

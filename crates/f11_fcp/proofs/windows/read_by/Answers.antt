@@ -8,7 +8,8 @@ use Rattle.f11_fcp.proofs.ReachedLemmas.{once-none, reached-keeps, read-through,
 use Rattle.f11_fcp.proofs.windows.read_by.Goals as goal
 
 pub returns-in-Err-clause-once : goal.returns-in-Err-clause-once
-returns-in-Err-clause-once g c = λ holds. once-none (disk_in c.args.files.now) (disk_in c.next_window.new.files) (c.in-Err.ensures.none holds)
+returns-in-Err-clause-once g c =
+    λ holds. once-none (disk_in c.args.files.now) (disk_in c.next_window.new.files) (c.in-Err.ensures.none holds)
 
 pub returns-in-Ok-read_in-clause-read : goal.returns-in-Ok-read_in-clause-read
 returns-in-Ok-read_in-clause-read g c =
@@ -20,7 +21,8 @@ returns-in-Ok-read_in-clause-read g c =
     let finds = c.in-Ok.ensures.found in
     let home = c.in-Ok.ensures.answers.home in
     read-through (home_in old) e c.args.vbn c.in-Ok.window (disk_in old) (disk_in mid) id finds c.read_in.new.block (disk_in new)
-    (subst (λ (h : HomeFields). ReadsBy h c.in-Ok.window c.args.vbn c.read_in.new.block (disk_in mid) (disk_in new)) home c.in-Ok-read_in.ensures.read)
+    (subst (λ (h : HomeFields). ReadsBy h c.in-Ok.window c.args.vbn c.read_in.new.block (disk_in mid) (disk_in new)) home
+    c.in-Ok-read_in.ensures.read)
 
 pub returns-in-Ok-read_in-clause-next : goal.returns-in-Ok-read_in-clause-next
 returns-in-Ok-read_in-clause-next g c =
@@ -34,7 +36,9 @@ returns-in-Ok-read_in-clause-next g c =
     let once = c.in-Ok-read_in.ensures.read.once in
     record {
       next = finds.next;
-      keeps = reached-keeps e c.in-Ok.window old new (ap (λ (d : Disk). d.image) once ∙ finds.reads.looked.image) (c.in-Ok-read_in.ensures.answers.home ∙ home)
+      keeps =
+          reached-keeps e c.in-Ok.window old new (ap (λ (d : Disk). d.image) once ∙ finds.reads.looked.image)
+          (c.in-Ok-read_in.ensures.answers.home ∙ home)
           (λ honest. sym finds.reads.looked.honest ∙ sym (ap (λ (d : Disk). d.honest) once) ∙ honest) finds.on finds.has;
     }
 
@@ -47,5 +51,6 @@ returns-in-Err-read_in-clause-refused g c =
     let id : IsIdFrom 4 c.args.held.now.file = record { number = c.args.held.now.own; volume = c.args.held.now.here } in
     let finds = c.in-Ok.ensures.found in
     let home = c.in-Ok.ensures.answers.home in
-    unread-through (home_in old) e c.args.vbn c.in-Ok.window (disk_in old) (disk_in mid) id finds c.in-Err-read_in.refusal (disk_in new) c.requires.held.alive
+    unread-through (home_in old) e c.args.vbn c.in-Ok.window (disk_in old) (disk_in mid) id finds c.in-Err-read_in.refusal (disk_in new)
+    c.requires.held.alive
     (c.in-Ok.ensures.answers.next ∙ ap (λ b. b || false) c.requires.held.alive) c.in-Err-read_in.ensures.refused

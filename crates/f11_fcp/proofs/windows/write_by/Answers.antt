@@ -3,16 +3,19 @@ use Rattle.f11_home.specs.Home.{HomeFields}
 use Rattle.f11_files.specs.Open.{disk_in, has_failed, home_in, IsIdFrom}
 use Rattle.f11_fcp.specs.Places.{entry_of}
 use Rattle.f11_files.specs.Finding.Blocks.{FailsToStore, StoresBlock}
-use Rattle.f11_fcp.proofs.ReachedLemmas.{once-none, reached-keeps, on-here, one-written, store-through, unread-stored, unstored-through, written-keeps}
+use Rattle.f11_fcp.proofs.ReachedLemmas.{once-none, reached-keeps, on-here, one-written, store-through, unread-stored, unstored-through}
+use Rattle.f11_fcp.proofs.ReachedLemmas.{written-keeps}
 use Rattle.f11_fcp.proofs.RowLemmas.{stored-leaves}
 use Rattle.f11_fcp.proofs.windows.write_by.Goals as goal
 
 pub returns-in-Err-clause-once : goal.returns-in-Err-clause-once
-returns-in-Err-clause-once g c = λ holds. once-none (disk_in c.args.files.now) (disk_in c.next_window.new.files) (c.in-Err.ensures.none holds)
+returns-in-Err-clause-once g c =
+    λ holds. once-none (disk_in c.args.files.now) (disk_in c.next_window.new.files) (c.in-Err.ensures.none holds)
 
 pub returns-in-Err-clause-refused : goal.returns-in-Err-clause-refused
 returns-in-Err-clause-refused g c =
-    unread-stored (home_in c.args.files.now) (entry_of c.args.held.now) c.args.vbn c.args.block.now (disk_in c.args.files.now) (disk_in c.next_window.new.files) c.in-Err.refusal c.requires.held.alive c.in-Err.ensures.refused
+    unread-stored (home_in c.args.files.now) (entry_of c.args.held.now) c.args.vbn c.args.block.now (disk_in c.args.files.now)
+    (disk_in c.next_window.new.files) c.in-Err.refusal c.requires.held.alive c.in-Err.ensures.refused
 
 pub returns-in-Ok-write_in-clause-stored : goal.returns-in-Ok-write_in-clause-stored
 returns-in-Ok-write_in-clause-stored g c =
@@ -26,7 +29,8 @@ returns-in-Ok-write_in-clause-stored g c =
     let by = c.in-Ok-write_in.ensures.stored in
     let on = on-here (home_in old) e c.args.vbn c.in-Ok.window (disk_in old) (disk_in mid) id finds (home_in mid) home in
     store-through (home_in old) e c.args.vbn c.in-Ok.window (disk_in old) (disk_in mid) id finds c.args.block.now (disk_in new)
-    (subst (λ (h : HomeFields). StoresBlock h e.file c.args.vbn c.args.block.now (disk_in mid) (disk_in new)) home (by.of_file e.file on)) (one-written _ _ _ _ by.once)
+    (subst (λ (h : HomeFields). StoresBlock h e.file c.args.vbn c.args.block.now (disk_in mid) (disk_in new)) home (by.of_file e.file on))
+    (one-written _ _ _ _ by.once)
 
 pub returns-in-Ok-write_in-clause-next : goal.returns-in-Ok-write_in-clause-next
 returns-in-Ok-write_in-clause-next g c =
@@ -42,10 +46,14 @@ returns-in-Ok-write_in-clause-next g c =
     let stores = by.of_file e.file on in
     record {
       next = finds.next;
-      keeps = written-keeps e c.in-Ok.window mid new stores.writes.went.size c.in-Ok-write_in.ensures.answers.home (λ honest. sym stores.writes.went.honest ∙ honest)
+      keeps =
+          written-keeps e c.in-Ok.window mid new stores.writes.went.size c.in-Ok-write_in.ensures.answers.home
+          (λ honest. sym stores.writes.went.honest ∙ honest)
           (λ honest. (on.has honest).there)
-          (stored-leaves mid new (g.met.D.Device.is_image mid.device) (g.met.D.Device.is_image new.device) c.in-Ok-write_in.ensures.answers.home e.file c.args.vbn c.args.block.now stores)
-          (reached-keeps e c.in-Ok.window old mid finds.reads.looked.image home (λ honest. sym finds.reads.looked.honest ∙ honest) finds.on finds.has);
+          (stored-leaves mid new (g.met.D.Device.is_image mid.device) (g.met.D.Device.is_image new.device)
+          c.in-Ok-write_in.ensures.answers.home e.file c.args.vbn c.args.block.now stores)
+          (reached-keeps e c.in-Ok.window old mid finds.reads.looked.image home (λ honest. sym finds.reads.looked.honest ∙ honest) finds.on
+          finds.has);
     }
 
 pub returns-in-Err-write_in-clause-refused : goal.returns-in-Err-write_in-clause-refused
@@ -59,5 +67,8 @@ returns-in-Err-write_in-clause-refused g c =
     let home = c.in-Ok.ensures.answers.home in
     let by = c.in-Err-write_in.ensures.refused in
     let still = c.in-Ok.ensures.answers.next ∙ ap (λ b. b || false) c.requires.held.alive in
-    unstored-through (home_in old) e c.args.vbn c.in-Ok.window (disk_in old) (disk_in mid) id finds c.args.block.now (disk_in new) c.in-Err-write_in.refusal c.requires.held.alive still by.why by.few
-    (subst (λ (h : HomeFields). FailsToStore (has_failed mid) h e.file c.args.vbn c.args.block.now c.in-Err-write_in.refusal (disk_in mid) (disk_in new)) home (by.of_file e.file (on-here (home_in old) e c.args.vbn c.in-Ok.window (disk_in old) (disk_in mid) id finds (home_in mid) home)))
+    unstored-through (home_in old) e c.args.vbn c.in-Ok.window (disk_in old) (disk_in mid) id finds c.args.block.now (disk_in new)
+    c.in-Err-write_in.refusal c.requires.held.alive still by.why by.few
+    (subst (λ (h : HomeFields). FailsToStore (has_failed mid) h e.file c.args.vbn c.args.block.now c.in-Err-write_in.refusal (disk_in mid)
+    (disk_in new)) home (by.of_file e.file
+    (on-here (home_in old) e c.args.vbn c.in-Ok.window (disk_in old) (disk_in mid) id finds (home_in mid) home)))

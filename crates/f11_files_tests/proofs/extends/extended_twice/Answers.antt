@@ -49,15 +49,18 @@ module _ (f : FileId) (h : HomeFields) (own : 4 ≤ f.number) where
 
   slots-then : (n : ℕ) (old new : Disk) → IsTrue old.honest → ExtendsFile h f n old new
       → (store_of new.image h).slots ≡ (store_of old.image h).slots + added n old
-  slots-then n old new honest extends = slots-after (store_of old.image h) (store_of new.image h) f n ((extends-is h f n old new other extends).makes honest)
+  slots-then n old new honest extends =
+      slots-after (store_of old.image h) (store_of new.image h) f n ((extends-is h f n old new other extends).makes honest)
 
   gains : (n : ℕ) (old new : Disk) → IsTrue old.honest → ExtendsFile h f n old new → added n old ≡ 0
       → GainsBlocks f.number n (volume_of old.image h) (volume_of new.image h)
   gains n old new honest extends none =
-      alone f.number n (added n old) (volume_of old.image h) (volume_of new.image h) ((extends-is h f n old new other extends).allots honest) none
+      alone f.number n (added n old) (volume_of old.image h) (volume_of new.image h)
+      ((extends-is h f n old new other extends).allots honest) none
 
   twice : (n more : ℕ) (old mid new : Disk) → IsTrue old.honest → ExtendsFile h f n old mid → ExtendsFile h f more mid new
-      → (store_of new.image h).slots ≡ (store_of old.image h).slots → GainsBlocks f.number (n + more) (volume_of old.image h) (volume_of new.image h)
+      → (store_of new.image h).slots ≡ (store_of old.image h).slots
+      → GainsBlocks f.number (n + more) (volume_of old.image h) (volume_of new.image h)
   twice n more old mid new honest one two same =
       let then : IsTrue mid.honest = (extends-is h f n old mid other one).writes.went.honest ∙ honest in
       let first = slots-then n old mid honest one in
@@ -83,6 +86,7 @@ returns g c =
     record {
       gains = λ honest same.
           on-ok c.extend-2.result c.extend-2.ensures.extended
-          (λ blocks two. same-homes c.args.f c.args.n c.args.more _ _ _ _ _ _ c.requires.id.number c.extend.ensures.answers.home c.extend-2.ensures.answers.home
+          (λ blocks two. same-homes c.args.f c.args.n c.args.more _ _ _ _ _ _ c.requires.id.number c.extend.ensures.answers.home
+          c.extend-2.ensures.answers.home
           honest c.in_ok-extend.ensures.extended.1 two.1 same);
     }

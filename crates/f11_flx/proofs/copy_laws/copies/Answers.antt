@@ -10,7 +10,8 @@ returns-clause-copied g c = λ view is_sound seen m who lun file name count day 
 
 pub returns-clause-refused : goal.returns-clause-refused
 returns-clause-refused g c = λ view is_sound seen m who lun file name day e old new rt' sound sound' clean h.
-    refused g.S.Asked.service view is_sound seen who lun file name (view old) g.E.Device.disk day c.args.rt.now (λ alive. sound') m e old new rt' refl sound clean h
+    refused g.S.Asked.service view is_sound seen who lun file name (view old) g.E.Device.disk day c.args.rt.now (λ alive. sound') m e old
+    new rt' refl sound clean h
 
 pub returns-clause-left : goal.returns-clause-left
 returns-clause-left g c = λ m who lun file name day e old new rt' h.

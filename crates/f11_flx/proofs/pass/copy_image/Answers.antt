@@ -8,14 +8,16 @@ pub returns-in-Err-write-clause-fails : goal.returns-in-Err-write-clause-fails
 returns-in-Err-write-clause-fails g c =
     let l = c.loop-place in
     let who : Who = who_asks c.args.by.now.task c.args.by.now.uic in
-    image-refused g.S.Asked.service g.E.Device.disk who c.args.by.now.lun c.args.name.now c.args.many l.place _ c.read.new.into _ c.args.rt.now l.rt c.read.new.rt c.args.service.now l.service c.write.new.service
+    image-refused g.S.Asked.service g.E.Device.disk who c.args.by.now.lun c.args.name.now c.args.many l.place _ c.read.new.into _
+    c.args.rt.now l.rt c.read.new.rt c.args.service.now l.service c.write.new.service
     l.invariant c.in-Ok.ensures.read (ap (λ n. n + 1) c.from.ensures) c.in-Err-write.ensures.denied
 
 pub loop-place-preserved : goal.loop-place-preserved
 loop-place-preserved g c =
     let l = c.loop-place in
     let who : Who = who_asks c.args.by.now.task c.args.by.now.uic in
-    image-more g.S.Asked.service g.E.Device.disk who c.args.by.now.lun c.args.name.now l.place _ c.read.new.into c.args.rt.now l.rt c.read.new.rt c.args.service.now l.service c.write.new.service
+    image-more g.S.Asked.service g.E.Device.disk who c.args.by.now.lun c.args.name.now l.place _ c.read.new.into c.args.rt.now l.rt
+    c.read.new.rt c.args.service.now l.service c.write.new.service
     l.invariant c.in-Ok.ensures.read (ap (λ n. n + 1) c.from.ensures) c.in-Ok-write.ensures.granted
 
 pub returns-clause-copied : goal.returns-clause-copied
@@ -23,5 +25,7 @@ returns-clause-copied g c =
     let l = c.loop-place in
     let who : Who = who_asks c.args.by.now.task c.args.by.now.uic in
     let all : l.place ≡ c.args.many = omega (arith, c.loop-place-test.false, l.auto.place-end) in
-    image-copies g.S.Asked.service g.E.Device.disk who c.args.by.now.lun c.args.name.now c.args.many c.args.rt.now l.rt c.args.service.now l.service
-    (subst (λ n. CopiesImage g.S.Asked.service g.E.Device.disk who c.args.by.now.lun c.args.name.now n c.args.rt.now l.rt c.args.service.now l.service) all l.invariant)
+    image-copies g.S.Asked.service g.E.Device.disk who c.args.by.now.lun c.args.name.now c.args.many c.args.rt.now l.rt c.args.service.now
+    l.service
+    (subst (λ n. CopiesImage g.S.Asked.service g.E.Device.disk who c.args.by.now.lun c.args.name.now n c.args.rt.now l.rt c.args.service.now
+    l.service) all l.invariant)

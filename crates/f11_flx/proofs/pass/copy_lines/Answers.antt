@@ -10,7 +10,8 @@ returns-in-Err-clause-fails g c =
     let who : Who = who_asks c.args.by.now.task c.args.by.now.uic in
     let n = c.new-lines in
     let begins : BeginsLines n.result = record { bytes = n.ensures.bytes; longest = n.ensures.longest; long = n.ensures.long } in
-    text-fails g.S.Asked.service g.E.Device.disk who c.args.by.now.lun c.args.name.now c.args.many _ n.result (out_of c.new-out.result) c.args.rt.now c.read_lines.new.rt c.args.service.now c.read_lines.new.service
+    text-fails g.S.Asked.service g.E.Device.disk who c.args.by.now.lun c.args.name.now c.args.many _ n.result (out_of c.new-out.result)
+    c.args.rt.now c.read_lines.new.rt c.args.service.now c.read_lines.new.service
     begins c.new-out.ensures.to c.new-out.ensures.place c.in-Err.ensures.fails
 
 pub end_lines-requires-clause-few : goal.end_lines-requires-clause-few
@@ -18,21 +19,27 @@ end_lines-requires-clause-few g c =
     let who : Who = who_asks c.args.by.now.task c.args.by.now.uic in
     let n = c.new-lines in
     let begins : BeginsLines n.result = record { bytes = n.ensures.bytes; longest = n.ensures.longest; long = n.ensures.long } in
-    text-few g.S.Asked.service g.E.Device.disk who c.args.by.now.lun c.args.name.now c.args.many n.result c.read_lines.new.lines (out_of c.new-out.result) (out_of c.read_lines.new.out) c.args.rt.now c.read_lines.new.rt
-    c.args.service.now c.read_lines.new.service begins c.new-out.ensures.to c.new-out.ensures.place c.in-Ok.ensures.reads (omega (arith, c.ranges.many.fits))
+    text-few g.S.Asked.service g.E.Device.disk who c.args.by.now.lun c.args.name.now c.args.many n.result c.read_lines.new.lines
+    (out_of c.new-out.result) (out_of c.read_lines.new.out) c.args.rt.now c.read_lines.new.rt
+    c.args.service.now c.read_lines.new.service begins c.new-out.ensures.to c.new-out.ensures.place c.in-Ok.ensures.reads
+    (omega (arith, c.ranges.many.fits))
 
 pub returns-in-Ok-end_lines-clause-copied : goal.returns-in-Ok-end_lines-clause-copied
 returns-in-Ok-end_lines-clause-copied g c =
     let who : Who = who_asks c.args.by.now.task c.args.by.now.uic in
     let n = c.new-lines in
     let begins : BeginsLines n.result = record { bytes = n.ensures.bytes; longest = n.ensures.longest; long = n.ensures.long } in
-    text-copies g.S.Asked.service g.E.Device.disk who c.args.by.now.lun c.args.name.now c.args.many n.result c.read_lines.new.lines (out_of c.new-out.result) (out_of c.read_lines.new.out) _ _ _ c.args.rt.now
-    c.read_lines.new.rt c.args.service.now c.read_lines.new.service c.end_lines.new.service begins c.new-out.ensures.to c.new-out.ensures.place c.in-Ok.ensures.reads c.in-Ok-end_lines.ensures.ends
+    text-copies g.S.Asked.service g.E.Device.disk who c.args.by.now.lun c.args.name.now c.args.many n.result c.read_lines.new.lines
+    (out_of c.new-out.result) (out_of c.read_lines.new.out) _ _ _ c.args.rt.now
+    c.read_lines.new.rt c.args.service.now c.read_lines.new.service c.end_lines.new.service begins c.new-out.ensures.to
+    c.new-out.ensures.place c.in-Ok.ensures.reads c.in-Ok-end_lines.ensures.ends
 
 pub returns-in-Err-end_lines-clause-fails : goal.returns-in-Err-end_lines-clause-fails
 returns-in-Err-end_lines-clause-fails g c =
     let who : Who = who_asks c.args.by.now.task c.args.by.now.uic in
     let n = c.new-lines in
     let begins : BeginsLines n.result = record { bytes = n.ensures.bytes; longest = n.ensures.longest; long = n.ensures.long } in
-    text-end-fails g.S.Asked.service g.E.Device.disk who c.args.by.now.lun c.args.name.now c.args.many _ n.result c.read_lines.new.lines (out_of c.new-out.result) (out_of c.read_lines.new.out) c.args.rt.now
-    c.read_lines.new.rt c.args.service.now c.read_lines.new.service c.end_lines.new.service begins c.new-out.ensures.to c.new-out.ensures.place c.in-Ok.ensures.reads c.in-Err-end_lines.ensures.fails
+    text-end-fails g.S.Asked.service g.E.Device.disk who c.args.by.now.lun c.args.name.now c.args.many _ n.result c.read_lines.new.lines
+    (out_of c.new-out.result) (out_of c.read_lines.new.out) c.args.rt.now
+    c.read_lines.new.rt c.args.service.now c.read_lines.new.service c.end_lines.new.service begins c.new-out.ensures.to
+    c.new-out.ensures.place c.in-Ok.ensures.reads c.in-Err-end_lines.ensures.fails

@@ -9,13 +9,23 @@ returns-then-out-lt-BLOCK_SIZE-clause-pours g c =
     let l = c.loop-read in
     let o : Out = record { block = c.convert.new.target; to = c.in-Ok.to; place = l.out.place } in
     let e = rw (take_rest c.args.source.now l.used) at c.in-Ok.ensures in
-    let now = pouring-read g.T.Takes.took c.args.name.now c.args.text.now l.text c.convert.new.self c.args.source.now l.used c.in-Ok.read _ (out_of c.args.out.now) (out_of l.out) o c.args.target.now l.target l.invariant.held e.converts e.puts refl refl in
-    pouring-ends-at g.T.Takes.took c.args.name.now c.args.text.now c.convert.new.self c.args.source.now l.used c.in-Ok.read (out_of c.args.out.now) o c.args.target.now l.target now e.stops l.invariant.held.within c.requires.size c.requires.room c.if-out-lt-BLOCK_SIZE.true
+    let now = pouring-read g.T.Takes.took c.args.name.now c.args.text.now l.text c.convert.new.self c.args.source.now l.used c.in-Ok.read _
+    (out_of c.args.out.now) (out_of l.out) o c.args.target.now l.target l.invariant.held e.converts e.puts refl refl in
+    pouring-ends-at g.T.Takes.took c.args.name.now c.args.text.now c.convert.new.self c.args.source.now l.used c.in-Ok.read
+    (out_of c.args.out.now) o c.args.target.now l.target now e.stops l.invariant.held.within c.requires.size c.requires.room
+    c.if-out-lt-BLOCK_SIZE.true
 
 pub give-requires : goal.give-requires
 give-requires g c =
     let l = c.loop-read in
-    omega (arith, pouring-few g.T.Takes.took c.args.name.now c.args.text.now l.text c.args.source.now l.used (out_of c.args.out.now) (out_of l.out) c.args.target.now l.target l.invariant.held, c.requires.size, c.requires.room, c.requires.few)
+    omega (
+      arith,
+      pouring-few g.T.Takes.took c.args.name.now c.args.text.now l.text c.args.source.now l.used (out_of c.args.out.now)
+          (out_of l.out) c.args.target.now l.target l.invariant.held,
+      c.requires.size,
+      c.requires.room,
+      c.requires.few,
+    )
 
 pub loop-read-preserved : goal.loop-read-preserved
 loop-read-preserved g c =
@@ -24,9 +34,11 @@ loop-read-preserved g c =
     let e = rw (take_rest c.args.source.now l.used) at c.in-Ok.ensures in
     let full : c.in-Ok.to ≡ 512 = omega (arith, e.room, c.if-out-lt-BLOCK_SIZE.false) in
     let size : length c.convert.new.target ≡ 512 = c.give.ensures.size in
-    let now = pouring-read g.T.Takes.took c.args.name.now c.args.text.now l.text c.convert.new.self c.args.source.now l.used c.in-Ok.read _ (out_of c.args.out.now) (out_of l.out) o c.args.target.now l.target l.invariant.held e.converts e.puts refl refl in
+    let now = pouring-read g.T.Takes.took c.args.name.now c.args.text.now l.text c.convert.new.self c.args.source.now l.used c.in-Ok.read _
+    (out_of c.args.out.now) (out_of l.out) o c.args.target.now l.target l.invariant.held e.converts e.puts refl refl in
     record {
-      held = pouring-gave g.T.Takes.took c.args.name.now c.args.text.now c.convert.new.self c.args.source.now _ (out_of c.args.out.now) o (out_of c.give.new.out) c.args.target.now l.target c.give.new.target now c.in-Ok-give.ensures.taken full size;
+      held = pouring-gave g.T.Takes.took c.args.name.now c.args.text.now c.convert.new.self c.args.source.now _ (out_of c.args.out.now) o
+          (out_of c.give.new.out) c.args.target.now l.target c.give.new.target now c.in-Ok-give.ensures.taken full size;
       room = omega (arith, c.in-Ok-give.ensures.taken.empty);
     }
 
@@ -37,5 +49,8 @@ returns-in-Err-give-clause-fails g c =
     let e = rw (take_rest c.args.source.now l.used) at c.in-Ok.ensures in
     let full : c.in-Ok.to ≡ 512 = omega (arith, e.room, c.if-out-lt-BLOCK_SIZE.false) in
     let size : length c.convert.new.target ≡ 512 = c.give.ensures.size in
-    let now = pouring-read g.T.Takes.took c.args.name.now c.args.text.now l.text c.convert.new.self c.args.source.now l.used c.in-Ok.read _ (out_of c.args.out.now) (out_of l.out) o c.args.target.now l.target l.invariant.held e.converts e.puts refl refl in
-    pouring-refused g.T.Takes.took c.args.name.now g.T.Takes.refused c.args.text.now c.convert.new.self c.args.source.now _ (out_of c.args.out.now) o c.in-Err-give.refusal c.args.target.now l.target c.give.new.target now full size c.in-Err-give.ensures.refused
+    let now = pouring-read g.T.Takes.took c.args.name.now c.args.text.now l.text c.convert.new.self c.args.source.now l.used c.in-Ok.read _
+    (out_of c.args.out.now) (out_of l.out) o c.args.target.now l.target l.invariant.held e.converts e.puts refl refl in
+    pouring-refused g.T.Takes.took c.args.name.now g.T.Takes.refused c.args.text.now c.convert.new.self c.args.source.now _
+    (out_of c.args.out.now) o c.in-Err-give.refusal c.args.target.now l.target c.give.new.target now full size
+    c.in-Err-give.ensures.refused

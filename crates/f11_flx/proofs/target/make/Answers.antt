@@ -4,5 +4,6 @@ use Rattle.f11_flx.proofs.target.make.Goals as goal
 
 pub returns-clause-made : goal.returns-clause-made
 returns-clause-made g c =
-    makes g.E.Device.disk c.args.rt.now c.create.new.self c.args.name.now c.args.blocks c.args.date _ _ c.create.result c.words.ensures.name (omega (arith, c.if-blocks-gt-MOST.false)) c.create.ensures.answers
+    makes g.E.Device.disk c.args.rt.now c.create.new.self c.args.name.now c.args.blocks c.args.date _ _ c.create.result c.words.ensures.name
+    (omega (arith, c.if-blocks-gt-MOST.false)) c.create.ensures.answers
     c.create.ensures.went c.create.ensures.created

@@ -9,5 +9,7 @@ pub returns-in-Within-clause-reads : goal.returns-in-Within-clause-reads
 returns-in-Within-clause-reads c =
     let left = c.in-Within.left in
     let pad = c.in-Within.pad in
-    subst (λ (p : Place). ReadsByte c.args.layout p (place.Within (left - 1) pad) c.args.byte c.args.rest (Some c.args.byte)) (sym c.in-Within.is)
-    (reads-within c.args.layout left pad c.args.byte c.args.rest (sym (ap is_ending c.in-Within.is) ∙ c.requires.reads) (omega (arith, c.requires.wanted, ap wanted_at c.in-Within.is)))
+    subst (λ (p : Place). ReadsByte c.args.layout p (place.Within (left - 1) pad) c.args.byte c.args.rest (Some c.args.byte))
+    (sym c.in-Within.is)
+    (reads-within c.args.layout left pad c.args.byte c.args.rest (sym (ap is_ending c.in-Within.is) ∙ c.requires.reads)
+    (omega (arith, c.requires.wanted, ap wanted_at c.in-Within.is)))

@@ -18,7 +18,8 @@ returns-then-is_home_block-clause-found g c =
     let valid = subst (λ n. IsHomeBlock c.read.new.into n) c.blocks-blocks.ensures.count (c.if-is_home_block.ensures.0 refl) in
     record {
       is_home = λ honest.
-          let reads = candidate_read _ _ c.loop-k.k _ _ c.read.new.into looked c.candidate_lbn-lbn.ensures c.in_ok-read.ensures.reads.gives honest in
+          let reads = candidate_read _ _ c.loop-k.k _ _ c.read.new.into looked c.candidate_lbn-lbn.ensures c.in_ok-read.ensures.reads.gives
+          honest in
           IsHomeOf-first _ c.loop-k.k c.read.new.into _ (c.loop-k.invariant.none honest) reads valid fields;
       sound = record {
         block = c.read.new.into;
@@ -26,15 +27,18 @@ returns-then-is_home_block-clause-found g c =
         fields = fields ∙ ap (λ lbn. fields_of lbn c.read.new.into) (sym place);
         within = omega (arith, place, below);
       };
-      looked = looked_within (looked_more looked (looked_read _ _ c.in_ok-read.ensures.reads.counts)) (omega (arith, ap (λ lbn. lbn / 256) place, candidate-number c.loop-k.k));
+      looked = looked_within (looked_more looked (looked_read _ _ c.in_ok-read.ensures.reads.counts))
+          (omega (arith, ap (λ lbn. lbn / 256) place, candidate-number c.loop-k.k));
     }
 
 pub loop-k-preserved : goal.loop-k-preserved
 loop-k-preserved g c = record {
   none = λ honest.
-      let reads = candidate_read _ _ c.loop-k.k _ _ c.read.new.into c.loop-k.invariant.looked c.candidate_lbn-lbn.ensures c.in_ok-read.ensures.reads.gives honest in
+      let reads = candidate_read _ _ c.loop-k.k _ _ c.read.new.into c.loop-k.invariant.looked c.candidate_lbn-lbn.ensures
+      c.in_ok-read.ensures.reads.gives honest in
       NoneBelow-more _ c.loop-k.k c.read.new.into (c.loop-k.invariant.none honest) reads
-      (λ valid. both_ways false refl (c.if-is_home_block.ensures.1 (subst (λ n. IsHomeBlock c.read.new.into n) (sym c.blocks-blocks.ensures.count) valid)));
+      (λ valid. both_ways false refl
+      (c.if-is_home_block.ensures.1 (subst (λ n. IsHomeBlock c.read.new.into n) (sym c.blocks-blocks.ensures.count) valid)));
   looked = looked_more c.loop-k.invariant.looked (looked_read _ _ c.in_ok-read.ensures.reads.counts);
 }
 

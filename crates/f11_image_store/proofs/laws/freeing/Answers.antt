@@ -2,7 +2,8 @@ use Rattle.f11_image_store.proofs.FreeingLemmas.{orphan-killed, dead-freed, unna
 use Rattle.f11_image_store.proofs.laws.freeing.Goals as goal
 
 pub returns-clause-orphan : goal.returns-clause-orphan
-returns-clause-orphan c = λ image home n block is live fileless dead sequence. orphan-killed image home n is block live fileless dead sequence
+returns-clause-orphan c =
+    λ image home n block is live fileless dead sequence. orphan-killed image home n is block live fileless dead sequence
 
 pub returns-clause-slot : goal.returns-clause-slot
 returns-clause-slot c = λ image home n after is dead bit. dead-freed image home n is after dead bit

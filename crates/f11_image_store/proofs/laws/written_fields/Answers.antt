@@ -1,4 +1,5 @@
-use Rattle.f11_image_store.proofs.FieldLemmas.{attributes-replaced, ident-replaced, protection-replaced, delete-marked, contiguous-cleared, contiguous-set}
+use Rattle.f11_image_store.proofs.FieldLemmas.{attributes-replaced, ident-replaced, protection-replaced, delete-marked, contiguous-cleared}
+use Rattle.f11_image_store.proofs.FieldLemmas.{contiguous-set}
 use Rattle.f11_image_store.proofs.laws.written_fields.Goals as goal
 
 pub returns : goal.returns

@@ -7,7 +7,13 @@ use Rattle.f11_index.proofs.blocks.push_run.Goals as goal
 
 pub push_reserved-requires : goal.push_reserved-requires
 push_reserved-requires c =
-    omega (arith, c.loop-i.headers.ok.0, ap length c.loop-i.invariant.pushed, length-append c.args.headers.now.items (range_with_len c.args.lbn c.loop-i.i), length-range_with_len c.args.lbn c.loop-i.i)
+    omega (
+      arith,
+      c.loop-i.headers.ok.0,
+      ap length c.loop-i.invariant.pushed,
+      length-append c.args.headers.now.items (range_with_len c.args.lbn c.loop-i.i),
+      length-range_with_len c.args.lbn c.loop-i.i,
+    )
 
 pub loop-i-preserved : goal.loop-i-preserved
 loop-i-preserved c = record {

@@ -22,7 +22,8 @@ loop-i-preserved g c =
     let now = g.D.Device.disk c.loop-i.device in
     let loop = c.loop-i.invariant in
     let reads = c.in_ok-read.ensures.reads in
-    let lbn : c.index_lbn.result + c.loop-i.i ≡ c.args.home.now.index_lbn + c.loop-i.i = ap (λ (n : ℕ). n + c.loop-i.i) c.index_lbn.ensures in
+    let lbn : c.index_lbn.result + c.loop-i.i ≡ c.args.home.now.index_lbn + c.loop-i.i = ap (λ (n : ℕ). n + c.loop-i.i) c.index_lbn.ensures
+    in
     record {
       size = omega (arith, ap length c.push_reserved.ensures.items, length-append c.loop-i.bitmap.items (c.read.new.into ∷ []), loop.size);
       room = omega (arith, c.push_reserved.ensures.capacity, loop.room);
@@ -32,7 +33,8 @@ loop-i-preserved g c =
           ∙ image_block-read now.image (c.index_lbn.result + c.loop-i.i) c.read.new.into (reads.gives (loop.looked.honest ∙ honest)) in
           c.push_reserved.ensures.items ∙ ap (λ (xs : List (List ℕ)). xs ++ c.read.new.into ∷ []) (loop.blocks honest)
           ∙ ap (λ (b : List ℕ). map (image_block old.image) (range_with_len c.args.home.now.index_lbn c.loop-i.i) ++ b ∷ []) (sym here)
-          ∙ sym (map-range_with_len_more (image_block old.image) c.args.home.now.index_lbn c.loop-i.i (c.index_lbn.result + c.loop-i.i) (sym lbn));
+          ∙ sym (map-range_with_len_more (image_block old.image) c.args.home.now.index_lbn c.loop-i.i (c.index_lbn.result + c.loop-i.i)
+          (sym lbn));
       looked = looked_more loop.looked (looked_read _ _ reads.counts);
     }
 

@@ -22,7 +22,8 @@ returns-then-not-branch-clause-misfits g c = λ _.
     let reads = c.in_ok-read.ensures.reads in
     let end : c.blocks-2.result ≡ length old.image = c.blocks-2.ensures.count ∙ ap (λ (d : Disk). length d.image) reads.counts in
     let bad : ¬ FitFrom c.args.home.now c.blocks-2.result c.args.blocks.now.places (blocks_named c.read.new.into) =
-    subst (λ b. AddsIf b c.args.home.now c.blocks-2.result (blocks_named c.read.new.into) c.args.blocks.now c.add.new.self) c.if-not-branch.true c.in_ok-add.ensures.adds in
+    subst (λ b. AddsIf b c.args.home.now c.blocks-2.result (blocks_named c.read.new.into) c.args.blocks.now c.add.new.self)
+    c.if-not-branch.true c.in_ok-add.ensures.adds in
     record {
       misfits = λ honest may.
           let here = image_block-read old.image c.args.due.lbn c.read.new.into (reads.gives honest) in
@@ -37,18 +38,24 @@ returns-clause-steps g c =
     let old = g.D.Device.disk c.args.device.now in
     let reads = c.in_ok-read.ensures.reads in
     let end : c.blocks-2.result ≡ length old.image = c.blocks-2.ensures.count ∙ ap (λ (d : Disk). length d.image) reads.counts in
-    let added = subst (λ b. AddsIf b c.args.home.now c.blocks-2.result (blocks_named c.read.new.into) c.args.blocks.now c.add.new.self) c.if-not-branch.false c.in_ok-add.ensures.adds in
+    let added = subst (λ b. AddsIf b c.args.home.now c.blocks-2.result (blocks_named c.read.new.into) c.args.blocks.now c.add.new.self)
+    c.if-not-branch.false c.in_ok-add.ensures.adds in
     let link_is : c.link.result ≡ link_of c.read.new.into = c.link.ensures ∙ ap link c.map.ensures in
     IfOk-weaker c.next_due.result (λ next. IsNextDue c.deref.result.now c.link.result next) _ (λ next is.
     let next_is : IsNextDue c.add.new.self.headers.items (link_of c.read.new.into) next =
-    subst (λ (h : List ℕ). IsNextDue h (link_of c.read.new.into) next) c.deref.ensures.value (subst (λ (i : FileId). IsNextDue c.deref.result.now i next) link_is is) in
+    subst (λ (h : List ℕ). IsNextDue h (link_of c.read.new.into) next) c.deref.ensures.value
+    (subst (λ (i : FileId). IsNextDue c.deref.result.now i next) link_is is) in
     record {
       header = c.read.new.into;
       read = λ honest. image_block-read old.image c.args.due.lbn c.read.new.into (reads.gives honest);
       may = record {
         is_due = c.if-not-is_header_due.ensures.0 refl;
         fit = subst (λ (n : ℕ). FitFrom c.args.home.now n c.args.blocks.now.places (blocks_named c.read.new.into)) end added.1;
-        linked = omega (arith, linked-next c.add.new.self.headers.items (link_of c.read.new.into) next next_is, ap length added.0.headers_are);
+        linked = omega (
+          arith,
+          linked-next c.add.new.self.headers.items (link_of c.read.new.into) next next_is,
+          ap length added.0.headers_are,
+        );
       };
       adds = added.0;
       few = c.in_ok-add.ensures.few;
@@ -61,14 +68,25 @@ unfolding link_of
 returns-clause-misfits g c = λ is.
     let old = g.D.Device.disk c.args.device.now in
     let reads = c.in_ok-read.ensures.reads in
-    let added = subst (λ b. AddsIf b c.args.home.now c.blocks-2.result (blocks_named c.read.new.into) c.args.blocks.now c.add.new.self) c.if-not-branch.false c.in_ok-add.ensures.adds in
+    let added = subst (λ b. AddsIf b c.args.home.now c.blocks-2.result (blocks_named c.read.new.into) c.args.blocks.now c.add.new.self)
+    c.if-not-branch.false c.in_ok-add.ensures.adds in
     let link_is : c.link.result ≡ link_of c.read.new.into = c.link.ensures ∙ ap link c.map.ensures in
-    let past = (subst (λ r. IfErr r (λ fault. (fault ≡ Misplaced) × (length c.deref.result.now < c.link.result.number))) is c.next_due.ensures.misplaced).1 in
+    let past = (subst (λ r. IfErr r (λ fault. (fault ≡ Misplaced) × (length c.deref.result.now < c.link.result.number))) is
+    c.next_due.ensures.misplaced).1 in
     record {
       misfits = λ honest may.
           let here = image_block-read old.image c.args.due.lbn c.read.new.into (reads.gives honest) in
-          let linked : (link_of c.read.new.into).number ≤ length (headers_with c.args.home.now (blocks_named c.read.new.into) c.args.blocks.now.places c.args.blocks.now.headers.items) =
-          subst (λ (b : List ℕ). (link_of b).number ≤ length (headers_with c.args.home.now (blocks_named b) c.args.blocks.now.places c.args.blocks.now.headers.items)) here may.linked in
-          absurd (omega (arith, linked, past, ap (λ (i : FileId). i.number) link_is, ap length c.deref.ensures.value, ap length added.0.headers_are));
+          let linked : (link_of c.read.new.into).number ≤ length
+          (headers_with c.args.home.now (blocks_named c.read.new.into) c.args.blocks.now.places c.args.blocks.now.headers.items) =
+          subst (λ (b : List ℕ). (link_of b).number ≤ length
+          (headers_with c.args.home.now (blocks_named b) c.args.blocks.now.places c.args.blocks.now.headers.items)) here may.linked in
+          absurd (omega (
+            arith,
+            linked,
+            past,
+            ap (λ (i : FileId). i.number) link_is,
+            ap length c.deref.ensures.value,
+            ap length added.0.headers_are,
+          ));
       looked = looked_read _ _ reads.counts;
     }

@@ -19,4 +19,5 @@ returns-in_err-append_to-clause-unchanged c =
 pub returns-clause-ok : goal.returns-clause-ok
 returns-clause-ok c =
     let lent = c.map_mut.ensures.area ∙ ap map_area c.new-header.ensures.block in
-    AppendsBlocks-sealed c.args.block.now _ _ _ _ _ c.told-block c.requires.header lent (search rules) c.append_to.ensures.rest (c.in_ok-append_to.ensures.pointers refl) (c.in_ok-append_to.ensures.blocks refl)
+    AppendsBlocks-sealed c.args.block.now _ _ _ _ _ c.told-block c.requires.header lent (search rules) c.append_to.ensures.rest
+    (c.in_ok-append_to.ensures.pointers refl) (c.in_ok-append_to.ensures.blocks refl)

@@ -19,4 +19,5 @@ returns-in_err-append_runs_to-clause-unchanged c =
 pub returns-clause-ok : goal.returns-clause-ok
 returns-clause-ok c =
     let lent = c.map_mut.ensures.area ∙ ap map_area c.new-header.ensures.block in
-    AppendsRuns-sealed c.args.block.now _ _ _ _ _ c.told-block c.requires.header lent (search rules) c.append_runs_to.ensures.rest (c.in_ok-append_runs_to.ensures.pointers refl) (c.in_ok-append_runs_to.ensures.blocks refl)
+    AppendsRuns-sealed c.args.block.now _ _ _ _ _ c.told-block c.requires.header lent (search rules) c.append_runs_to.ensures.rest
+    (c.in_ok-append_runs_to.ensures.pointers refl) (c.in_ok-append_runs_to.ensures.blocks refl)

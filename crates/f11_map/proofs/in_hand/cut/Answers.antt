@@ -14,4 +14,7 @@ cut_to-requires c =
 pub returns : goal.returns
 returns c =
     let lent = c.map_mut.ensures.area ∙ ap map_area c.new-header.ensures.block in
-    record { cuts = CutsBlocks-sealed c.args.block.now _ _ _ _ c.told-block c.requires.header lent (search rules) c.cut_to.ensures.rest c.cut_to.ensures.pointers c.cut_to.ensures.blocks }
+    record {
+      cuts = CutsBlocks-sealed c.args.block.now _ _ _ _ c.told-block c.requires.header lent (search rules) c.cut_to.ensures.rest
+          c.cut_to.ensures.pointers c.cut_to.ensures.blocks;
+    }

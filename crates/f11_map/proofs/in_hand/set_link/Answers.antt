@@ -14,4 +14,7 @@ link_to-requires c =
 pub returns : goal.returns
 returns c =
     let lent = c.map_mut.ensures.area ∙ ap map_area c.new-header.ensures.block in
-    record { sets = SetsLink-sealed c.args.block.now _ _ _ _ c.told-block c.requires.header lent (search rules) c.link_to.ensures.link c.link_to.ensures.pointers }
+    record {
+      sets = SetsLink-sealed c.args.block.now _ _ _ _ c.told-block c.requires.header lent (search rules) c.link_to.ensures.link
+          c.link_to.ensures.pointers;
+    }

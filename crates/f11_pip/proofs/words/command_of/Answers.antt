@@ -18,30 +18,39 @@ returns-in-Some-name-default-clause-name c text met =
 pub returns-in-Some-rights-default-clause-rights : goal.returns-in-Some-rights-default-clause-rights
 returns-in-Some-rights-default-clause-rights c caller owner word met =
     c.rights_of.ensures.rights caller owner word (
-      first_value-rows (found_of c.in-Some-rights-default.given.now) (codes "uic") ∙ first_of-met _ _ _ _ caller c.in-Some-rights-default.ensures.rows met.0,
-      first_value-rows (found_of c.in-Some-rights-default.given.now) (codes "owner") ∙ first_of-met _ _ _ _ owner c.in-Some-rights-default.ensures.rows met.1,
-      first_value-rows (found_of c.in-Some-rights-default.given.now) (codes "word") ∙ first_of-met _ _ _ _ word c.in-Some-rights-default.ensures.rows met.2,
+      first_value-rows (found_of c.in-Some-rights-default.given.now) (codes "uic")
+          ∙ first_of-met _ _ _ _ caller c.in-Some-rights-default.ensures.rows met.0,
+      first_value-rows (found_of c.in-Some-rights-default.given.now) (codes "owner")
+          ∙ first_of-met _ _ _ _ owner c.in-Some-rights-default.ensures.rows met.1,
+      first_value-rows (found_of c.in-Some-rights-default.given.now) (codes "word")
+          ∙ first_of-met _ _ _ _ word c.in-Some-rights-default.ensures.rows met.2,
     )
 
 pub returns-in-Some-dump-default-clause-dump : goal.returns-in-Some-dump-default-clause-dump
 returns-in-Some-dump-default-clause-dump c image number met =
     c.dump_of.ensures.dump image number (
-      first_value-rows (found_of c.in-Some-dump-default.given.now) (codes "image") ∙ first_of-met _ _ _ _ image c.in-Some-dump-default.ensures.rows met.0,
-      first_value-rows (found_of c.in-Some-dump-default.given.now) (codes "number") ∙ first_of-met _ _ _ _ number c.in-Some-dump-default.ensures.rows met.1,
+      first_value-rows (found_of c.in-Some-dump-default.given.now) (codes "image")
+          ∙ first_of-met _ _ _ _ image c.in-Some-dump-default.ensures.rows met.0,
+      first_value-rows (found_of c.in-Some-dump-default.given.now) (codes "number")
+          ∙ first_of-met _ _ _ _ number c.in-Some-dump-default.ensures.rows met.1,
     )
 
 pub returns-in-Some-run-default-clause-run : goal.returns-in-Some-run-default-clause-run
 returns-in-Some-run-default-clause-run c image script met =
     c.run_of.ensures.run image script (
-      first_value-rows (found_of c.in-Some-run-default.given.now) (codes "image") ∙ first_of-met _ _ _ _ image c.in-Some-run-default.ensures.rows met.0,
-      first_value-rows (found_of c.in-Some-run-default.given.now) (codes "script") ∙ first_of-met _ _ _ _ script c.in-Some-run-default.ensures.rows met.1,
+      first_value-rows (found_of c.in-Some-run-default.given.now) (codes "image")
+          ∙ first_of-met _ _ _ _ image c.in-Some-run-default.ensures.rows met.0,
+      first_value-rows (found_of c.in-Some-run-default.given.now) (codes "script")
+          ∙ first_of-met _ _ _ _ script c.in-Some-run-default.ensures.rows met.1,
     )
 
 pub returns-in-Some-vfy-default-clause-vfy : goal.returns-in-Some-vfy-default-clause-vfy
 returns-in-Some-vfy-default-clause-vfy c update image met =
     c.vfy_of.ensures.vfy update image (
-      first_value-rows (found_of c.in-Some-vfy-default.given.now) (codes "image") ∙ first_of-met _ _ _ _ image c.in-Some-vfy-default.ensures.rows met.0,
-      one_text-rows (found_of c.in-Some-vfy-default.given.now) (codes "update") ∙ one_of-met _ _ _ _ _ c.in-Some-vfy-default.ensures.rows met.1,
+      first_value-rows (found_of c.in-Some-vfy-default.given.now) (codes "image")
+          ∙ first_of-met _ _ _ _ image c.in-Some-vfy-default.ensures.rows met.0,
+      one_text-rows (found_of c.in-Some-vfy-default.given.now) (codes "update")
+          ∙ one_of-met _ _ _ _ _ c.in-Some-vfy-default.ensures.rows met.1,
     )
 
 pub returns-in-Some-text-default-2-clause-rt_list : goal.returns-in-Some-text-default-2-clause-rt_list

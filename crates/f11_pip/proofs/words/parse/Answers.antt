@@ -19,7 +19,9 @@ use Rattle.f11_pip.specs.Words.{
 }
 use Rattle.f11_pip.proofs.CopyLemmas.{subcommand_of-from_rt, subcommand_of-to_rt}
 use Rattle.f11_pip.proofs.LineLemmas.{takes-line, subcommand_of-rt_init}
-use Rattle.f11_pip.proofs.WordsLemmas.{failure_out_of_memory, match_ok, no_memory_or_none, none_or_no_memory, subcommand_of-rt_list, subcommand_of-rt_vfy, subcommand_of-run, subcommand_of-update, subcommand_of-vfy, subcommand_of-dump, subcommand_of-home, subcommand_of-name, subcommand_of-rights, subcommand_of-none, is_simple-program}
+use Rattle.f11_pip.proofs.WordsLemmas.{failure_out_of_memory, match_ok, no_memory_or_none, none_or_no_memory, subcommand_of-rt_list}
+use Rattle.f11_pip.proofs.WordsLemmas.{subcommand_of-rt_vfy, subcommand_of-run, subcommand_of-update, subcommand_of-vfy, subcommand_of-dump}
+use Rattle.f11_pip.proofs.WordsLemmas.{subcommand_of-home, subcommand_of-name, subcommand_of-rights, subcommand_of-none, is_simple-program}
 use Rattle.f11_pip.proofs.words.parse.Goals as goal
 
 pub returns-in_err-matches-clause-asks : goal.returns-in_err-matches-clause-asks
@@ -33,51 +35,73 @@ returns-clause-asks g c (home_line word) line =
     let simple = ap is_simple c.in_ok-program.ensures ∙ is_simple-program in
     let met = (c.in_ok-matches.ensures.matches simple).1 ∙ ap₂ subcommand_of c.in_ok-program.ensures line.is_line in
     none_or_no_memory (Asks (home_line word)) (IsUnreadable (home_line word)) c.command_of.result
-    (match_ok _ _ c.command_of.result (c.command_of.ensures.home word (ap (command_and_word (codes "image")) met ∙ subcommand_of-home line.program word (line.plain 0 [] (omega arith)))))
+    (match_ok _ _ c.command_of.result
+    (c.command_of.ensures.home word
+    (ap (command_and_word (codes "image")) met ∙ subcommand_of-home line.program word (line.plain 0 [] (omega arith)))))
 returns-clause-asks g c (name_line word) line =
     let simple = ap is_simple c.in_ok-program.ensures ∙ is_simple-program in
     let met = (c.in_ok-matches.ensures.matches simple).1 ∙ ap₂ subcommand_of c.in_ok-program.ensures line.is_line in
     none_or_no_memory (Asks (name_line word)) (IsUnreadable (name_line word)) c.command_of.result
-    (match_ok _ _ c.command_of.result (c.command_of.ensures.name word (ap (command_and_word (codes "text")) met ∙ subcommand_of-name line.program word (line.plain 0 [] (omega arith)))))
+    (match_ok _ _ c.command_of.result
+    (c.command_of.ensures.name word
+    (ap (command_and_word (codes "text")) met ∙ subcommand_of-name line.program word (line.plain 0 [] (omega arith)))))
 returns-clause-asks g c (rt_list_line word) line =
     let simple = ap is_simple c.in_ok-program.ensures ∙ is_simple-program in
     let met = (c.in_ok-matches.ensures.matches simple).1 ∙ ap₂ subcommand_of c.in_ok-program.ensures line.is_line in
     none_or_no_memory (Asks (rt_list_line word)) (IsUnreadable (rt_list_line word)) c.command_of.result
-    (match_ok _ _ c.command_of.result (c.command_of.ensures.rt_list word (ap (command_and_word (codes "image")) met ∙ subcommand_of-rt_list line.program word (line.plain 0 [] (omega arith)))))
+    (match_ok _ _ c.command_of.result
+    (c.command_of.ensures.rt_list word
+    (ap (command_and_word (codes "image")) met ∙ subcommand_of-rt_list line.program word (line.plain 0 [] (omega arith)))))
 returns-clause-asks g c (rt_vfy_line word) line =
     let simple = ap is_simple c.in_ok-program.ensures ∙ is_simple-program in
     let met = (c.in_ok-matches.ensures.matches simple).1 ∙ ap₂ subcommand_of c.in_ok-program.ensures line.is_line in
     none_or_no_memory (Asks (rt_vfy_line word)) (IsUnreadable (rt_vfy_line word)) c.command_of.result
-    (match_ok _ _ c.command_of.result (c.command_of.ensures.rt_vfy word (ap (command_and_word (codes "image")) met ∙ subcommand_of-rt_vfy line.program word (line.plain 0 [] (omega arith)))))
+    (match_ok _ _ c.command_of.result
+    (c.command_of.ensures.rt_vfy word
+    (ap (command_and_word (codes "image")) met ∙ subcommand_of-rt_vfy line.program word (line.plain 0 [] (omega arith)))))
 returns-clause-asks g c (vfy_line word) line =
     let simple = ap is_simple c.in_ok-program.ensures ∙ is_simple-program in
     let met = (c.in_ok-matches.ensures.matches simple).1 ∙ ap₂ subcommand_of c.in_ok-program.ensures line.is_line in
     none_or_no_memory (Asks (vfy_line word)) (IsUnreadable (vfy_line word)) c.command_of.result
     (let these = subcommand_of-vfy line.program word (line.plain 0 [] (omega arith)) in
-    match_ok _ _ c.command_of.result (c.command_of.ensures.vfy false word (ap (command_and_word (codes "image")) met ∙ these.0, ap (command_and_flag (codes "update")) met ∙ these.1)))
+    match_ok _ _ c.command_of.result
+    (c.command_of.ensures.vfy false word
+    (ap (command_and_word (codes "image")) met ∙ these.0, ap (command_and_flag (codes "update")) met ∙ these.1)))
 returns-clause-asks g c (update_line word) line =
     let simple = ap is_simple c.in_ok-program.ensures ∙ is_simple-program in
     let met = (c.in_ok-matches.ensures.matches simple).1 ∙ ap₂ subcommand_of c.in_ok-program.ensures line.is_line in
     none_or_no_memory (Asks (update_line word)) (IsUnreadable (update_line word)) c.command_of.result
     (let these = subcommand_of-update line.program word (line.plain 0 [] (omega arith)) in
-    match_ok _ _ c.command_of.result (c.command_of.ensures.vfy true word (ap (command_and_word (codes "image")) met ∙ these.0, ap (command_and_flag (codes "update")) met ∙ these.1)))
+    match_ok _ _ c.command_of.result
+    (c.command_of.ensures.vfy true word (
+      ap (command_and_word (codes "image")) met ∙ these.0,
+      ap (command_and_flag (codes "update")) met
+          ∙ these.1,
+    )))
 returns-clause-asks g c (dump_line image number) line =
     let simple = ap is_simple c.in_ok-program.ensures ∙ is_simple-program in
     let met = (c.in_ok-matches.ensures.matches simple).1 ∙ ap₂ subcommand_of c.in_ok-program.ensures line.is_line in
     none_or_no_memory (Asks (dump_line image number)) (IsUnreadable (dump_line image number)) c.command_of.result
     (let these = subcommand_of-dump line.program image number (line.plain 0 [] (omega arith)) (line.plain 1 [] (omega arith)) in
-    c.command_of.ensures.dump image number (ap (command_and_word (codes "image")) met ∙ these.0, ap (command_and_word (codes "number")) met ∙ these.1))
+    c.command_of.ensures.dump image number (
+      ap (command_and_word (codes "image")) met ∙ these.0,
+      ap (command_and_word (codes "number")) met
+          ∙ these.1,
+    ))
 returns-clause-asks g c (run_line image script) line =
     let simple = ap is_simple c.in_ok-program.ensures ∙ is_simple-program in
     let met = (c.in_ok-matches.ensures.matches simple).1 ∙ ap₂ subcommand_of c.in_ok-program.ensures line.is_line in
     none_or_no_memory (Asks (run_line image script)) (IsUnreadable (run_line image script)) c.command_of.result
     (let these = subcommand_of-run line.program image script (line.plain 0 [] (omega arith)) (line.plain 1 [] (omega arith)) in
-    match_ok _ _ c.command_of.result (c.command_of.ensures.run image script (ap (command_and_word (codes "image")) met ∙ these.0, ap (command_and_word (codes "script")) met ∙ these.1)))
+    match_ok _ _ c.command_of.result
+    (c.command_of.ensures.run image script
+    (ap (command_and_word (codes "image")) met ∙ these.0, ap (command_and_word (codes "script")) met ∙ these.1)))
 returns-clause-asks g c (rights_line caller owner word) line =
     let simple = ap is_simple c.in_ok-program.ensures ∙ is_simple-program in
     let met = (c.in_ok-matches.ensures.matches simple).1 ∙ ap₂ subcommand_of c.in_ok-program.ensures line.is_line in
     none_or_no_memory (Asks (rights_line caller owner word)) (IsUnreadable (rights_line caller owner word)) c.command_of.result
-    (let these = subcommand_of-rights line.program caller owner word (line.plain 0 [] (omega arith)) (line.plain 1 [] (omega arith)) (line.plain 2 [] (omega arith)) in
+    (let these = subcommand_of-rights line.program caller owner word (line.plain 0 [] (omega arith)) (line.plain 1 [] (omega arith))
+    (line.plain 2 [] (omega arith)) in
     c.command_of.ensures.rights caller owner word (
       ap (command_and_word (codes "uic")) met ∙ these.0,
       ap (command_and_word (codes "owner")) met ∙ these.1,
@@ -88,22 +112,26 @@ returns-clause-asks g c (rt_init_line blocks segments image) line =
     let met = (c.in_ok-matches.ensures.matches simple).1 ∙ ap₂ subcommand_of c.in_ok-program.ensures line.is_line in
     none_or_no_memory (Asks (rt_init_line blocks segments image)) (IsUnreadable (rt_init_line blocks segments image)) c.command_of.result
     (c.command_of.ensures.rt_init blocks segments image (ap (command_and_words rt_init_names) met
-    ∙ subcommand_of-rt_init line.program blocks segments image (line.plain 0 [] (omega arith)) (line.plain 1 [] (omega arith)) (line.plain 2 [] (omega arith))))
+    ∙ subcommand_of-rt_init line.program blocks segments image (line.plain 0 [] (omega arith)) (line.plain 1 [] (omega arith))
+    (line.plain 2 [] (omega arith))))
 returns-clause-asks g c (from_rt_line mode rt rt_name image uic name) line =
     let simple = ap is_simple c.in_ok-program.ensures ∙ is_simple-program in
     let met = (c.in_ok-matches.ensures.matches simple).1 ∙ ap₂ subcommand_of c.in_ok-program.ensures line.is_line in
-    none_or_no_memory (Asks (from_rt_line mode rt rt_name image uic name)) (IsUnreadable (from_rt_line mode rt rt_name image uic name)) c.command_of.result
+    none_or_no_memory (Asks (from_rt_line mode rt rt_name image uic name)) (IsUnreadable (from_rt_line mode rt rt_name image uic name))
+    c.command_of.result
     (c.command_of.ensures.from_rt mode rt rt_name image uic name (ap (command_and_words copy_names) met
     ∙ subcommand_of-from_rt line.program mode rt rt_name image uic name line.plain))
 returns-clause-asks g c (to_rt_line mode image uic name rt rt_name) line =
     let simple = ap is_simple c.in_ok-program.ensures ∙ is_simple-program in
     let met = (c.in_ok-matches.ensures.matches simple).1 ∙ ap₂ subcommand_of c.in_ok-program.ensures line.is_line in
-    none_or_no_memory (Asks (to_rt_line mode image uic name rt rt_name)) (IsUnreadable (to_rt_line mode image uic name rt rt_name)) c.command_of.result
+    none_or_no_memory (Asks (to_rt_line mode image uic name rt rt_name)) (IsUnreadable (to_rt_line mode image uic name rt rt_name))
+    c.command_of.result
     (c.command_of.ensures.to_rt mode image uic name rt rt_name (ap (command_and_words copy_names) met
     ∙ subcommand_of-to_rt line.program mode image uic name rt rt_name line.plain))
 
 pub returns-clause-none : goal.returns-clause-none
 returns-clause-none g c few =
     let simple = ap is_simple c.in_ok-program.ensures ∙ is_simple-program in
-    let met = (c.in_ok-matches.ensures.matches simple).1 ∙ ap (λ app. subcommand_of app (map g.S.AsStr.text c.args.words.now)) c.in_ok-program.ensures in
+    let met = (c.in_ok-matches.ensures.matches simple).1
+    ∙ ap (λ app. subcommand_of app (map g.S.AsStr.text c.args.words.now)) c.in_ok-program.ensures in
     c.command_of.ensures.none (met ∙ subcommand_of-none g.S.AsStr.text c.args.words.now few)

@@ -5,7 +5,9 @@ use Rattle.f11_rad50.proofs.file_name.is_name.Goals as goal
 
 pub returns-then-are_named : goal.returns-then-are_named
 returns-then-are_named c = (
-  λ yes. let v = c.is_version.ensures.0 yes in IsName-from_named c.args.first c.args.second c.args.third c.args.kind c.args.version (sym c.are_named.ensures ∙ c.if-are_named.true) v.0 v.1,
+  λ yes. let v = c.is_version.ensures.0 yes in
+      IsName-from_named c.args.first c.args.second c.args.third c.args.kind c.args.version (sym c.are_named.ensures ∙ c.if-are_named.true)
+      v.0 v.1,
   λ name. c.is_version.ensures.1 (named-from_IsName c.args.first c.args.second c.args.third c.args.kind c.args.version name).1,
 )
 

@@ -25,4 +25,5 @@ pub returns : goal.returns
 returns t c =
     let some : 0 < c.args.number = omega arith in
     rw (octal-step c.args.number some)
-    (IsPut-append c.args.into.now c.put_octal-last.new.into c.put.new.into (octal (c.args.number / 8)) ((48 + c.args.number % 8) ∷ []) c.args.at c.put_octal-last.result c.put.result (omega arith) c.put_octal-last.ensures c.put.ensures)
+    (IsPut-append c.args.into.now c.put_octal-last.new.into c.put.new.into (octal (c.args.number / 8)) ((48 + c.args.number % 8) ∷ [])
+    c.args.at c.put_octal-last.result c.put.result (omega arith) c.put_octal-last.ensures c.put.ensures)

@@ -1,4 +1,5 @@
-use Rattle.f11_runs.proofs.LockedLaws.{locked-begins, locked-stays, locked-is-read, end-is-served, locked-read-is, tidy-locks-hold, run-locks-hold}
+use Rattle.f11_runs.proofs.LockedLaws.{locked-begins, locked-stays, locked-is-read, end-is-served, locked-read-is, tidy-locks-hold}
+use Rattle.f11_runs.proofs.LockedLaws.{run-locks-hold}
 use Rattle.f11_runs.proofs.laws.locked.Goals as goal
 
 pub returns : goal.returns

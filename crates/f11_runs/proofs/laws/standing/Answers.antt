@@ -1,4 +1,5 @@
-use Rattle.f11_runs.proofs.StandingSteps.{unaccessed-stands, step-stands, run-stands, standing-is-empty, standing-run-is-tidy, accesses-stay}
+use Rattle.f11_runs.proofs.StandingSteps.{unaccessed-stands, step-stands, run-stands, standing-is-empty, standing-run-is-tidy}
+use Rattle.f11_runs.proofs.StandingSteps.{accesses-stay}
 use Rattle.f11_runs.proofs.laws.standing.Goals as goal
 
 pub returns : goal.returns

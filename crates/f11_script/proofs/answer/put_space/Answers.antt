@@ -2,4 +2,7 @@ use Rattle.f11_script.proofs.PieceLemmas.{Puts-then}
 use Rattle.f11_script.proofs.answer.put_space.Goals as goal
 
 pub returns : goal.returns
-returns c = Puts-then c.put.ensures (Puts-then c.put_number.ensures (Puts-then c.put-2.ensures (Puts-then c.put_number-2.ensures (Puts-then c.put-3.ensures (c.put_number-3.ensures)))))
+returns c =
+    Puts-then c.put.ensures
+    (Puts-then c.put_number.ensures
+    (Puts-then c.put-2.ensures (Puts-then c.put_number-2.ensures (Puts-then c.put-3.ensures (c.put_number-3.ensures)))))

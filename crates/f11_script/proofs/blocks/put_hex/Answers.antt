@@ -14,10 +14,14 @@ loop-k-preserved c =
     let so_far = c.loop-k.invariant in
     record {
       long = length-set c.loop-k.block c.loop-k.k c.hex_byte.result ∙ so_far.long;
-      written = below_more _ _ (λ k less. get_or-set_other c.loop-k.block c.loop-k.k k c.hex_byte.result 0 (λ same. omega (arith, same, less)) ∙ so_far.written k less)
-          (get_or-set_same c.loop-k.block c.loop-k.k c.hex_byte.result 0 (omega (arith, so_far.long, c.loop-k-test.true)) ∙ c.hex_byte.ensures);
+      written =
+          below_more _ _ (λ k less. get_or-set_other c.loop-k.block c.loop-k.k k c.hex_byte.result 0 (λ same. omega (arith, same, less))
+          ∙ so_far.written k less)
+          (get_or-set_same c.loop-k.block c.loop-k.k c.hex_byte.result 0 (omega (arith, so_far.long, c.loop-k-test.true))
+          ∙ c.hex_byte.ensures);
       zeros = λ k past within.
-          get_or-set_other c.loop-k.block c.loop-k.k k c.hex_byte.result 0 (λ same. omega (arith, same, past)) ∙ so_far.zeros k (omega (arith, past)) within;
+          get_or-set_other c.loop-k.block c.loop-k.k k c.hex_byte.result 0 (λ same. omega (arith, same, past))
+          ∙ so_far.zeros k (omega (arith, past)) within;
     }
 
 pub returns : goal.returns

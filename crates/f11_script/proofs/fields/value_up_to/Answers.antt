@@ -17,7 +17,8 @@ pub loop-digit-preserved : goal.loop-digit-preserved
 loop-digit-preserved c = record {
   digits = digits_so_far c.args.radix c.args.text.now c.loop-digit.digit-index c.digit_value-next.result c.loop-digit-test.true
       (sym c.digit_value-next.ensures) c.if-next-radix.false c.loop-digit.invariant.digits;
-  value_is = value_so_far c.args.radix c.args.text.now c.loop-digit.digit-index c.digit_value-next.result c.loop-digit.value c.loop-digit-test.true
+  value_is =
+      value_so_far c.args.radix c.args.text.now c.loop-digit.digit-index c.digit_value-next.result c.loop-digit.value c.loop-digit-test.true
       (sym c.digit_value-next.ensures) c.loop-digit.invariant.value_is;
   small = omega (arith, c.from.ensures, c.if-value-from.false);
 }

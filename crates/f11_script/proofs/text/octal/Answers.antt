@@ -15,7 +15,8 @@ loop-rest-init c = record {
 pub returns-then-rest-eq0-clause-digits : goal.returns-then-rest-eq0-clause-digits
 returns-then-rest-eq0-clause-digits c =
     let held = c.loop-rest.invariant in
-    octal_done c.args.number c.loop-rest.at c.loop-rest.rest c.loop-rest.digits held.some (omega (arith, held.few, held.six)) c.if-rest-eq0.true held.digits
+    octal_done c.args.number c.loop-rest.at c.loop-rest.rest c.loop-rest.digits held.some (omega (arith, held.few, held.six))
+    c.if-rest-eq0.true held.digits
 
 pub loop-rest-preserved : goal.loop-rest-preserved
 loop-rest-preserved c =
@@ -26,5 +27,6 @@ loop-rest-preserved c =
       few = omega arith;
       six = length-set c.loop-rest.digits _ _ ∙ held.six;
       below = below;
-      digits = octal_more c.args.number c.loop-rest.at c.loop-rest.rest c.loop-rest.digits held.some (omega (arith, held.few, held.six)) c.if-rest-eq0.false held.digits;
+      digits = octal_more c.args.number c.loop-rest.at c.loop-rest.rest c.loop-rest.digits held.some (omega (arith, held.few, held.six))
+          c.if-rest-eq0.false held.digits;
     }

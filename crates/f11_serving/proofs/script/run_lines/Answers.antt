@@ -7,7 +7,8 @@ returns g c = record {
   runs = (
     place_of g.R.Read.remaining c.serve_lines.new.script,
     subst
-        (λ (bytes : Option (List ℕ)). ServesScript g.S.Serves.served bytes (place_of g.R.Read.remaining c.serve_lines.new.script) c.args.service.now
+        (λ (bytes : Option (List ℕ)). ServesScript g.S.Serves.served bytes (place_of g.R.Read.remaining c.serve_lines.new.script)
+        c.args.service.now
         c.serve_lines.new.service (g.W.Write.contents c.args.writer.now) (g.W.Write.contents c.serve_lines.new.writer) c.serve_lines.result)
         c.new-script.ensures.bytes c.serve_lines.ensures.serves,
   );

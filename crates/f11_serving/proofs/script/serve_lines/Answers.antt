@@ -10,7 +10,10 @@ loop-error-init g c = so-far-none _ _ _ _ _ _ refl c.requires.begins
 pub returns-then-not-more : goal.returns-then-not-more
 returns-then-not-more g c =
     let t = rw c.if-not-more.true at c.in-Ok.ensures in
-    record { serves = so-far-ends _ _ _ (place_of g.R.Read.remaining c.read_line.new.self) _ _ _ _ _ _ _ _ c.loop-error.invariant t c.read_line.new.self.limited }
+    record {
+      serves = so-far-ends _ _ _ (place_of g.R.Read.remaining c.read_line.new.self) _ _ _ _ _ _ _ _ c.loop-error.invariant t
+          c.read_line.new.self.limited;
+    }
 
 pub returns-in-Err : goal.returns-in-Err
 returns-in-Err g c =

@@ -27,8 +27,20 @@ bits_of_union false false false true = (refl, refl, refl, refl)
 bits_of_union false false false false = (refl, refl, refl, refl)
 
 -- the result's number is that union
-union_is : (c : goal.After-union-3) → c.union-3.result.0 ≡ bit_or (bit_or (bit_or (if c.may.result then 1 else 0) (if c.may-2.result then 2 else 0)) (if c.may-3.result then 4 else 0)) (if c.may-4.result then 8 else 0)
-union_is c = rw (c.union-3.ensures tt, c.union-2.ensures tt, c.union.ensures tt, c.right_if-read.ensures, c.right_if-write.ensures, c.right_if-extend.ensures, c.right_if-delete.ensures)
+union_is : (c : goal.After-union-3)
+    → c.union-3.result.0 ≡ bit_or
+    (bit_or (bit_or (if c.may.result then 1 else 0) (if c.may-2.result then 2 else 0)) (if c.may-3.result then 4 else 0))
+    (if c.may-4.result then 8 else 0)
+union_is c =
+    rw (
+      c.union-3.ensures tt,
+      c.union-2.ensures tt,
+      c.union.ensures tt,
+      c.right_if-read.ensures,
+      c.right_if-write.ensures,
+      c.right_if-extend.ensures,
+      c.right_if-delete.ensures,
+    )
 
 pub returns-clause-exact : goal.returns-clause-exact
 returns-clause-exact c right.Read =

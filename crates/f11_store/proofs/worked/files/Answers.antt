@@ -2,4 +2,12 @@ use Rattle.f11_store.proofs.WorkedLemmas.{sequence_numbers, full_volume, deferre
 use Rattle.f11_store.proofs.worked.files.Goals as goal
 
 pub returns : goal.returns
-returns c = record { sequence_numbers = sequence_numbers; full_volume = full_volume; deferred_delete = deferred_delete; truncated_under_a_reader = truncated_under_a_reader; conflicts = conflicts }
+returns c =
+    record {
+      sequence_numbers = sequence_numbers;
+      full_volume = full_volume;
+      deferred_delete = deferred_delete;
+      truncated_under_a_reader =
+          truncated_under_a_reader;
+      conflicts = conflicts;
+    }

@@ -1,4 +1,5 @@
-use Rattle.f11_store.proofs.WorkedLagLemmas.{create_takes_one_header, extend_takes_what_it_asks, grow_index_clears_first, delete_leaves_others, release_frees_once}
+use Rattle.f11_store.proofs.WorkedLagLemmas.{create_takes_one_header, extend_takes_what_it_asks, grow_index_clears_first}
+use Rattle.f11_store.proofs.WorkedLagLemmas.{delete_leaves_others, release_frees_once}
 use Rattle.f11_store.proofs.worked.no_lags.Goals as goal
 
 pub returns : goal.returns

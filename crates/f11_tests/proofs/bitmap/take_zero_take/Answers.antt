@@ -19,5 +19,6 @@ take-requires-2-clause-storage g c =
     subst (IsFor c.take.new.self) (sym c.in_ok-write.ensures.writes.ok) (IsFor-write c.take.new.self _ true c.in-Some.lbn _ (λ honest.
     let before = sym takes.marked.went.honest ∙ honest in
     let first = takes.first before in
-    none_of_its_own _ _ _ _ c.take.ensures.same (first.each c.in-Some.lbn (omega arith) (omega (arith, first.some))) (c.requires.used before))
+    none_of_its_own _ _ _ _ c.take.ensures.same (first.each c.in-Some.lbn (omega arith) (omega (arith, first.some)))
+    (c.requires.used before))
     c.in_ok-lbn.ensures.storage)

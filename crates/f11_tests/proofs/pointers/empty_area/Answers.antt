@@ -8,7 +8,8 @@ use Rattle.f11_header.specs.MapFields.{IsMapArea, holds_pointers}
 use Rattle.f11_tests.proofs.pointers.empty_area.Goals as goal
 
 -- the map area of an empty header
-IsMapArea-blank_header : (id : FileId) (owner : Uic) (protection segment : ℕ) → IsMapArea (slice_range (blank_header id owner protection segment) 92 510)
+IsMapArea-blank_header : (id : FileId) (owner : Uic) (protection segment : ℕ)
+    → IsMapArea (slice_range (blank_header id owner protection segment) 92 510)
 unfolding zero_block holds_pointers
 IsMapArea-blank_header id owner protection segment = record { in_block = omega arith; fields = omega arith; pointers = refl }
 

@@ -12,4 +12,5 @@ returns-clause-shows c = λ t is.
     shows-chains t _ is.fit count to
     (c.in_ok-in_file.ensures.marked t is (subst (λ (z : List ℕ). NextsTo t z t.slots) (sym c.deref.ensures.value) to))
     (subst (λ (n : ℕ). Shows c.in_ok-linked.linked (λ m. sum_to (λ k. points_at c.in_ok-in_file.in_file nexts k m) n)) count
-    (subst (λ (z : List ℕ). Shows c.in_ok-linked.linked (λ m. sum_to (λ k. points_at c.in_ok-in_file.in_file z k m) (length z))) c.deref-2.ensures.value c.in_ok-linked.ensures.shows))
+    (subst (λ (z : List ℕ). Shows c.in_ok-linked.linked (λ m. sum_to (λ k. points_at c.in_ok-in_file.in_file z k m) (length z)))
+    c.deref-2.ensures.value c.in_ok-linked.ensures.shows))

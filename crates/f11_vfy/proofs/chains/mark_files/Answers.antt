@@ -16,7 +16,8 @@ loop-k-preserved c = record {
   ];
   closed = λ v l is. elim c.if-is_file.branch [
     | then-is_file w ↦ subst (IsClosed v) (sym w.marked-is) (w.walk.ensures.closed v l.fit is
-        (first_is v c.args.slots.now l c.loop-k.k (omega (arith, c.loop-k-test.true, c.requires.count)) unused_slot (c.is_file.ensures.0 w.if-is_file.true)) (c.loop-k.invariant.closed v l is))
+        (first_is v c.args.slots.now l c.loop-k.k (omega (arith, c.loop-k-test.true, c.requires.count)) unused_slot
+        (c.is_file.ensures.0 w.if-is_file.true)) (c.loop-k.invariant.closed v l is))
     | else-is_file w ↦ subst (IsClosed v) (sym w.marked-is) (c.loop-k.invariant.closed v l is)
   ];
   firsts = λ v l f low high x. elim c.if-is_file.branch [
@@ -27,7 +28,8 @@ loop-k-preserved c = record {
     | else-is_file w ↦ ap (λ m. has m f) w.marked-is ∙ elim (cases_lt f (c.loop-k.k + 1)) [
       | inl before ↦ c.loop-k.invariant.firsts v l f low (omega arith) x
       | inr here ↦ absurd (both_ways c.is_file.result w.if-is_file.false
-          (c.is_file.ensures.1 (is_first v c.args.slots.now l c.loop-k.k (omega (arith, c.loop-k-test.true, c.requires.count)) unused_slot (subst (IsFile v) (omega arith) x))))
+          (c.is_file.ensures.1 (is_first v c.args.slots.now l c.loop-k.k (omega (arith, c.loop-k-test.true, c.requires.count)) unused_slot
+          (subst (IsFile v) (omega arith) x))))
     ]
   ];
 }
@@ -37,5 +39,6 @@ returns-clause-marked c = λ v l is n. (
   (c.loop-k.invariant.closed v l is).sound n,
   λ h. held_marked v c.loop-k.marked (c.loop-k.invariant.closed v l is)
       (λ f x. c.loop-k.invariant.firsts v l f (l.fit.low f x.live.in_use)
-      (omega (arith, l.fit.high f x.live.in_use, l.keeps.count, c.loop-k-test.false, c.loop-k.auto.k-end, c.requires.count)) x) h.file n h.of,
+      (omega (arith, l.fit.high f x.live.in_use, l.keeps.count, c.loop-k-test.false, c.loop-k.auto.k-end, c.requires.count)) x) h.file n
+      h.of,
 )

@@ -16,16 +16,26 @@ loop-k-init c = record {
 
 pub loop-k-preserved : goal.loop-k-preserved
 loop-k-preserved c = record {
-  limit = elim c.if-links.branch [ then-links w ↦ ap (λ t. limit_of t.once) w.tally-is ∙ w.mark.ensures.limit ∙ c.loop-k.invariant.limit | else-links w ↦ ap (λ t. limit_of t.once) w.tally-is ∙ c.loop-k.invariant.limit ];
+  limit = elim c.if-links.branch [
+    | then-links w ↦ ap (λ t. limit_of t.once) w.tally-is ∙ w.mark.ensures.limit
+        ∙ c.loop-k.invariant.limit
+    | else-links w ↦ ap (λ t. limit_of t.once) w.tally-is ∙ c.loop-k.invariant.limit
+  ];
   shows = elim c.if-links.branch [
-    | then-links w ↦ subst (λ t. Shows t (λ m. sum_to (λ k. points_at c.args.in_file.now c.args.nexts.now k m) (c.loop-k.k + 1))) (sym w.tally-is)
+    | then-links w ↦ subst (λ t. Shows t (λ m. sum_to (λ k. points_at c.args.in_file.now c.args.nexts.now k m) (c.loop-k.k + 1)))
+        (sym w.tally-is)
         (shows_same _ _ _ (counted_yes c.args.in_file.now c.args.nexts.now c.loop-k.k (sym c.links.ensures ∙ w.if-links.true))
-        (subst (λ z. Shows w.mark.new.self (λ l. sum_to (λ k. points_at c.args.in_file.now c.args.nexts.now k l) c.loop-k.k + within z (z + 1) l)) w.from.ensures (w.mark.ensures.shows _ c.loop-k.invariant.shows)))
-    | else-links w ↦ subst (λ t. Shows t (λ m. sum_to (λ k. points_at c.args.in_file.now c.args.nexts.now k m) (c.loop-k.k + 1))) (sym w.tally-is)
-        (shows_same _ _ _ (counted_no c.args.in_file.now c.args.nexts.now c.loop-k.k (sym c.links.ensures ∙ w.if-links.false)) c.loop-k.invariant.shows)
+        (subst (λ z. Shows w.mark.new.self
+        (λ l. sum_to (λ k. points_at c.args.in_file.now c.args.nexts.now k l) c.loop-k.k + within z (z + 1) l)) w.from.ensures
+        (w.mark.ensures.shows _ c.loop-k.invariant.shows)))
+    | else-links w ↦ subst (λ t. Shows t (λ m. sum_to (λ k. points_at c.args.in_file.now c.args.nexts.now k m) (c.loop-k.k + 1)))
+        (sym w.tally-is)
+        (shows_same _ _ _ (counted_no c.args.in_file.now c.args.nexts.now c.loop-k.k (sym c.links.ensures ∙ w.if-links.false))
+        c.loop-k.invariant.shows)
   ];
 }
 
 pub returns-clause-shows : goal.returns-clause-shows
 returns-clause-shows c =
-    subst (λ n. Shows c.loop-k.tally (λ m. sum_to (λ k. points_at c.args.in_file.now c.args.nexts.now k m) n)) (omega (arith, c.loop-k-test.false, c.loop-k.auto.k-end)) c.loop-k.invariant.shows
+    subst (λ n. Shows c.loop-k.tally (λ m. sum_to (λ k. points_at c.args.in_file.now c.args.nexts.now k m) n))
+    (omega (arith, c.loop-k-test.false, c.loop-k.auto.k-end)) c.loop-k.invariant.shows

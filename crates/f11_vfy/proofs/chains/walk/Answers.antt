@@ -18,7 +18,8 @@ loop-preserved c = record {
   limit = c.insert.ensures.limit ∙ c.loop.invariant.limit;
   range = subst (λ z. z ≤ length c.args.nexts.now) (sym c.from-n.ensures) (c.requires.range (c.loop.n - 1));
   walks = λ v fit is f cl. subst (λ z. Walks v c.insert.new.self z (c.loop.counter + 1)) (sym c.from-n.ensures)
-      (walk_on v c.args.nexts.now c.loop.marked _ c.loop.n c.loop.counter fit is c.if-n-eq0.false c.insert.ensures.adds (c.loop.invariant.walks v fit is f cl));
+      (walk_on v c.args.nexts.now c.loop.marked _ c.loop.n c.loop.counter fit is c.if-n-eq0.false c.insert.ensures.adds
+      (c.loop.invariant.walks v fit is f cl));
   kept = λ k e. stays c.loop.marked _ c.loop.n c.insert.ensures.adds k (c.loop.invariant.kept k e);
   fresh = λ e. absurd (omega arith);
   begun = λ h. elim (cases_eq c.loop.counter 0) [

@@ -9,7 +9,8 @@ abbrev pub invariant-loop : goal.invariant-loop
 invariant-loop l = record {
   limit : limit_of l.marked ≡ limit_of l.initial.marked;
   range : l.n ≤ length l.nexts;
-  walks : (v : Table) → IsFit v → NextsTo v l.nexts v.slots → IsFile v l.first → IsClosed v l.initial.marked → Walks v l.marked l.n l.counter;
+  walks : (v : Table) → IsFit v → NextsTo v l.nexts v.slots → IsFile v l.first → IsClosed v l.initial.marked
+      → Walks v l.marked l.n l.counter;
   kept : (k : ℕ) → has l.initial.marked k ≡ true → has l.marked k ≡ true;
   fresh : l.counter ≡ 0 → l.n ≡ l.first;
   begun : 1 ≤ l.counter → has l.marked l.first ≡ true;

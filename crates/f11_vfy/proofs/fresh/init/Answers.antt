@@ -7,8 +7,10 @@ pub again-requires : goal.again-requires
 again-requires g c = λ honest.
     let image = (g.D.Device.disk c.lay_out.new.device).image in
     let laid = c.in-Ok.ensures.done in
-    let room : c.in-Some.layout.blocks ≤ length (g.D.Device.disk c.lay_out.new.device).image = omega (arith, laid.volume.keeps.size, c.in-Some.ensures.layout.blocks_are, c.blocks-2.ensures.count) in
-    (accepted-sound image (g.met.D.Device.is_image c.lay_out.new.device)).1 (fresh-sound image c.in-Some.layout (g.met.D.Device.is_image c.lay_out.new.device) room laid.volume.front)
+    let room : c.in-Some.layout.blocks ≤ length (g.D.Device.disk c.lay_out.new.device).image =
+    omega (arith, laid.volume.keeps.size, c.in-Some.ensures.layout.blocks_are, c.blocks-2.ensures.count) in
+    (accepted-sound image (g.met.D.Device.is_image c.lay_out.new.device)).1
+    (fresh-sound image c.in-Some.layout (g.met.D.Device.is_image c.lay_out.new.device) room laid.volume.front)
 
 pub returns-in-Ok-clause-made : goal.returns-in-Ok-clause-made
 returns-in-Ok-clause-made g c = record {

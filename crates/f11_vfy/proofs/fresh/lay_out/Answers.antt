@@ -26,7 +26,8 @@ returns-in_err-lay-2-clause-failed g c =
 pub loop-lbn-preserved : goal.loop-lbn-preserved
 loop-lbn-preserved g c =
     let below : c.loop-lbn.lbn < used_by c.args.layout.now = omega (arith, c.loop-lbn-test.true, c.used_blocks-lbn-end.ensures) in
-    let within : c.loop-lbn.lbn < length (g.D.Device.disk c.loop-lbn.device).image = omega (arith, below, c.loop-lbn.invariant.keeps.size, c.requires, c.args.layout.now.valid.room) in
+    let within : c.loop-lbn.lbn < length (g.D.Device.disk c.loop-lbn.device).image =
+    omega (arith, below, c.loop-lbn.invariant.keeps.size, c.requires, c.args.layout.now.valid.room) in
     LaysUpTo-more c.args.layout.now c.loop-lbn.lbn _ _ c.loop-lbn.invariant c.loop-lbn.lbn (λ same. omega
     (arith, same, c.loop-lbn.auto)) below _ (c.loop-lbn.lbn + 1) within (omega (arith, c.loop-lbn.auto))
     (λ k under other differ. omega (arith, under, differ)) c.in_ok-lay-2.ensures.done

@@ -3,13 +3,18 @@ use Rattle.f11_vfy.proofs.Surveying.Over.{over-volume, examines-volume, examines
 use Rattle.f11_vfy.proofs.verifier.examine.Goals as goal
 
 pub returns-in-Framed-clause-examines : goal.returns-in-Framed-clause-examines
-returns-in-Framed-clause-examines g c = IfOk-weaker c.examine_volume.result _ _ (λ found is. examines-volume _ _ _ _ _ _ _ (rw c.in-Framed.is at c.in_ok-frame.ensures.frames) is) c.examine_volume.ensures.examines
+returns-in-Framed-clause-examines g c =
+    IfOk-weaker c.examine_volume.result _ _
+    (λ found is. examines-volume _ _ _ _ _ _ _ (rw c.in-Framed.is at c.in_ok-frame.ensures.frames) is) c.examine_volume.ensures.examines
 
 pub returns-in-Framed-clause-failed : goal.returns-in-Framed-clause-failed
-returns-in-Framed-clause-failed g c is = over-volume _ _ _ _ _ 1 (rw c.in-Framed.is at c.in_ok-frame.ensures.frames) (c.examine_volume.ensures.failed is)
+returns-in-Framed-clause-failed g c is =
+    over-volume _ _ _ _ _ 1 (rw c.in-Framed.is at c.in_ok-frame.ensures.frames) (c.examine_volume.ensures.failed is)
 
 pub returns-in-Framed-clause-no_memory : goal.returns-in-Framed-clause-no_memory
-returns-in-Framed-clause-no_memory g c is = over-volume _ _ _ _ _ 0 (rw c.in-Framed.is at c.in_ok-frame.ensures.frames) (c.examine_volume.ensures.no_memory is)
+returns-in-Framed-clause-no_memory g c is =
+    over-volume _ _ _ _ _ 0 (rw c.in-Framed.is at c.in_ok-frame.ensures.frames) (c.examine_volume.ensures.no_memory is)
 
 pub returns-in_ok-one_fault-in-Faulty-clause-examines : goal.returns-in_ok-one_fault-in-Faulty-clause-examines
-returns-in_ok-one_fault-in-Faulty-clause-examines g c = rw c.new.ensures (examines-frame _ _ _ _ _ (rw c.in-Faulty.is at c.in_ok-frame.ensures.frames) c.in_ok-one_fault-in-Faulty.ensures)
+returns-in_ok-one_fault-in-Faulty-clause-examines g c =
+    rw c.new.ensures (examines-frame _ _ _ _ _ (rw c.in-Faulty.is at c.in_ok-frame.ensures.frames) c.in_ok-one_fault-in-Faulty.ensures)

@@ -21,7 +21,9 @@ returns-then-is_protected-clause-refused g c = λ sound.
 pub returns-then-not-has_end-clause-refused : goal.returns-then-not-has_end-clause-refused
 returns-then-not-has_end-clause-refused g c = λ sound.
     let old = g.D.Device.disk c.args.device.now in
-    let ends = c.has_end.ensures.1 (found-ends (is_file_named c.args.name) old.image c.in_ok-found.found (sound_from old.image sound.accepted) (c.in_ok-found.ensures.found.is_first sound)) in
+    let ends = c.has_end.ensures.1
+    (found-ends (is_file_named c.args.name) old.image c.in_ok-found.found (sound_from old.image sound.accepted)
+    (c.in_ok-found.ensures.found.is_first sound)) in
     let clash : true ≡ false = sym ends ∙ c.if-not-has_end.true in
     absurd (cc)
 
@@ -32,10 +34,13 @@ returns-in_err-write-clause-went g c =
     let finds = c.in_ok-found.ensures.found in
     let k = c.in_ok-found.found.number in
     let P = KeepsFiles old in
-    subst (λ n. Went P old (g.D.Device.disk c.write.new.device) 64 n) (sym (faults-handed_on c.from_residual-in_err-write.result DeviceFault c.from_residual-in_err-write.ensures.1))
+    subst (λ n. Went P old (g.D.Device.disk c.write.new.device) 64 n)
+    (sym (faults-handed_on c.from_residual-in_err-write.result DeviceFault c.from_residual-in_err-write.ensures.1))
     (went_more P (went_looked P finds.looked) (went_weaker (KeepsOthers k now.image) P (λ image kept sound.
     let is = finds.is_first sound in
-    others-data k old.image image finds.on_device.some (visited-low old.image is.place k (sound_from old.image sound.accepted) is.visited_at) (subst (λ (i : Image). KeepsOthers k i image) finds.looked.image kept)) c.in_err-write.ensures.failed))
+    others-data k old.image image finds.on_device.some
+    (visited-low old.image is.place k (sound_from old.image sound.accepted) is.visited_at)
+    (subst (λ (i : Image). KeepsOthers k i image) finds.looked.image kept)) c.in_err-write.ensures.failed))
 
 pub returns-clause-went : goal.returns-clause-went
 returns-clause-went g c =
@@ -46,7 +51,9 @@ returns-clause-went g c =
     let P = KeepsFiles old in
     went_more P (went_looked P finds.looked) (went_weaker (KeepsOthers k now.image) P (λ image kept sound.
     let is = finds.is_first sound in
-    others-data k old.image image finds.on_device.some (visited-low old.image is.place k (sound_from old.image sound.accepted) is.visited_at) (subst (λ (i : Image). KeepsOthers k i image) finds.looked.image kept)) c.in_ok-write.ensures.written.went)
+    others-data k old.image image finds.on_device.some
+    (visited-low old.image is.place k (sound_from old.image sound.accepted) is.visited_at)
+    (subst (λ (i : Image). KeepsOthers k i image) finds.looked.image kept)) c.in_ok-write.ensures.written.went)
 
 pub returns-clause-deleted : goal.returns-clause-deleted
 returns-clause-deleted g c = λ sound.
@@ -57,6 +64,7 @@ returns-clause-deleted g c = λ sound.
     let k = c.in_ok-found.found.number in
     let wrote = c.in_ok-write.ensures.written in
     let unprotected = sym (ap (λ w. has_bit w 15) c.entry.ensures.status) ∙ sym c.is_protected.ensures ∙ c.if-is_protected.false in
-    deleted c.args.name old.image new.image c.in_ok-found.found c.without_file-segment.result (sound_from old.image sound.accepted) (finds.is_first sound) unprotected
+    deleted c.args.name old.image new.image c.in_ok-found.found c.without_file-segment.result (sound_from old.image sound.accepted)
+    (finds.is_first sound) unprotected
     (wrote.went.size ∙ ap (λ (i : Image). length i) finds.looked.image)
     (subst (λ (i : Image). KeepsOthers k i new.image) finds.looked.image wrote.kept) wrote.words_are c.without_file-segment.ensures

@@ -5,5 +5,6 @@ use Rattle.rt11_volume.proofs.directory.is_link_on.Goals as goal
 
 pub returns-then-next-count : goal.returns-then-next-count
 returns-then-next-count c =
-    link-here c.args.count c.args.next (map (λ (v : Visited). v.number) c.args.visited.now) c.has_number.result (λ none. omega (arith, none)) (omega arith)
+    link-here c.args.count c.args.next (map (λ (v : Visited). v.number) c.args.visited.now) c.has_number.result
+    (λ none. omega (arith, none)) (omega arith)
     (c.has_number.ensures ∙ has_number-any c.args.visited.now c.args.next)

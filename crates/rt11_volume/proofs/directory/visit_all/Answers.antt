@@ -10,7 +10,8 @@ use Rattle.rt11_volume.proofs.directory.visit_all.Goals as goal
 
 pub loop-init : goal.loop-init
 loop-init g c =
-    let is = c.in_ok-push.ensures ∙ ap (λ (vs : List Visited). vs ++ record { number = 1; segment = c.args.first } ∷ []) c.new-visited.ensures.items in
+    let is = c.in_ok-push.ensures
+    ∙ ap (λ (vs : List Visited). vs ++ record { number = 1; segment = c.args.first } ∷ []) c.new-visited.ensures.items in
     record {
       some = omega (arith, ap (λ (vs : List Visited). length vs) is);
       first = ap (λ (vs : List Visited). (visit_at vs 0).segment) is;
@@ -43,10 +44,12 @@ loop-preserved g c =
     let old = c.loop.invariant.looked in
     record {
       some = omega (arith, simp length-append at (ap (λ (vs : List Visited). length vs) is));
-      first = ap (λ (vs : List Visited). (visit_at vs 0).segment) is ∙ ap (λ (v : Visited). v.segment) (visit_at-push before _ c.loop.invariant.some) ∙ c.loop.invariant.first;
+      first = ap (λ (vs : List Visited). (visit_at vs 0).segment) is
+          ∙ ap (λ (v : Visited). v.segment) (visit_at-push before _ c.loop.invariant.some) ∙ c.loop.invariant.first;
       walked = λ honest same.
           let words = read.words_are (old.honest ∙ honest) ∙ ap (λ (image : Image). segment_words image c.in-Some.next) old.image in
-          IsWalked-more _ (31 - c.loop.counter) (31 - (c.loop.counter + 1)) before _ c.in-Some.next _ (omega arith) (c.loop.invariant.first ∙ same) link words is
+          IsWalked-more _ (31 - c.loop.counter) (31 - (c.loop.counter + 1)) before _ c.in-Some.next _ (omega arith)
+          (c.loop.invariant.first ∙ same) link words is
           (c.loop.invariant.walked honest same);
       looked = looked_within (looked_more old read.looked) (omega (arith, c.loop.auto.counter));
     }

@@ -7,4 +7,5 @@ pub returns-clause-read : goal.returns-clause-read
 returns-clause-read g c = λ sound.
     let old = g.D.Device.disk c.args.device.now in
     let looked = c.in_ok-lbn.ensures.looked in
-    block-read c.args.name old.image _ c.args.place c.in_ok-lbn.lbn _ (sound_from old.image sound.accepted) looked.image (c.in_ok-lbn.ensures.found sound) (c.in_ok-read.ensures.reads.gives (looked.honest ∙ sound.honest))
+    block-read c.args.name old.image _ c.args.place c.in_ok-lbn.lbn _ (sound_from old.image sound.accepted) looked.image
+    (c.in_ok-lbn.ensures.found sound) (c.in_ok-read.ensures.reads.gives (looked.honest ∙ sound.honest))

@@ -9,8 +9,16 @@ loop-i-preserved c =
     let seg = segment_with 0 c.args.segment.now in
     let says = c.entry-entry.ensures in
     record {
-      start = omega (arith, c.loop-i.invariant.start, area_start-more seg c.loop-i.i (omega (arith, c.loop-i-test.true, c.entry_count-i-end.ensures.count)), c.from-start-in-loop-i.ensures, says.length);
+      start = omega (
+        arith,
+        c.loop-i.invariant.start,
+        area_start-more seg c.loop-i.i (omega (arith, c.loop-i-test.true, c.entry_count-i-end.ensures.count)),
+        c.from-start-in-loop-i.ensures,
+        says.length,
+      );
       low = omega (arith, c.loop-i.invariant.low, c.from-start-in-loop-i.ensures);
       added = c.in_ok-add_area.ensures
-          ∙ shown-more seg c.args.areas.now.items c.loop-i.areas.items _ c.loop-i.i (shown-says c.entry-entry.result (get_or seg.entries c.loop-i.i []) c.loop-i.start _ says c.loop-i.invariant.start) c.loop-i.invariant.added;
+          ∙ shown-more seg c.args.areas.now.items c.loop-i.areas.items _ c.loop-i.i
+          (shown-says c.entry-entry.result (get_or seg.entries c.loop-i.i []) c.loop-i.start _ says c.loop-i.invariant.start)
+          c.loop-i.invariant.added;
     }

@@ -11,5 +11,6 @@ invariant-loop-i l =
     record {
       start : l.start ≡ area_start seg l.i;
       low : l.start ≤ 65535 * (l.i + 1);
-      added : l.areas.items ≡ l.initial.areas.items ++ map (λ i. shown_words (get_or seg.entries i []) (area_start seg i)) (range_with_len 0 l.i);
+      added : l.areas.items ≡ l.initial.areas.items ++ map (λ i. shown_words (get_or seg.entries i []) (area_start seg i))
+          (range_with_len 0 l.i);
     }

@@ -5,7 +5,8 @@ use Rattle.rt11_volume.proofs.name.split_at_dot.Goals as goal
 
 pub returns-in_err-at-clause-first : goal.returns-in_err-at-clause-first
 returns-in_err-at-clause-first c = λ front back h e.
-    let found : None ≡ Some (length front) = sym c.in_err-at.was ∙ c.position_of.ensures ∙ position-front 46 c.args.text.now front back h e in
+    let found : None ≡ Some (length front) = sym c.in_err-at.was ∙ c.position_of.ensures
+    ∙ position-front 46 c.args.text.now front back h e in
     cc
 
 pub returns-clause-parts : goal.returns-clause-parts
@@ -15,7 +16,8 @@ returns-clause-parts c =
 
 pub returns-clause-first : goal.returns-clause-first
 returns-clause-first c = λ front back h e.
-    let found : Some c.in_ok-at.at ≡ Some (length front) = sym c.in_ok-at.was ∙ c.position_of.ensures ∙ position-front 46 c.args.text.now front back h e in
+    let found : Some c.in_ok-at.at ≡ Some (length front) = sym c.in_ok-at.was ∙ c.position_of.ensures
+    ∙ position-front 46 c.args.text.now front back h e in
     let same : c.in_ok-at.at ≡ length front = cc in
     let parts = split_at_front 46 front back c.args.text.now c.in_ok-at.at e same in
     (parts.0, take_rest c.args.text.now (c.in_ok-at.at + 1) ∙ parts.1)

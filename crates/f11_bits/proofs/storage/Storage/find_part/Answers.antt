@@ -20,21 +20,26 @@ returns-in-Some-clause-finds g c =
     let looked = c.loop-index.invariant.looked in
     let gives = c.in_ok-read_block.ensures.block in
     let ends = bits-within _ _ _ _ run.some run.each in
-    let number : (c.loop-index.index * 4096 + c.in-Some.at) / 4096 ≡ c.loop-index.index = omega (arith, ends, run.some, c.bits_in-end.ensures) in
+    let number : (c.loop-index.index * 4096 + c.in-Some.at) / 4096 ≡ c.loop-index.index =
+    omega (arith, ends, run.some, c.bits_in-end.ensures) in
     record {
       part = IsPart-found _ _ _ _ _ _ _ _ _ c.saturating_sub-start.ensures c.bits_in-end.ensures run;
       first = λ honest.
           let stands = slice_get-read old _ _ _ _ _ looked refl gives honest in
-          IsFirstPart-found _ (bitmap_of c.args.self.now) _ _ _ _ _ _ _ _ c.requires.few c.saturating_sub-start.ensures c.bits_in-end.ensures stands (c.loop-index.invariant.none honest) run;
-      block_is = λ honest. slice_get-read old _ _ _ _ _ looked (ap (λ (i : ℕ). get_or (bitmap_of c.args.self.now).places i 0) (sym number)) gives honest;
+          IsFirstPart-found _ (bitmap_of c.args.self.now) _ _ _ _ _ _ _ _ c.requires.few c.saturating_sub-start.ensures
+          c.bits_in-end.ensures stands (c.loop-index.invariant.none honest) run;
+      block_is = λ honest. slice_get-read old _ _ _ _ _ looked (ap (λ (i : ℕ). get_or (bitmap_of c.args.self.now).places i 0) (sym number))
+          gives honest;
       looked = looked_within (looked_more looked c.in_ok-read_block.ensures.looked) (omega (arith, number));
     }
 
 pub loop-index-preserved : goal.loop-index-preserved
 loop-index-preserved g c = record {
   none = λ honest.
-      let stands = slice_get-read (g.D.Device.disk c.args.device.now) _ _ _ _ _ c.loop-index.invariant.looked refl c.in_ok-read_block.ensures.block honest in
-      none_free-more _ (bitmap_of c.args.self.now) _ _ _ _ _ c.saturating_sub-start.ensures c.bits_in-end.ensures stands (c.loop-index.invariant.none honest) c.in_default.ensures.run;
+      let stands = slice_get-read (g.D.Device.disk c.args.device.now) _ _ _ _ _ c.loop-index.invariant.looked refl
+      c.in_ok-read_block.ensures.block honest in
+      none_free-more _ (bitmap_of c.args.self.now) _ _ _ _ _ c.saturating_sub-start.ensures c.bits_in-end.ensures stands
+      (c.loop-index.invariant.none honest) c.in_default.ensures.run;
   looked = looked_within (looked_more c.loop-index.invariant.looked c.in_ok-read_block.ensures.looked) (omega arith);
   within = omega (arith, c.args.self.now.valid.covered);
 }

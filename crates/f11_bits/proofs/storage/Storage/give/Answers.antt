@@ -15,11 +15,20 @@ returns-clause-storage g c =
       within = made.on.within;
       keeps = λ honest.
           let was_honest = subst (λ (b : Bool). IsTrue b) made.marks.went.honest honest in
-          let more = free_blocks-given bitmap c.args.lbn c.args.count old.image now.image c.requires.within (made.marks.marks was_honest) (c.requires.used was_honest) in
+          let more = free_blocks-given bitmap c.args.lbn c.args.count old.image now.image c.requires.within (made.marks.marks was_honest)
+          (c.requires.used was_honest) in
           let kept = made.on.block honest in
           let same = ap (free_blocks now.image) c.mark.ensures.same in
           record {
-            free = omega (arith, more, same, (c.requires.storage.keeps was_honest).free, c.mark.ensures.free, count_below-le (is_free now.image bitmap) bitmap.size, c.saturating_add-self.ensures);
+            free = omega (
+              arith,
+              more,
+              same,
+              (c.requires.storage.keeps was_honest).free,
+              c.mark.ensures.free,
+              count_below-le (is_free now.image bitmap) bitmap.size,
+              c.saturating_add-self.ensures,
+            );
             block = record { within = kept.within; is_block = kept.is_block };
           };
     }

@@ -5,7 +5,8 @@ use Rattle.f11_bits.specs.Storage.{bitmap_of}
 use Rattle.f11_bits.proofs.StepLemmas.{slice_get-read}
 use Rattle.f11_bits.proofs.SearchLemmas.{bits-within, IsFreeRest-none, IsFreeRest-found}
 use Rattle.f11_bits.proofs.storage.Storage.length_beyond.Goals as goal
-use Rattle.f11_bits.proofs.storage.Storage.length_beyond.Goals.{then-end-ne0-via-then-end-ne0, then-end-ne0-via-else-end-ne0+then-most-eq0, then-end-ne0-via-else-end-ne0+else-most-eq0+then-end-self}
+use Rattle.f11_bits.proofs.storage.Storage.length_beyond.Goals.{then-end-ne0-via-then-end-ne0, then-end-ne0-via-else-end-ne0+then-most-eq0}
+use Rattle.f11_bits.proofs.storage.Storage.length_beyond.Goals.{then-end-ne0-via-else-end-ne0+else-most-eq0+then-end-self}
 
 pub returns-then-end-ne0-clause-finds : goal.returns-then-end-ne0-clause-finds
 returns-then-end-ne0-clause-finds g c = record {
@@ -36,7 +37,8 @@ returns-clause-finds g c =
       };
       free = λ honest.
           let stands = slice_get-read old old _ _ _ _ (looked_none old) refl gives honest in
-          IsFreeRest-found _ (bitmap_of c.args.self.now) _ _ _ _ _ _ c.bits_in.ensures c.requires.few begins run.most stands run.each run.ended;
+          IsFreeRest-found _ (bitmap_of c.args.self.now) _ _ _ _ _ _ c.bits_in.ensures c.requires.few begins run.most stands run.each
+          run.ended;
       block_is = λ honest some. slice_get-read old old _ _ _ _ (looked_none old) refl gives honest;
       looked = looked_within c.in_ok-read_block.ensures.looked (omega (arith, c.args.self.now.valid.covered));
     }

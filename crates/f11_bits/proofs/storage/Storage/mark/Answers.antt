@@ -16,7 +16,8 @@ record IsStep (lbn count index start stop done : ℕ) : Type 0 where
   whole : (done + (stop - start) ≡ count) ⊎ ((lbn + (done + (stop - start))) % 4096 ≡ 0)
   next : done + (stop - start) ≡ min (lbn + count) (4096 * (index + 1)) - lbn
 
-step : (lbn count index start stop : ℕ) → 0 < count → lbn / 4096 ≤ index → index < (lbn + count + 4095) / 4096 → start ≡ max lbn (index * 4096) → stop ≡ min (lbn + count) ((index + 1) * 4096)
+step : (lbn count index start stop : ℕ) → 0 < count → lbn / 4096 ≤ index → index < (lbn + count + 4095) / 4096
+    → start ≡ max lbn (index * 4096) → stop ≡ min (lbn + count) ((index + 1) * 4096)
     → IsStep lbn count index start stop (min (lbn + count) (4096 * index) - lbn)
 step lbn count index start stop some from to start_is stop_is = record {
   begins = omega arith;
@@ -33,9 +34,11 @@ returns-in_err-mark_part-clause-failed g c =
     let old = g.D.Device.disk c.args.device.now in
     let bitmap = bitmap_of c.args.self.now in
     let held = c.loop-index.invariant in
-    let next = step c.args.lbn c.args.count c.loop-index.index c.max-start.result c.min-stop.result c.requires.some (omega arith) (omega arith) (omega arith) (omega arith) in
+    let next = step c.args.lbn c.args.count c.loop-index.index c.max-start.result c.min-stop.result c.requires.some (omega arith)
+    (omega arith) (omega arith) (omega arith) in
     OnErr-given _ (went_within (Changing old.honest c.args.free bitmap c.args.lbn c.args.count old.image)
-    (Went-more c.args.free bitmap c.args.lbn _ _ _ c.args.count old _ _ held.went held.keeps held.marks next.begins next.within next.whole (rw held.same at c.in_err-mark_part.ensures.failed)) (omega arith))
+    (Went-more c.args.free bitmap c.args.lbn _ _ _ c.args.count old _ _ held.went held.keeps held.marks next.begins next.within next.whole
+    (rw held.same at c.in_err-mark_part.ensures.failed)) (omega arith))
 
 pub loop-index-preserved : goal.loop-index-preserved
 loop-index-preserved g c =
@@ -44,8 +47,10 @@ loop-index-preserved g c =
     let held = c.loop-index.invariant in
     let made = rw held.same at c.in_ok-mark_part.ensures.marks in
     let at : c.max-start.result / 4096 ≡ c.loop-index.index = omega arith in
-    let later = subst (λ (b : Bitmap). KeepsFrom b (c.max-start.result / 4096 + 1) (g.D.Device.disk c.loop-index.device).image (g.D.Device.disk c.mark_part.new.device).image) held.same c.in_ok-mark_part.ensures.later in
-    let next = step c.args.lbn c.args.count c.loop-index.index c.max-start.result c.min-stop.result c.requires.some (omega arith) (omega arith) (omega arith) (omega arith) in
+    let later = subst (λ (b : Bitmap). KeepsFrom b (c.max-start.result / 4096 + 1) (g.D.Device.disk c.loop-index.device).image
+    (g.D.Device.disk c.mark_part.new.device).image) held.same c.in_ok-mark_part.ensures.later in
+    let next = step c.args.lbn c.args.count c.loop-index.index c.max-start.result c.min-stop.result c.requires.some (omega arith)
+    (omega arith) (omega arith) (omega arith) in
     record {
       same = c.mark_part.ensures.same ∙ held.same;
       free = c.mark_part.ensures.free ∙ held.free;
@@ -61,7 +66,9 @@ loop-index-preserved g c =
             omega (arith, fewer, held.went.transfers)
       ];
       keeps = KeepsOthers-trans bitmap _ _ _ held.keeps (KeepsOthers-went made.went);
-      marks = Marks-next c.args.free bitmap c.args.lbn _ _ _ _ old (g.D.Device.disk c.loop-index.device) (g.D.Device.disk c.mark_part.new.device) held.went.honest held.marks next.begins next.next made.marks;
+      marks = Marks-next c.args.free bitmap c.args.lbn _ _ _ _ old (g.D.Device.disk c.loop-index.device)
+          (g.D.Device.disk c.mark_part.new.device) held.went.honest held.marks next.begins next.next made.marks;
       went = went_within (Changing old.honest c.args.free bitmap c.args.lbn c.args.count old.image)
-          (Went-more c.args.free bitmap c.args.lbn _ _ _ c.args.count old _ _ held.went held.keeps held.marks next.begins next.within next.whole made.went) (omega arith);
+          (Went-more c.args.free bitmap c.args.lbn _ _ _ c.args.count old _ _ held.went held.keeps held.marks next.begins next.within
+          next.whole made.went) (omega arith);
     }

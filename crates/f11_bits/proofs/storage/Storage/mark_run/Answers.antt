@@ -16,7 +16,8 @@ record IsCut (lbn n cut : ℕ) : Type 0 where
   fewer : giving_transfers lbn (cut - lbn) + 1 ≤ giving_transfers lbn n - 1
 
 is_cut : (lbn n cut : ℕ) → 0 < n → cut ≡ (lbn + n - 1) / 4096 * 4096 → lbn < cut → IsCut lbn n cut
-is_cut lbn n cut some is above = record { front = omega arith; begins = omega arith; edge = omega arith; all = omega arith; fewer = omega arith }
+is_cut lbn n cut some is above =
+    record { front = omega arith; begins = omega arith; edge = omega arith; all = omega arith; fewer = omega arith }
 
 pub returns-in_err-mark-clause-failed : goal.returns-in_err-mark-clause-failed
 returns-in_err-mark-clause-failed g c =
@@ -27,7 +28,8 @@ returns-in_err-mark-clause-failed g c =
     let cut : ℕ = (lbn + n - 1) / 4096 * 4096 in
     let parts = is_cut lbn n cut c.requires.some (omega arith) (omega (arith, c.if-last-lbn.false)) in
     OnErr-given _ (went_within (Changing old.honest false bitmap lbn n old.image)
-    (Went-first false bitmap lbn (cut - lbn) n old _ parts.front (inr parts.edge) c.in_err-mark.ensures.failed) (omega (arith, parts.fewer)))
+    (Went-first false bitmap lbn (cut - lbn) n old _ parts.front (inr parts.edge) c.in_err-mark.ensures.failed)
+    (omega (arith, parts.fewer)))
 
 pub returns-in_err-write_bits-2-clause-failed : goal.returns-in_err-write_bits-2-clause-failed
 returns-in_err-write_bits-2-clause-failed g c =
@@ -39,8 +41,10 @@ returns-in_err-write_bits-2-clause-failed g c =
     let parts = is_cut lbn n cut c.requires.some (omega arith) (omega (arith, c.if-last-lbn.false)) in
     let first = c.in_ok-mark.ensures.marks in
     OnErr-given _ (went_within (Changing old.honest false bitmap lbn n old.image)
-    (Went-more false bitmap lbn (cut - lbn) cut (lbn + n - cut) n old _ _ (Went-first false bitmap lbn (cut - lbn) n old _ parts.front (inr parts.edge) first.went)
-    (KeepsOthers-went first.went) first.marks parts.begins (omega (arith, parts.all)) (inl parts.all) (rw c.mark.ensures.same at c.in_err-write_bits-2.ensures.failed)) parts.fewer)
+    (Went-more false bitmap lbn (cut - lbn) cut (lbn + n - cut) n old _ _
+    (Went-first false bitmap lbn (cut - lbn) n old _ parts.front (inr parts.edge) first.went)
+    (KeepsOthers-went first.went) first.marks parts.begins (omega (arith, parts.all)) (inl parts.all)
+    (rw c.mark.ensures.same at c.in_err-write_bits-2.ensures.failed)) parts.fewer)
 
 pub returns-clause-marks : goal.returns-clause-marks
 returns-clause-marks g c =
@@ -53,8 +57,10 @@ returns-clause-marks g c =
     let first = c.in_ok-mark.ensures.marks in
     let then = rw c.mark.ensures.same at c.in_ok-write_bits-2.ensures.marks in
     record {
-      marks = Marks-next false bitmap lbn (cut - lbn) cut (lbn + n - cut) n old (g.D.Device.disk c.mark.new.device) (g.D.Device.disk c.write_bits-2.new.device) first.went.honest first.marks parts.begins parts.all then.marks;
+      marks = Marks-next false bitmap lbn (cut - lbn) cut (lbn + n - cut) n old (g.D.Device.disk c.mark.new.device)
+          (g.D.Device.disk c.write_bits-2.new.device) first.went.honest first.marks parts.begins parts.all then.marks;
       went = went_within (Changing old.honest false bitmap lbn n old.image)
-          (Went-more false bitmap lbn (cut - lbn) cut (lbn + n - cut) n old _ _ (Went-first false bitmap lbn (cut - lbn) n old _ parts.front (inr parts.edge) first.went)
+          (Went-more false bitmap lbn (cut - lbn) cut (lbn + n - cut) n old _ _
+          (Went-first false bitmap lbn (cut - lbn) n old _ parts.front (inr parts.edge) first.went)
           (KeepsOthers-went first.went) first.marks parts.begins (omega (arith, parts.all)) (inl parts.all) then.went) parts.fewer;
     }

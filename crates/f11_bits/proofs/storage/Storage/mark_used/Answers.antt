@@ -23,12 +23,14 @@ write_bits-requires-then-run-gt0-clause-block g c = λ honest.
     let run = c.args.run in
     let bits = c.requires.bits in
     let edge = bits.beyond_is.next c.if-run-gt0.true in
-    let within : run.lbn / 4096 < length (bitmap_of c.args.self.now).places = omega (arith, c.args.self.now.valid.covered, bits.here_is.within, bits.here_is.some) in
+    let within : run.lbn / 4096 < length (bitmap_of c.args.self.now).places =
+    omega (arith, c.args.self.now.valid.covered, bits.here_is.within, bits.here_is.some) in
     let below : run.lbn + run.here < (bitmap_of c.args.self.now).size = omega (arith, bits.beyond_is.within, c.if-run-gt0.true) in
     let apart : (run.lbn + run.here) / 4096 ≢ run.lbn / 4096 = omega (arith, edge, bits.here_is.some) in
     let now = g.D.Device.disk c.write_bits.new.device in
     subst (λ (b : Bitmap). HasBitOf now.image b (run.lbn + run.here) c.args.next.now) (sym c.write_bits.ensures.same)
-    (HasBitOf-apart old.image _ (bitmap_of c.args.self.now) (run.lbn / 4096) (run.lbn + run.here) _ _ c.args.self.now.valid within below apart first.writes (bits.next_is was_honest c.if-run-gt0.true))
+    (HasBitOf-apart old.image _ (bitmap_of c.args.self.now) (run.lbn / 4096) (run.lbn + run.here) _ _ c.args.self.now.valid within below
+    apart first.writes (bits.next_is was_honest c.if-run-gt0.true))
 
 pub returns-in_err-write_bits-2-clause-failed : goal.returns-in_err-write_bits-2-clause-failed
 returns-in_err-write_bits-2-clause-failed g c =
@@ -39,7 +41,8 @@ returns-in_err-write_bits-2-clause-failed g c =
     let edge = c.requires.bits.beyond_is.next c.if-run-gt0.true in
     OnErr-given _ (Went-more false bitmap run.lbn run.here _ run.beyond (run.here + run.beyond) old _ _
     (Went-first false bitmap run.lbn run.here (run.here + run.beyond) old _ (omega arith) (inr edge) first.went)
-    (KeepsOthers-went first.went) first.marks refl (omega arith) (inl refl) (rw c.write_bits.ensures.same at c.in_err-write_bits-2.ensures.failed))
+    (KeepsOthers-went first.went) first.marks refl (omega arith) (inl refl)
+    (rw c.write_bits.ensures.same at c.in_err-write_bits-2.ensures.failed))
 
 pub returns-in_ok-write_bits-2-clause-marks : goal.returns-in_ok-write_bits-2-clause-marks
 returns-in_ok-write_bits-2-clause-marks g c =
@@ -50,8 +53,11 @@ returns-in_ok-write_bits-2-clause-marks g c =
     let then = rw c.write_bits.ensures.same at c.in_ok-write_bits-2.ensures.marks in
     let edge = c.requires.bits.beyond_is.next c.if-run-gt0.true in
     record {
-      marks = Marks-next false bitmap run.lbn run.here _ run.beyond (run.here + run.beyond) old (g.D.Device.disk c.write_bits.new.device) (g.D.Device.disk c.write_bits-then-run-gt0.new.device) first.went.honest first.marks refl refl then.marks;
-      went = went_within (Changing old.honest false bitmap run.lbn (run.here + run.beyond) old.image) (Went-more false bitmap run.lbn run.here _ run.beyond (run.here + run.beyond) old _ _
+      marks = Marks-next false bitmap run.lbn run.here _ run.beyond (run.here + run.beyond) old (g.D.Device.disk c.write_bits.new.device)
+          (g.D.Device.disk c.write_bits-then-run-gt0.new.device) first.went.honest first.marks refl refl then.marks;
+      went =
+          went_within (Changing old.honest false bitmap run.lbn (run.here + run.beyond) old.image)
+          (Went-more false bitmap run.lbn run.here _ run.beyond (run.here + run.beyond) old _ _
           (Went-first false bitmap run.lbn run.here (run.here + run.beyond) old _ (omega arith) (inr edge) first.went)
           (KeepsOthers-went first.went) first.marks refl (omega arith) (inl refl) then.went)
           (omega (arith, edge, c.requires.bits.here_is.some, c.if-run-gt0.true));

@@ -26,12 +26,20 @@ returns-clause-storage g c =
       keeps = λ honest.
           let now_honest = subst (λ (b : Bool). IsTrue b) marked.went.honest honest in
           let was_honest = subst (λ (b : Bool). IsTrue b) found.looked.honest now_honest in
-          let marks = subst (λ (image : Image). Marks false bitmap lbn count image new.image) found.looked.image (marked.marks now_honest) in
+          let marks = subst (λ (image : Image). Marks false bitmap lbn count image new.image) found.looked.image (marked.marks now_honest)
+          in
           let taken = free_blocks-taken bitmap lbn count old.image new.image within marks (found.first was_honest).each in
           let kept = c.in_ok-mark_used.ensures.on.block honest in
           let same = ap (free_blocks new.image) c.mark_used.ensures.same in
           record {
-            free = omega (arith, taken, same, (c.requires.storage.keeps was_honest).free, c.mark_used.ensures.free, c.saturating_sub-self.ensures);
+            free = omega (
+              arith,
+              taken,
+              same,
+              (c.requires.storage.keeps was_honest).free,
+              c.mark_used.ensures.free,
+              c.saturating_sub-self.ensures,
+            );
             block = record { within = kept.within; is_block = kept.is_block };
           };
     }

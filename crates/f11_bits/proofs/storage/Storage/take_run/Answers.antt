@@ -12,7 +12,8 @@ use Rattle.f11_bits.proofs.storage.Storage.take_run.Goals as goal
 pub returns-in_err-mark_run-clause-failed : goal.returns-in_err-mark_run-clause-failed
 returns-in_err-mark_run-clause-failed g c =
     let found = rw c.in-Some.is at c.in_ok-lbn.ensures.finds in
-    OnErr-given _ (FailsToTakeRun-marking found (omega (arith, found.within, c.args.self.now.valid.covered, c.requires.some)) c.in_err-mark_run.ensures.failed)
+    OnErr-given _ (FailsToTakeRun-marking found (omega (arith, found.within, c.args.self.now.valid.covered, c.requires.some))
+    c.in_err-mark_run.ensures.failed)
 
 pub returns-clause-storage : goal.returns-clause-storage
 returns-clause-storage g c =
@@ -33,13 +34,21 @@ returns-clause-storage g c =
           let kept = c.in_ok-mark_run.ensures.on.block honest in
           let same = ap (free_blocks new.image) c.mark_run.ensures.same in
           record {
-            free = omega (arith, taken, same, (c.requires.storage.keeps was_honest).free, c.mark_run.ensures.free, c.saturating_sub-self.ensures);
+            free = omega (
+              arith,
+              taken,
+              same,
+              (c.requires.storage.keeps was_honest).free,
+              c.mark_run.ensures.free,
+              c.saturating_sub-self.ensures,
+            );
             block = record { within = kept.within; is_block = kept.is_block };
           };
     }
 
 pub returns-then-n-self-clause-none : goal.returns-then-n-self-clause-none
 returns-then-n-self-clause-none g c = record {
-  none = λ honest. NoRunOf-few _ (bitmap_of c.args.self.now) c.args.n (omega (arith, (c.requires.storage.keeps honest).free, c.if-n-self.true));
+  none = λ honest. NoRunOf-few _ (bitmap_of c.args.self.now) c.args.n
+      (omega (arith, (c.requires.storage.keeps honest).free, c.if-n-self.true));
   looked = looked_within (looked_none _) (omega arith);
 }

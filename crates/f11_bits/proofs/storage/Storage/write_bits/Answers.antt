@@ -12,7 +12,8 @@ returns-clause-marks g c =
     let bitmap = bitmap_of c.args.self.now in
     let bits = c.set_bits.ensures in
     let valid = c.args.self.now.valid in
-    let marks = Marks-block old.honest c.args.free bitmap c.args.lbn c.args.count _ old.image _ _ valid c.requires.within c.requires.part c.place.ensures c.requires.block bits.inside bits.before bits.after in
+    let marks = Marks-block old.honest c.args.free bitmap c.args.lbn c.args.count _ old.image _ _ valid c.requires.within c.requires.part
+    c.place.ensures c.requires.block bits.inside bits.before bits.after in
     MarksOnDisk-write c.args.free bitmap c.args.lbn c.args.count _ _ _ old _ c.write.ensures.writes marks
     (Changing-block old.honest c.args.free bitmap c.args.lbn c.args.count _ old.image _ valid c.requires.part c.place.ensures marks)
 
@@ -22,6 +23,7 @@ returns-clause-failed g c =
     let bitmap = bitmap_of c.args.self.now in
     let bits = c.set_bits.ensures in
     let valid = c.args.self.now.valid in
-    let marks = Marks-block old.honest c.args.free bitmap c.args.lbn c.args.count _ old.image _ _ valid c.requires.within c.requires.part c.place.ensures c.requires.block bits.inside bits.before bits.after in
+    let marks = Marks-block old.honest c.args.free bitmap c.args.lbn c.args.count _ old.image _ _ valid c.requires.within c.requires.part
+    c.place.ensures c.requires.block bits.inside bits.before bits.after in
     went-failed (Changing old.honest c.args.free bitmap c.args.lbn c.args.count old.image) _ _ _ old _ c.write.ensures.writes
     (Changing-block old.honest c.args.free bitmap c.args.lbn c.args.count _ old.image _ valid c.requires.part c.place.ensures marks)

@@ -9,12 +9,14 @@ pub returns-then-left-run : goal.returns-then-left-run
 returns-then-left-run c =
     let below : c.loop-i.i < c.args.self.now.used = omega (arith, c.loop-i-test.true, c.from-i-end.ensures) in
     let within : c.args.self.now.used ≤ length c.args.self.now.runs = omega (arith, c.requires.on.few, c.fits-self) in
-    held-at c.args.self.now c.args.vbn c.loop-i.i c.loop-i.left (slice_index_or c.args.self.now.runs c.loop-i.i (0, 0)) (run-held c.args.self.now c.loop-i.i below within)
+    held-at c.args.self.now c.args.vbn c.loop-i.i c.loop-i.left (slice_index_or c.args.self.now.runs c.loop-i.i (0, 0))
+    (run-held c.args.self.now c.loop-i.i below within)
     (omega (arith, c.if-left-run.true)) (omega (arith, c.if-vbn-self.false)) c.loop-i.invariant
 
 pub loop-i-preserved : goal.loop-i-preserved
 loop-i-preserved c =
     let below : c.loop-i.i < c.args.self.now.used = omega (arith, c.loop-i-test.true, c.from-i-end.ensures) in
     let within : c.args.self.now.used ≤ length c.args.self.now.runs = omega (arith, c.requires.on.few, c.fits-self) in
-    let more = length-blocks_in-more (runs_held c.args.self.now) c.loop-i.i _ (slice_index_or c.args.self.now.runs c.loop-i.i (0, 0)) (run-held c.args.self.now c.loop-i.i below within) refl in
+    let more = length-blocks_in-more (runs_held c.args.self.now) c.loop-i.i _ (slice_index_or c.args.self.now.runs c.loop-i.i (0, 0))
+    (run-held c.args.self.now c.loop-i.i below within) refl in
     omega (arith, more, c.loop-i.invariant, c.if-left-run.false)

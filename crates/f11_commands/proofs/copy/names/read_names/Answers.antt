@@ -14,4 +14,5 @@ returns-in-Ok-parse-clause-every c words rt_words spells rt_spells =
 
 pub returns-in-Err-parse-clause-every : goal.returns-in-Err-parse-clause-every
 returns-in-Err-parse-clause-every c words rt_words spells rt_spells =
-    absurd (let no = c.in-Err-parse.ensures.every rt_words (subst (λ t. RtSpells t rt_words) (sym c.as_bytes-2.ensures.value) rt_spells) in cc)
+    absurd (let no = c.in-Err-parse.ensures.every rt_words (subst (λ t. RtSpells t rt_words) (sym c.as_bytes-2.ensures.value) rt_spells) in
+    cc)

@@ -11,57 +11,86 @@ use Rattle.f11_files.specs.Answers.{is_fatal}
 use Rattle.f11_chain.specs.declared.windows.Window.{Window}
 use Rattle.f11_fcp.proofs.LengthLemmas.{measured-open}
 use Rattle.f11_fcp.proofs.WindowLemmas.{empty-kept, windows-read, windows-with}
-use Rattle.f11_fcp.proofs.AccessLemmas.{access-bad, access-in-use, access-system, access-unread, access-marked, access-unprivileged, access-barred, access-taken, access-kept}
+use Rattle.f11_fcp.proofs.AccessLemmas.{access-bad, access-in-use, access-system, access-unread, access-marked, access-unprivileged}
+use Rattle.f11_fcp.proofs.AccessLemmas.{access-barred, access-taken, access-kept}
 use Rattle.f11_fcp.proofs.table.Accesses.access.Goals as goal
 
 pub returns-then-is_bad-clause-handles : goal.returns-then-is_bad-clause-handles
-returns-then-is_bad-clause-handles g c = access-bad c.args.task c.args.lun c.args.caller c.args.file c.args.mode (state_of (access_table_of c.args.self.now) c.args.files.now) (sym c.is_bad.ensures ∙ c.if-is_bad.true)
+returns-then-is_bad-clause-handles g c =
+    access-bad c.args.task c.args.lun c.args.caller c.args.file c.args.mode (state_of (access_table_of c.args.self.now) c.args.files.now)
+    (sym c.is_bad.ensures ∙ c.if-is_bad.true)
 
 pub returns-in-Some-clause-handles : goal.returns-in-Some-clause-handles
-returns-in-Some-clause-handles g c = access-in-use c.args.task c.args.lun c.args.caller c.args.file c.args.mode (state_of (access_table_of c.args.self.now) c.args.files.now) (sym c.is_bad.ensures ∙ c.if-is_bad.false) _ (sym c.in-Some.ensures.value)
+returns-in-Some-clause-handles g c =
+    access-in-use c.args.task c.args.lun c.args.caller c.args.file c.args.mode (state_of (access_table_of c.args.self.now) c.args.files.now)
+    (sym c.is_bad.ensures ∙ c.if-is_bad.false) _ (sym c.in-Some.ensures.value)
 
 pub returns-then-file-lt4-clause-handles : goal.returns-then-file-lt4-clause-handles
-returns-then-file-lt4-clause-handles g c = access-system c.args.task c.args.lun c.args.caller c.args.file c.args.mode (state_of (access_table_of c.args.self.now) c.args.files.now) (sym c.is_bad.ensures ∙ c.if-is_bad.false) (sym c.in-None.ensures.value) c.if-file-lt4.true
+returns-then-file-lt4-clause-handles g c =
+    access-system c.args.task c.args.lun c.args.caller c.args.file c.args.mode (state_of (access_table_of c.args.self.now) c.args.files.now)
+    (sym c.is_bad.ensures ∙ c.if-is_bad.false) (sym c.in-None.ensures.value) c.if-file-lt4.true
 
 pub returns-in-Err-clause-handles : goal.returns-in-Err-clause-handles
 returns-in-Err-clause-handles g c =
-    access-unread c.args.task c.args.lun c.args.caller c.args.file c.args.mode (state_of (access_table_of c.args.self.now) c.args.files.now) (sym c.is_bad.ensures ∙ c.if-is_bad.false) (sym c.in-None.ensures.value) c.if-file-lt4.false c.in-Err.refusal (state_of (access_table_of c.args.self.now) c.read_attr.new.self) c.requires.open.alive c.in-Err.ensures.refused c.in-Err.ensures.answers.home refl c.in-Err.ensures.told
+    access-unread c.args.task c.args.lun c.args.caller c.args.file c.args.mode (state_of (access_table_of c.args.self.now) c.args.files.now)
+    (sym c.is_bad.ensures ∙ c.if-is_bad.false) (sym c.in-None.ensures.value) c.if-file-lt4.false c.in-Err.refusal
+    (state_of (access_table_of c.args.self.now) c.read_attr.new.self) c.requires.open.alive c.in-Err.ensures.refused
+    c.in-Err.ensures.answers.home refl c.in-Err.ensures.told
 
 pub returns-then-is_marked-clause-handles : goal.returns-then-is_marked-clause-handles
 returns-then-is_marked-clause-handles g c =
-    access-marked c.args.task c.args.lun c.args.caller c.args.file c.args.mode (state_of (access_table_of c.args.self.now) c.args.files.now) (sym c.is_bad.ensures ∙ c.if-is_bad.false) (sym c.in-None.ensures.value) c.if-file-lt4.false c.in-Ok.attr (state_of (access_table_of c.args.self.now) c.read_attr.new.self) c.in-Ok.ensures.read.reads c.in-Ok.ensures.read.no_cause c.in-Ok.ensures.read.attr_is c.in-Ok.ensures.answers.home c.in-Ok.ensures.told refl (sym c.is_marked.ensures ∙ c.if-is_marked.true)
+    access-marked c.args.task c.args.lun c.args.caller c.args.file c.args.mode (state_of (access_table_of c.args.self.now) c.args.files.now)
+    (sym c.is_bad.ensures ∙ c.if-is_bad.false) (sym c.in-None.ensures.value) c.if-file-lt4.false c.in-Ok.attr
+    (state_of (access_table_of c.args.self.now) c.read_attr.new.self) c.in-Ok.ensures.read.reads c.in-Ok.ensures.read.no_cause
+    c.in-Ok.ensures.read.attr_is c.in-Ok.ensures.answers.home c.in-Ok.ensures.told refl (sym c.is_marked.ensures ∙ c.if-is_marked.true)
 
 pub returns-then-lacks_for-clause-handles : goal.returns-then-lacks_for-clause-handles
 returns-then-lacks_for-clause-handles g c =
-    access-unprivileged c.args.task c.args.lun c.args.caller c.args.file c.args.mode (state_of (access_table_of c.args.self.now) c.args.files.now) (sym c.is_bad.ensures ∙ c.if-is_bad.false) (sym c.in-None.ensures.value) c.if-file-lt4.false c.in-Ok.attr (state_of (access_table_of c.args.self.now) c.read_attr.new.self) c.in-Ok.ensures.read.reads c.in-Ok.ensures.read.no_cause c.in-Ok.ensures.read.attr_is c.in-Ok.ensures.answers.home c.in-Ok.ensures.told (sym c.is_marked.ensures ∙ c.if-is_marked.false) refl (sym c.lacks_for.ensures ∙ c.if-lacks_for.true)
+    access-unprivileged c.args.task c.args.lun c.args.caller c.args.file c.args.mode
+    (state_of (access_table_of c.args.self.now) c.args.files.now) (sym c.is_bad.ensures ∙ c.if-is_bad.false)
+    (sym c.in-None.ensures.value) c.if-file-lt4.false c.in-Ok.attr (state_of (access_table_of c.args.self.now) c.read_attr.new.self)
+    c.in-Ok.ensures.read.reads c.in-Ok.ensures.read.no_cause c.in-Ok.ensures.read.attr_is c.in-Ok.ensures.answers.home
+    c.in-Ok.ensures.told (sym c.is_marked.ensures ∙ c.if-is_marked.false) refl (sym c.lacks_for.ensures ∙ c.if-lacks_for.true)
 
 pub returns-then-is_barred-clause-handles : goal.returns-then-is_barred-clause-handles
 returns-then-is_barred-clause-handles g c =
-    access-barred c.args.task c.args.lun c.args.caller c.args.file c.args.mode (state_of (access_table_of c.args.self.now) c.args.files.now) (sym c.is_bad.ensures ∙ c.if-is_bad.false) (sym c.in-None.ensures.value) c.if-file-lt4.false c.in-Ok.attr (state_of (access_table_of c.args.self.now) c.read_attr.new.self) c.in-Ok.ensures.read.reads c.in-Ok.ensures.read.no_cause c.in-Ok.ensures.read.attr_is c.in-Ok.ensures.answers.home c.in-Ok.ensures.told (sym c.is_marked.ensures ∙ c.if-is_marked.false) (sym c.lacks_for.ensures ∙ c.if-lacks_for.false) refl (sym c.if-is_barred.true ∙ c.is_barred.ensures)
+    access-barred c.args.task c.args.lun c.args.caller c.args.file c.args.mode (state_of (access_table_of c.args.self.now) c.args.files.now)
+    (sym c.is_bad.ensures ∙ c.if-is_bad.false) (sym c.in-None.ensures.value) c.if-file-lt4.false c.in-Ok.attr
+    (state_of (access_table_of c.args.self.now) c.read_attr.new.self) c.in-Ok.ensures.read.reads c.in-Ok.ensures.read.no_cause
+    c.in-Ok.ensures.read.attr_is c.in-Ok.ensures.answers.home c.in-Ok.ensures.told (sym c.is_marked.ensures ∙ c.if-is_marked.false)
+    (sym c.lacks_for.ensures ∙ c.if-lacks_for.false) refl (sym c.if-is_barred.true ∙ c.is_barred.ensures)
 
 pub returns-in-Err-clause-open : goal.returns-in-Err-clause-open
 returns-in-Err-clause-open g c = λ clean.
-    measured-open (access_table_of c.args.self.now) c.args.files.now c.read_attr.new.self c.requires.open c.in-Err.ensures.refused.reads c.in-Err.ensures.answers.home
+    measured-open (access_table_of c.args.self.now) c.args.files.now c.read_attr.new.self c.requires.open c.in-Err.ensures.refused.reads
+    c.in-Err.ensures.answers.home
     (c.in-Err.ensures.answers.next ∙ ap (λ b. b || is_fatal c.in-Err.refusal) c.requires.open.alive ∙ clean)
 
 pub returns-then-is_marked-clause-open : goal.returns-then-is_marked-clause-open
 returns-then-is_marked-clause-open g c = λ _.
-    measured-open (access_table_of c.args.self.now) c.args.files.now c.read_attr.new.self c.requires.open c.in-Ok.ensures.read.reads c.in-Ok.ensures.answers.home
+    measured-open (access_table_of c.args.self.now) c.args.files.now c.read_attr.new.self c.requires.open c.in-Ok.ensures.read.reads
+    c.in-Ok.ensures.answers.home
     (c.in-Ok.ensures.answers.next ∙ ap (λ b. b || false) c.requires.open.alive)
 
 pub returns-then-lacks_for-clause-open : goal.returns-then-lacks_for-clause-open
 returns-then-lacks_for-clause-open g c = λ _.
-    measured-open (access_table_of c.args.self.now) c.args.files.now c.read_attr.new.self c.requires.open c.in-Ok.ensures.read.reads c.in-Ok.ensures.answers.home
+    measured-open (access_table_of c.args.self.now) c.args.files.now c.read_attr.new.self c.requires.open c.in-Ok.ensures.read.reads
+    c.in-Ok.ensures.answers.home
     (c.in-Ok.ensures.answers.next ∙ ap (λ b. b || false) c.requires.open.alive)
 
 pub returns-then-is_barred-clause-open : goal.returns-then-is_barred-clause-open
 returns-then-is_barred-clause-open g c = λ _.
-    measured-open (access_table_of c.args.self.now) c.args.files.now c.read_attr.new.self c.requires.open c.in-Ok.ensures.read.reads c.in-Ok.ensures.answers.home
+    measured-open (access_table_of c.args.self.now) c.args.files.now c.read_attr.new.self c.requires.open c.in-Ok.ensures.read.reads
+    c.in-Ok.ensures.answers.home
     (c.in-Ok.ensures.answers.next ∙ ap (λ b. b || false) c.requires.open.alive)
 
 pub returns-clause-handles : goal.returns-clause-handles
 returns-clause-handles g c =
-    access-taken c.args.task c.args.lun c.args.caller c.args.file c.args.mode (state_of (access_table_of c.args.self.now) c.args.files.now) (sym c.is_bad.ensures ∙ c.if-is_bad.false) (sym c.in-None.ensures.value) c.if-file-lt4.false c.in-Ok.attr (state_of (access_table_of c.set.new.self) c.read_attr.new.self) c.in-Ok.ensures.read.reads c.in-Ok.ensures.read.no_cause c.in-Ok.ensures.read.attr_is c.in-Ok.ensures.answers.home c.in-Ok.ensures.told (sym c.is_marked.ensures ∙ c.if-is_marked.false) (sym c.lacks_for.ensures ∙ c.if-lacks_for.false) _ c.set.ensures.value (sym c.if-is_barred.false ∙ c.is_barred.ensures)
+    access-taken c.args.task c.args.lun c.args.caller c.args.file c.args.mode (state_of (access_table_of c.args.self.now) c.args.files.now)
+    (sym c.is_bad.ensures ∙ c.if-is_bad.false) (sym c.in-None.ensures.value) c.if-file-lt4.false c.in-Ok.attr
+    (state_of (access_table_of c.set.new.self) c.read_attr.new.self) c.in-Ok.ensures.read.reads c.in-Ok.ensures.read.no_cause
+    c.in-Ok.ensures.read.attr_is c.in-Ok.ensures.answers.home c.in-Ok.ensures.told (sym c.is_marked.ensures ∙ c.if-is_marked.false)
+    (sym c.lacks_for.ensures ∙ c.if-lacks_for.false) _ c.set.ensures.value (sym c.if-is_barred.false ∙ c.is_barred.ensures)
 
 pub returns-clause-open : goal.returns-clause-open
 returns-clause-open g c = λ _. record {
@@ -74,11 +103,18 @@ returns-clause-open g c = λ _. record {
   kept = λ honest.
       let looked = c.in-Ok.ensures.read.reads.looked in
       let was = sym looked.honest ∙ honest in
-      access-kept c.args.task c.args.lun c.args.caller c.args.file c.args.mode (state_of (access_table_of c.args.self.now) c.args.files.now) (sym c.is_bad.ensures ∙ c.if-is_bad.false) (sym c.in-None.ensures.value) c.if-file-lt4.false c.in-Ok.attr (state_of (access_table_of c.set.new.self) c.read_attr.new.self) c.in-Ok.ensures.read.reads c.in-Ok.ensures.read.no_cause c.in-Ok.ensures.read.attr_is c.in-Ok.ensures.answers.home c.in-Ok.ensures.told (sym c.is_marked.ensures ∙ c.if-is_marked.false) (sym c.lacks_for.ensures ∙ c.if-lacks_for.false) (access_table_of c.set.new.self) (store_in c.read_attr.new.self)
-      (ap (λ (i : Image). store_of i (home_in c.read_attr.new.self)) looked.image ∙ ap (λ (h : HomeFields). store_of (disk_in c.args.files.now).image h) c.in-Ok.ensures.answers.home) _ c.set.ensures.value was (c.requires.open.kept was);
+      access-kept c.args.task c.args.lun c.args.caller c.args.file c.args.mode (state_of (access_table_of c.args.self.now) c.args.files.now)
+      (sym c.is_bad.ensures ∙ c.if-is_bad.false) (sym c.in-None.ensures.value) c.if-file-lt4.false c.in-Ok.attr
+      (state_of (access_table_of c.set.new.self) c.read_attr.new.self) c.in-Ok.ensures.read.reads c.in-Ok.ensures.read.no_cause
+      c.in-Ok.ensures.read.attr_is c.in-Ok.ensures.answers.home c.in-Ok.ensures.told (sym c.is_marked.ensures ∙ c.if-is_marked.false)
+      (sym c.lacks_for.ensures ∙ c.if-lacks_for.false) (access_table_of c.set.new.self) (store_in c.read_attr.new.self)
+      (ap (λ (i : Image). store_of i (home_in c.read_attr.new.self)) looked.image
+      ∙ ap (λ (h : HomeFields). store_of (disk_in c.args.files.now).image h) c.in-Ok.ensures.answers.home) _ c.set.ensures.value was
+      (c.requires.open.kept was);
 }
 
 pub returns-clause-windows : goal.returns-clause-windows
 returns-clause-windows g c =
     c.set.ensures.value
-    ∙ ap (λ (w : Window). with_entry (access_table_of c.args.self.now) c.args.task c.args.lun (Some (record { file = c.args.file; mode = c.args.mode; marked = false; window = w }))) c.empty.ensures.value
+    ∙ ap (λ (w : Window). with_entry (access_table_of c.args.self.now) c.args.task c.args.lun
+    (Some (record { file = c.args.file; mode = c.args.mode; marked = false; window = w }))) c.empty.ensures.value

@@ -7,32 +7,44 @@ use Rattle.f11_fcp.proofs.OpenLemmas.{stays-open}
 use Rattle.f11_fcp.proofs.table.Accesses.find.Goals as goal
 
 pub returns-then-is_bad-clause-handles : goal.returns-then-is_bad-clause-handles
-returns-then-is_bad-clause-handles g c = find-bad c.args.task c.args.caller c.args.directory c.args.name.now (state_of (access_table_of c.args.self.now) c.args.files.now) (sym c.is_bad.ensures ∙ c.if-is_bad.true)
+returns-then-is_bad-clause-handles g c =
+    find-bad c.args.task c.args.caller c.args.directory c.args.name.now (state_of (access_table_of c.args.self.now) c.args.files.now)
+    (sym c.is_bad.ensures ∙ c.if-is_bad.true)
 
 pub returns-in-Err-clause-handles : goal.returns-in-Err-clause-handles
 returns-in-Err-clause-handles g c =
     let t = access_table_of c.args.self.now in
-    find-refused c.args.task c.args.caller c.args.directory c.args.name.now (state_of t c.args.files.now) (sym c.is_bad.ensures ∙ c.if-is_bad.false) c.in-Err.refusal (state_of t c.search.new.files) c.in-Err.ensures.refused c.search.ensures.home refl c.search.ensures.told
+    find-refused c.args.task c.args.caller c.args.directory c.args.name.now (state_of t c.args.files.now)
+    (sym c.is_bad.ensures ∙ c.if-is_bad.false) c.in-Err.refusal (state_of t c.search.new.files) c.in-Err.ensures.refused
+    c.search.ensures.home refl c.search.ensures.told
 
 pub returns-in-Err-clause-open : goal.returns-in-Err-clause-open
 returns-in-Err-clause-open g c =
-    stays-open (access_table_of c.args.self.now) c.args.files.now c.search.new.files c.args.task c.args.caller _ _ [] [] c.requires.open (λ _. tt) (returns-in-Err-clause-handles g c) c.in-Err.ensures.alive tt
+    stays-open (access_table_of c.args.self.now) c.args.files.now c.search.new.files c.args.task c.args.caller _ _ [] [] c.requires.open
+    (λ _. tt) (returns-in-Err-clause-handles g c) c.in-Err.ensures.alive tt
 
 pub returns-in-Found-clause-handles : goal.returns-in-Found-clause-handles
 returns-in-Found-clause-handles g c =
     let t = access_table_of c.args.self.now in
-    find-found c.args.task c.args.caller c.args.directory c.args.name.now (state_of t c.args.files.now) (sym c.is_bad.ensures ∙ c.if-is_bad.false) c.in-Ok.found (state_of t c.search.new.files) c.in-Ok.ensures.searched c.search.ensures.home refl _ c.in-Found.file c.in-Found.is
+    find-found c.args.task c.args.caller c.args.directory c.args.name.now (state_of t c.args.files.now)
+    (sym c.is_bad.ensures ∙ c.if-is_bad.false) c.in-Ok.found (state_of t c.search.new.files) c.in-Ok.ensures.searched
+    c.search.ensures.home refl _ c.in-Found.file c.in-Found.is
 
 pub returns-in-Found-clause-open : goal.returns-in-Found-clause-open
 returns-in-Found-clause-open g c =
-    stays-open (access_table_of c.args.self.now) c.args.files.now c.search.new.files c.args.task c.args.caller _ _ [] [] c.requires.open (λ _. tt) (returns-in-Found-clause-handles g c) (λ _. c.in-Ok.ensures.alive refl)
-    (windows-read (access_table_of c.args.self.now) c.args.files.now c.search.new.files c.requires.open c.in-Ok.ensures.searched.reads c.search.ensures.home)
+    stays-open (access_table_of c.args.self.now) c.args.files.now c.search.new.files c.args.task c.args.caller _ _ [] [] c.requires.open
+    (λ _. tt) (returns-in-Found-clause-handles g c) (λ _. c.in-Ok.ensures.alive refl)
+    (windows-read (access_table_of c.args.self.now) c.args.files.now c.search.new.files c.requires.open c.in-Ok.ensures.searched.reads
+    c.search.ensures.home)
 
 pub returns-in-Absent-clause-handles : goal.returns-in-Absent-clause-handles
 returns-in-Absent-clause-handles g c =
     let t = access_table_of c.args.self.now in
-    find-absent c.args.task c.args.caller c.args.directory c.args.name.now (state_of t c.args.files.now) (sym c.is_bad.ensures ∙ c.if-is_bad.false) c.in-Ok.found (state_of t c.search.new.files) c.in-Ok.ensures.searched c.search.ensures.home refl _ c.in-Absent.is c.search.ensures.told
+    find-absent c.args.task c.args.caller c.args.directory c.args.name.now (state_of t c.args.files.now)
+    (sym c.is_bad.ensures ∙ c.if-is_bad.false) c.in-Ok.found (state_of t c.search.new.files) c.in-Ok.ensures.searched
+    c.search.ensures.home refl _ c.in-Absent.is c.search.ensures.told
 
 pub returns-in-Absent-clause-open : goal.returns-in-Absent-clause-open
 returns-in-Absent-clause-open g c =
-    stays-open (access_table_of c.args.self.now) c.args.files.now c.search.new.files c.args.task c.args.caller _ _ [] [] c.requires.open (λ _. tt) (returns-in-Absent-clause-handles g c) (λ _. c.in-Ok.ensures.alive refl) tt
+    stays-open (access_table_of c.args.self.now) c.args.files.now c.search.new.files c.args.task c.args.caller _ _ [] [] c.requires.open
+    (λ _. tt) (returns-in-Absent-clause-handles g c) (λ _. c.in-Ok.ensures.alive refl) tt

@@ -7,7 +7,8 @@ use Rattle.f11_fcp.proofs.table.Accesses.is_accessed.Goals as goal
 pub returns-then-held-file-2 : goal.returns-then-held-file-2
 returns-then-held-file-2 c =
     let len : length c.args.self.now.places ≡ 32 = search rules in
-    let is = get_or_default c.args.self.now.places c.loop-held.held-index None c.held-item.result (rw len c.loop-held-test.true) ∙ c.in-Some.is in
+    let is = get_or_default c.args.self.now.places c.loop-held.held-index None c.held-item.result (rw len c.loop-held-test.true)
+    ∙ c.in-Some.is in
     sym (found-at any_mode c.args.file _ c.loop-held.held-index c.loop-held-test.true
     (stands-at any_mode c.args.file _ c.loop-held.held-index c.in-Some.held is c.if-held-file.true c.if-held-file-2.true refl))
 

@@ -7,9 +7,11 @@ use Rattle.f11_fcp.proofs.table.Accesses.is_barred.Goals as goal
 pub returns-then-bars : goal.returns-then-bars
 returns-then-bars c =
     let len : length c.args.self.now.places ≡ 32 = search rules in
-    let is = get_or_default c.args.self.now.places c.loop-held.held-index None c.held-item.result (rw len c.loop-held-test.true) ∙ c.in-Some.is in
+    let is = get_or_default c.args.self.now.places c.loop-held.held-index None c.held-item.result (rw len c.loop-held-test.true)
+    ∙ c.in-Some.is in
     sym (found-at (bars c.args.mode) c.args.file _ c.loop-held.held-index c.loop-held-test.true
-    (stands-at (bars c.args.mode) c.args.file _ c.loop-held.held-index c.in-Some.held is c.if-held-file.true c.if-held-file-2.true (sym c.bars.ensures ∙ c.if-bars.true)))
+    (stands-at (bars c.args.mode) c.args.file _ c.loop-held.held-index c.in-Some.held is c.if-held-file.true c.if-held-file-2.true
+    (sym c.bars.ensures ∙ c.if-bars.true)))
 
 pub returns : goal.returns
 returns c =

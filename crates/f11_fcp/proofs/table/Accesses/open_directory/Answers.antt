@@ -7,36 +7,43 @@ use Rattle.f11_fcp.proofs.table.Accesses.open_directory.Goals as goal
 
 pub returns-then-directory-lt4-clause-refused : goal.returns-then-directory-lt4-clause-refused
 returns-then-directory-lt4-clause-refused g c =
-    open-system c.args.purpose (access_table_of c.args.self.now) c.args.caller c.args.directory (home_in c.args.files.now) (disk_in c.args.files.now) c.if-directory-lt4.true
+    open-system c.args.purpose (access_table_of c.args.self.now) c.args.caller c.args.directory (home_in c.args.files.now)
+    (disk_in c.args.files.now) c.if-directory-lt4.true
 
 pub returns-in-Err-clause-refused : goal.returns-in-Err-clause-refused
 returns-in-Err-clause-refused g c =
-    open-unread c.args.purpose (access_table_of c.args.self.now) c.args.caller c.args.directory (home_in c.args.files.now) (disk_in c.args.files.now) c.if-directory-lt4.false c.in-Err.refusal c.requires.alive c.in-Err.ensures.refused
+    open-unread c.args.purpose (access_table_of c.args.self.now) c.args.caller c.args.directory (home_in c.args.files.now)
+    (disk_in c.args.files.now) c.if-directory-lt4.false c.in-Err.refusal c.requires.alive c.in-Err.ensures.refused
 
 pub returns-then-is_marked-clause-refused : goal.returns-then-is_marked-clause-refused
 returns-then-is_marked-clause-refused g c =
-    open-marked c.args.purpose (access_table_of c.args.self.now) c.args.caller c.args.directory (home_in c.args.files.now) (disk_in c.args.files.now) c.if-directory-lt4.false c.in-Ok.attr (disk_in c.read_attr.new.self) c.in-Ok.ensures.read
+    open-marked c.args.purpose (access_table_of c.args.self.now) c.args.caller c.args.directory (home_in c.args.files.now)
+    (disk_in c.args.files.now) c.if-directory-lt4.false c.in-Ok.attr (disk_in c.read_attr.new.self) c.in-Ok.ensures.read
     (sym c.is_marked.ensures ∙ c.if-is_marked.true)
 
 pub returns-then-lacks_for-clause-refused : goal.returns-then-lacks_for-clause-refused
 returns-then-lacks_for-clause-refused g c =
-    open-unprivileged c.args.purpose (access_table_of c.args.self.now) c.args.caller c.args.directory (home_in c.args.files.now) (disk_in c.args.files.now) c.if-directory-lt4.false c.in-Ok.attr (disk_in c.read_attr.new.self) c.in-Ok.ensures.read
+    open-unprivileged c.args.purpose (access_table_of c.args.self.now) c.args.caller c.args.directory (home_in c.args.files.now)
+    (disk_in c.args.files.now) c.if-directory-lt4.false c.in-Ok.attr (disk_in c.read_attr.new.self) c.in-Ok.ensures.read
     (sym c.is_marked.ensures ∙ c.if-is_marked.false) (sym c.lacks_for.ensures ∙ c.if-lacks_for.true)
 
 pub returns-then-bars-clause-refused : goal.returns-then-bars-clause-refused
 returns-then-bars-clause-refused g c =
-    open-barred c.args.purpose (access_table_of c.args.self.now) c.args.caller c.args.directory (home_in c.args.files.now) (disk_in c.args.files.now) c.if-directory-lt4.false c.in-Ok.attr (disk_in c.read_attr.new.self) c.in-Ok.ensures.read
+    open-barred c.args.purpose (access_table_of c.args.self.now) c.args.caller c.args.directory (home_in c.args.files.now)
+    (disk_in c.args.files.now) c.if-directory-lt4.false c.in-Ok.attr (disk_in c.read_attr.new.self) c.in-Ok.ensures.read
     (sym c.is_marked.ensures ∙ c.if-is_marked.false) (sym c.lacks_for.ensures ∙ c.if-lacks_for.false) (sym c.bars.ensures ∙ c.if-bars.true)
 
 pub returns-then-not-is_directory-clause-refused : goal.returns-then-not-is_directory-clause-refused
 returns-then-not-is_directory-clause-refused g c =
-    open-other c.args.purpose (access_table_of c.args.self.now) c.args.caller c.args.directory (home_in c.args.files.now) (disk_in c.args.files.now) c.if-directory-lt4.false c.in-Ok.attr (disk_in c.read_attr.new.self) c.in-Ok.ensures.read
+    open-other c.args.purpose (access_table_of c.args.self.now) c.args.caller c.args.directory (home_in c.args.files.now)
+    (disk_in c.args.files.now) c.if-directory-lt4.false c.in-Ok.attr (disk_in c.read_attr.new.self) c.in-Ok.ensures.read
     (sym c.is_marked.ensures ∙ c.if-is_marked.false) (sym c.lacks_for.ensures ∙ c.if-lacks_for.false) (sym c.bars.ensures ∙ c.if-bars.false)
     c.is_directory.result c.if-not-is_directory.true c.is_directory.ensures
 
 pub returns-clause-opened : goal.returns-clause-opened
 returns-clause-opened g c =
-    opened c.args.purpose (access_table_of c.args.self.now) c.args.caller c.args.directory (home_in c.args.files.now) (disk_in c.args.files.now) c.if-directory-lt4.false c.in-Ok.attr (disk_in c.read_attr.new.self) c.in-Ok.ensures.read
+    opened c.args.purpose (access_table_of c.args.self.now) c.args.caller c.args.directory (home_in c.args.files.now)
+    (disk_in c.args.files.now) c.if-directory-lt4.false c.in-Ok.attr (disk_in c.read_attr.new.self) c.in-Ok.ensures.read
     (sym c.is_marked.ensures ∙ c.if-is_marked.false) (sym c.lacks_for.ensures ∙ c.if-lacks_for.false) (sym c.bars.ensures ∙ c.if-bars.false)
     c.is_directory.result c.if-not-is_directory.false c.is_directory.ensures
 

@@ -7,7 +7,12 @@ use Rattle.f11_fcp.proofs.ReleaseLemmas.{Released, released-none, released-skips
 use Rattle.f11_fcp.proofs.table.Accesses.release.Goals as goal
 
 pub loop-unit-init : goal.loop-unit-init
-loop-unit-init g c = record { windows = keeps-same (access_table_of c.args.self.now); open_now = c.requires.open; so_far = released-none c.args.task c.args.caller (state_of (access_table_of c.args.self.now) c.args.files.now) }
+loop-unit-init g c =
+    record {
+      windows = keeps-same (access_table_of c.args.self.now);
+      open_now = c.requires.open;
+      so_far = released-none c.args.task c.args.caller (state_of (access_table_of c.args.self.now) c.args.files.now);
+    }
 
 pub loop-unit-preserved-in-None : goal.loop-unit-preserved-in-None
 loop-unit-preserved-in-None g c = absurd (let no = c.in-None.ensures.valid.1 c.loop-unit-test.true in cc)
@@ -16,8 +21,11 @@ pub loop-unit-preserved-in-None-held : goal.loop-unit-preserved-in-None-held
 loop-unit-preserved-in-None-held g c = record {
   windows = c.loop-unit.invariant.windows;
   open_now = c.loop-unit.invariant.open_now;
-  so_far = released-skips c.args.task c.args.caller (state_of (access_table_of c.args.self.now) c.args.files.now) (state_of (access_table_of c.loop-unit.self) c.loop-unit.files) c.loop-unit.unit c.loop-unit-test.true
-      c.loop-unit.invariant.so_far (ap (access_table_of c.loop-unit.self c.args.task) (sym c.in-Some.ensures.value) ∙ sym c.in-None-held.ensures.value);
+  so_far =
+      released-skips c.args.task c.args.caller (state_of (access_table_of c.args.self.now) c.args.files.now)
+      (state_of (access_table_of c.loop-unit.self) c.loop-unit.files) c.loop-unit.unit c.loop-unit-test.true
+      c.loop-unit.invariant.so_far (ap (access_table_of c.loop-unit.self c.args.task) (sym c.in-Some.ensures.value)
+      ∙ sym c.in-None-held.ensures.value);
 }
 
 pub give_up-requires-clause-open : goal.give_up-requires-clause-open
@@ -26,19 +34,27 @@ give_up-requires-clause-open g c = c.loop-unit.invariant.open_now
 pub returns-in-Err-clause-handles : goal.returns-in-Err-clause-handles
 returns-in-Err-clause-handles g c =
     let t = access_table_of c.loop-unit.self in
-    released-fails c.args.task c.args.caller (state_of (access_table_of c.args.self.now) c.args.files.now) (state_of t c.loop-unit.files) c.loop-unit.unit c.loop-unit-test.true c.loop-unit.invariant.so_far
-    (entry_of c.in-Some-held.held) (ap (t c.args.task) (sym c.in-Some.ensures.value) ∙ sym c.in-Some-held.ensures.value) (state_of (access_table_of c.give_up.new.self) c.give_up.new.files) c.in-Err.refusal c.in-Err.ensures.fatal
-    (subst (λ (k : ℕ). Handles c.args.task c.args.caller (request.Deaccess k) (Err c.in-Err.refusal) (state_of t c.loop-unit.files) [] (state_of (access_table_of c.give_up.new.self) c.give_up.new.files) []) c.in-Some.ensures.value c.in-Err.ensures.handles)
+    released-fails c.args.task c.args.caller (state_of (access_table_of c.args.self.now) c.args.files.now) (state_of t c.loop-unit.files)
+    c.loop-unit.unit c.loop-unit-test.true c.loop-unit.invariant.so_far
+    (entry_of c.in-Some-held.held) (ap (t c.args.task) (sym c.in-Some.ensures.value) ∙ sym c.in-Some-held.ensures.value)
+    (state_of (access_table_of c.give_up.new.self) c.give_up.new.files) c.in-Err.refusal c.in-Err.ensures.fatal
+    (subst (λ (k : ℕ). Handles c.args.task c.args.caller (request.Deaccess k) (Err c.in-Err.refusal) (state_of t c.loop-unit.files) []
+    (state_of (access_table_of c.give_up.new.self) c.give_up.new.files) []) c.in-Some.ensures.value c.in-Err.ensures.handles)
 
 pub loop-unit-preserved : goal.loop-unit-preserved
 loop-unit-preserved g c =
     let t = access_table_of c.loop-unit.self in
     record {
-      windows = keeps-then (access_table_of c.args.self.now) t (access_table_of c.give_up.new.self) c.loop-unit.invariant.windows c.in-Ok.ensures.windows;
+      windows = keeps-then (access_table_of c.args.self.now) t (access_table_of c.give_up.new.self) c.loop-unit.invariant.windows
+          c.in-Ok.ensures.windows;
       open_now = c.in-Ok.ensures.open refl;
-      so_far = released-more c.args.task c.args.caller (state_of (access_table_of c.args.self.now) c.args.files.now) (state_of t c.loop-unit.files) c.loop-unit.unit c.loop-unit-test.true c.loop-unit.invariant.so_far
-          (entry_of c.in-Some-held.held) (ap (t c.args.task) (sym c.in-Some.ensures.value) ∙ sym c.in-Some-held.ensures.value) (state_of (access_table_of c.give_up.new.self) c.give_up.new.files) c.in-Ok.field-0
-          (subst (λ (k : ℕ). Handles c.args.task c.args.caller (request.Deaccess k) (Ok c.in-Ok.field-0) (state_of t c.loop-unit.files) [] (state_of (access_table_of c.give_up.new.self) c.give_up.new.files) []) c.in-Some.ensures.value c.in-Ok.ensures.handles);
+      so_far =
+          released-more c.args.task c.args.caller (state_of (access_table_of c.args.self.now) c.args.files.now)
+          (state_of t c.loop-unit.files) c.loop-unit.unit c.loop-unit-test.true c.loop-unit.invariant.so_far
+          (entry_of c.in-Some-held.held) (ap (t c.args.task) (sym c.in-Some.ensures.value) ∙ sym c.in-Some-held.ensures.value)
+          (state_of (access_table_of c.give_up.new.self) c.give_up.new.files) c.in-Ok.field-0
+          (subst (λ (k : ℕ). Handles c.args.task c.args.caller (request.Deaccess k) (Ok c.in-Ok.field-0) (state_of t c.loop-unit.files) []
+          (state_of (access_table_of c.give_up.new.self) c.give_up.new.files) []) c.in-Some.ensures.value c.in-Ok.ensures.handles);
     }
 
 pub returns-clause-handles : goal.returns-clause-handles
@@ -46,7 +62,8 @@ returns-clause-handles g c =
     let old = state_of (access_table_of c.args.self.now) c.args.files.now in
     let now = state_of (access_table_of c.loop-unit.self) c.loop-unit.files in
     let last : c.loop-unit.unit ≡ 4 = omega (arith, c.loop-unit-test.false, c.loop-unit.auto.unit-end) in
-    released-all c.args.task c.args.caller old now (subst (λ (k : ℕ). Released c.args.task c.args.caller old now k) last c.loop-unit.invariant.so_far)
+    released-all c.args.task c.args.caller old now
+    (subst (λ (k : ℕ). Released c.args.task c.args.caller old now k) last c.loop-unit.invariant.so_far)
 
 pub returns-clause-open : goal.returns-clause-open
 returns-clause-open g c = λ _. c.loop-unit.invariant.open_now

@@ -8,6 +8,7 @@ abbrev pub invariant-loop-unit : goal.invariant-loop-unit
 invariant-loop-unit g l =
     record {
       open_now : IsOpen (access_table_of l.self) l.files;
-      so_far : Released l.task l.caller (state_of (access_table_of l.fn.self) l.fn.files) (state_of (access_table_of l.self) l.files) l.unit;
+      so_far : Released l.task l.caller (state_of (access_table_of l.fn.self) l.fn.files) (state_of (access_table_of l.self) l.files)
+          l.unit;
       windows : KeepsWindows (access_table_of l.fn.self) (access_table_of l.self);
     }

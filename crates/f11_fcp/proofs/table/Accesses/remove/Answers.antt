@@ -8,48 +8,66 @@ use Rattle.f11_fcp.proofs.RemoveLemmas.{remove-bad, remove-refused, remove-absen
 use Rattle.f11_fcp.proofs.table.Accesses.remove.Goals as goal
 
 pub returns-then-is_bad-clause-handles : goal.returns-then-is_bad-clause-handles
-returns-then-is_bad-clause-handles g c = remove-bad c.args.task c.args.caller c.args.directory c.args.name.now (state_of (access_table_of c.args.self.now) c.args.files.now) (sym c.is_bad.ensures ∙ c.if-is_bad.true)
+returns-then-is_bad-clause-handles g c =
+    remove-bad c.args.task c.args.caller c.args.directory c.args.name.now (state_of (access_table_of c.args.self.now) c.args.files.now)
+    (sym c.is_bad.ensures ∙ c.if-is_bad.true)
 
 pub returns-in-Err-clause-handles : goal.returns-in-Err-clause-handles
 returns-in-Err-clause-handles g c =
     let t = access_table_of c.args.self.now in
-    remove-refused c.args.task c.args.caller c.args.directory c.args.name.now (state_of t c.args.files.now) (sym c.is_bad.ensures ∙ c.if-is_bad.false) c.in-Err.refusal (state_of t c.search.new.files) c.in-Err.ensures.refused c.search.ensures.home refl c.search.ensures.told
+    remove-refused c.args.task c.args.caller c.args.directory c.args.name.now (state_of t c.args.files.now)
+    (sym c.is_bad.ensures ∙ c.if-is_bad.false) c.in-Err.refusal (state_of t c.search.new.files) c.in-Err.ensures.refused
+    c.search.ensures.home refl c.search.ensures.told
 
 pub returns-in-Err-clause-open : goal.returns-in-Err-clause-open
 returns-in-Err-clause-open g c =
-    stays-open (access_table_of c.args.self.now) c.args.files.now c.search.new.files c.args.task c.args.caller _ _ [] [] c.requires.open (λ _. tt) (returns-in-Err-clause-handles g c) c.in-Err.ensures.alive tt
+    stays-open (access_table_of c.args.self.now) c.args.files.now c.search.new.files c.args.task c.args.caller _ _ [] [] c.requires.open
+    (λ _. tt) (returns-in-Err-clause-handles g c) c.in-Err.ensures.alive tt
 
 pub returns-in-Absent-clause-handles : goal.returns-in-Absent-clause-handles
 returns-in-Absent-clause-handles g c =
     let t = access_table_of c.args.self.now in
-    remove-absent c.args.task c.args.caller c.args.directory c.args.name.now (state_of t c.args.files.now) (sym c.is_bad.ensures ∙ c.if-is_bad.false) c.in-Ok.found (state_of t c.search.new.files) c.in-Ok.ensures.searched c.search.ensures.home _ c.in-Absent.is refl c.search.ensures.told
+    remove-absent c.args.task c.args.caller c.args.directory c.args.name.now (state_of t c.args.files.now)
+    (sym c.is_bad.ensures ∙ c.if-is_bad.false) c.in-Ok.found (state_of t c.search.new.files) c.in-Ok.ensures.searched
+    c.search.ensures.home _ c.in-Absent.is refl c.search.ensures.told
 
 pub returns-in-Absent-clause-open : goal.returns-in-Absent-clause-open
 returns-in-Absent-clause-open g c =
-    stays-open (access_table_of c.args.self.now) c.args.files.now c.search.new.files c.args.task c.args.caller _ _ [] [] c.requires.open (λ _. tt) (returns-in-Absent-clause-handles g c) (λ _. c.in-Ok.ensures.alive refl) tt
+    stays-open (access_table_of c.args.self.now) c.args.files.now c.search.new.files c.args.task c.args.caller _ _ [] [] c.requires.open
+    (λ _. tt) (returns-in-Absent-clause-handles g c) (λ _. c.in-Ok.ensures.alive refl) tt
 
 pub clear_entry-requires-clause-there : goal.clear_entry-requires-clause-there
 clear_entry-requires-clause-there g c =
     let t = access_table_of c.args.self.now in
-    remove-holds c.args.task c.args.caller c.args.directory c.args.name.now (state_of t c.args.files.now) (sym c.is_bad.ensures ∙ c.if-is_bad.false) c.in-Ok.found (state_of t c.search.new.files) c.in-Ok.ensures.searched c.search.ensures.home c.in-Found.spot _ c.in-Found.is
+    remove-holds c.args.task c.args.caller c.args.directory c.args.name.now (state_of t c.args.files.now)
+    (sym c.is_bad.ensures ∙ c.if-is_bad.false) c.in-Ok.found (state_of t c.search.new.files) c.in-Ok.ensures.searched
+    c.search.ensures.home c.in-Found.spot _ c.in-Found.is
 
 pub returns-in-Ok-clear_entry-clause-handles : goal.returns-in-Ok-clear_entry-clause-handles
 returns-in-Ok-clear_entry-clause-handles g c =
     let t = access_table_of c.args.self.now in
-    removed c.args.task c.args.caller c.args.directory c.args.name.now (state_of t c.args.files.now) (sym c.is_bad.ensures ∙ c.if-is_bad.false) c.in-Ok.found (state_of t c.search.new.files) c.in-Ok.ensures.searched c.search.ensures.home c.in-Found.spot _ c.in-Found.is
+    removed c.args.task c.args.caller c.args.directory c.args.name.now (state_of t c.args.files.now)
+    (sym c.is_bad.ensures ∙ c.if-is_bad.false) c.in-Ok.found (state_of t c.search.new.files) c.in-Ok.ensures.searched
+    c.search.ensures.home c.in-Found.spot _ c.in-Found.is
     c.in-Found.spot.within (state_of t c.clear_entry.new.files) c.in-Ok-clear_entry.ensures.replaced c.clear_entry.ensures.home refl
 
 pub returns-in-Ok-clear_entry-clause-open : goal.returns-in-Ok-clear_entry-clause-open
 returns-in-Ok-clear_entry-clause-open g c =
-    stays-open (access_table_of c.args.self.now) c.args.files.now c.clear_entry.new.files c.args.task c.args.caller _ _ [] [] c.requires.open (λ _. tt) (returns-in-Ok-clear_entry-clause-handles g c) (λ _. c.in-Ok-clear_entry.ensures.alive)
-    (windows-on (access_table_of c.args.self.now) c.args.files.now c.clear_entry.new.files c.requires.open (returns-in-Ok-clear_entry-clause-handles g c).writes (returns-in-Ok-clear_entry-clause-handles g c).home
-    (leaves-behind c.args.files.now c.search.new.files c.clear_entry.new.files c.search.ensures.home c.in-Ok.ensures.searched.reads.looked.honest c.in-Ok.ensures.searched.reads.looked.image c.in-Ok-clear_entry.ensures.rows))
+    stays-open (access_table_of c.args.self.now) c.args.files.now c.clear_entry.new.files c.args.task c.args.caller _ _ [] []
+    c.requires.open (λ _. tt) (returns-in-Ok-clear_entry-clause-handles g c) (λ _. c.in-Ok-clear_entry.ensures.alive)
+    (windows-on (access_table_of c.args.self.now) c.args.files.now c.clear_entry.new.files c.requires.open
+    (returns-in-Ok-clear_entry-clause-handles g c).writes (returns-in-Ok-clear_entry-clause-handles g c).home
+    (leaves-behind c.args.files.now c.search.new.files c.clear_entry.new.files c.search.ensures.home
+    c.in-Ok.ensures.searched.reads.looked.honest c.in-Ok.ensures.searched.reads.looked.image c.in-Ok-clear_entry.ensures.rows))
 
 pub returns-in-Err-clear_entry-clause-handles : goal.returns-in-Err-clear_entry-clause-handles
 returns-in-Err-clear_entry-clause-handles g c =
     let t = access_table_of c.args.self.now in
-    not-removed c.args.task c.args.caller c.args.directory c.args.name.now (state_of t c.args.files.now) (sym c.is_bad.ensures ∙ c.if-is_bad.false) c.in-Ok.found (state_of t c.search.new.files) c.in-Ok.ensures.searched c.search.ensures.home c.in-Found.spot _ c.in-Found.is
-    c.in-Found.spot.within c.in-Err-clear_entry.refusal (state_of t c.clear_entry.new.files) c.in-Err-clear_entry.ensures.refused c.clear_entry.ensures.home
+    not-removed c.args.task c.args.caller c.args.directory c.args.name.now (state_of t c.args.files.now)
+    (sym c.is_bad.ensures ∙ c.if-is_bad.false) c.in-Ok.found (state_of t c.search.new.files) c.in-Ok.ensures.searched
+    c.search.ensures.home c.in-Found.spot _ c.in-Found.is
+    c.in-Found.spot.within c.in-Err-clear_entry.refusal (state_of t c.clear_entry.new.files) c.in-Err-clear_entry.ensures.refused
+    c.clear_entry.ensures.home
 
 pub returns-in-Err-clear_entry-clause-open : goal.returns-in-Err-clear_entry-clause-open
 returns-in-Err-clear_entry-clause-open g c = λ clean. absurd (let fatal = c.in-Err-clear_entry.ensures.refused.fatal in cc)

@@ -7,4 +7,5 @@ abbrev pub invariant-loop-i : goal.invariant-loop-i
 invariant-loop-i l =
     (k : ℕ) →
     option_map entry_of (slice_index_or l.self.places k None)
-    ≡ (if nat_lt k l.i then option_map (marked_if l.file) (option_map entry_of (slice_index_or l.fn.self.places k None)) else option_map entry_of (slice_index_or l.fn.self.places k None))
+    ≡ (if nat_lt k l.i then option_map (marked_if l.file) (option_map entry_of (slice_index_or l.fn.self.places k None)) else option_map
+    entry_of (slice_index_or l.fn.self.places k None))

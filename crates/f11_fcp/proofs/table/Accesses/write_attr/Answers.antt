@@ -5,61 +5,97 @@ use Rattle.f11_fcp.specs.Places.{access_table_of}
 use Rattle.f11_fcp.proofs.WindowLemmas.{windows-on}
 use Rattle.f11_fcp.proofs.RowLemmas.{replaced-leaves, leaves-behind}
 use Rattle.f11_fcp.proofs.OpenLemmas.{stays-open}
-use Rattle.f11_fcp.proofs.AttributeLemmas.{change-bad, change-system, change-unread, change-marked, change-unprivileged, changed, not-changed}
+use Rattle.f11_fcp.proofs.AttributeLemmas.{change-bad, change-system, change-unread, change-marked, change-unprivileged, changed}
+use Rattle.f11_fcp.proofs.AttributeLemmas.{not-changed}
 use Rattle.f11_fcp.proofs.table.Accesses.write_attr.Goals as goal
 
 pub returns-then-is_bad-clause-handles : goal.returns-then-is_bad-clause-handles
 returns-then-is_bad-clause-handles g c =
-    change-bad c.args.task c.args.caller c.args.file c.args.change.now (state_of (access_table_of c.args.self.now) c.args.files.now) (sym c.is_bad.ensures ∙ c.if-is_bad.true)
+    change-bad c.args.task c.args.caller c.args.file c.args.change.now (state_of (access_table_of c.args.self.now) c.args.files.now)
+    (sym c.is_bad.ensures ∙ c.if-is_bad.true)
 
 pub returns-then-file-lt4-clause-handles : goal.returns-then-file-lt4-clause-handles
 returns-then-file-lt4-clause-handles g c =
-    change-system c.args.task c.args.caller c.args.file c.args.change.now (state_of (access_table_of c.args.self.now) c.args.files.now) (sym c.is_bad.ensures ∙ c.if-is_bad.false) c.if-file-lt4.true
+    change-system c.args.task c.args.caller c.args.file c.args.change.now (state_of (access_table_of c.args.self.now) c.args.files.now)
+    (sym c.is_bad.ensures ∙ c.if-is_bad.false) c.if-file-lt4.true
 
 pub returns-in-Err-clause-handles : goal.returns-in-Err-clause-handles
 returns-in-Err-clause-handles g c =
-    change-unread c.args.task c.args.caller c.args.file c.args.change.now (state_of (access_table_of c.args.self.now) c.args.files.now) (sym c.is_bad.ensures ∙ c.if-is_bad.false) c.if-file-lt4.false c.in-Err.refusal (state_of (access_table_of c.args.self.now) c.read_attr.new.self) c.requires.open.alive c.in-Err.ensures.refused c.in-Err.ensures.answers.home refl c.in-Err.ensures.told
+    change-unread c.args.task c.args.caller c.args.file c.args.change.now (state_of (access_table_of c.args.self.now) c.args.files.now)
+    (sym c.is_bad.ensures ∙ c.if-is_bad.false) c.if-file-lt4.false c.in-Err.refusal
+    (state_of (access_table_of c.args.self.now) c.read_attr.new.self) c.requires.open.alive c.in-Err.ensures.refused
+    c.in-Err.ensures.answers.home refl c.in-Err.ensures.told
 
 pub returns-in-Err-clause-open : goal.returns-in-Err-clause-open
 returns-in-Err-clause-open g c =
-    stays-open (access_table_of c.args.self.now) c.args.files.now c.read_attr.new.self c.args.task c.args.caller _ _ [] [] c.requires.open (λ _. tt) (returns-in-Err-clause-handles g c)
+    stays-open (access_table_of c.args.self.now) c.args.files.now c.read_attr.new.self c.args.task c.args.caller _ _ [] [] c.requires.open
+    (λ _. tt) (returns-in-Err-clause-handles g c)
     (λ clean. c.in-Err.ensures.answers.next ∙ ap (λ b. b || is_fatal c.in-Err.refusal) c.requires.open.alive ∙ clean) tt
 
 pub returns-then-is_marked-clause-handles : goal.returns-then-is_marked-clause-handles
 returns-then-is_marked-clause-handles g c =
-    change-marked c.args.task c.args.caller c.args.file c.args.change.now (state_of (access_table_of c.args.self.now) c.args.files.now) (sym c.is_bad.ensures ∙ c.if-is_bad.false) c.if-file-lt4.false c.in-Ok.attr (state_of (access_table_of c.args.self.now) c.read_attr.new.self) c.in-Ok.ensures.read.reads c.in-Ok.ensures.read.no_cause c.in-Ok.ensures.read.attr_is c.in-Ok.ensures.answers.home c.in-Ok.ensures.told refl (sym c.is_marked.ensures ∙ c.if-is_marked.true)
+    change-marked c.args.task c.args.caller c.args.file c.args.change.now (state_of (access_table_of c.args.self.now) c.args.files.now)
+    (sym c.is_bad.ensures ∙ c.if-is_bad.false) c.if-file-lt4.false c.in-Ok.attr
+    (state_of (access_table_of c.args.self.now) c.read_attr.new.self) c.in-Ok.ensures.read.reads c.in-Ok.ensures.read.no_cause
+    c.in-Ok.ensures.read.attr_is c.in-Ok.ensures.answers.home c.in-Ok.ensures.told refl (sym c.is_marked.ensures ∙ c.if-is_marked.true)
 
 pub returns-then-is_marked-clause-open : goal.returns-then-is_marked-clause-open
 returns-then-is_marked-clause-open g c =
-    stays-open (access_table_of c.args.self.now) c.args.files.now c.read_attr.new.self c.args.task c.args.caller _ _ [] [] c.requires.open (λ _. tt) (returns-then-is_marked-clause-handles g c)
+    stays-open (access_table_of c.args.self.now) c.args.files.now c.read_attr.new.self c.args.task c.args.caller _ _ [] [] c.requires.open
+    (λ _. tt) (returns-then-is_marked-clause-handles g c)
     (λ _. c.in-Ok.ensures.answers.next ∙ ap (λ b. b || false) c.requires.open.alive) tt
 
 pub returns-then-lacks_change-clause-handles : goal.returns-then-lacks_change-clause-handles
 returns-then-lacks_change-clause-handles g c =
-    change-unprivileged c.args.task c.args.caller c.args.file c.args.change.now (state_of (access_table_of c.args.self.now) c.args.files.now) (sym c.is_bad.ensures ∙ c.if-is_bad.false) c.if-file-lt4.false c.in-Ok.attr (state_of (access_table_of c.args.self.now) c.read_attr.new.self) c.in-Ok.ensures.read.reads c.in-Ok.ensures.read.no_cause c.in-Ok.ensures.read.attr_is c.in-Ok.ensures.answers.home c.in-Ok.ensures.told refl (sym c.is_marked.ensures ∙ c.if-is_marked.false) (sym c.lacks_change.ensures ∙ c.if-lacks_change.true)
+    change-unprivileged c.args.task c.args.caller c.args.file c.args.change.now
+    (state_of (access_table_of c.args.self.now) c.args.files.now) (sym c.is_bad.ensures ∙ c.if-is_bad.false) c.if-file-lt4.false
+    c.in-Ok.attr (state_of (access_table_of c.args.self.now) c.read_attr.new.self) c.in-Ok.ensures.read.reads
+    c.in-Ok.ensures.read.no_cause c.in-Ok.ensures.read.attr_is c.in-Ok.ensures.answers.home c.in-Ok.ensures.told refl
+    (sym c.is_marked.ensures ∙ c.if-is_marked.false) (sym c.lacks_change.ensures ∙ c.if-lacks_change.true)
 
 pub returns-then-lacks_change-clause-open : goal.returns-then-lacks_change-clause-open
 returns-then-lacks_change-clause-open g c =
-    stays-open (access_table_of c.args.self.now) c.args.files.now c.read_attr.new.self c.args.task c.args.caller _ _ [] [] c.requires.open (λ _. tt) (returns-then-lacks_change-clause-handles g c)
+    stays-open (access_table_of c.args.self.now) c.args.files.now c.read_attr.new.self c.args.task c.args.caller _ _ [] [] c.requires.open
+    (λ _. tt) (returns-then-lacks_change-clause-handles g c)
     (λ _. c.in-Ok.ensures.answers.next ∙ ap (λ b. b || false) c.requires.open.alive) tt
 
 pub returns-in-Ok-write_attr-clause-handles : goal.returns-in-Ok-write_attr-clause-handles
 returns-in-Ok-write_attr-clause-handles g c =
-    changed c.args.task c.args.caller c.args.file c.args.change.now (state_of (access_table_of c.args.self.now) c.args.files.now) (sym c.is_bad.ensures ∙ c.if-is_bad.false) c.if-file-lt4.false c.in-Ok.attr (state_of (access_table_of c.args.self.now) c.read_attr.new.self) c.in-Ok.ensures.read.reads c.in-Ok.ensures.read.no_cause c.in-Ok.ensures.read.attr_is c.in-Ok.ensures.answers.home c.in-Ok.ensures.told refl (sym c.is_marked.ensures ∙ c.if-is_marked.false) (sym c.lacks_change.ensures ∙ c.if-lacks_change.false) (state_of (access_table_of c.args.self.now) c.write_attr.new.self) c.in-Ok-write_attr.ensures.answers.home refl c.in-Ok-write_attr.ensures.altered
+    changed c.args.task c.args.caller c.args.file c.args.change.now (state_of (access_table_of c.args.self.now) c.args.files.now)
+    (sym c.is_bad.ensures ∙ c.if-is_bad.false) c.if-file-lt4.false c.in-Ok.attr
+    (state_of (access_table_of c.args.self.now) c.read_attr.new.self) c.in-Ok.ensures.read.reads c.in-Ok.ensures.read.no_cause
+    c.in-Ok.ensures.read.attr_is c.in-Ok.ensures.answers.home c.in-Ok.ensures.told refl (sym c.is_marked.ensures ∙ c.if-is_marked.false)
+    (sym c.lacks_change.ensures ∙ c.if-lacks_change.false) (state_of (access_table_of c.args.self.now) c.write_attr.new.self)
+    c.in-Ok-write_attr.ensures.answers.home refl c.in-Ok-write_attr.ensures.altered
 
 pub returns-in-Ok-write_attr-clause-open : goal.returns-in-Ok-write_attr-clause-open
 returns-in-Ok-write_attr-clause-open g c =
-    stays-open (access_table_of c.args.self.now) c.args.files.now c.write_attr.new.self c.args.task c.args.caller _ _ [] [] c.requires.open (λ _. tt) (returns-in-Ok-write_attr-clause-handles g c)
-    (λ _. c.in-Ok-write_attr.ensures.answers.next ∙ ap (λ b. b || false) (c.in-Ok.ensures.answers.next ∙ ap (λ b. b || false) c.requires.open.alive))
-    (windows-on (access_table_of c.args.self.now) c.args.files.now c.write_attr.new.self c.requires.open (returns-in-Ok-write_attr-clause-handles g c).writes (returns-in-Ok-write_attr-clause-handles g c).home
-    (leaves-behind c.args.files.now c.read_attr.new.self c.write_attr.new.self c.in-Ok.ensures.answers.home c.in-Ok.ensures.read.reads.looked.honest c.in-Ok.ensures.read.reads.looked.image
-    (replaced-leaves c.read_attr.new.self c.write_attr.new.self (g.met.D.Device.is_image c.read_attr.new.self.device) (g.met.D.Device.is_image c.write_attr.new.self.device) c.in-Ok-write_attr.ensures.answers.home c.args.file c.args.change.now c.in-Ok-write_attr.ensures.altered)))
+    stays-open (access_table_of c.args.self.now) c.args.files.now c.write_attr.new.self c.args.task c.args.caller _ _ [] [] c.requires.open
+    (λ _. tt) (returns-in-Ok-write_attr-clause-handles g c)
+    (λ _. c.in-Ok-write_attr.ensures.answers.next
+    ∙ ap (λ b. b || false) (c.in-Ok.ensures.answers.next ∙ ap (λ b. b || false) c.requires.open.alive))
+    (windows-on (access_table_of c.args.self.now) c.args.files.now c.write_attr.new.self c.requires.open
+    (returns-in-Ok-write_attr-clause-handles g c).writes (returns-in-Ok-write_attr-clause-handles g c).home
+    (leaves-behind c.args.files.now c.read_attr.new.self c.write_attr.new.self c.in-Ok.ensures.answers.home
+    c.in-Ok.ensures.read.reads.looked.honest c.in-Ok.ensures.read.reads.looked.image
+    (replaced-leaves c.read_attr.new.self c.write_attr.new.self (g.met.D.Device.is_image c.read_attr.new.self.device)
+    (g.met.D.Device.is_image c.write_attr.new.self.device) c.in-Ok-write_attr.ensures.answers.home c.args.file c.args.change.now
+    c.in-Ok-write_attr.ensures.altered)))
 
 pub returns-in-Err-write_attr-clause-handles : goal.returns-in-Err-write_attr-clause-handles
 returns-in-Err-write_attr-clause-handles g c =
-    not-changed c.args.task c.args.caller c.args.file c.args.change.now (state_of (access_table_of c.args.self.now) c.args.files.now) (sym c.is_bad.ensures ∙ c.if-is_bad.false) c.if-file-lt4.false c.in-Ok.attr (state_of (access_table_of c.args.self.now) c.read_attr.new.self) c.in-Ok.ensures.read.reads c.in-Ok.ensures.read.no_cause c.in-Ok.ensures.read.attr_is c.in-Ok.ensures.answers.home c.in-Ok.ensures.told refl (sym c.is_marked.ensures ∙ c.if-is_marked.false) (sym c.lacks_change.ensures ∙ c.if-lacks_change.false) (state_of (access_table_of c.args.self.now) c.write_attr.new.self) c.in-Err-write_attr.ensures.answers.home refl c.in-Err-write_attr.refusal (c.in-Ok.ensures.answers.next ∙ ap (λ b. b || false) c.requires.open.alive) c.in-Err-write_attr.ensures.refused c.in-Err-write_attr.ensures.answers.counts
+    not-changed c.args.task c.args.caller c.args.file c.args.change.now (state_of (access_table_of c.args.self.now) c.args.files.now)
+    (sym c.is_bad.ensures ∙ c.if-is_bad.false) c.if-file-lt4.false c.in-Ok.attr
+    (state_of (access_table_of c.args.self.now) c.read_attr.new.self) c.in-Ok.ensures.read.reads c.in-Ok.ensures.read.no_cause
+    c.in-Ok.ensures.read.attr_is c.in-Ok.ensures.answers.home c.in-Ok.ensures.told refl (sym c.is_marked.ensures ∙ c.if-is_marked.false)
+    (sym c.lacks_change.ensures ∙ c.if-lacks_change.false) (state_of (access_table_of c.args.self.now) c.write_attr.new.self)
+    c.in-Err-write_attr.ensures.answers.home refl c.in-Err-write_attr.refusal
+    (c.in-Ok.ensures.answers.next ∙ ap (λ b. b || false) c.requires.open.alive) c.in-Err-write_attr.ensures.refused
+    c.in-Err-write_attr.ensures.answers.counts
 
 pub returns-in-Err-write_attr-clause-open : goal.returns-in-Err-write_attr-clause-open
 returns-in-Err-write_attr-clause-open g c =
-    stays-open (access_table_of c.args.self.now) c.args.files.now c.write_attr.new.self c.args.task c.args.caller _ _ [] [] c.requires.open (λ _. tt) (returns-in-Err-write_attr-clause-handles g c)
-    (λ clean. c.in-Err-write_attr.ensures.answers.next ∙ ap (λ b. b || is_fatal c.in-Err-write_attr.refusal) (c.in-Ok.ensures.answers.next ∙ ap (λ b. b || false) c.requires.open.alive) ∙ clean) tt
+    stays-open (access_table_of c.args.self.now) c.args.files.now c.write_attr.new.self c.args.task c.args.caller _ _ [] [] c.requires.open
+    (λ _. tt) (returns-in-Err-write_attr-clause-handles g c)
+    (λ clean. c.in-Err-write_attr.ensures.answers.next ∙ ap (λ b. b || is_fatal c.in-Err-write_attr.refusal)
+    (c.in-Ok.ensures.answers.next ∙ ap (λ b. b || false) c.requires.open.alive) ∙ clean) tt

@@ -9,5 +9,7 @@ length-answer-requires g c = record { «open» = volume-open c.args.self.now c.i
 
 pub invariant_of-self : goal.invariant_of-self
 invariant_of-self g c =
-    let after : c.is_fatal-self.result ≡ false → IsOpen (access_table_of c.args.self.now.accesses) c.length-answer.new.files = λ clean. c.length-answer.ensures.open (sym c.is_fatal-self.ensures ∙ clean) in
+    let after : c.is_fatal-self.result ≡ false
+    → IsOpen (access_table_of c.args.self.now.accesses) c.length-answer.new.files = λ clean.
+    c.length-answer.ensures.open (sym c.is_fatal-self.ensures ∙ clean) in
     record { alive = λ clean. (after clean).alive; kept = λ clean. (after clean).kept; windows = λ clean. (after clean).windows }

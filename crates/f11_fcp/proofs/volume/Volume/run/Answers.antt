@@ -18,7 +18,8 @@ pub returns-clause-run : goal.returns-clause-run
 returns-clause-run g c = serves-run _ _ _ _ (returns-clause-served g c)
 
 pub returns-clause-locked : goal.returns-clause-locked
-returns-clause-locked g c = keeps-locks _ _ _ _ (all-tasks _ _ _ _ _ c.loop-call-test.false c.loop-call.invariant) (returns-clause-served g c)
+returns-clause-locked g c =
+    keeps-locks _ _ _ _ (all-tasks _ _ _ _ _ c.loop-call-test.false c.loop-call.invariant) (returns-clause-served g c)
 
 pub returns-clause-costs : goal.returns-clause-costs
 returns-clause-costs g c = keeps-costs _ _ _ _ (returns-clause-served g c)

@@ -6,4 +6,5 @@ pub ident-requires-clause-first : goal.ident-requires-clause-first
 ident-requires-clause-first c = rw c.new-header.ensures (first-segment c.args.f c.args.block.now c.requires)
 
 pub ident-requires-clause-within : goal.ident-requires-clause-within
-ident-requires-clause-within c = rw c.new-header.ensures (ident_within c.args.block.now c.requires.valid.holds (first-segment c.args.f c.args.block.now c.requires))
+ident-requires-clause-within c =
+    rw c.new-header.ensures (ident_within c.args.block.now c.requires.valid.holds (first-segment c.args.f c.args.block.now c.requires))

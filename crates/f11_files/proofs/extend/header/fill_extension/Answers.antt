@@ -19,5 +19,7 @@ returns c =
     let is = segment-said c.args.tail.now.block _ c.segment-segment.result c.map.ensures c.segment-segment.ensures in
     let has = has-places c.args.tail.now c.args.id c.segment-segment.result c.blank.new.block holds c.blank.ensures.empty in
     let fits : run_pointers c.args.count ≤ room_in c.blank.new.block = omega (arith, has, c.requires.fits) in
-    let appends = appended c.append_runs.result c.blank.new.block _ c.args.lbn c.args.count fits c.append_runs.ensures.ok c.append_runs.ensures.full.0 in
-    is-extension c.args.tail.now c.args.id c.segment-segment.result c.blank.new.block holds c.blank.ensures.empty c.args.lbn c.args.count c.append_runs.new.block is c.requires.some appends
+    let appends = appended c.append_runs.result c.blank.new.block _ c.args.lbn c.args.count fits c.append_runs.ensures.ok
+    c.append_runs.ensures.full.0 in
+    is-extension c.args.tail.now c.args.id c.segment-segment.result c.blank.new.block holds c.blank.ensures.empty c.args.lbn c.args.count
+    c.append_runs.new.block is c.requires.some appends

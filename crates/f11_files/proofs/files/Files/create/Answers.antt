@@ -14,7 +14,8 @@ create-answer-requires g c = record { is_for = files-for c.args.self.now (g.met.
 pub invariant_of-self : goal.invariant_of-self
 invariant_of-self g c =
     let failed = c.is_fatal-self.result in
-    let stays : StaysFor failed c.args.self.now.structure c.create-answer.new.self (g.D.Device.disk c.create-answer.new.device) = rw c.is_fatal-self.ensures c.create-answer.ensures.stays in
+    let stays : StaysFor failed c.args.self.now.structure c.create-answer.new.self (g.D.Device.disk c.create-answer.new.device) =
+    rw c.is_fatal-self.ensures c.create-answer.ensures.stays in
     let is = stays-opened _ _ failed _ (g.met.D.Device.is_image c.create-answer.new.device) stays in
     record { lies = is.lies; accepted = is.accepted; home = is.home; keeps = is.keeps }
 

@@ -10,7 +10,8 @@ delete-answer-requires-clause-is_for g c = files-for c.args.self.now (g.met.D.De
 pub invariant_of-self : goal.invariant_of-self
 invariant_of-self g c =
     let failed = c.is_fatal-self.result in
-    let stays : StaysFor failed c.args.self.now.structure c.delete-answer.new.self (g.D.Device.disk c.delete-answer.new.device) = rw c.is_fatal-self.ensures c.delete-answer.ensures.stays in
+    let stays : StaysFor failed c.args.self.now.structure c.delete-answer.new.self (g.D.Device.disk c.delete-answer.new.device) =
+    rw c.is_fatal-self.ensures c.delete-answer.ensures.stays in
     let is = stays-opened _ _ failed _ (g.met.D.Device.is_image c.delete-answer.new.device) stays in
     record { lies = is.lies; accepted = is.accepted; home = is.home; keeps = is.keeps }
 

@@ -3,7 +3,8 @@ use Rattle.f11_files.proofs.Opening.Kept.{looked-for, answered, for-opened}
 use Rattle.f11_files.proofs.files.Files.read_attr.Goals as goal
 
 pub read_attr-answer-requires : goal.read_attr-answer-requires
-read_attr-answer-requires g c = record { is_for = files-for c.args.self.now (g.met.D.Device.is_image c.args.self.now.device) c.if-self.false }
+read_attr-answer-requires g c =
+    record { is_for = files-for c.args.self.now (g.met.D.Device.is_image c.args.self.now.device) c.if-self.false }
 
 pub invariant_of-self : goal.invariant_of-self
 invariant_of-self g c =

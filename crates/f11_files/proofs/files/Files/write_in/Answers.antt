@@ -10,7 +10,8 @@ write_in-answer-requires-clause-is_for g c = files-for c.args.self.now (g.met.D.
 pub invariant_of-self : goal.invariant_of-self
 invariant_of-self g c =
     let failed = c.is_fatal-self.result in
-    let stays : StaysFor failed c.args.self.now.structure c.args.self.now.structure (g.D.Device.disk c.write_in-answer.new.device) = rw c.is_fatal-self.ensures c.write_in-answer.ensures.stays in
+    let stays : StaysFor failed c.args.self.now.structure c.args.self.now.structure (g.D.Device.disk c.write_in-answer.new.device) =
+    rw c.is_fatal-self.ensures c.write_in-answer.ensures.stays in
     let is = stays-opened _ _ failed _ (g.met.D.Device.is_image c.write_in-answer.new.device) stays in
     record { lies = is.lies; accepted = is.accepted; home = is.home; keeps = is.keeps }
 

@@ -19,20 +19,25 @@ pub lbn_of_header-requires-clause-slot : goal.lbn_of_header-requires-clause-slot
 lbn_of_header-requires-clause-slot g c = in_use-slot (index_in c.args.self.now) c.args.f.number c.requires.holds.header.in_use
 
 pub write-requires : goal.write-requires
-write-requires g c = place-within c.args.self.now c.args.f.number _ _ _ c.requires.is_for c.requires.holds.header.in_use refl c.lbn_of_header.ensures
+write-requires g c =
+    place-within c.args.self.now c.args.f.number _ _ _ c.requires.is_for c.requires.holds.header.in_use refl c.lbn_of_header.ensures
 
 pub returns-in-Ok-clause-clears : goal.returns-in-Ok-clause-clears
 returns-in-Ok-clause-clears g c =
-    clears-mark c.args.self.now c.args.f c.args.first.now (g.D.Device.disk c.args.device.now) c.requires.is_for c.requires.holds c.requires.own _ (c.clear_contiguous.ensures.cleared c.if-not-clear_contiguous.false)
+    clears-mark c.args.self.now c.args.f c.args.first.now (g.D.Device.disk c.args.device.now) c.requires.is_for c.requires.holds
+    c.requires.own _ (c.clear_contiguous.ensures.cleared c.if-not-clear_contiguous.false)
     _ _ c.lbn_of_header.ensures c.in-Ok.ensures.writes.ok
 
 pub returns-in-Err-clause-failed : goal.returns-in-Err-clause-failed
 returns-in-Err-clause-failed g c =
-    fails-clear c.args.self.now c.args.f c.args.first.now (g.D.Device.disk c.args.device.now) c.requires.is_for c.requires.holds c.requires.own _ (c.clear_contiguous.ensures.cleared c.if-not-clear_contiguous.false)
+    fails-clear c.args.self.now c.args.f c.args.first.now (g.D.Device.disk c.args.device.now) c.requires.is_for c.requires.holds
+    c.requires.own _ (c.clear_contiguous.ensures.cleared c.if-not-clear_contiguous.false)
     _ _ c.lbn_of_header.ensures c.in-Err.ensures.writes.err
 
 pub returns-in-Ok-clause-confined : goal.returns-in-Ok-clause-confined
-returns-in-Ok-clause-confined g c = only-wrote c.args.self.now c.args.f.number _ _ _ _ c.requires.holds.header.in_use c.lbn_of_header.ensures c.in-Ok.ensures.writes.ok
+returns-in-Ok-clause-confined g c =
+    only-wrote c.args.self.now c.args.f.number _ _ _ _ c.requires.holds.header.in_use c.lbn_of_header.ensures c.in-Ok.ensures.writes.ok
 
 pub returns-in-Err-clause-confined : goal.returns-in-Err-clause-confined
-returns-in-Err-clause-confined g c = only-failed c.args.self.now c.args.f.number _ _ _ _ c.requires.holds.header.in_use c.lbn_of_header.ensures c.in-Err.ensures.writes.err
+returns-in-Err-clause-confined g c =
+    only-failed c.args.self.now c.args.f.number _ _ _ _ c.requires.holds.header.in_use c.lbn_of_header.ensures c.in-Err.ensures.writes.err

@@ -23,4 +23,5 @@ returns-else-is_no_header-clause-refused g c =
 
 pub returns-else-is_no_header-clause-confined : goal.returns-else-is_no_header-clause-confined
 returns-else-is_no_header-clause-confined g c =
-    make-confined c.args.self.now c.ready_headers.new.self _ _ _ c.in_ok-ready_headers.ensures.stays c.ready_headers.ensures.confined c.enter_file.ensures.confined
+    make-confined c.args.self.now c.ready_headers.new.self _ _ _ c.in_ok-ready_headers.ensures.stays c.ready_headers.ensures.confined
+    c.enter_file.ensures.confined

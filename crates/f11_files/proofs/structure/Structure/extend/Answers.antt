@@ -11,7 +11,8 @@ use Rattle.f11_files.specs.declared.structure.Structure.{Structure}
 use Rattle.f11_files.proofs.AnswerLemmas.{handed, not-clean}
 use Rattle.f11_files.proofs.Behind.{confined-read, more-looked, more-of, stays-handed}
 use Rattle.f11_files.proofs.Extending.Room.{ends-then}
-use Rattle.f11_files.proofs.Extending.Whole.{end-again, extends-then, fails-again, fatal-held, few-enough, fails-in-hand, length-then, need-is, none-read, readies-file, room-ready, too-long, unfound, unready}
+use Rattle.f11_files.proofs.Extending.Whole.{end-again, extends-then, fails-again, fatal-held, few-enough, fails-in-hand, length-then}
+use Rattle.f11_files.proofs.Extending.Whole.{need-is, none-read, readies-file, room-ready, too-long, unfound, unready}
 use Rattle.f11_files.proofs.Extending.WholeConfined.{after-read, after-slots}
 use Rattle.f11_files.proofs.Opening.Kept.{looked-for}
 use Rattle.f11_files.proofs.Removing.Freeing.{stays-for, stays-then}
@@ -26,7 +27,8 @@ returns-in_err-end-clause-refused g c =
     let n = c.args.n in
     let old = g.D.Device.disk c.args.device.now in
     let read = g.D.Device.disk c.find_end.new.device in
-    handed (λ r. FailsToExtend false (home_of s) f n r old (g.D.Device.disk c.find_end.new.device)) c.from_residual.result _ c.from_residual.ensures.1
+    handed (λ r. FailsToExtend false (home_of s) f n r old (g.D.Device.disk c.find_end.new.device)) c.from_residual.result _
+    c.from_residual.ensures.1
     (unfound (home_of s) f n _ old read c.in_err-end.ensures.refused)
 
 pub returns-in_err-end-clause-confined : goal.returns-in_err-end-clause-confined
@@ -45,7 +47,8 @@ returns-then-is_too_long-clause-refused g c =
     let n = c.args.n in
     let old = g.D.Device.disk c.args.device.now in
     let read = g.D.Device.disk c.find_end.new.device in
-    too-long s f n c.in_ok-end.end c.find_end.new.first c.find_end.new.last old read c.requires.is_for c.requires.own c.in_ok-end.ensures.end c.room_of-room.result c.room_of-room.ensures (sym c.if-is_too_long.ensures)
+    too-long s f n c.in_ok-end.end c.find_end.new.first c.find_end.new.last old read c.requires.is_for c.requires.own
+    c.in_ok-end.ensures.end c.room_of-room.result c.room_of-room.ensures (sym c.if-is_too_long.ensures)
 
 pub returns-then-is_too_long-clause-confined : goal.returns-then-is_too_long-clause-confined
 returns-then-is_too_long-clause-confined g c =
@@ -65,8 +68,11 @@ returns-in_err-ready_headers-clause-refused g c =
     let read = g.D.Device.disk c.find_end.new.device in
     let ready = g.D.Device.disk c.ready_headers.new.device in
     let t = c.ready_headers.new.self in
-    handed (λ r. FailsToExtend false (home_of s) f n r old (g.D.Device.disk c.ready_headers.new.device)) c.from_residual-in_err-ready_headers.result _ c.from_residual-in_err-ready_headers.ensures.1
-    (unready s f n c.in_ok-end.end c.find_end.new.first c.find_end.new.last old read c.requires.is_for c.requires.own c.in_ok-end.ensures.end c.room_of-room.result c.room_of-room.ensures (sym c.if-is_too_long.ensures) _ ready (rw c.need.ensures.need at c.in_err-ready_headers.ensures.refused))
+    handed (λ r. FailsToExtend false (home_of s) f n r old (g.D.Device.disk c.ready_headers.new.device))
+    c.from_residual-in_err-ready_headers.result _ c.from_residual-in_err-ready_headers.ensures.1
+    (unready s f n c.in_ok-end.end c.find_end.new.first c.find_end.new.last old read c.requires.is_for c.requires.own
+    c.in_ok-end.ensures.end c.room_of-room.result c.room_of-room.ensures (sym c.if-is_too_long.ensures) _ ready
+    (rw c.need.ensures.need at c.in_err-ready_headers.ensures.refused))
 
 pub returns-in_err-ready_headers-clause-confined : goal.returns-in_err-ready_headers-clause-confined
 returns-in_err-ready_headers-clause-confined g c =
@@ -77,7 +83,9 @@ returns-in_err-ready_headers-clause-confined g c =
     let read = g.D.Device.disk c.find_end.new.device in
     let ready = g.D.Device.disk c.ready_headers.new.device in
     let t = c.ready_headers.new.self in
-    after-slots (home_of s) (headers_for (home_of s) f n old) _ f.number old read ready _ c.in_ok-end.ensures.end.ends.looked.looked (need-is s f n c.in_ok-end.end c.find_end.new.first c.find_end.new.last old read c.requires.is_for c.requires.own c.in_ok-end.ensures.end c.room_of-room.result c.room_of-room.ensures)
+    after-slots (home_of s) (headers_for (home_of s) f n old) _ f.number old read ready _ c.in_ok-end.ensures.end.ends.looked.looked
+    (need-is s f n c.in_ok-end.end c.find_end.new.first c.find_end.new.last old read c.requires.is_for c.requires.own
+    c.in_ok-end.ensures.end c.room_of-room.result c.room_of-room.ensures)
     (rw c.need.ensures.need at c.ready_headers.ensures.confined) (more-looked (home_of s) f.number (looked_none ready))
 
 pub find_again-requires-clause-is_for : goal.find_again-requires-clause-is_for
@@ -94,7 +102,11 @@ find_again-requires-clause-end g c =
     let ready = g.D.Device.disk c.ready_headers.new.device in
     let t = c.ready_headers.new.self in
     λ honest. subst (λ (h : HomeFields). IsEndOf ready.image h f c.in_ok-end.end) (sym c.in_ok-ready_headers.ensures.stays.home)
-    (end-again s f n c.in_ok-end.end c.find_end.new.first c.find_end.new.last old read c.requires.is_for c.requires.own c.in_ok-end.ensures.end c.room_of-room.result c.room_of-room.ensures (sym c.if-is_too_long.ensures) ready (readies-file s f n c.in_ok-end.end c.find_end.new.first c.find_end.new.last old read c.requires.is_for c.requires.own c.in_ok-end.ensures.end c.room_of-room.result c.room_of-room.ensures (sym c.if-is_too_long.ensures) ready (rw c.need.ensures.need at c.in_ok-ready_headers.ensures.ready)) (g.met.D.Device.is_image c.ready_headers.new.device) honest)
+    (end-again s f n c.in_ok-end.end c.find_end.new.first c.find_end.new.last old read c.requires.is_for c.requires.own
+    c.in_ok-end.ensures.end c.room_of-room.result c.room_of-room.ensures (sym c.if-is_too_long.ensures) ready
+    (readies-file s f n c.in_ok-end.end c.find_end.new.first c.find_end.new.last old read c.requires.is_for c.requires.own
+    c.in_ok-end.ensures.end c.room_of-room.result c.room_of-room.ensures (sym c.if-is_too_long.ensures) ready
+    (rw c.need.ensures.need at c.in_ok-ready_headers.ensures.ready)) (g.met.D.Device.is_image c.ready_headers.new.device) honest)
 
 pub returns-in_err-find_again-clause-refused : goal.returns-in_err-find_again-clause-refused
 returns-in_err-find_again-clause-refused g c =
@@ -105,13 +117,20 @@ returns-in_err-find_again-clause-refused g c =
     let read = g.D.Device.disk c.find_end.new.device in
     let ready = g.D.Device.disk c.ready_headers.new.device in
     let t = c.ready_headers.new.self in
-    handed (λ r. FailsToExtend false (home_of s) f n r old (g.D.Device.disk c.find_again.new.device)) c.from_residual-in_err-find_again.result _ c.from_residual-in_err-find_again.ensures.1
-    (fails-again s f n c.in_ok-end.end c.find_end.new.first c.find_end.new.last old read c.requires.is_for c.requires.own c.in_ok-end.ensures.end c.room_of-room.result c.room_of-room.ensures (sym c.if-is_too_long.ensures) ready (readies-file s f n c.in_ok-end.end c.find_end.new.first c.find_end.new.last old read c.requires.is_for c.requires.own c.in_ok-end.ensures.end c.room_of-room.result c.room_of-room.ensures (sym c.if-is_too_long.ensures) ready (rw c.need.ensures.need at c.in_ok-ready_headers.ensures.ready)) _ _ c.in_err-find_again.ensures.refused)
+    handed (λ r. FailsToExtend false (home_of s) f n r old (g.D.Device.disk c.find_again.new.device))
+    c.from_residual-in_err-find_again.result _ c.from_residual-in_err-find_again.ensures.1
+    (fails-again s f n c.in_ok-end.end c.find_end.new.first c.find_end.new.last old read c.requires.is_for c.requires.own
+    c.in_ok-end.ensures.end c.room_of-room.result c.room_of-room.ensures (sym c.if-is_too_long.ensures) ready
+    (readies-file s f n c.in_ok-end.end c.find_end.new.first c.find_end.new.last old read c.requires.is_for c.requires.own
+    c.in_ok-end.ensures.end c.room_of-room.result c.room_of-room.ensures (sym c.if-is_too_long.ensures) ready
+    (rw c.need.ensures.need at c.in_ok-ready_headers.ensures.ready)) _ _ c.in_err-find_again.ensures.refused)
 
 pub returns-in_err-find_again-clause-stays : goal.returns-in_err-find_again-clause-stays
 returns-in_err-find_again-clause-stays g c =
     stays-handed c.from_residual-in_err-find_again.result _ _ _ _ c.from_residual-in_err-find_again.ensures.1
-    (stays-then c.in_ok-ready_headers.ensures.stays.home (looked-stays c.ready_headers.new.self _ _ _ (stays-for c.in_ok-ready_headers.ensures.stays) c.in_err-find_again.ensures.refused.reads.looked))
+    (stays-then c.in_ok-ready_headers.ensures.stays.home
+    (looked-stays c.ready_headers.new.self _ _ _ (stays-for c.in_ok-ready_headers.ensures.stays)
+    c.in_err-find_again.ensures.refused.reads.looked))
 
 pub returns-in_err-find_again-clause-confined : goal.returns-in_err-find_again-clause-confined
 returns-in_err-find_again-clause-confined g c =
@@ -122,8 +141,11 @@ returns-in_err-find_again-clause-confined g c =
     let read = g.D.Device.disk c.find_end.new.device in
     let ready = g.D.Device.disk c.ready_headers.new.device in
     let t = c.ready_headers.new.self in
-    after-slots (home_of s) (headers_for (home_of s) f n old) _ f.number old read ready _ c.in_ok-end.ensures.end.ends.looked.looked (need-is s f n c.in_ok-end.end c.find_end.new.first c.find_end.new.last old read c.requires.is_for c.requires.own c.in_ok-end.ensures.end c.room_of-room.result c.room_of-room.ensures)
-    (rw c.need.ensures.need at c.ready_headers.ensures.confined) (more-looked (home_of s) f.number c.in_err-find_again.ensures.refused.reads.looked)
+    after-slots (home_of s) (headers_for (home_of s) f n old) _ f.number old read ready _ c.in_ok-end.ensures.end.ends.looked.looked
+    (need-is s f n c.in_ok-end.end c.find_end.new.first c.find_end.new.last old read c.requires.is_for c.requires.own
+    c.in_ok-end.ensures.end c.room_of-room.result c.room_of-room.ensures)
+    (rw c.need.ensures.need at c.ready_headers.ensures.confined)
+    (more-looked (home_of s) f.number c.in_err-find_again.ensures.refused.reads.looked)
 
 pub extend_held-requires-clause-is_for : goal.extend_held-requires-clause-is_for
 extend_held-requires-clause-is_for g c =
@@ -136,7 +158,8 @@ extend_held-requires-clause-is_for g c =
     let t = c.ready_headers.new.self in
     let d = g.D.Device.disk c.if-branch.device in
     let again : ReadsAtMost 2 ready d 0 = elim c.if-branch.branch [
-      | then-branch+in_ok-find_again w ↦ subst (λ (x : _). ReadsAtMost 2 ready (g.D.Device.disk x) 0) (sym w.device-is) w.in_ok-find_again.ensures.found.reads
+      | then-branch+in_ok-find_again w ↦ subst (λ (x : _). ReadsAtMost 2 ready (g.D.Device.disk x) 0) (sym w.device-is)
+          w.in_ok-find_again.ensures.found.reads
       | else-branch w ↦ subst (λ (x : _). ReadsAtMost 2 ready (g.D.Device.disk x) 0) (sym w.device-is) (none-read ready)
     ] in
     looked-for t ready d _ _ (stays-for c.in_ok-ready_headers.ensures.stays) again.looked
@@ -152,7 +175,8 @@ extend_held-requires-clause-room g c =
     let t = c.ready_headers.new.self in
     let d = g.D.Device.disk c.if-branch.device in
     let again : ReadsAtMost 2 ready d 0 = elim c.if-branch.branch [
-      | then-branch+in_ok-find_again w ↦ subst (λ (x : _). ReadsAtMost 2 ready (g.D.Device.disk x) 0) (sym w.device-is) w.in_ok-find_again.ensures.found.reads
+      | then-branch+in_ok-find_again w ↦ subst (λ (x : _). ReadsAtMost 2 ready (g.D.Device.disk x) 0) (sym w.device-is)
+          w.in_ok-find_again.ensures.found.reads
       | else-branch w ↦ subst (λ (x : _). ReadsAtMost 2 ready (g.D.Device.disk x) 0) (sym w.device-is) (none-read ready)
     ] in
     let ends : HoldsEnd t f c.in_ok-end.end c.if-branch.first c.if-branch.last d = elim c.if-branch.branch [
@@ -161,9 +185,14 @@ extend_held-requires-clause-room g c =
           let still = c.in_ok-ready_headers.ensures.still w.if-branch.false in
           rw w.device-is (rw w.first-is (rw w.last-is
           (subst (λ (x : Structure). HoldsEnd x f c.in_ok-end.end c.find_end.new.first c.find_end.new.last ready) (sym still.0)
-          (subst (λ (x : Disk). HoldsEnd s f c.in_ok-end.end c.find_end.new.first c.find_end.new.last x) (sym still.1) (ends-then s f c.in_ok-end.end _ _ old read c.in_ok-end.ensures.end)))))
+          (subst (λ (x : Disk). HoldsEnd s f c.in_ok-end.end c.find_end.new.first c.find_end.new.last x) (sym still.1)
+          (ends-then s f c.in_ok-end.end _ _ old read c.in_ok-end.ensures.end)))))
     ] in
-    room-ready s f n c.in_ok-end.end c.find_end.new.first c.find_end.new.last old read c.requires.is_for c.requires.own c.in_ok-end.ensures.end c.room_of-room.result c.room_of-room.ensures (sym c.if-is_too_long.ensures) ready (readies-file s f n c.in_ok-end.end c.find_end.new.first c.find_end.new.last old read c.requires.is_for c.requires.own c.in_ok-end.ensures.end c.room_of-room.result c.room_of-room.ensures (sym c.if-is_too_long.ensures) ready (rw c.need.ensures.need at c.in_ok-ready_headers.ensures.ready)) t d _ _ c.in_ok-ready_headers.ensures.stays.home again.looked ends
+    room-ready s f n c.in_ok-end.end c.find_end.new.first c.find_end.new.last old read c.requires.is_for c.requires.own
+    c.in_ok-end.ensures.end c.room_of-room.result c.room_of-room.ensures (sym c.if-is_too_long.ensures) ready
+    (readies-file s f n c.in_ok-end.end c.find_end.new.first c.find_end.new.last old read c.requires.is_for c.requires.own
+    c.in_ok-end.ensures.end c.room_of-room.result c.room_of-room.ensures (sym c.if-is_too_long.ensures) ready
+    (rw c.need.ensures.need at c.in_ok-ready_headers.ensures.ready)) t d _ _ c.in_ok-ready_headers.ensures.stays.home again.looked ends
 
 pub returns-in_err-extend_held-clause-refused : goal.returns-in_err-extend_held-clause-refused
 returns-in_err-extend_held-clause-refused g c =
@@ -176,15 +205,23 @@ returns-in_err-extend_held-clause-refused g c =
     let t = c.ready_headers.new.self in
     let d = g.D.Device.disk c.if-branch.device in
     let again : ReadsAtMost 2 ready d 0 = elim c.if-branch.branch [
-      | then-branch+in_ok-find_again w ↦ subst (λ (x : _). ReadsAtMost 2 ready (g.D.Device.disk x) 0) (sym w.device-is) w.in_ok-find_again.ensures.found.reads
+      | then-branch+in_ok-find_again w ↦ subst (λ (x : _). ReadsAtMost 2 ready (g.D.Device.disk x) 0) (sym w.device-is)
+          w.in_ok-find_again.ensures.found.reads
       | else-branch w ↦ subst (λ (x : _). ReadsAtMost 2 ready (g.D.Device.disk x) 0) (sym w.device-is) (none-read ready)
     ] in
-    handed (λ r. FailsToExtend false (home_of s) f n r old (g.D.Device.disk c.extend_held.new.device)) c.from_residual-in_err-extend_held.result _ c.from_residual-in_err-extend_held.ensures.1
-    (fails-in-hand s f n c.in_ok-end.end c.find_end.new.first c.find_end.new.last old read c.requires.is_for c.requires.own c.in_ok-end.ensures.end c.room_of-room.result c.room_of-room.ensures (sym c.if-is_too_long.ensures) ready (readies-file s f n c.in_ok-end.end c.find_end.new.first c.find_end.new.last old read c.requires.is_for c.requires.own c.in_ok-end.ensures.end c.room_of-room.result c.room_of-room.ensures (sym c.if-is_too_long.ensures) ready (rw c.need.ensures.need at c.in_ok-ready_headers.ensures.ready)) d again _ _ (rw c.in_ok-ready_headers.ensures.stays.home at c.in_err-extend_held.ensures.refused))
+    handed (λ r. FailsToExtend false (home_of s) f n r old (g.D.Device.disk c.extend_held.new.device))
+    c.from_residual-in_err-extend_held.result _ c.from_residual-in_err-extend_held.ensures.1
+    (fails-in-hand s f n c.in_ok-end.end c.find_end.new.first c.find_end.new.last old read c.requires.is_for c.requires.own
+    c.in_ok-end.ensures.end c.room_of-room.result c.room_of-room.ensures (sym c.if-is_too_long.ensures) ready
+    (readies-file s f n c.in_ok-end.end c.find_end.new.first c.find_end.new.last old read c.requires.is_for c.requires.own
+    c.in_ok-end.ensures.end c.room_of-room.result c.room_of-room.ensures (sym c.if-is_too_long.ensures) ready
+    (rw c.need.ensures.need at c.in_ok-ready_headers.ensures.ready)) d again _ _
+    (rw c.in_ok-ready_headers.ensures.stays.home at c.in_err-extend_held.ensures.refused))
 
 pub returns-in_err-extend_held-clause-stays : goal.returns-in_err-extend_held-clause-stays
 returns-in_err-extend_held-clause-stays g c =
-    stays-handed c.from_residual-in_err-extend_held.result _ _ _ _ c.from_residual-in_err-extend_held.ensures.1 (stays-then c.in_ok-ready_headers.ensures.stays.home c.in_err-extend_held.ensures.stays)
+    stays-handed c.from_residual-in_err-extend_held.result _ _ _ _ c.from_residual-in_err-extend_held.ensures.1
+    (stays-then c.in_ok-ready_headers.ensures.stays.home c.in_err-extend_held.ensures.stays)
 
 pub returns-in_err-extend_held-clause-counts : goal.returns-in_err-extend_held-clause-counts
 returns-in_err-extend_held-clause-counts g c =
@@ -195,7 +232,8 @@ returns-in_err-extend_held-clause-counts g c =
     let read = g.D.Device.disk c.find_end.new.device in
     let ready = g.D.Device.disk c.ready_headers.new.device in
     let t = c.ready_headers.new.self in
-    not-clean c.from_residual-in_err-extend_held.result _ c.from_residual-in_err-extend_held.ensures.1 (fatal-held (home_of t) f n _ _ _ c.in_err-extend_held.ensures.refused)
+    not-clean c.from_residual-in_err-extend_held.result _ c.from_residual-in_err-extend_held.ensures.1
+    (fatal-held (home_of t) f n _ _ _ c.in_err-extend_held.ensures.refused)
 
 pub returns-in_err-extend_held-clause-confined : goal.returns-in_err-extend_held-clause-confined
 returns-in_err-extend_held-clause-confined g c =
@@ -208,17 +246,25 @@ returns-in_err-extend_held-clause-confined g c =
     let t = c.ready_headers.new.self in
     let d = g.D.Device.disk c.if-branch.device in
     let again : ReadsAtMost 2 ready d 0 = elim c.if-branch.branch [
-      | then-branch+in_ok-find_again w ↦ subst (λ (x : _). ReadsAtMost 2 ready (g.D.Device.disk x) 0) (sym w.device-is) w.in_ok-find_again.ensures.found.reads
+      | then-branch+in_ok-find_again w ↦ subst (λ (x : _). ReadsAtMost 2 ready (g.D.Device.disk x) 0) (sym w.device-is)
+          w.in_ok-find_again.ensures.found.reads
       | else-branch w ↦ subst (λ (x : _). ReadsAtMost 2 ready (g.D.Device.disk x) 0) (sym w.device-is) (none-read ready)
     ] in
-    after-slots (home_of s) (headers_for (home_of s) f n old) _ f.number old read ready _ c.in_ok-end.ensures.end.ends.looked.looked (need-is s f n c.in_ok-end.end c.find_end.new.first c.find_end.new.last old read c.requires.is_for c.requires.own c.in_ok-end.ensures.end c.room_of-room.result c.room_of-room.ensures)
-    (rw c.need.ensures.need at c.ready_headers.ensures.confined) (more-of t (home_of s) f.number ready (g.D.Device.disk c.extend_held.new.device) c.in_ok-ready_headers.ensures.stays.home (c.in_ok-ready_headers.ensures.stays.keeps refl)
-    (confined-read again (home_of s) t f.number c.in_ok-ready_headers.ensures.stays.home (rw c.in_ok-ready_headers.ensures.stays.home at c.extend_held.ensures.confined)))
+    after-slots (home_of s) (headers_for (home_of s) f n old) _ f.number old read ready _ c.in_ok-end.ensures.end.ends.looked.looked
+    (need-is s f n c.in_ok-end.end c.find_end.new.first c.find_end.new.last old read c.requires.is_for c.requires.own
+    c.in_ok-end.ensures.end c.room_of-room.result c.room_of-room.ensures)
+    (rw c.need.ensures.need at c.ready_headers.ensures.confined)
+    (more-of t (home_of s) f.number ready (g.D.Device.disk c.extend_held.new.device) c.in_ok-ready_headers.ensures.stays.home
+    (c.in_ok-ready_headers.ensures.stays.keeps refl)
+    (confined-read again (home_of s) t f.number c.in_ok-ready_headers.ensures.stays.home
+    (rw c.in_ok-ready_headers.ensures.stays.home at c.extend_held.ensures.confined)))
 
 pub overflow_add-result : goal.overflow_add-result
 overflow_add-result g c =
-    let finds = c.in_ok-end.ensures.end in let few = finds.ends.few in let blocks = finds.ends.few_blocks in let fits = c.if-is_too_long.ensures in
-    few-enough c.in_ok-end.end c.room_of-room.result c.args.n c.find_end.new.last c.find_end.array_long2 few blocks fits c.room_of-room.ensures
+    let finds = c.in_ok-end.ensures.end in let few = finds.ends.few in let blocks = finds.ends.few_blocks in
+    let fits = c.if-is_too_long.ensures in
+    few-enough c.in_ok-end.end c.room_of-room.result c.args.n c.find_end.new.last c.find_end.array_long2 few blocks fits
+    c.room_of-room.ensures
 
 pub returns-clause-extended : goal.returns-clause-extended
 returns-clause-extended g c =
@@ -231,10 +277,20 @@ returns-clause-extended g c =
     let t = c.ready_headers.new.self in
     let d = g.D.Device.disk c.if-branch.device in
     let again : ReadsAtMost 2 ready d 0 = elim c.if-branch.branch [
-      | then-branch+in_ok-find_again w ↦ subst (λ (x : _). ReadsAtMost 2 ready (g.D.Device.disk x) 0) (sym w.device-is) w.in_ok-find_again.ensures.found.reads
+      | then-branch+in_ok-find_again w ↦ subst (λ (x : _). ReadsAtMost 2 ready (g.D.Device.disk x) 0) (sym w.device-is)
+          w.in_ok-find_again.ensures.found.reads
       | else-branch w ↦ subst (λ (x : _). ReadsAtMost 2 ready (g.D.Device.disk x) 0) (sym w.device-is) (none-read ready)
-    ] in
-    (length-then s f n c.in_ok-end.end c.find_end.new.first c.find_end.new.last old read c.requires.is_for c.requires.own c.in_ok-end.ensures.end c.room_of-room.result c.room_of-room.ensures, extends-then s f n c.in_ok-end.end c.find_end.new.first c.find_end.new.last old read c.requires.is_for c.requires.own c.in_ok-end.ensures.end c.room_of-room.result c.room_of-room.ensures (sym c.if-is_too_long.ensures) ready (readies-file s f n c.in_ok-end.end c.find_end.new.first c.find_end.new.last old read c.requires.is_for c.requires.own c.in_ok-end.ensures.end c.room_of-room.result c.room_of-room.ensures (sym c.if-is_too_long.ensures) ready (rw c.need.ensures.need at c.in_ok-ready_headers.ensures.ready)) d again _ (rw c.in_ok-ready_headers.ensures.stays.home at c.in_ok-extend_held.ensures.extended))
+    ] in (
+      length-then s f n c.in_ok-end.end c.find_end.new.first c.find_end.new.last old read c.requires.is_for c.requires.own
+          c.in_ok-end.ensures.end c.room_of-room.result c.room_of-room.ensures,
+      extends-then s f n c.in_ok-end.end c.find_end.new.first
+          c.find_end.new.last old read c.requires.is_for c.requires.own c.in_ok-end.ensures.end c.room_of-room.result c.room_of-room.ensures
+          (sym c.if-is_too_long.ensures) ready
+          (readies-file s f n c.in_ok-end.end c.find_end.new.first c.find_end.new.last old read c.requires.is_for c.requires.own
+          c.in_ok-end.ensures.end c.room_of-room.result c.room_of-room.ensures (sym c.if-is_too_long.ensures) ready
+          (rw c.need.ensures.need at c.in_ok-ready_headers.ensures.ready)) d again _
+          (rw c.in_ok-ready_headers.ensures.stays.home at c.in_ok-extend_held.ensures.extended),
+    )
 
 pub returns-clause-stays : goal.returns-clause-stays
 returns-clause-stays g c =
@@ -251,9 +307,15 @@ returns-clause-confined g c =
     let t = c.ready_headers.new.self in
     let d = g.D.Device.disk c.if-branch.device in
     let again : ReadsAtMost 2 ready d 0 = elim c.if-branch.branch [
-      | then-branch+in_ok-find_again w ↦ subst (λ (x : _). ReadsAtMost 2 ready (g.D.Device.disk x) 0) (sym w.device-is) w.in_ok-find_again.ensures.found.reads
+      | then-branch+in_ok-find_again w ↦ subst (λ (x : _). ReadsAtMost 2 ready (g.D.Device.disk x) 0) (sym w.device-is)
+          w.in_ok-find_again.ensures.found.reads
       | else-branch w ↦ subst (λ (x : _). ReadsAtMost 2 ready (g.D.Device.disk x) 0) (sym w.device-is) (none-read ready)
     ] in
-    after-slots (home_of s) (headers_for (home_of s) f n old) _ f.number old read ready _ c.in_ok-end.ensures.end.ends.looked.looked (need-is s f n c.in_ok-end.end c.find_end.new.first c.find_end.new.last old read c.requires.is_for c.requires.own c.in_ok-end.ensures.end c.room_of-room.result c.room_of-room.ensures)
-    (rw c.need.ensures.need at c.ready_headers.ensures.confined) (more-of t (home_of s) f.number ready (g.D.Device.disk c.extend_held.new.device) c.in_ok-ready_headers.ensures.stays.home (c.in_ok-ready_headers.ensures.stays.keeps refl)
-    (confined-read again (home_of s) t f.number c.in_ok-ready_headers.ensures.stays.home (rw c.in_ok-ready_headers.ensures.stays.home at c.extend_held.ensures.confined)))
+    after-slots (home_of s) (headers_for (home_of s) f n old) _ f.number old read ready _ c.in_ok-end.ensures.end.ends.looked.looked
+    (need-is s f n c.in_ok-end.end c.find_end.new.first c.find_end.new.last old read c.requires.is_for c.requires.own
+    c.in_ok-end.ensures.end c.room_of-room.result c.room_of-room.ensures)
+    (rw c.need.ensures.need at c.ready_headers.ensures.confined)
+    (more-of t (home_of s) f.number ready (g.D.Device.disk c.extend_held.new.device) c.in_ok-ready_headers.ensures.stays.home
+    (c.in_ok-ready_headers.ensures.stays.keeps refl)
+    (confined-read again (home_of s) t f.number c.in_ok-ready_headers.ensures.stays.home
+    (rw c.in_ok-ready_headers.ensures.stays.home at c.extend_held.ensures.confined)))

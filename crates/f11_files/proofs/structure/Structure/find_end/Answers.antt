@@ -9,7 +9,8 @@ returns-in-Err-clause-refused g c =
     let first = reads-first _ _ _ _ _ found in
     let last = c.in-Err.ensures in
     rw c.refusal_for.ensures (fails-last c.args.self.now c.args.f _ _ _ c.requires.is_for found.holds c.in-Err.fault
-    (λ is. last.no_end (ap Err is)) (λ is. break-behind _ _ _ _ _ first _ (last.damaged (ap Err is))) (λ is. along-behind _ _ _ _ _ first _ _ (last.failed (ap Err is))))
+    (λ is. last.no_end (ap Err is)) (λ is. break-behind _ _ _ _ _ first _ (last.damaged (ap Err is)))
+    (λ is. along-behind _ _ _ _ _ first _ _ (last.failed (ap Err is))))
 
 pub returns-in-Ok-clause-end : goal.returns-in-Ok-clause-end
 returns-in-Ok-clause-end g c =

@@ -11,7 +11,8 @@ use Rattle.f11_files.proofs.structure.Structure.give_from.Given as goal
 abbrev pub invariant-loop-i : goal.invariant-loop-i
 invariant-loop-i g l = record {
   giving :
-      Giving l.fn.self l.self (drop l.keep (blocks_named l.block)) (drop l.left (blocks_in (drop l.i (runs_of (map_area l.block))))) l.i (g.D.Device.disk l.fn.device) (g.D.Device.disk l.device);
+      Giving l.fn.self l.self (drop l.keep (blocks_named l.block)) (drop l.left (blocks_in (drop l.i (runs_of (map_area l.block))))) l.i
+      (g.D.Device.disk l.fn.device) (g.D.Device.disk l.device);
   confined : WritesParts l.fn.self no_header (g.D.Device.disk l.fn.device) (g.D.Device.disk l.device);
   places : StandsAlike l.fn.self l.self;
 }

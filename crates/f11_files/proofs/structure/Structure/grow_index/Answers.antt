@@ -22,7 +22,8 @@ returns-then-n-slots_left-clause-refused g c =
 
 pub returns-in_err-end-clause-refused : goal.returns-in_err-end-clause-refused
 returns-in_err-end-clause-refused g c =
-    handed (λ r. FailsToGrow false (home_of c.args.self.now) c.args.n r (g.D.Device.disk c.args.device.now) (g.D.Device.disk c.find_index_end.new.device)) c.from_residual.result _ c.from_residual.ensures.1
+    handed (λ r. FailsToGrow false (home_of c.args.self.now) c.args.n r (g.D.Device.disk c.args.device.now)
+    (g.D.Device.disk c.find_index_end.new.device)) c.from_residual.result _ c.from_residual.ensures.1
     (unread-wants (omega arith) c.in_err-end.ensures.refused)
 
 pub returns-in_err-judge-clause-refused : goal.returns-in_err-judge-clause-refused
@@ -33,12 +34,19 @@ returns-in_err-judge-clause-refused g c =
     let finds = c.in_ok-end.ensures.end in
     let fits = c.if-n-slots_left.false in
     let r = c.in_err-judge.field-0.0 in
-    let space : IsTrue old.honest → IsSpaceOf (store_on s old) c.free-free.result (length (free_slots_in (index_in s))) (slots (index_in s)) = λ honest. space-is s old c.requires.is_for honest _ _ _ c.free-free.ensures.free refl refl in
-    let is : first_of (room_causes c.in_ok-end.end.headers c.room_of-room.result c.free-free.result (length (free_slots_in (index_in s))) n) ≡ Some r = sym (causes-alike _ _ _ _ _ n (lacks-alike _ _ _ (rw (← c.need.ensures.need) c.headers_for-free_headers.ensures))) ∙ c.in_err-judge.ensures.refused in
-    handed (λ r. FailsToGrow false (home_of s) n r old (g.D.Device.disk c.find_index_end.new.device)) c.from_residual-in_err-judge.result r c.from_residual-in_err-judge.ensures.1
+    let space : IsTrue old.honest
+    → IsSpaceOf (store_on s old) c.free-free.result (length (free_slots_in (index_in s))) (slots (index_in s)) = λ honest.
+    space-is s old c.requires.is_for honest _ _ _ c.free-free.ensures.free refl refl in
+    let is : first_of (room_causes c.in_ok-end.end.headers c.room_of-room.result c.free-free.result (length (free_slots_in (index_in s))) n)
+    ≡ Some r = sym (causes-alike _ _ _ _ _ n (lacks-alike _ _ _ (rw (← c.need.ensures.need) c.headers_for-free_headers.ensures)))
+    ∙ c.in_err-judge.ensures.refused in
+    handed (λ r. FailsToGrow false (home_of s) n r old (g.D.Device.disk c.find_index_end.new.device)) c.from_residual-in_err-judge.result r
+    c.from_residual-in_err-judge.ensures.1
     (as-wanting (lacks-want _ _ _ _ n r is) (fails-unread (omega arith)
-    (lacks-slots s n old c.requires.is_for _ _ _ refl refl c.slots_left.ensures (omega (arith, fits)) c.requires.some r _ (lacks-cause _ _ _ _ n r is)
-    (lacks-room s index_id _ old c.requires.is_for finds.holds _ _ _ finds.ends _ _ _ (slots (index_in s)) n c.room_of-room.ensures space r is))))
+    (lacks-slots s n old c.requires.is_for _ _ _ refl refl c.slots_left.ensures (omega (arith, fits)) c.requires.some r _
+    (lacks-cause _ _ _ _ n r is)
+    (lacks-room s index_id _ old c.requires.is_for finds.holds _ _ _ finds.ends _ _ _ (slots (index_in s)) n c.room_of-room.ensures space r
+    is))))
 
 pub grow_held-requires-clause-room : goal.grow_held-requires-clause-room
 grow_held-requires-clause-room g c =
@@ -47,9 +55,12 @@ grow_held-requires-clause-room g c =
     let n = c.args.n in
     let finds = c.in_ok-end.ensures.end in
     let fits = c.if-n-slots_left.false in
-    let none : first_of (room_causes c.in_ok-end.end.headers c.room_of-room.result c.free-free.result (length (free_slots_in (index_in s))) n) ≡ None = sym (causes-alike _ _ _ _ _ n (lacks-alike _ _ _ (rw (← c.need.ensures.need) c.headers_for-free_headers.ensures))) ∙ c.in_ok-judge.ensures.room in
+    let none : first_of (room_causes c.in_ok-end.end.headers c.room_of-room.result c.free-free.result (length (free_slots_in (index_in s)))
+    n) ≡ None = sym (causes-alike _ _ _ _ _ n (lacks-alike _ _ _ (rw (← c.need.ensures.need) c.headers_for-free_headers.ensures)))
+    ∙ c.in_ok-judge.ensures.room in
     has-slots s n old c.requires.is_for _ _ _ refl refl c.slots_left.ensures (omega (arith, fits)) c.requires.some _ _ _ _ finds
-    (has-room s index_id _ old c.requires.is_for finds.holds _ _ _ finds.ends _ _ _ (slots (index_in s)) n c.room_of-room.ensures (λ honest. space-is s old c.requires.is_for honest c.free-free.result _ _ c.free-free.ensures.free refl refl) none)
+    (has-room s index_id _ old c.requires.is_for finds.holds _ _ _ finds.ends _ _ _ (slots (index_in s)) n c.room_of-room.ensures
+    (λ honest. space-is s old c.requires.is_for honest c.free-free.result _ _ c.free-free.ensures.free refl refl) none)
 
 pub returns-in_err-grow_held-clause-refused : goal.returns-in_err-grow_held-clause-refused
 returns-in_err-grow_held-clause-refused g c =
@@ -58,15 +69,21 @@ returns-in_err-grow_held-clause-refused g c =
     let n = c.args.n in
     let finds = c.in_ok-end.ensures.end in
     let fits = c.if-n-slots_left.false in
-    let none : first_of (room_causes c.in_ok-end.end.headers c.room_of-room.result c.free-free.result (length (free_slots_in (index_in s))) n) ≡ None = sym (causes-alike _ _ _ _ _ n (lacks-alike _ _ _ (rw (← c.need.ensures.need) c.headers_for-free_headers.ensures))) ∙ c.in_ok-judge.ensures.room in
+    let none : first_of (room_causes c.in_ok-end.end.headers c.room_of-room.result c.free-free.result (length (free_slots_in (index_in s)))
+    n) ≡ None = sym (causes-alike _ _ _ _ _ n (lacks-alike _ _ _ (rw (← c.need.ensures.need) c.headers_for-free_headers.ensures)))
+    ∙ c.in_ok-judge.ensures.room in
     let held : IsTrue old.honest → first_of (held_causes (store_on s old) index_id n) ≡ None =
-    has-room s index_id _ old c.requires.is_for finds.holds _ _ _ finds.ends _ _ _ (slots (index_in s)) n c.room_of-room.ensures (λ honest. space-is s old c.requires.is_for honest c.free-free.result _ _ c.free-free.ensures.free refl refl) none in
-    handed (λ r. FailsToGrow false (home_of s) n r old (g.D.Device.disk c.grow_held.new.device)) c.from_residual-in_err-grow_held.result _ c.from_residual-in_err-grow_held.ensures.1
+    has-room s index_id _ old c.requires.is_for finds.holds _ _ _ finds.ends _ _ _ (slots (index_in s)) n c.room_of-room.ensures
+    (λ honest. space-is s old c.requires.is_for honest c.free-free.result _ _ c.free-free.ensures.free refl refl) none in
+    handed (λ r. FailsToGrow false (home_of s) n r old (g.D.Device.disk c.grow_held.new.device)) c.from_residual-in_err-grow_held.result _
+    c.from_residual-in_err-grow_held.ensures.1
     (fails-then (home_of s) n old _ (finds-reads s old c.requires.is_for _ _ _ _ finds) (grow_causes (store_on s old) n)
-    (λ honest. grow-are s n old c.requires.is_for _ _ _ refl refl c.slots_left.ensures (omega (arith, fits)) c.requires.some honest ∙ held honest) _ _ c.in_err-grow_held.ensures.refused)
+    (λ honest. grow-are s n old c.requires.is_for _ _ _ refl refl c.slots_left.ensures (omega (arith, fits)) c.requires.some honest
+    ∙ held honest) _ _ c.in_err-grow_held.ensures.refused)
 
 pub returns-in_err-grow_held-clause-stays : goal.returns-in_err-grow_held-clause-stays
-returns-in_err-grow_held-clause-stays g c = stays-handed c.from_residual-in_err-grow_held.result _ _ _ _ c.from_residual-in_err-grow_held.ensures.1 c.in_err-grow_held.ensures.stays
+returns-in_err-grow_held-clause-stays g c =
+    stays-handed c.from_residual-in_err-grow_held.result _ _ _ _ c.from_residual-in_err-grow_held.ensures.1 c.in_err-grow_held.ensures.stays
 
 pub returns-in_err-grow_held-clause-confined : goal.returns-in_err-grow_held-clause-confined
 returns-in_err-grow_held-clause-confined g c =
@@ -76,7 +93,8 @@ returns-in_err-grow_held-clause-confined g c =
 pub returns-clause-grown : goal.returns-clause-grown
 returns-clause-grown g c =
     let s = c.args.self.now in
-    let grown = grows-then (home_of s) c.args.n _ _ (finds-reads s _ c.requires.is_for _ _ _ _ c.in_ok-end.ensures.end) _ c.in_ok-grow_held.ensures.grown in (
+    let grown = grows-then (home_of s) c.args.n _ _ (finds-reads s _ c.requires.is_for _ _ _ _ c.in_ok-end.ensures.end) _
+    c.in_ok-grow_held.ensures.grown in (
       slots-after s c.grow_held.new.self c.args.n _ _ _ grown c.in_ok-grow_held.ensures.stays c.slots.ensures,
       grown,
     )

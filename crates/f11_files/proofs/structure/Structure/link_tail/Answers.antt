@@ -14,30 +14,43 @@ pub lbn_of_header-requires-clause-slot : goal.lbn_of_header-requires-clause-slot
 lbn_of_header-requires-clause-slot g c = in_use-slot (index_in c.args.self.now) c.args.tail.now.number c.requires.last.header.in_use
 
 pub write-requires : goal.write-requires
-write-requires g c = place-within c.args.self.now c.args.tail.now.number _ _ _ c.requires.is_for c.requires.last.header.in_use refl c.lbn_of_header.ensures
+write-requires g c =
+    place-within c.args.self.now c.args.tail.now.number _ _ _ c.requires.is_for c.requires.last.header.in_use refl c.lbn_of_header.ensures
 
 pub returns-in-Err-clause-failed : goal.returns-in-Err-clause-failed
 returns-in-Err-clause-failed g c =
-    fails-link c.args.self.now c.args.tail.now c.set_link.new.block c.args.id (g.D.Device.disk c.args.device.now) c.requires.is_for c.requires.last c.requires.early
-    c.requires.next c.set_link.ensures.sets c.requires.gets c.args.lbn c.args.count c.requires.named c.requires.within c.requires.zeros c.requires.come _ _ c.lbn_of_header.ensures c.in-Err.ensures.writes.err
+    fails-link c.args.self.now c.args.tail.now c.set_link.new.block c.args.id (g.D.Device.disk c.args.device.now) c.requires.is_for
+    c.requires.last c.requires.early
+    c.requires.next c.set_link.ensures.sets c.requires.gets c.args.lbn c.args.count c.requires.named c.requires.within c.requires.zeros
+    c.requires.come _ _ c.lbn_of_header.ensures c.in-Err.ensures.writes.err
 
 pub returns-clause-links : goal.returns-clause-links
 returns-clause-links g c =
-    links-tail c.args.self.now c.args.tail.now c.set_link.new.block c.args.id (g.D.Device.disk c.args.device.now) c.requires.is_for c.requires.last c.requires.early
-    c.requires.next c.set_link.ensures.sets c.requires.gets c.args.lbn c.args.count c.requires.named c.requires.within c.requires.zeros c.requires.come _ _ c.lbn_of_header.ensures
+    links-tail c.args.self.now c.args.tail.now c.set_link.new.block c.args.id (g.D.Device.disk c.args.device.now) c.requires.is_for
+    c.requires.last c.requires.early
+    c.requires.next c.set_link.ensures.sets c.requires.gets c.args.lbn c.args.count c.requires.named c.requires.within c.requires.zeros
+    c.requires.come _ _ c.lbn_of_header.ensures
     c.keep_slots.new.index c.keep_slots.ensures.behind c.keep_slots.ensures.room c.in-Ok.ensures.writes.ok
 
 pub returns-clause-stays : goal.returns-clause-stays
 returns-clause-stays g c =
-    links-stays c.args.self.now c.args.tail.now c.set_link.new.block c.args.id (g.D.Device.disk c.args.device.now) c.requires.is_for c.requires.last c.requires.early
-    c.requires.next c.set_link.ensures.sets c.requires.gets c.args.lbn c.args.count c.requires.named c.requires.within c.requires.zeros c.requires.come _ _ c.lbn_of_header.ensures
+    links-stays c.args.self.now c.args.tail.now c.set_link.new.block c.args.id (g.D.Device.disk c.args.device.now) c.requires.is_for
+    c.requires.last c.requires.early
+    c.requires.next c.set_link.ensures.sets c.requires.gets c.args.lbn c.args.count c.requires.named c.requires.within c.requires.zeros
+    c.requires.come _ _ c.lbn_of_header.ensures
     c.keep_slots.new.index c.keep_slots.ensures.behind c.keep_slots.ensures.room c.in-Ok.ensures.writes.ok
 
 pub returns-in-Err-clause-confined : goal.returns-in-Err-clause-confined
-returns-in-Err-clause-confined g c = only-failed c.args.self.now c.args.tail.now.number _ _ _ _ c.requires.last.header.in_use c.lbn_of_header.ensures c.in-Err.ensures.writes.err
+returns-in-Err-clause-confined g c =
+    only-failed c.args.self.now c.args.tail.now.number _ _ _ _ c.requires.last.header.in_use c.lbn_of_header.ensures
+    c.in-Err.ensures.writes.err
 
 pub returns-clause-confined : goal.returns-clause-confined
-returns-clause-confined g c = only-wrote c.args.self.now c.args.tail.now.number _ _ _ _ c.requires.last.header.in_use c.lbn_of_header.ensures c.in-Ok.ensures.writes.ok
+returns-clause-confined g c =
+    only-wrote c.args.self.now c.args.tail.now.number _ _ _ _ c.requires.last.header.in_use c.lbn_of_header.ensures
+    c.in-Ok.ensures.writes.ok
 
 pub returns-clause-places : goal.returns-clause-places
-returns-clause-places g c = stays-behind c.args.self.now c.keep_slots.new.index (c.args.tail.now.file.number == 1) c.args.lbn c.args.count c.keep_slots.ensures.behind
+returns-clause-places g c =
+    stays-behind c.args.self.now c.keep_slots.new.index (c.args.tail.now.file.number == 1) c.args.lbn c.args.count
+    c.keep_slots.ensures.behind

@@ -10,7 +10,8 @@ returns-in-Err-clause-refused g c =
     let first = reads-first _ _ _ _ _ found in
     let vbn : c.args.vbn - 1 + 1 ≡ c.args.vbn = omega (arith, c.requires.some) in
     let seek = c.in-Err.ensures in
-    rw c.refusal_for.ensures (fails-walk c.args.self.now c.args.f _ old _ c.requires.is_for found.holds c.requires.own c.args.vbn c.in-Err.fault
+    rw c.refusal_for.ensures
+    (fails-walk c.args.self.now c.args.f _ old _ c.requires.is_for found.holds c.requires.own c.args.vbn c.in-Err.fault
     (λ is. rw vbn at (end-behind _ _ _ _ _ first _ _ (seek.end (ap Err is))))
     (λ is. damage-break _ _ _ _ (break-behind _ _ _ _ _ first _ (seek.damaged (ap Err is))))
     (λ is. along-behind _ _ _ _ _ first _ _ (seek.failed (ap Err is))))
@@ -27,4 +28,5 @@ returns-in-None-clause-refused g c =
     let old = g.D.Device.disk c.args.device.now in
     let found = c.in_ok-read_first.ensures.found in
     fails-damaged c.args.self.now c.args.f _ old _ c.requires.is_for found.holds c.requires.own c.args.vbn
-    (damage-outside _ _ _ _ _ (reads-first _ _ _ _ _ found) _ _ _ _ c.in-Ok.ensures.seeks (rw c.blocks-2.ensures.count at c.in-None.ensures))
+    (damage-outside _ _ _ _ _ (reads-first _ _ _ _ _ found) _ _ _ _ c.in-Ok.ensures.seeks
+    (rw c.blocks-2.ensures.count at c.in-None.ensures))

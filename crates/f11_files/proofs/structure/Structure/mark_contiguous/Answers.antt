@@ -10,40 +10,49 @@ use Rattle.f11_files.proofs.LayingOut.Mark.{altered-gains}
 use Rattle.f11_files.proofs.structure.Structure.mark_contiguous.Goals as goal
 
 pub lbn_of_header-requires-clause-slot : goal.lbn_of_header-requires-clause-slot
-lbn_of_header-requires-clause-slot g c = in_use-slot (index_in c.args.self.now) c.args.f.number c.in_ok-read_first.ensures.found.holds.header.in_use
+lbn_of_header-requires-clause-slot g c =
+    in_use-slot (index_in c.args.self.now) c.args.f.number c.in_ok-read_first.ensures.found.holds.header.in_use
 
 pub write-requires : goal.write-requires
 write-requires g c =
     let found = c.in_ok-read_first.ensures.found in
-    place-within c.args.self.now c.args.f.number _ _ _ c.requires.is_for found.holds.header.in_use (ap (λ (i : Image). length i) found.looked.image) c.lbn_of_header.ensures
+    place-within c.args.self.now c.args.f.number _ _ _ c.requires.is_for found.holds.header.in_use
+    (ap (λ (i : Image). length i) found.looked.image) c.lbn_of_header.ensures
 
 pub returns-in-Ok-clause-altered : goal.returns-in-Ok-clause-altered
 returns-in-Ok-clause-altered g c =
-    alters c.args.self.now c.args.f with_contiguous_mark _ _ _ _ _ c.requires.is_for c.requires.own c.in_ok-read_first.ensures.found c.set_contiguous.ensures c.lbn_of_header.ensures _
+    alters c.args.self.now c.args.f with_contiguous_mark _ _ _ _ _ c.requires.is_for c.requires.own c.in_ok-read_first.ensures.found
+    c.set_contiguous.ensures c.lbn_of_header.ensures _
     c.in-Ok.ensures.writes.ok
 
 pub returns-in-Ok-clause-stays : goal.returns-in-Ok-clause-stays
 returns-in-Ok-clause-stays g c =
-    altered-stays c.args.self.now c.args.f with_contiguous_mark _ _ _ _ _ c.requires.is_for c.requires.own c.in_ok-read_first.ensures.found c.set_contiguous.ensures c.lbn_of_header.ensures _
+    altered-stays c.args.self.now c.args.f with_contiguous_mark _ _ _ _ _ c.requires.is_for c.requires.own c.in_ok-read_first.ensures.found
+    c.set_contiguous.ensures c.lbn_of_header.ensures _
     c.in-Ok.ensures.writes.ok
 
 pub returns-in-Err-clause-refused : goal.returns-in-Err-clause-refused
 returns-in-Err-clause-refused g c =
-    fails-alter c.args.self.now c.args.f with_contiguous_mark _ _ _ _ _ c.requires.is_for c.requires.own c.in_ok-read_first.ensures.found c.set_contiguous.ensures c.lbn_of_header.ensures _
+    fails-alter c.args.self.now c.args.f with_contiguous_mark _ _ _ _ _ c.requires.is_for c.requires.own c.in_ok-read_first.ensures.found
+    c.set_contiguous.ensures c.lbn_of_header.ensures _
     c.in-Err.ensures.writes.err
 
 pub returns-in-Err-clause-stays : goal.returns-in-Err-clause-stays
 returns-in-Err-clause-stays g c =
-    fails-altered c.args.self.now c.args.f with_contiguous_mark _ _ _ _ _ c.requires.is_for c.requires.own c.in_ok-read_first.ensures.found c.set_contiguous.ensures c.lbn_of_header.ensures _
+    fails-altered c.args.self.now c.args.f with_contiguous_mark _ _ _ _ _ c.requires.is_for c.requires.own c.in_ok-read_first.ensures.found
+    c.set_contiguous.ensures c.lbn_of_header.ensures _
     c.in-Err.ensures.writes.err
 
 pub returns-in-Ok-clause-confined : goal.returns-in-Ok-clause-confined
-returns-in-Ok-clause-confined g c = first-wrote c.args.self.now c.args.f _ _ _ _ _ _ c.in_ok-read_first.ensures.found c.lbn_of_header.ensures c.in-Ok.ensures.writes.ok
+returns-in-Ok-clause-confined g c =
+    first-wrote c.args.self.now c.args.f _ _ _ _ _ _ c.in_ok-read_first.ensures.found c.lbn_of_header.ensures c.in-Ok.ensures.writes.ok
 
 pub returns-in-Err-clause-confined : goal.returns-in-Err-clause-confined
-returns-in-Err-clause-confined g c = first-failed c.args.self.now c.args.f _ _ _ _ _ _ c.in_ok-read_first.ensures.found c.lbn_of_header.ensures c.in-Err.ensures.writes.err
+returns-in-Err-clause-confined g c =
+    first-failed c.args.self.now c.args.f _ _ _ _ _ _ c.in_ok-read_first.ensures.found c.lbn_of_header.ensures c.in-Err.ensures.writes.err
 
 pub returns-in-Ok-clause-gains : goal.returns-in-Ok-clause-gains
 returns-in-Ok-clause-gains g c =
-    altered-gains c.args.self.now c.args.f _ _ _ _ _ c.requires.is_for c.requires.own c.in_ok-read_first.ensures.found c.set_contiguous.ensures c.lbn_of_header.ensures _
+    altered-gains c.args.self.now c.args.f _ _ _ _ _ c.requires.is_for c.requires.own c.in_ok-read_first.ensures.found
+    c.set_contiguous.ensures c.lbn_of_header.ensures _
     c.in-Ok.ensures.writes.ok

@@ -10,7 +10,8 @@ returns-in-Ok-clause-read g c =
     let looked = found.reads.looked in
     record {
       no_cause = found.no_cause;
-      block_is = λ honest. block-read c.args.self.now c.args.f c.args.vbn _ _ _ _ c.requires.is_for found looked.image (c.in-Ok.ensures.reads.gives (looked.honest ∙ honest)) honest;
+      block_is = λ honest. block-read c.args.self.now c.args.f c.args.vbn _ _ _ _ c.requires.is_for found looked.image
+          (c.in-Ok.ensures.reads.gives (looked.honest ∙ honest)) honest;
       reads = reads-more found.reads (reads-looked (looked_read _ _ c.in-Ok.ensures.reads.counts));
     }
 

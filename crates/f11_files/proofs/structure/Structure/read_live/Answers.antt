@@ -12,7 +12,9 @@ pub returns-then-not-in_use-clause-refused : goal.returns-then-not-in_use-clause
 returns-then-not-in_use-clause-refused g c =
     let old = g.D.Device.disk c.args.device.now in
     record {
-      right = right-damaged _ _ (λ honest. live-used c.args.self.now c.args.number old c.requires.is_for honest (sym c.in_use.ensures ∙ c.if-not-in_use.true) (c.requires.live honest));
+      right = right-damaged _ _
+          (λ honest. live-used c.args.self.now c.args.number old c.requires.is_for honest (sym c.in_use.ensures ∙ c.if-not-in_use.true)
+          (c.requires.live honest));
       reads = reads-looked (looked_within (looked_none old) (omega arith));
     }
 
@@ -26,23 +28,31 @@ pub read-requires : goal.read-requires
 read-requires g c =
     let index = index_in c.args.self.now in
     let in_use = sym c.in_use.ensures ∙ c.if-not-in_use.false in
-    rw c.lbn_of_header.ensures (header-within index c.args.number _ c.requires.is_for.lies.index (in_use-some index c.args.number in_use) (in_use-slot index c.args.number in_use))
+    rw c.lbn_of_header.ensures
+    (header-within index c.args.number _ c.requires.is_for.lies.index (in_use-some index c.args.number in_use)
+    (in_use-slot index c.args.number in_use))
 
 pub returns-in-Err-clause-refused : goal.returns-in-Err-clause-refused
-returns-in-Err-clause-refused g c = record { right = right-fault _ _; reads = reads-looked (looked_failed_read _ _ c.in-Err.ensures.reads.counts) }
+returns-in-Err-clause-refused g c =
+    record { right = right-fault _ _; reads = reads-looked (looked_failed_read _ _ c.in-Err.ensures.reads.counts) }
 
 pub returns-in-Ok-check-clause-read : goal.returns-in-Ok-check-clause-read
 returns-in-Ok-check-clause-read g c = record {
   header = record {
     in_use = sym c.in_use.ensures ∙ c.if-not-in_use.false;
     valid = c.in-Ok-check.ensures.valid.0 refl;
-    block_is = λ honest. table-header (index_in c.args.self.now) (g.D.Device.disk c.args.device.now) _ _ _ c.lbn_of_header.ensures (c.in-Ok.ensures.reads.gives honest);
+    block_is = λ honest. table-header (index_in c.args.self.now) (g.D.Device.disk c.args.device.now) _ _ _ c.lbn_of_header.ensures
+        (c.in-Ok.ensures.reads.gives honest);
   };
   looked = looked_read _ _ c.in-Ok.ensures.reads.counts;
 }
 
 pub returns-in-Err-check-clause-refused : goal.returns-in-Err-check-clause-refused
 returns-in-Err-check-clause-refused g c = record {
-  right = right-damaged _ _ (λ honest. false≢true (c.in-Err-check.ensures.valid.1 (live-valid c.args.self.now c.args.number _ _ _ c.requires.is_for honest c.lbn_of_header.ensures (c.in-Ok.ensures.reads.gives honest) (c.requires.live honest))));
+  right = right-damaged _ _
+      (λ honest. false≢true
+      (c.in-Err-check.ensures.valid.1
+      (live-valid c.args.self.now c.args.number _ _ _ c.requires.is_for honest c.lbn_of_header.ensures (c.in-Ok.ensures.reads.gives honest)
+      (c.requires.live honest))));
   reads = reads-looked (looked_read _ _ c.in-Ok.ensures.reads.counts);
 }

@@ -5,11 +5,13 @@ use Rattle.f11_files.proofs.structure.Structure.take_next_run.Goals as goal
 
 pub returns-in-Ok-Some-clause-taken : goal.returns-in-Ok-Some-clause-taken
 returns-in-Ok-Some-clause-taken g c =
-    takes-run c.args.self.now c.args.from c.args.most _ c.requires.is_for _ _ _ c.requires.none_below (rw c.in-Ok-Some.field-0-is at c.in-Ok-Some.ensures.takes) _ refl c.take.ensures.same refl
+    takes-run c.args.self.now c.args.from c.args.most _ c.requires.is_for _ _ _ c.requires.none_below
+    (rw c.in-Ok-Some.field-0-is at c.in-Ok-Some.ensures.takes) _ refl c.take.ensures.same refl
 
 pub returns-in-Ok-Some-clause-stays : goal.returns-in-Ok-Some-clause-stays
 returns-in-Ok-Some-clause-stays g c =
-    take-stays c.args.self.now c.args.from c.args.most _ c.requires.is_for _ _ _ c.requires.none_below (rw c.in-Ok-Some.field-0-is at c.in-Ok-Some.ensures.takes) _ c.take.ensures.same c.in-Ok-Some.ensures.storage
+    take-stays c.args.self.now c.args.from c.args.most _ c.requires.is_for _ _ _ c.requires.none_below
+    (rw c.in-Ok-Some.field-0-is at c.in-Ok-Some.ensures.takes) _ c.take.ensures.same c.in-Ok-Some.ensures.storage
 
 pub returns-in-Ok-None-clause-refused : goal.returns-in-Ok-None-clause-refused
 returns-in-Ok-None-clause-refused g c =

@@ -11,7 +11,8 @@ returns-in-Err-clause-refused g c =
     let first = reads-first _ _ _ _ _ found in
     let vbn : c.args.vbn - 1 + 1 ≡ c.args.vbn = omega (arith, c.requires.some) in
     let seek = c.in-Err.ensures in
-    rw c.refusal_for.ensures (fails-walk c.args.self.now c.args.f _ old _ c.requires.is_for found.holds c.requires.id.number c.args.vbn c.in-Err.fault
+    rw c.refusal_for.ensures
+    (fails-walk c.args.self.now c.args.f _ old _ c.requires.is_for found.holds c.requires.id.number c.args.vbn c.in-Err.fault
     (λ is. rw vbn at (end-behind _ _ _ _ _ first _ _ (seek.end (ap Err is))))
     (λ is. damage-break _ _ _ _ (break-behind _ _ _ _ _ first _ (seek.damaged (ap Err is))))
     (λ is. along-behind _ _ _ _ _ first _ _ (seek.failed (ap Err is))))
@@ -20,12 +21,15 @@ pub returns-in-Some-clause-found : goal.returns-in-Some-clause-found
 returns-in-Some-clause-found g c =
     let old = g.D.Device.disk c.args.device.now in
     let found = c.in_ok-read_first.ensures.found in
-    finds-file-window c.args.self.now c.args.f _ old _ c.requires.is_for found.holds c.requires.id c.args.vbn _ (g.met.D.Device.is_image c.args.device.now)
-    (finds-window _ _ _ _ _ (reads-first _ _ _ _ _ found) _ _ _ _ c.in-Ok.ensures.seeks c.requires.some _ (rw c.blocks-2.ensures.count at c.in-Some.ensures))
+    finds-file-window c.args.self.now c.args.f _ old _ c.requires.is_for found.holds c.requires.id c.args.vbn _
+    (g.met.D.Device.is_image c.args.device.now)
+    (finds-window _ _ _ _ _ (reads-first _ _ _ _ _ found) _ _ _ _ c.in-Ok.ensures.seeks c.requires.some _
+    (rw c.blocks-2.ensures.count at c.in-Some.ensures))
 
 pub returns-in-None-clause-refused : goal.returns-in-None-clause-refused
 returns-in-None-clause-refused g c =
     let old = g.D.Device.disk c.args.device.now in
     let found = c.in_ok-read_first.ensures.found in
     fails-damaged c.args.self.now c.args.f _ old _ c.requires.is_for found.holds c.requires.id.number c.args.vbn
-    (damage-past _ _ _ _ _ (reads-first _ _ _ _ _ found) _ _ _ _ c.in-Ok.ensures.seeks c.requires.some (g.met.D.Device.is_image c.args.device.now) (rw c.blocks-2.ensures.count at c.in-None.ensures))
+    (damage-past _ _ _ _ _ (reads-first _ _ _ _ _ found) _ _ _ _ c.in-Ok.ensures.seeks c.requires.some
+    (g.met.D.Device.is_image c.args.device.now) (rw c.blocks-2.ensures.count at c.in-None.ensures))

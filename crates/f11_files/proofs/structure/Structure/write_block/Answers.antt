@@ -8,29 +8,41 @@ use Rattle.f11_image_store.specs.Confines.{no_header}
 use Rattle.f11_files.proofs.structure.Structure.write_block.Goals as goal
 
 pub returns-in-Ok-clause-stored : goal.returns-in-Ok-clause-stored
-returns-in-Ok-clause-stored g c = stores-block c.args.self.now c.args.f c.args.vbn _ _ _ _ c.requires.is_for c.requires.own c.in_ok-lbn.ensures.found _ c.in-Ok.ensures.writes.ok
+returns-in-Ok-clause-stored g c =
+    stores-block c.args.self.now c.args.f c.args.vbn _ _ _ _ c.requires.is_for c.requires.own c.in_ok-lbn.ensures.found _
+    c.in-Ok.ensures.writes.ok
 
 pub returns-in-Ok-clause-stays : goal.returns-in-Ok-clause-stays
-returns-in-Ok-clause-stays g c = stored-stays c.args.self.now c.args.f c.args.vbn _ _ _ _ c.requires.is_for c.requires.own c.in_ok-lbn.ensures.found _ c.in-Ok.ensures.writes.ok
+returns-in-Ok-clause-stays g c =
+    stored-stays c.args.self.now c.args.f c.args.vbn _ _ _ _ c.requires.is_for c.requires.own c.in_ok-lbn.ensures.found _
+    c.in-Ok.ensures.writes.ok
 
 pub returns-in-Err-clause-refused : goal.returns-in-Err-clause-refused
-returns-in-Err-clause-refused g c = fails-store c.args.self.now c.args.f c.args.vbn _ _ _ _ c.requires.is_for c.requires.own c.in_ok-lbn.ensures.found _ c.in-Err.ensures.writes.err
+returns-in-Err-clause-refused g c =
+    fails-store c.args.self.now c.args.f c.args.vbn _ _ _ _ c.requires.is_for c.requires.own c.in_ok-lbn.ensures.found _
+    c.in-Err.ensures.writes.err
 
 pub returns-in-Err-clause-stays : goal.returns-in-Err-clause-stays
-returns-in-Err-clause-stays g c = fails-stays c.args.self.now c.args.f c.args.vbn _ _ _ _ c.requires.is_for c.requires.own c.in_ok-lbn.ensures.found _ c.in-Err.ensures.writes.err
+returns-in-Err-clause-stays g c =
+    fails-stays c.args.self.now c.args.f c.args.vbn _ _ _ _ c.requires.is_for c.requires.own c.in_ok-lbn.ensures.found _
+    c.in-Err.ensures.writes.err
 
 pub returns-in-Ok-clause-confined : goal.returns-in-Ok-clause-confined
 returns-in-Ok-clause-confined g c = λ honest.
     let s = c.args.self.now in
     let found = c.in_ok-lbn.ensures.found in
     let blocks = file_blocks (table_of (g.D.Device.disk c.args.device.now).image (home_of s)) c.args.f.number in
-    to-then s s no_header no_header blocks blocks (stands-within s s no_header no_header blocks (λ n is. is) (stands-same s)) (λ l out. out) (to-parts s no_header no_header blocks (λ n is. is) (parts-looked s no_header found.reads.looked))
-    (other-wrote s no_header blocks c.in_ok-lbn.lbn _ _ _ (at-in blocks (c.args.vbn - 1) c.in_ok-lbn.lbn (found.block_is honest)) c.in-Ok.ensures.writes.ok)
+    to-then s s no_header no_header blocks blocks (stands-within s s no_header no_header blocks (λ n is. is) (stands-same s)) (λ l out. out)
+    (to-parts s no_header no_header blocks (λ n is. is) (parts-looked s no_header found.reads.looked))
+    (other-wrote s no_header blocks c.in_ok-lbn.lbn _ _ _ (at-in blocks (c.args.vbn - 1) c.in_ok-lbn.lbn (found.block_is honest))
+    c.in-Ok.ensures.writes.ok)
 
 pub returns-in-Err-clause-confined : goal.returns-in-Err-clause-confined
 returns-in-Err-clause-confined g c = λ honest.
     let s = c.args.self.now in
     let found = c.in_ok-lbn.ensures.found in
     let blocks = file_blocks (table_of (g.D.Device.disk c.args.device.now).image (home_of s)) c.args.f.number in
-    to-then s s no_header no_header blocks blocks (stands-within s s no_header no_header blocks (λ n is. is) (stands-same s)) (λ l out. out) (to-parts s no_header no_header blocks (λ n is. is) (parts-looked s no_header found.reads.looked))
-    (other-failed s no_header blocks c.in_ok-lbn.lbn _ _ _ (at-in blocks (c.args.vbn - 1) c.in_ok-lbn.lbn (found.block_is honest)) c.in-Err.ensures.writes.err)
+    to-then s s no_header no_header blocks blocks (stands-within s s no_header no_header blocks (λ n is. is) (stands-same s)) (λ l out. out)
+    (to-parts s no_header no_header blocks (λ n is. is) (parts-looked s no_header found.reads.looked))
+    (other-failed s no_header blocks c.in_ok-lbn.lbn _ _ _ (at-in blocks (c.args.vbn - 1) c.in_ok-lbn.lbn (found.block_is honest))
+    c.in-Err.ensures.writes.err)

@@ -19,5 +19,6 @@ returns-else-given-length-clause-gives c = λ bytes.
     let within : c.args.given < 2 + length line + length line % 2 = omega (arith, c.args.self.now.given, ap given_in c.requires) in
     let byte = c.record_byte-byte.ensures ∙ ap (λ (l : List ℕ). slice_index (variable_record l) c.args.given) c.deref.ensures.0 in
     GivesBytes-last c.args.self.now _ c.args.given c.record_byte-byte.result bytes c.requires
-    (omega (arith, c.if-given-length.false, count, ap (λ (n : ℕ). n % 2) count)) byte (omega (arith, count, c.len-length.ensures.fits)) refl c.clear.ensures
+    (omega (arith, c.if-given-length.false, count, ap (λ (n : ℕ). n % 2) count)) byte (omega (arith, count, c.len-length.ensures.fits)) refl
+    c.clear.ensures
     (c.max-self.ensures ∙ ap (max c.args.self.now.longest) count)

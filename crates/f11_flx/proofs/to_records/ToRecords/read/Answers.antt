@@ -10,13 +10,17 @@ invariant_of-self c = record { whole = refl; ended = refl; given = omega arith }
 
 pub returns-then-ends_line-clause-reads : goal.returns-then-ends_line-clause-reads
 returns-then-ends_line-clause-reads c = record {
-  goes_on = λ bytes. GivesBytes-same c.args.self.now _ _ _ (lines_left-lf c.args.self.now c.args.cr c.args.byte bytes c.requires (sym c.ends_line.ensures ∙ c.if-ends_line.true)) (ap given_in c.requires) refl;
+  goes_on = λ bytes. GivesBytes-same c.args.self.now _ _ _
+      (lines_left-lf c.args.self.now c.args.cr c.args.byte bytes c.requires (sym c.ends_line.ensures ∙ c.if-ends_line.true))
+      (ap given_in c.requires) refl;
   unended = omega arith;
 }
 
 pub returns-then-remaining_capacity-bytes_with-clause-bad : goal.returns-then-remaining_capacity-bytes_with-clause-bad
 returns-then-remaining_capacity-bytes_with-clause-bad c = λ more.
-    is_too_long-push c.args.self.now c.args.cr c.args.byte more c.requires (sym c.ends_line.ensures ∙ c.if-ends_line.false) (ne_eqb c.args.byte 0 c.if-byte-eq0.false) (omega (arith, c.remaining_capacity.ensures, c.bytes_with.ensures, c.if-remaining_capacity-bytes_with.true))
+    is_too_long-push c.args.self.now c.args.cr c.args.byte more c.requires (sym c.ends_line.ensures ∙ c.if-ends_line.false)
+    (ne_eqb c.args.byte 0 c.if-byte-eq0.false)
+    (omega (arith, c.remaining_capacity.ensures, c.bytes_with.ensures, c.if-remaining_capacity-bytes_with.true))
 
 pub invariant_of-self-2 : goal.invariant_of-self-2
 invariant_of-self-2 c = record {

@@ -8,6 +8,7 @@ use Rattle.f11_flx.proofs.to_text.ToText.new.Goals as goal
 
 pub returns-clause-starts : goal.returns-clause-starts
 returns-clause-starts c = λ file attr allocation.
-    let end = c.end.ensures ∙ ap (λ (a : List ℕ). min (stated_end a) (512 * c.args.allocation)) (sym attr) ∙ ap (λ (n : ℕ). min (stated_end file.attr) (512 * n)) (sym allocation) in
+    let end = c.end.ensures ∙ ap (λ (a : List ℕ). min (stated_end a) (512 * c.args.allocation)) (sym attr)
+    ∙ ap (λ (n : ℕ). min (stated_end file.attr) (512 * n)) (sym allocation) in
     ap (λ (n : ℕ). text_in c.in-Some.layout (take n (concat file.blocks))) end
     ∙ converted_text-in file c.in-Some.layout (ap layout_of attr ∙ sym c.layout.ensures.layout ∙ c.in-Some.is)

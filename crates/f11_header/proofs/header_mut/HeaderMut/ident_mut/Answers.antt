@@ -15,12 +15,14 @@ returns c =
     let words : ident_end block ≡ ident_offset block + 23 = ident_end-first block c.requires.first in
     let end : 2 * ident_offset block + 46 ≡ 2 * ident_end block = omega (arith, words) in
     let from = 2 * c.from-ident.result in
-    let last = slice_range-within block from (from + 46) (omega arith) (sym (ap length c.bytes_mut.ensures.bytes.0) ∙ c.bytes_mut.ensures.bytes.1) in
+    let last = slice_range-within block from (from + 46) (omega arith)
+    (sym (ap length c.bytes_mut.ensures.bytes.0) ∙ c.bytes_mut.ensures.bytes.1) in
     let within : 2 * ident_offset block + 46 ≤ length block = omega (arith, offset, last) in (
       (refl, λ w. λ i. over header (with_bytes block (2 * offset i) w)),
       record {
         writes_back = tt;
-        area = c.bytes_mut.ensures.bytes.0 ∙ (λ i. slice_range block (2 * offset i) (2 * offset i + 46)) ∙ ap (slice_range block (2 * ident_offset block)) end;
+        area = c.bytes_mut.ensures.bytes.0 ∙ (λ i. slice_range block (2 * offset i) (2 * offset i + 46))
+            ∙ ap (slice_range block (2 * ident_offset block)) end;
         len = omega (arith, c.bytes_mut.ensures.bytes.1);
         header = λ ident size holds. (keeps-with_ident block ident within c.requires.first size holds).1;
       },

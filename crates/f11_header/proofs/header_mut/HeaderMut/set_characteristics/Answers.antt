@@ -6,4 +6,5 @@ pub returns-clause-header : goal.returns-clause-header
 returns-clause-header c = rw c.write_word.ensures (keeps-with_characteristics c.args.self.now.block.now c.args.characteristics)
 
 pub returns-clause-fields : goal.returns-clause-fields
-returns-clause-fields c = rw c.write_word.ensures (header_in-with_characteristics c.args.self.now.block.now c.args.characteristics (omega arith))
+returns-clause-fields c =
+    rw c.write_word.ensures (header_in-with_characteristics c.args.self.now.block.now c.args.characteristics (omega arith))

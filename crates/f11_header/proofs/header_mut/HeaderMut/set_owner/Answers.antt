@@ -6,4 +6,6 @@ pub returns-clause-header : goal.returns-clause-header
 returns-clause-header c = rw (c.write_word.ensures, c.owner_word.ensures) (keeps-with_owner c.args.self.now.block.now c.args.owner)
 
 pub returns-clause-fields : goal.returns-clause-fields
-returns-clause-fields c = rw (c.write_word.ensures, c.owner_word.ensures) (header_in-with_owner c.args.self.now.block.now c.args.owner (omega arith) (search rules))
+returns-clause-fields c =
+    rw (c.write_word.ensures, c.owner_word.ensures)
+    (header_in-with_owner c.args.self.now.block.now c.args.owner (omega arith) (search rules))

@@ -14,5 +14,6 @@ returns-then-n-eq0 c = elim c.then-n-eq0.branch [
 pub returns : goal.returns
 returns c =
     let items = c.args.self.now.bitmap.items in
-    c.is_slot_set.ensures ∙ ap (λ (b : List (List ℕ)). bit_of_slot b c.from-n.result) c.deref.ensures.value ∙ ap (bit_of_slot items) c.from-n.ensures
+    c.is_slot_set.ensures ∙ ap (λ (b : List (List ℕ)). bit_of_slot b c.from-n.result) c.deref.ensures.value
+    ∙ ap (bit_of_slot items) c.from-n.ensures
     ∙ sym (is_in_use-within (index_kept c.args.self.now) c.args.n (omega arith) (omega arith))

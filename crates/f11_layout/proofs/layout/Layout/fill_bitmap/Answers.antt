@@ -6,4 +6,9 @@ pub loop-bit-init : goal.loop-bit-init
 loop-bit-init c = rw c.zeros.ensures (PutsBits-none _ _)
 
 pub returns : goal.returns
-returns c = record { size = c.loop-bit.invariant.size; bits = λ k below. c.loop-bit.invariant.front k (omega (arith, below, c.loop-bit-test.false)) }
+returns c =
+    record {
+      size = c.loop-bit.invariant.size;
+      bits = λ k below.
+          c.loop-bit.invariant.front k (omega (arith, below, c.loop-bit-test.false));
+    }

@@ -6,7 +6,9 @@ pub loop-i-init : goal.loop-i-init
 loop-i-init c = rw c.zeros.ensures (PutsRecords-none _)
 
 pub loop-i-preserved : goal.loop-i-preserved
-loop-i-preserved c = PutsRecords-more _ _ _ _ _ _ _ c.put_words.array_long c.loop-i.invariant c.from.ensures c.own_file-file.ensures.file c.record_words.ensures c.put_words.ensures.record c.put_words.ensures.others
+loop-i-preserved c =
+    PutsRecords-more _ _ _ _ _ _ _ c.put_words.array_long c.loop-i.invariant c.from.ensures c.own_file-file.ensures.file
+    c.record_words.ensures c.put_words.ensures.record c.put_words.ensures.others
 
 pub returns : goal.returns
 returns c = record {

@@ -5,4 +5,5 @@ use Rattle.f11_map.proofs.MapLemmas.{length-blocks_in-more}
 use Rattle.f11_map.proofs.map.Map.find.Goals as goal
 
 pub loop-i-preserved : goal.loop-i-preserved
-loop-i-preserved c = omega (arith, length-blocks_in-more (runs_of (area_of c.args.self.now)) c.loop-i.i _ c.run-count.result c.run-count.ensures.run refl)
+loop-i-preserved c =
+    omega (arith, length-blocks_in-more (runs_of (area_of c.args.self.now)) c.loop-i.i _ c.run-count.result c.run-count.ensures.run refl)

@@ -8,10 +8,14 @@ use Rattle.f11_map.proofs.map.Map.joins_last.Goals as goal
 
 pub returns-then-first-blocks : goal.returns-then-first-blocks
 returns-then-first-blocks c =
-    let is : joins_last (runs_of (area_of c.args.self.now)) c.args.lbn c.args.count ≡ joins c.run-first.result c.args.lbn c.args.count = joins_last-at (runs_of (area_of c.args.self.now)) _ c.args.lbn c.args.count c.run-first.result (omega arith) c.run-first.ensures.run in
+    let is : joins_last (runs_of (area_of c.args.self.now)) c.args.lbn c.args.count ≡ joins c.run-first.result c.args.lbn c.args.count =
+    joins_last-at (runs_of (area_of c.args.self.now)) _ c.args.lbn c.args.count c.run-first.result (omega arith) c.run-first.ensures.run
+    in
     grind (arith, nat_tests)
 
 pub returns-else-first-blocks : goal.returns-else-first-blocks
 returns-else-first-blocks c =
-    let is : joins_last (runs_of (area_of c.args.self.now)) c.args.lbn c.args.count ≡ joins c.run-first.result c.args.lbn c.args.count = joins_last-at (runs_of (area_of c.args.self.now)) _ c.args.lbn c.args.count c.run-first.result (omega arith) c.run-first.ensures.run in
+    let is : joins_last (runs_of (area_of c.args.self.now)) c.args.lbn c.args.count ≡ joins c.run-first.result c.args.lbn c.args.count =
+    joins_last-at (runs_of (area_of c.args.self.now)) _ c.args.lbn c.args.count c.run-first.result (omega arith) c.run-first.ensures.run
+    in
     grind (arith, nat_tests)

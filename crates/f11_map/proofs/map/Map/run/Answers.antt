@@ -4,22 +4,26 @@ use Rattle.f11_map.proofs.MapLemmas.{pointer_within, slice_get-runs_of}
 use Rattle.f11_map.proofs.map.Map.run.Goals as goal
 
 pub overflow_mul-at : goal.overflow_mul-at
-overflow_mul-at c = omega (arith, pointer_within (area_of c.args.self.now) c.args.i c.args.self.now.is_map c.requires, c.args.self.now.is_map.in_block)
+overflow_mul-at c =
+    omega (arith, pointer_within (area_of c.args.self.now) c.args.i c.args.self.now.is_map c.requires, c.args.self.now.is_map.in_block)
 
 pub overflow_add-at : goal.overflow_add-at
-overflow_add-at c = omega (arith, pointer_within (area_of c.args.self.now) c.args.i c.args.self.now.is_map c.requires, c.args.self.now.is_map.in_block)
+overflow_add-at c =
+    omega (arith, pointer_within (area_of c.args.self.now) c.args.i c.args.self.now.is_map c.requires, c.args.self.now.is_map.in_block)
 
 pub bounds-self-at : goal.bounds-self-at
 bounds-self-at c = omega (arith, pointer_within (area_of c.args.self.now) c.args.i c.args.self.now.is_map c.requires)
 
 pub overflow_add-at-2 : goal.overflow_add-at-2
-overflow_add-at-2 c = omega (arith, pointer_within (area_of c.args.self.now) c.args.i c.args.self.now.is_map c.requires, c.args.self.now.is_map.in_block)
+overflow_add-at-2 c =
+    omega (arith, pointer_within (area_of c.args.self.now) c.args.i c.args.self.now.is_map c.requires, c.args.self.now.is_map.in_block)
 
 pub read_word-requires : goal.read_word-requires
 read_word-requires c = omega (arith, pointer_within (area_of c.args.self.now) c.args.i c.args.self.now.is_map c.requires)
 
 pub overflow_add-at-3 : goal.overflow_add-at-3
-overflow_add-at-3 c = omega (arith, pointer_within (area_of c.args.self.now) c.args.i c.args.self.now.is_map c.requires, c.args.self.now.is_map.in_block)
+overflow_add-at-3 c =
+    omega (arith, pointer_within (area_of c.args.self.now) c.args.i c.args.self.now.is_map c.requires, c.args.self.now.is_map.in_block)
 
 pub bounds-self-at-2 : goal.bounds-self-at-2
 bounds-self-at-2 c = omega (arith, pointer_within (area_of c.args.self.now) c.args.i c.args.self.now.is_map c.requires)

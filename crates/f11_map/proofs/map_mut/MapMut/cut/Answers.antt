@@ -29,17 +29,22 @@ put_last-requires-clause-count c =
 pub returns-then-left-eq0-clause-pointers : goal.returns-then-left-eq0-clause-pointers
 returns-then-left-eq0-clause-pointers c =
     let m = written_area c.args.self.now in
-    c.keep.ensures.pointers ∙ sym (cut_to-between (runs_of m) c.args.place c.in-Some.i c.in-Some.left (AreSome-runs_of m) (rw c.map-map.ensures at c.in-Some.ensures.found) c.if-left-eq0.true)
+    c.keep.ensures.pointers ∙ sym
+    (cut_to-between (runs_of m) c.args.place c.in-Some.i c.in-Some.left (AreSome-runs_of m)
+    (rw c.map-map.ensures at c.in-Some.ensures.found) c.if-left-eq0.true)
 
 pub returns-then-left-eq0-clause-blocks : goal.returns-then-left-eq0-clause-blocks
-returns-then-left-eq0-clause-blocks c = ap blocks_in (returns-then-left-eq0-clause-pointers c) ∙ blocks_in-cut_to (runs_of (written_area c.args.self.now)) c.args.place
+returns-then-left-eq0-clause-blocks c =
+    ap blocks_in (returns-then-left-eq0-clause-pointers c) ∙ blocks_in-cut_to (runs_of (written_area c.args.self.now)) c.args.place
 
 pub returns-else-left-eq0-clause-pointers : goal.returns-else-left-eq0-clause-pointers
 returns-else-left-eq0-clause-pointers c =
     let m = written_area c.args.self.now in
     let at = rw c.map-map.ensures at c.run-lbn.ensures.run in
     c.put_last.ensures.pointers
-    ∙ sym (cut_to-inside (runs_of m) c.args.place c.in-Some.i c.in-Some.left c.run-lbn.result (AreSome-runs_of m) (rw c.map-map.ensures at c.in-Some.ensures.found) at (omega arith))
+    ∙ sym (cut_to-inside (runs_of m) c.args.place c.in-Some.i c.in-Some.left c.run-lbn.result (AreSome-runs_of m)
+    (rw c.map-map.ensures at c.in-Some.ensures.found) at (omega arith))
 
 pub returns-else-left-eq0-clause-blocks : goal.returns-else-left-eq0-clause-blocks
-returns-else-left-eq0-clause-blocks c = ap blocks_in (returns-else-left-eq0-clause-pointers c) ∙ blocks_in-cut_to (runs_of (written_area c.args.self.now)) c.args.place
+returns-else-left-eq0-clause-blocks c =
+    ap blocks_in (returns-else-left-eq0-clause-pointers c) ∙ blocks_in-cut_to (runs_of (written_area c.args.self.now)) c.args.place

@@ -13,4 +13,5 @@ ok_of_option (Some x) e = refl
 
 pub returns-clause-exact : goal.returns-clause-exact
 returns-clause-exact c =
-    ap result_ok c.ok_or.ensures.value ∙ ok_of_option c.read.result _ ∙ reads_spelled c.read.result c.args.text.now c.read.ensures.spelled c.read.ensures.every
+    ap result_ok c.ok_or.ensures.value ∙ ok_of_option c.read.result _
+    ∙ reads_spelled c.read.result c.args.text.now c.read.ensures.spelled c.read.ensures.every

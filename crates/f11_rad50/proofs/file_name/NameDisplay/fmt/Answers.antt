@@ -11,4 +11,5 @@ unwrap-requires g c =
     let s = c.spell-length.ensures.reads_back in
     let front : take c.spell-length.result c.spell-length.new.into ≡ name_text words =
     rw (c.spell-length.ensures.text, c.spell-length.ensures.length) (take-append_seam (name_text words) _) in
-    ok_at_name_text c.from_utf8.result _ _ _ words c.from_utf8.ensures.cases (IsName-from_parts words s.name s.type _ s.proper s.same_words) front
+    ok_at_name_text c.from_utf8.result _ _ _ words c.from_utf8.ensures.cases (IsName-from_parts words s.name s.type _ s.proper s.same_words)
+    front

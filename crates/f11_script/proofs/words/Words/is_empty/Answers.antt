@@ -6,7 +6,8 @@ use Rattle.f11_script.proofs.WordLemmas.{some_word}
 use Rattle.f11_script.proofs.words.Words.is_empty.Goals as goal
 
 -- none is left behind the last word
-ends : (rest : Option (Bor (List ℕ))) (ask : Ask) → at_end (words_of_rest (option_copied rest)) ask ≡ (if not (is_some rest) then Some ask else None)
+ends : (rest : Option (Bor (List ℕ))) (ask : Ask)
+    → at_end (words_of_rest (option_copied rest)) ask ≡ (if not (is_some rest) then Some ask else None)
 ends None ask = refl
 ends (Some text) ask = some_word text.now ask
 
@@ -17,4 +18,5 @@ turned b false h = rw h refl
 
 pub returns : goal.returns
 returns c ask =
-    ends c.args.self.rest ask ∙ ap (λ b. if b then Some ask else None) (turned (is_some c.args.self.rest) c.is_none.result c.is_none.ensures)
+    ends c.args.self.rest ask
+    ∙ ap (λ b. if b then Some ask else None) (turned (is_some c.args.self.rest) c.is_none.result c.is_none.ensures)

@@ -14,4 +14,5 @@ pub returns : goal.returns
 returns c =
     ap (λ r. next_word (words_of_rest (option_copied r))) c.in_ok-text.was
     ∙ ap next_word (words_of-more c.in_ok-text.text.now c.in-Some.at (sym c.first_space.ensures ∙ c.in-Some.is))
-    ∙ ap (λ rest. Some (take c.in-Some.at c.in_ok-text.text.now, words_between rest)) (sym (take_rest c.in_ok-text.text.now (c.in-Some.at + 1)))
+    ∙ ap (λ rest. Some (take c.in-Some.at c.in_ok-text.text.now, words_between rest))
+    (sym (take_rest c.in_ok-text.text.now (c.in-Some.at + 1)))

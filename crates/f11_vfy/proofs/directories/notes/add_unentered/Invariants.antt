@@ -7,4 +7,6 @@ use Rattle.f11_vfy.specs.Surveying.Slot.{kept_slot}
 use Rattle.f11_vfy.proofs.directories.notes.add_unentered.Given as goal
 
 abbrev pub invariant-loop-k : goal.invariant-loop-k
-invariant-loop-k l = Finds (FoundAmong (λ k. IsFileSlot (kept_slot l.slots k) × (has l.entered (k + 1) ≡ false)) (λ k. finding 6 (k + 1) 0) l.k) l.initial.found l.found
+invariant-loop-k l =
+    Finds (FoundAmong (λ k. IsFileSlot (kept_slot l.slots k) × (has l.entered (k + 1) ≡ false)) (λ k. finding 6 (k + 1) 0) l.k)
+    l.initial.found l.found

@@ -8,4 +8,6 @@ use Rattle.f11_vfy.proofs.findings.contiguous.add_apart.Given as goal
 
 -- the slots so far are judged
 abbrev pub invariant-loop-k : goal.invariant-loop-k
-invariant-loop-k l = (t : Table) → KeepsTable t l.slots → KnowsNexts t l.nexts → Finds (FoundAmong (λ k. IsApart t (k + 1)) (λ k. finding 10 (k + 1) 0) l.k) l.initial.found l.found
+invariant-loop-k l =
+    (t : Table) → KeepsTable t l.slots → KnowsNexts t l.nexts
+    → Finds (FoundAmong (λ k. IsApart t (k + 1)) (λ k. finding 10 (k + 1) 0) l.k) l.initial.found l.found

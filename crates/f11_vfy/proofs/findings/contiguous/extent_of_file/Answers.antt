@@ -11,8 +11,10 @@ pub loop-preserved : goal.loop-preserved
 loop-preserved c = λ t keeps knows live.
     let along = c.loop.invariant t keeps knows live in
     let some : 1 ≤ c.loop.n = omega (arith, c.if-n-eq0.false) in
-    along-more t c.args.first c.loop.extent (kept_slot c.args.slots.now (c.loop.n - 1)).extent c.join-extent.result c.loop.n (256 - c.loop.counter) (256 - (c.loop.counter + 1)) along some
-    (omega (arith, c.loop-test.true)) (kept-lie t c.args.slots.now c.loop.n keeps (along.live some)) c.join-extent.ensures c.args.nexts.now c.from-n.result knows c.from-n.ensures
+    along-more t c.args.first c.loop.extent (kept_slot c.args.slots.now (c.loop.n - 1)).extent c.join-extent.result c.loop.n
+    (256 - c.loop.counter) (256 - (c.loop.counter + 1)) along some
+    (omega (arith, c.loop-test.true)) (kept-lie t c.args.slots.now c.loop.n keeps (along.live some)) c.join-extent.ensures c.args.nexts.now
+    c.from-n.result knows c.from-n.ensures
 
 pub returns-then-n-eq0 : goal.returns-then-n-eq0
 returns-then-n-eq0 c = λ t keeps knows live.
@@ -25,4 +27,6 @@ returns-then-n-eq0 c = λ t keeps knows live.
     ]
 
 pub returns : goal.returns
-returns c = λ t keeps knows live. along-last t c.args.first c.loop.extent c.loop.n (256 - c.loop.counter) (c.loop.invariant t keeps knows live) (omega (arith, c.loop-test.false))
+returns c =
+    λ t keeps knows live. along-last t c.args.first c.loop.extent c.loop.n (256 - c.loop.counter) (c.loop.invariant t keeps knows live)
+    (omega (arith, c.loop-test.false))

@@ -6,4 +6,5 @@ use Rattle.f11_vfy.proofs.findings.contiguous.extent_of_file.Given as goal
 
 -- so lie the blocks of the headers so far
 abbrev pub invariant-loop : goal.invariant-loop
-invariant-loop l = (t : Table) → KeepsTable t l.slots → KnowsNexts t l.nexts → IsLive t l.first → Along t l.first l.extent l.n (256 - l.counter)
+invariant-loop l =
+    (t : Table) → KeepsTable t l.slots → KnowsNexts t l.nexts → IsLive t l.first → Along t l.first l.extent l.n (256 - l.counter)

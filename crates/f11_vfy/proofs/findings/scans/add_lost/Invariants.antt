@@ -8,5 +8,6 @@ use Rattle.f11_vfy.proofs.findings.scans.add_lost.Given as goal
 abbrev pub invariant-loop-i : goal.invariant-loop-i
 invariant-loop-i l = record {
   start : l.start ≡ start_of (is_lost l.named l.free) (min (64 * l.i) (limit_of l.free));
-  found : Finds (FoundAmong (λ k. ends_lost l.named l.free k ≡ true) (λ k. finding 1 (start_of (is_lost l.named l.free) k) k) (min (64 * l.i) (limit_of l.free))) l.initial.found l.found;
+  found : Finds (FoundAmong (λ k. ends_lost l.named l.free k ≡ true) (λ k. finding 1 (start_of (is_lost l.named l.free) k) k)
+      (min (64 * l.i) (limit_of l.free))) l.initial.found l.found;
 }

@@ -9,8 +9,10 @@ loop-i-init c = among-all _ _ 0 _ _ _ (omega arith) (omega arith) (among-none _ 
 
 pub loop-i-preserved : goal.loop-i-preserved
 loop-i-preserved c =
-    among-behind (λ k. has c.args.marks.now k ≡ true) (λ k. finding c.args.code k 0) (64 * c.loop-i.i) (min (64 * c.loop-i.i) (limit_of c.args.marks.now)) (min (64 * (c.loop-i.i + 1)) (limit_of c.args.marks.now)) _ _ _
+    among-behind (λ k. has c.args.marks.now k ≡ true) (λ k. finding c.args.code k 0) (64 * c.loop-i.i)
+    (min (64 * c.loop-i.i) (limit_of c.args.marks.now)) (min (64 * (c.loop-i.i + 1)) (limit_of c.args.marks.now)) _ _ _
     (omega arith) (omega arith) (λ k low high. omega (arith, low, high)) c.loop-i.invariant c.in_ok-add_marked_word.ensures
 
 pub returns : goal.returns
-returns c = among-all _ _ _ _ _ _ (omega arith) (omega (arith, c.loop-i-test.false, c.div_ceil-i-end.ensures, c.limit.ensures)) c.loop-i.invariant
+returns c =
+    among-all _ _ _ _ _ _ (omega arith) (omega (arith, c.loop-i-test.false, c.div_ceil-i-end.ensures, c.limit.ensures)) c.loop-i.invariant

@@ -5,4 +5,5 @@ use Rattle.f11_findings.specs.Found.{Finds, FoundAmong}
 use Rattle.f11_vfy.proofs.findings.scans.add_marked.Given as goal
 
 abbrev pub invariant-loop-i : goal.invariant-loop-i
-invariant-loop-i l = Finds (FoundAmong (λ k. has l.marks k ≡ true) (λ k. finding l.code k 0) (min (64 * l.i) (limit_of l.marks))) l.initial.found l.found
+invariant-loop-i l =
+    Finds (FoundAmong (λ k. has l.marks k ≡ true) (λ k. finding l.code k 0) (min (64 * l.i) (limit_of l.marks))) l.initial.found l.found

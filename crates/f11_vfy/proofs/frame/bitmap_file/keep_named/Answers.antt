@@ -15,13 +15,18 @@ returns-then-end-lbn-clause-keeps c =
 
 pub keep_run-requires-clause-few : goal.keep_run-requires-clause-few
 keep_run-requires-clause-few c =
-    omega (arith, ap length c.loop-i.invariant.keeps.1, length-take 127 (c.args.kept.now.items ++ blocks_in (take c.loop-i.i (runs_of (map_area c.args.block.now)))))
+    omega (
+      arith,
+      ap length c.loop-i.invariant.keeps.1,
+      length-take 127 (c.args.kept.now.items ++ blocks_in (take c.loop-i.i (runs_of (map_area c.args.block.now)))),
+    )
 
 pub loop-i-preserved : goal.loop-i-preserved
 loop-i-preserved c =
     let at = rw c.map-map.ensures at c.run-lbn.ensures.run in
     record {
-      keeps = keeps-more (runs_of (map_area c.args.block.now)) c.args.end c.loop-i.i c.run-lbn.result _ _ _ at (omega (arith, c.if-end-lbn.false)) c.loop-i.invariant.keeps c.keep_run.ensures.keeps;
+      keeps = keeps-more (runs_of (map_area c.args.block.now)) c.args.end c.loop-i.i c.run-lbn.result _ _ _ at
+          (omega (arith, c.if-end-lbn.false)) c.loop-i.invariant.keeps c.keep_run.ensures.keeps;
       room = omega (arith, c.keep_run.ensures.room, c.loop-i.invariant.room);
     }
 

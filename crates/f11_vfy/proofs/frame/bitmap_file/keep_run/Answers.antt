@@ -34,7 +34,9 @@ loop-i-preserved c = record {
 pub returns-clause-keeps : goal.returns-clause-keeps
 returns-clause-keeps c =
     let old : List ℕ = c.args.kept.now.items in
-    let count : c.loop-i.i ≡ min (127 - length old) c.args.count = omega (arith, c.loop-i-test.false, c.loop-i.auto.i-end, c.args.kept.now.ok.0, c.len.ensures, c.min-more.ensures) in
+    let count : c.loop-i.i ≡ min (127 - length old) c.args.count =
+    omega (arith, c.loop-i-test.false, c.loop-i.auto.i-end, c.args.kept.now.ok.0, c.len.ensures, c.min-more.ensures) in
     c.loop-i.invariant.pushed
     ∙ ap (λ (n : ℕ). old ++ range_with_len c.args.lbn n) count
-    ∙ sym (take-append-back 127 old (range_with_len c.args.lbn c.args.count) c.requires.few ∙ ap (λ (xs : List ℕ). old ++ xs) (take-range c.args.lbn c.args.count (127 - length old)))
+    ∙ sym (take-append-back 127 old (range_with_len c.args.lbn c.args.count) c.requires.few
+    ∙ ap (λ (xs : List ℕ). old ++ xs) (take-range c.args.lbn c.args.count (127 - length old)))

@@ -20,12 +20,14 @@ loop-init g c = record {
 pub returns-then-not-keep_named-clause-reads : goal.returns-then-not-keep_named-clause-reads
 returns-then-not-keep_named-clause-reads g c =
     bad-block _ _ _ _ _ _ _ c.loop.invariant.along
-    (λ all. (rw c.if-not-keep_named.true at c.keep_named.ensures.keeps) (subst (λ (end : ℕ). All (λ l. l < end) (blocks_named c.loop.block)) (sym c.blocks-end.ensures.count) all))
+    (λ all. (rw c.if-not-keep_named.true at c.keep_named.ensures.keeps)
+    (subst (λ (end : ℕ). All (λ l. l < end) (blocks_named c.loop.block)) (sym c.blocks-end.ensures.count) all))
 
 pub returns-in-Ok-None-clause-reads : goal.returns-in-Ok-None-clause-reads
 returns-in-Ok-None-clause-reads g c =
     let keeps = rw (c.if-not-keep_named.false, c.blocks-end.ensures.count) at c.keep_named.ensures.keeps in
-    reads-file _ _ _ _ _ _ _ c.loop.invariant.along _ _ _ _ c.loop.invariant.kept_are c.loop.invariant.within c.loop.invariant.on_device keeps (rw c.in-Ok-None.field-0-is at c.in-Ok-None.ensures.last)
+    reads-file _ _ _ _ _ _ _ c.loop.invariant.along _ _ _ _ c.loop.invariant.kept_are c.loop.invariant.within c.loop.invariant.on_device
+    keeps (rw c.in-Ok-None.field-0-is at c.in-Ok-None.ensures.last)
 
 pub loop-preserved : goal.loop-preserved
 loop-preserved g c =

@@ -17,11 +17,15 @@ loop-init g c = record {
 
 pub returns-in-Ok-None-clause-puts : goal.returns-in-Ok-None-clause-puts
 returns-in-Ok-None-clause-puts g c =
-    puts-last _ _ _ _ _ _ _ c.loop.invariant.along _ _ (along-puts _ _ _ _ _ _ _ _ c.loop.invariant.along _ _ _ c.loop.invariant.puts c.put_header.ensures.puts) _ _ (rw c.in-Ok-None.field-0-is at c.in-Ok-None.ensures.last)
+    puts-last _ _ _ _ _ _ _ c.loop.invariant.along _ _
+    (along-puts _ _ _ _ _ _ _ _ c.loop.invariant.along _ _ _ c.loop.invariant.puts c.put_header.ensures.puts) _ _
+    (rw c.in-Ok-None.field-0-is at c.in-Ok-None.ensures.last)
 
 pub returns-in-Err-Damaged-next-clause-puts : goal.returns-in-Err-Damaged-next-clause-puts
 returns-in-Err-Damaged-next-clause-puts g c =
-    puts-wrong _ _ _ _ _ _ _ c.loop.invariant.along _ _ (along-puts _ _ _ _ _ _ _ _ c.loop.invariant.along _ _ _ c.loop.invariant.puts c.put_header.ensures.puts) _ (c.in-Err-Damaged-next.ensures.damaged (ap Err c.in-Err-Damaged-next.field-0-is))
+    puts-wrong _ _ _ _ _ _ _ c.loop.invariant.along _ _
+    (along-puts _ _ _ _ _ _ _ _ c.loop.invariant.along _ _ _ c.loop.invariant.puts c.put_header.ensures.puts) _
+    (c.in-Err-Damaged-next.ensures.damaged (ap Err c.in-Err-Damaged-next.field-0-is))
 
 pub loop-preserved : goal.loop-preserved
 loop-preserved g c = record {

@@ -10,4 +10,5 @@ returns-in-Err-Misplaced-clause-frames g c =
     misplaced _ _ _ c.in-Ok.ensures.found _ (c.in-Err-Misplaced.ensures.misplaced (ap Err c.in-Err-Misplaced.field-0-is))
 
 pub returns-clause-frames : goal.returns-clause-frames
-returns-clause-frames g c = frames-on _ _ _ c.in-Ok.ensures.found _ _ c.in-Ok-read.ensures.reads _ c.read_files.result c.read_files.ensures.frames
+returns-clause-frames g c =
+    frames-on _ _ _ c.in-Ok.ensures.found _ _ c.in-Ok-read.ensures.reads _ c.read_files.result c.read_files.ensures.frames

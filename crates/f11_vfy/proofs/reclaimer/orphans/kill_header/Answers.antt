@@ -14,7 +14,8 @@ read-requires g c =
 
 pub returns-in-Err-clause-killed : goal.returns-in-Err-clause-killed
 returns-in-Err-clause-killed g c =
-    kill-none (index_kept c.args.index.now) c.args.n _ _ _ _ c.lbn_of_header-lbn.ensures c.in_ok-read.ensures.reads.counts c.in_ok-read.ensures.reads.gives _
+    kill-none (index_kept c.args.index.now) c.args.n _ _ _ _ c.lbn_of_header-lbn.ensures c.in_ok-read.ensures.reads.counts
+    c.in_ok-read.ensures.reads.gives _
     (λ valid. let no = c.in-Err.ensures.valid.1 valid in cc)
 
 pub write-requires : goal.write-requires
@@ -26,10 +27,12 @@ write-requires g c =
 pub returns-in_err-write-clause-failed : goal.returns-in_err-write-clause-failed
 returns-in_err-write-clause-failed g c =
     OnErr-given _
-    (kill-unwritten (index_kept c.args.index.now) c.args.n _ _ _ _ c.lbn_of_header-lbn.ensures c.in_ok-read.ensures.reads.counts c.in_ok-read.ensures.reads.gives _
+    (kill-unwritten (index_kept c.args.index.now) c.args.n _ _ _ _ c.lbn_of_header-lbn.ensures c.in_ok-read.ensures.reads.counts
+    c.in_ok-read.ensures.reads.gives _
     c.kill.ensures.block c.kill.ensures.dead _ c.in_err-write.ensures.writes.err)
 
 pub returns-clause-killed : goal.returns-clause-killed
 returns-clause-killed g c =
-    kill-done (index_kept c.args.index.now) c.args.n _ _ _ _ c.lbn_of_header-lbn.ensures c.in_ok-read.ensures.reads.counts c.in_ok-read.ensures.reads.gives _
+    kill-done (index_kept c.args.index.now) c.args.n _ _ _ _ c.lbn_of_header-lbn.ensures c.in_ok-read.ensures.reads.counts
+    c.in_ok-read.ensures.reads.gives _
     c.kill.ensures.block c.kill.ensures.dead _ _ _ c.put_blocks.ensures.puts c.in_ok-write.ensures.writes.ok

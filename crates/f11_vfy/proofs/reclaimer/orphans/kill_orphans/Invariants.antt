@@ -7,6 +7,7 @@ use Rattle.f11_vfy.proofs.reclaimer.orphans.kill_orphans.Given as goal
 -- the orphans so far were killed
 abbrev pub invariant-loop-k : goal.invariant-loop-k
 invariant-loop-k g l = record {
-  kills : KillsOrphans (index_kept l.index) l.reading l.k l.initial.unreferenced l.unreferenced (g.D.Device.disk l.fn.device) (g.D.Device.disk l.device);
+  kills : KillsOrphans (index_kept l.index) l.reading l.k l.initial.unreferenced l.unreferenced (g.D.Device.disk l.fn.device)
+      (g.D.Device.disk l.device);
   limit : limit_of l.unreferenced ≡ limit_of l.initial.unreferenced;
 }

@@ -11,22 +11,26 @@ loop-i-init g c = space-none (bitmap_at c.args.places.now c.args.size) _ _ _ _
 
 pub loop-i-preserved-then-not-is_to_change : goal.loop-i-preserved-then-not-is_to_change
 loop-i-preserved-then-not-is_to_change g c =
-    space-same (bitmap_at c.args.places.now c.args.size) _ _ _ c.loop-i.i _ _ c.loop-i.invariant (omega (arith, c.loop-i-test.true, c.loop-i.auto.i-end))
+    space-same (bitmap_at c.args.places.now c.args.size) _ _ _ c.loop-i.i _ _ c.loop-i.invariant
+    (omega (arith, c.loop-i-test.true, c.loop-i.auto.i-end))
     (λ change. both_ways _ c.if-not-is_to_change.true (c.is_to_change.ensures.1 change))
 
 pub returns-in_err-replace_free-clause-failed : goal.returns-in_err-replace_free-clause-failed
 returns-in_err-replace_free-clause-failed g c =
     OnErr-given _
-    (space-fail (bitmap_at c.args.places.now c.args.size) _ _ _ c.loop-i.i _ _ _ c.loop-i.invariant c.wanted_bits-wanted.ensures (omega (arith, c.loop-i-test.true, c.loop-i.auto.i-end))
+    (space-fail (bitmap_at c.args.places.now c.args.size) _ _ _ c.loop-i.i _ _ _ c.loop-i.invariant c.wanted_bits-wanted.ensures
+    (omega (arith, c.loop-i-test.true, c.loop-i.auto.i-end))
     (c.is_to_change.ensures.0 c.if-not-is_to_change.false) _ c.in_err-replace_free.ensures.failed)
 
 pub loop-i-preserved : goal.loop-i-preserved
 loop-i-preserved g c =
-    space-more (bitmap_at c.args.places.now c.args.size) _ _ _ c.loop-i.i _ _ _ c.loop-i.invariant c.wanted_bits-wanted.ensures (omega (arith, c.loop-i-test.true, c.loop-i.auto.i-end))
+    space-more (bitmap_at c.args.places.now c.args.size) _ _ _ c.loop-i.i _ _ _ c.loop-i.invariant c.wanted_bits-wanted.ensures
+    (omega (arith, c.loop-i-test.true, c.loop-i.auto.i-end))
     (c.is_to_change.ensures.0 c.if-not-is_to_change.false) _ c.in_ok-replace_free.ensures.replaced
 
 pub returns-clause-freed : goal.returns-clause-freed
 returns-clause-freed g c =
     let all : c.loop-i.i ≡ length c.args.places.now = omega (arith, c.loop-i-test.false, c.loop-i.auto.i-end) in
-    subst (λ n. FreesUnnamed (bitmap_at c.args.places.now c.args.size) c.args.reading.now.free c.args.reading.now.survey.tally.once c.args.unreferenced.now n (g.D.Device.disk c.args.device.now) (g.D.Device.disk c.loop-i.device))
+    subst (λ n. FreesUnnamed (bitmap_at c.args.places.now c.args.size) c.args.reading.now.free c.args.reading.now.survey.tally.once
+    c.args.unreferenced.now n (g.D.Device.disk c.args.device.now) (g.D.Device.disk c.loop-i.device))
     all c.loop-i.invariant

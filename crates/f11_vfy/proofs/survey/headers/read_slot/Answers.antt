@@ -17,9 +17,11 @@ pub read-requires : goal.read-requires
 read-requires g c =
     let index = index_kept c.args.index.now in
     let in_use = sym c.in_use.ensures ∙ c.if-not-in_use.false in
-    rw c.lbn_of_header.ensures (header-within index c.args.n _ c.requires.within (in_use-some index c.args.n in_use) (in_use-slot index c.args.n in_use))
+    rw c.lbn_of_header.ensures
+    (header-within index c.args.n _ c.requires.within (in_use-some index c.args.n in_use) (in_use-slot index c.args.n in_use))
 
 pub returns-clause-reads : goal.returns-clause-reads
 returns-clause-reads g c =
-    ReadsSlot-read _ _ _ _ _ _ _ (sym c.in_use.ensures ∙ c.if-not-in_use.false) c.lbn_of_header.ensures c.in_ok-read.ensures.reads.counts c.in_ok-read.ensures.reads.gives
+    ReadsSlot-read _ _ _ _ _ _ _ (sym c.in_use.ensures ∙ c.if-not-in_use.false) c.lbn_of_header.ensures c.in_ok-read.ensures.reads.counts
+    c.in_ok-read.ensures.reads.gives
     c.judge.ensures.live c.judge.ensures.dead c.judge.ensures.used

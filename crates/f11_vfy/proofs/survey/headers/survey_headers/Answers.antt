@@ -12,19 +12,22 @@ use Rattle.f11_vfy.proofs.survey.headers.survey_headers.Goals as goal
 pub loop-k-init : goal.loop-k-init
 loop-k-init g c = record {
   is_survey = survey-new c.args.size _ c.in_ok-survey.ensures;
-  surveys = λ honest. surveys-new _ c.args.size _ (live-low (index_kept c.args.index.now) (g.D.Device.disk c.args.device.now)) c.in_ok-survey.ensures;
+  surveys = λ honest. surveys-new _ c.args.size _ (live-low (index_kept c.args.index.now) (g.D.Device.disk c.args.device.now))
+      c.in_ok-survey.ensures;
   looked = looked_within (looked_none _) (omega arith);
 }
 
 pub returns-in_err-state-clause-failed : goal.returns-in_err-state-clause-failed
 returns-in_err-state-clause-failed g c = λ _.
     let index = index_kept c.args.index.now in
-    looked-slots index (c.loop-k.k + 1) (omega (arith, c.loop-k-test.true, c.slots-k-end.ensures)) (looked-slot index c.loop-k.k c.loop-k.invariant.looked c.in_err-state.ensures.failed)
+    looked-slots index (c.loop-k.k + 1) (omega (arith, c.loop-k-test.true, c.slots-k-end.ensures))
+    (looked-slot index c.loop-k.k c.loop-k.invariant.looked c.in_err-state.ensures.failed)
 
 pub returns-in_err-take-clause-no_memory : goal.returns-in_err-take-clause-no_memory
 returns-in_err-take-clause-no_memory g c = λ _.
     let index = index_kept c.args.index.now in
-    looked-slots index (c.loop-k.k + 1) (omega (arith, c.loop-k-test.true, c.slots-k-end.ensures)) (looked-slot index c.loop-k.k c.loop-k.invariant.looked c.in_ok-state.ensures.reads.looked)
+    looked-slots index (c.loop-k.k + 1) (omega (arith, c.loop-k-test.true, c.slots-k-end.ensures))
+    (looked-slot index c.loop-k.k c.loop-k.invariant.looked c.in_ok-state.ensures.reads.looked)
 
 pub loop-k-preserved : goal.loop-k-preserved
 loop-k-preserved g c =
@@ -35,7 +38,8 @@ loop-k-preserved g c =
     record {
       is_survey = survey-more c.loop-k.k _ _ c.args.size _ _ c.in_ok-take.ensures c.loop-k.invariant.is_survey;
       surveys = λ honest.
-          let is = state-stays index old now new _ (c.loop-k.k + 1) c.in_ok-state.state c.read_slot.new.block c.loop-k.invariant.looked c.in_ok-state.ensures.reads honest in
+          let is = state-stays index old now new _ (c.loop-k.k + 1) c.in_ok-state.state c.read_slot.new.block c.loop-k.invariant.looked
+          c.in_ok-state.ensures.reads honest in
           surveys-more c.loop-k.k _ _ c.args.size _ _ c.in_ok-take.ensures _ is.0 is.1 (c.loop-k.invariant.surveys honest);
       looked = looked-slot index c.loop-k.k c.loop-k.invariant.looked c.in_ok-state.ensures.reads.looked;
     }
@@ -46,6 +50,8 @@ returns-clause-surveys g c =
     let all : c.loop-k.k ≡ slots index = omega (arith, c.loop-k-test.false, c.loop-k.auto.k-end, c.slots-k-end.ensures) in
     record {
       is_survey = subst (λ n. IsSurvey c.args.size n c.loop-k.survey) all c.loop-k.invariant.is_survey;
-      surveys = λ honest. subst (λ n. Surveys (table_in (g.D.Device.disk c.args.device.now).image index) c.args.size n c.loop-k.survey) all (c.loop-k.invariant.surveys honest);
-      looked = subst (λ n. Looked (g.D.Device.disk c.args.device.now) (g.D.Device.disk c.loop-k.device) (used_of index n) 0) all c.loop-k.invariant.looked;
+      surveys = λ honest. subst (λ n. Surveys (table_in (g.D.Device.disk c.args.device.now).image index) c.args.size n c.loop-k.survey) all
+          (c.loop-k.invariant.surveys honest);
+      looked = subst (λ n. Looked (g.D.Device.disk c.args.device.now) (g.D.Device.disk c.loop-k.device) (used_of index n) 0) all
+          c.loop-k.invariant.looked;
     }

@@ -16,8 +16,10 @@ loop-i-preserved c =
     let at = rw c.map-map.ensures at c.run-lbn.ensures.run in
     record {
       room = omega (arith, c.loop-i.invariant.room, c.in_ok-make_room.ensures.room, c.mark_run.ensures.limit);
-      named = λ f shows. named-more (runs_of (map_area c.args.block.now)) c.loop-i.i c.run-lbn.result _ f at (c.mark_run.ensures.shows _ (c.in_ok-make_room.ensures.shows _ (c.loop-i.invariant.named f shows)));
-      outside = outside-more c.args.block.now c.args.n c.args.size c.loop-i.i c.run-lbn.result _ _ _ at c.loop-i.invariant.outside (rw c.from.ensures at c.in_ok-add_if.ensures.adds);
+      named = λ f shows. named-more (runs_of (map_area c.args.block.now)) c.loop-i.i c.run-lbn.result _ f at
+          (c.mark_run.ensures.shows _ (c.in_ok-make_room.ensures.shows _ (c.loop-i.invariant.named f shows)));
+      outside = outside-more c.args.block.now c.args.n c.args.size c.loop-i.i c.run-lbn.result _ _ _ at c.loop-i.invariant.outside
+          (rw c.from.ensures at c.in_ok-add_if.ensures.adds);
     }
 
 few : (c : goal.After-loop-i) → length (runs_of (map_area c.args.block.now)) ≤ c.loop-i.i

@@ -11,6 +11,7 @@ use Rattle.f11_vfy.proofs.survey.pointers.take_pointers.Given as goal
 abbrev pub invariant-loop-i : goal.invariant-loop-i
 invariant-loop-i l = record {
   room : limit_of l.initial.tally.once ≤ limit_of l.tally.once;
-  named : (c : ℕ → ℕ) → Shows l.initial.tally c → Shows l.tally (λ x. c x + times_among (blocks_in (take l.i (runs_of (map_area l.block)))) x);
+  named : (c : ℕ → ℕ) → Shows l.initial.tally c
+      → Shows l.tally (λ x. c x + times_among (blocks_in (take l.i (runs_of (map_area l.block)))) x);
   outside : Finds (λ code a i. OutsideOf l.block l.n l.size code a i × (i < l.i)) l.initial.outside l.outside;
 }

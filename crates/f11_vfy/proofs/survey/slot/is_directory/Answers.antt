@@ -9,7 +9,8 @@ use Rattle.f11_vfy.proofs.survey.slot.is_directory.Goals as goal
 pub ident-requires-clause-within : goal.ident-requires-clause-within
 unfolding segment_number
 ident-requires-clause-within c =
-    subst (λ (b : List ℕ). 2 * ident_offset b + 46 ≤ 510) (sym c.new-header.ensures) (ident_within c.args.block.now c.requires.header c.requires.first)
+    subst (λ (b : List ℕ). 2 * ident_offset b + 46 ≤ 510) (sym c.new-header.ensures)
+    (ident_within c.args.block.now c.requires.header c.requires.first)
 
 pub returns : goal.returns
 unfolding says_directory

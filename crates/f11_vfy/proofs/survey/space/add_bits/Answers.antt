@@ -18,6 +18,8 @@ loop-k-preserved c = record {
         adds-bit _ c.args.block.now c.args.first c.loop-k.k j _ _ (sym w.if-is_set.true ∙ c.is_set.ensures) (c.loop-k.invariant.adds j)
         (ap (λ s. has s j) w.set-is ∙ w.insert.ensures.adds j)
     | else-is_set w ↦
-        ap (λ s. has s j) w.set-is ∙ adds-no_bit _ c.args.block.now c.args.first c.loop-k.k j _ (sym w.if-is_set.false ∙ c.is_set.ensures) (c.loop-k.invariant.adds j)
+        ap (λ s. has s j) w.set-is
+        ∙ adds-no_bit _ c.args.block.now c.args.first c.loop-k.k j _ (sym w.if-is_set.false ∙ c.is_set.ensures)
+        (c.loop-k.invariant.adds j)
   ];
 }

@@ -31,6 +31,8 @@ returns-clause-reads g c =
     let bitmap : Bitmap = record { places = c.args.places.now; size = c.args.size } in
     record {
       limit = c.loop-index.invariant.limit;
-      each = λ honest lbn. free-all old.image bitmap c.loop-index.index lbn _ (omega (arith, c.loop-index-test.false, c.div_ceil-index-end.ensures)) (c.loop-index.invariant.each honest lbn);
-      looked = looked_within c.loop-index.invariant.looked (omega (arith, c.loop-index.auto.index-end, c.div_ceil-index-end.ensures, c.requires.covered));
+      each = λ honest lbn. free-all old.image bitmap c.loop-index.index lbn _
+          (omega (arith, c.loop-index-test.false, c.div_ceil-index-end.ensures)) (c.loop-index.invariant.each honest lbn);
+      looked = looked_within c.loop-index.invariant.looked
+          (omega (arith, c.loop-index.auto.index-end, c.div_ceil-index-end.ensures, c.requires.covered));
     }

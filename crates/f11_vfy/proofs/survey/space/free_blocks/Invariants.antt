@@ -11,6 +11,7 @@ invariant-loop-index g l =
     let now = g.D.Device.disk l.device in
     record {
       limit : limit_of l.free ≡ l.size;
-      each : IsTrue old.honest → (lbn : ℕ) → has l.free lbn ≡ (nat_lt lbn (4096 * l.index) && is_free old.image (record { places = l.places; size = l.size }) lbn);
+      each : IsTrue old.honest → (lbn : ℕ)
+          → has l.free lbn ≡ (nat_lt lbn (4096 * l.index) && is_free old.image (record { places = l.places; size = l.size }) lbn);
       looked : Looked old now l.index 0;
     }

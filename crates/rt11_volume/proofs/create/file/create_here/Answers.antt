@@ -11,4 +11,5 @@ with_file-requires-clause-room g c =
     let s = c.args.found.now.segment in
     let x = extra_bytes s in
     let es = entries x s in
-    room-here x (length es) c.entry_count.result c.args.file.blocks (area_length (entry_at es c.args.found.now.i)) c.entry_count.ensures.count c.requires.room (ends-room x s c.requires.ends)
+    room-here x (length es) c.entry_count.result c.args.file.blocks (area_length (entry_at es c.args.found.now.i))
+    c.entry_count.ensures.count c.requires.room (ends-room x s c.requires.ends)

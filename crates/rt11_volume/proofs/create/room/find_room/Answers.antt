@@ -11,7 +11,8 @@ use Rattle.rt11_volume.specs.declared.refusal.RtRefusal.TheVariants.{NoSpace}
 use Rattle.rt11_volume.proofs.Searching.File.{no-file-found}
 use Rattle.rt11_volume.proofs.create.room.find_room.Goals as goal
 
-none_found : (name : List ℕ) (blocks : ℕ) (disk : Disk) (o : Option Found) → Surveys name blocks o disk → IfErr (ok_or o NoSpace) (λ (r : RtRefusal). FailsToCreate r name blocks disk)
+none_found : (name : List ℕ) (blocks : ℕ) (disk : Disk) (o : Option Found) → Surveys name blocks o disk
+    → IfErr (ok_or o NoSpace) (λ (r : RtRefusal). FailsToCreate r name blocks disk)
 none_found name blocks disk (Some found) finds = tt
 none_found name blocks disk None finds = λ sound. record {
   no_file = no-file-found (is_file_named name) disk.image (finds.no_file sound);
@@ -21,4 +22,5 @@ none_found name blocks disk None finds = λ sound. record {
 pub returns-clause-refused : goal.returns-clause-refused
 returns-clause-refused g c =
     let old = g.D.Device.disk c.args.device.now in
-    subst (λ r. IfErr r (λ (refusal : RtRefusal). FailsToCreate refusal c.args.name c.args.blocks old)) (sym c.ok_or.ensures.value) (none_found c.args.name c.args.blocks old c.in_ok-survey.field-0 c.in_ok-survey.ensures.surveys)
+    subst (λ r. IfErr r (λ (refusal : RtRefusal). FailsToCreate refusal c.args.name c.args.blocks old)) (sym c.ok_or.ensures.value)
+    (none_found c.args.name c.args.blocks old c.in_ok-survey.field-0 c.in_ok-survey.ensures.surveys)

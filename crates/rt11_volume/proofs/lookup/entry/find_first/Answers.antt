@@ -20,11 +20,13 @@ returns-in_default-clause-searches g c =
     let old = g.D.Device.disk c.args.device.now in
     let now = g.D.Device.disk c.loop.device in
     let new = g.D.Device.disk c.visit.new.device in
-    let none : (IsOnDevice c.loop.number (length now.image) → ⊥) × (new ≡ now) = subst (λ o. Visits c.loop.number o now new) c.in_default.is c.in_ok-segment.ensures.visits in
+    let none : (IsOnDevice c.loop.number (length now.image) → ⊥) × (new ≡ now) = subst (λ o. Visits c.loop.number o now new) c.in_default.is
+    c.in_ok-segment.ensures.visits in
     let so_far = c.loop.invariant.looked in
     record {
       none = λ sound. HasNone-before (is_wanted c.args.wanted.now) old.image c.loop.counter
-          (ends_unread old.image c.loop.counter c.loop.number (sound_from old.image sound.accepted) (omega (arith, c.loop-test.true)) (c.loop.invariant.next sound)
+          (ends_unread old.image c.loop.counter c.loop.number (sound_from old.image sound.accepted) (omega (arith, c.loop-test.true))
+          (c.loop.invariant.next sound)
           (λ on. none.0 (subst (λ (image : Image). IsOnDevice c.loop.number (length image)) (sym so_far.image) on)))
           (c.loop.invariant.none sound);
       looked = subst (λ (d : Disk). Looked old d 62 0) (sym none.1) (looked_within so_far (omega (arith, c.loop-test.true)));
@@ -43,12 +45,15 @@ returns-in-Some-first_in-clause-searches g c =
       inside = first.inside;
       on_device = subst (λ (image : Image). IsOnDevice c.loop.number (length image)) so_far.image read.0;
       is_first = λ sound.
-          let words : c.in-Some.segment ≡ segment_words old.image c.loop.number = read.1.words_are (so_far.honest ∙ sound.honest) ∙ ap (λ (image : Image). segment_words image c.loop.number) so_far.image in
+          let words : c.in-Some.segment ≡ segment_words old.image c.loop.number = read.1.words_are (so_far.honest ∙ sound.honest)
+          ∙ ap (λ (image : Image). segment_words image c.loop.number) so_far.image in
           record {
             place = c.loop.counter;
-            visited_at = on_read old.image c.loop.counter c.loop.number (sound_from old.image sound.accepted) (omega (arith, c.loop-test.true)) (c.loop.invariant.next sound) read.0.some;
+            visited_at = on_read old.image c.loop.counter c.loop.number (sound_from old.image sound.accepted)
+                (omega (arith, c.loop-test.true)) (c.loop.invariant.next sound) read.0.some;
             words_are = words;
-            first = subst (λ (s : List ℕ). IsPlaceIn (is_wanted c.args.wanted.now) (entries (extra_bytes s) s) (Some c.in-Some-first_in.i)) words first;
+            first = subst (λ (s : List ℕ). IsPlaceIn (is_wanted c.args.wanted.now) (entries (extra_bytes s) s) (Some c.in-Some-first_in.i))
+                words first;
             none_earlier = c.loop.invariant.none sound;
           };
       looked = looked_within (looked_more so_far read.1.looked) (omega (arith, c.loop-test.true));
@@ -62,15 +67,19 @@ loop-preserved g c =
     let read : IsOnDevice c.loop.number (length now.image) × ReadsSegment c.loop.number c.in-Some.segment now new =
     subst (λ o. Visits c.loop.number o now new) c.in-Some.is c.in_ok-segment.ensures.visits in
     let so_far = c.loop.invariant.looked in
-    let words = λ (sound : IsSoundDisk old). read.1.words_are (so_far.honest ∙ sound.honest) ∙ ap (λ (image : Image). segment_words image c.loop.number) so_far.image in
+    let words = λ (sound : IsSoundDisk old). read.1.words_are (so_far.honest ∙ sound.honest)
+    ∙ ap (λ (image : Image). segment_words image c.loop.number) so_far.image in
     record {
       next = λ sound.
           subst (IsNext old.image (c.loop.counter + 1)) (sym c.next-number.ensures)
-          (next_read old.image c.loop.counter c.loop.number c.in-Some.segment (sound_from old.image sound.accepted) (omega (arith, c.loop-test.true)) (c.loop.invariant.next sound) read.0.some (words sound));
+          (next_read old.image c.loop.counter c.loop.number c.in-Some.segment (sound_from old.image sound.accepted)
+          (omega (arith, c.loop-test.true)) (c.loop.invariant.next sound) read.0.some (words sound));
       none = λ sound.
           HasNoneBefore-more (is_wanted c.args.wanted.now) old.image c.loop.counter c.loop.number
-          (on_read old.image c.loop.counter c.loop.number (sound_from old.image sound.accepted) (omega (arith, c.loop-test.true)) (c.loop.invariant.next sound) read.0.some)
-          (subst (λ (s : List ℕ). IsPlaceIn (is_wanted c.args.wanted.now) (entries (extra_bytes s) s) None) (words sound) c.in_default-first_in.ensures)
+          (on_read old.image c.loop.counter c.loop.number (sound_from old.image sound.accepted) (omega (arith, c.loop-test.true))
+          (c.loop.invariant.next sound) read.0.some)
+          (subst (λ (s : List ℕ). IsPlaceIn (is_wanted c.args.wanted.now) (entries (extra_bytes s) s) None) (words sound)
+          c.in_default-first_in.ensures)
           (c.loop.invariant.none sound);
       looked = looked_within (looked_more so_far read.1.looked) (omega arith);
     }
@@ -79,6 +88,7 @@ pub returns-clause-searches : goal.returns-clause-searches
 returns-clause-searches g c =
     let old = g.D.Device.disk c.args.device.now in
     record {
-      none = λ sound. HasNone-before (is_wanted c.args.wanted.now) old.image c.loop.counter (omega (arith, visited-few old.image)) (c.loop.invariant.none sound);
+      none = λ sound. HasNone-before (is_wanted c.args.wanted.now) old.image c.loop.counter (omega (arith, visited-few old.image))
+          (c.loop.invariant.none sound);
       looked = looked_within c.loop.invariant.looked (omega arith);
     }

@@ -14,6 +14,7 @@ invariant-loop g l =
     let now = g.D.Device.disk l.device in
     record {
       next : IsSoundDisk old → IsNext old.image l.counter l.number;
-      none : IsSoundDisk old → (j k : ℕ) → j < l.counter → slice_get (visited old.image) j ≡ Some k → IsPlaceIn (is_wanted l.wanted) (segment_of old.image k).entries None;
+      none : IsSoundDisk old → (j k : ℕ) → j < l.counter → slice_get (visited old.image) j ≡ Some k
+          → IsPlaceIn (is_wanted l.wanted) (segment_of old.image k).entries None;
       looked : Looked old now (2 * l.counter) 0;
     }

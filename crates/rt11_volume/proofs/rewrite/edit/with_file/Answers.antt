@@ -14,7 +14,8 @@ returns-then-file-area c =
     record {
       header_is = c.assemble.ensures.header_is;
       entries_are = c.assemble.ensures.entries_are
-          ∙ with-exact x es c.args.range.start c.args.i c.args.range.end c.args.file.name _ _ _ c.args.file.blocks c.args.file.date c.requires.low c.requires.high (three_words c.args.file.name three)
+          ∙ with-exact x es c.args.range.start c.args.i c.args.range.end c.args.file.name _ _ _ c.args.file.blocks c.args.file.date
+          c.requires.low c.requires.high (three_words c.args.file.name three)
           (c.if-file-area.true ∙ c.entry-area.ensures.length);
       ends = c.assemble.ensures.ends;
     }
@@ -29,7 +30,8 @@ returns c =
     record {
       header_is = c.assemble-2.ensures.header_is;
       entries_are = c.assemble-2.ensures.entries_are
-          ∙ with-rest x es c.args.range.start c.args.i c.args.range.end c.args.file.name _ _ _ c.args.file.blocks _ c.args.file.date c.requires.low c.requires.high (three_words c.args.file.name three)
+          ∙ with-rest x es c.args.range.start c.args.i c.args.range.end c.args.file.name _ _ _ c.args.file.blocks _ c.args.file.date
+          c.requires.low c.requires.high (three_words c.args.file.name three)
           (λ same. c.if-file-area.false (same ∙ sym long)) (ap (λ n. n - c.args.file.blocks) long);
       ends = c.assemble-2.ensures.ends;
     }

@@ -8,4 +8,5 @@ pub returns-clause-end : goal.returns-clause-end
 returns-clause-end c =
     let s = c.args.self.now in
     let es = entries (extra_bytes s) s in
-    c.area_start.ensures.start ∙ ap (λ n. first_block s + sum_by area_length (take n es)) c.entry_count.ensures.count ∙ ap (λ xs. first_block s + sum_by area_length xs) (take-length es)
+    c.area_start.ensures.start ∙ ap (λ n. first_block s + sum_by area_length (take n es)) c.entry_count.ensures.count
+    ∙ ap (λ xs. first_block s + sum_by area_length xs) (take-length es)

@@ -18,7 +18,8 @@ returns c =
     let second = entry-read x s i 2 at c.word-3.result (omega arith) c.requires place c.word-3.ensures in
     let third = entry-read x s i 3 at c.word-4.result (omega arith) c.requires place c.word-4.ensures in
     record {
-      status = entry-read x s i 0 at c.word.result (omega arith) c.requires place (c.word.ensures ∙ ap (slice_index s) (let same : at ≡ at + 0 = omega arith in same));
+      status = entry-read x s i 0 at c.word.result (omega arith) c.requires place
+          (c.word.ensures ∙ ap (slice_index s) (let same : at ≡ at + 0 = omega arith in same));
       name = λ j. first j ∷ second j ∷ third j ∷ [];
       length = entry-read x s i 4 at c.word-5.result (omega arith) c.requires place c.word-5.ensures;
       date = entry-read x s i 6 at c.word-6.result (omega arith) c.requires place c.word-6.ensures;

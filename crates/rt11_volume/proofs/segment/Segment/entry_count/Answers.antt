@@ -7,7 +7,8 @@ use Rattle.rt11_volume.proofs.segment.Segment.entry_count.Goals as goal
 pub returns-then-has_bit-clause-count : goal.returns-then-has_bit-clause-count
 returns-then-has_bit-clause-count c =
     let s = c.args.self.now in
-    let mark = sym (ap is_end (c.word.ensures ∙ ap (slice_index s) c.entry_place.ensures.place)) ∙ sym c.has_bit.ensures ∙ c.if-has_bit.true in
+    let mark = sym (ap is_end (c.word.ensures ∙ ap (slice_index s) c.entry_place.ensures.place)) ∙ sym c.has_bit.ensures
+    ∙ c.if-has_bit.true in
     sym (entries-count (extra_bytes s) s c.loop-i.i (omega (arith, c.entry_room-room.ensures.room)) c.loop-i.invariant (λ less. mark))
 
 pub returns-clause-count : goal.returns-clause-count

@@ -9,7 +9,8 @@ returns-clause-reads g c =
     let two = looked_read _ _ c.in_ok-read-2.ensures.reads.counts in
     record {
       words_are = λ honest.
-          segment_words-read _ _ c.args.k c.from.result c.read.new.into c.read-2.new.into c.from.ensures one.image (c.in_ok-read.ensures.reads.gives honest)
+          segment_words-read _ _ c.args.k c.from.result c.read.new.into c.read-2.new.into c.from.ensures one.image
+          (c.in_ok-read.ensures.reads.gives honest)
           (c.in_ok-read-2.ensures.reads.gives (one.honest ∙ honest));
       looked = looked_more one two;
     }

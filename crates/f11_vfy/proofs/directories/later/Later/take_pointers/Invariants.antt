@@ -14,6 +14,7 @@ invariant-loop-i g l =
     record {
       place : l.behind ≡ l.at + length (blocks_in (take l.i (runs_of (map_area l.block))));
       few : l.behind ≤ l.at + 256 * l.i;
-      takes : TakesOn l.slots l.dir.d (HoldsDirectoryBlocks old (blocks_named l.block) l.at) (until l.dir.end l.at) (until l.dir.end l.behind) l.fn.self l.self;
+      takes : TakesOn l.slots l.dir.d (HoldsDirectoryBlocks old (blocks_named l.block) l.at) (until l.dir.end l.at)
+          (until l.dir.end l.behind) l.fn.self l.self;
       looked : Looked old (g.D.Device.disk l.device) (wanted l.dir.end l.at (l.behind - l.at)) 0;
     }

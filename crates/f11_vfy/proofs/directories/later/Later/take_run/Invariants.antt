@@ -10,6 +10,7 @@ abbrev pub invariant-loop-k : goal.invariant-loop-k
 invariant-loop-k g l =
     let old = g.D.Device.disk l.fn.device in
     record {
-      takes : TakesOn l.slots l.dir.d (HoldsDirectoryBlocks old (range_with_len l.fn.run.0 l.fn.run.1) l.at) (until l.dir.end l.at) (until l.dir.end (l.at + l.k)) l.fn.self l.self;
+      takes : TakesOn l.slots l.dir.d (HoldsDirectoryBlocks old (range_with_len l.fn.run.0 l.fn.run.1) l.at) (until l.dir.end l.at)
+          (until l.dir.end (l.at + l.k)) l.fn.self l.self;
       looked : Looked old (g.D.Device.disk l.device) l.k 0;
     }

@@ -11,7 +11,9 @@ returns-clause-adds g c =
     let judged = c.in_ok-later.ensures.judges in
     record {
       finds = λ honest bitmap is.
-          later-found old.image (volume_in old.image index bitmap) c.args.self.now is c.in_ok-later.later (judged.shows honest bitmap is) _ _ _ _ _
-          (rw c.deref.ensures.value at c.in_ok-add_unentered.ensures) c.in_ok-add_all.ensures c.in_ok-add_all-2.ensures c.in_ok-add_all-3.ensures;
+          later-found old.image (volume_in old.image index bitmap) c.args.self.now is c.in_ok-later.later (judged.shows honest bitmap is) _
+          _ _ _ _
+          (rw c.deref.ensures.value at c.in_ok-add_unentered.ensures) c.in_ok-add_all.ensures c.in_ok-add_all-2.ensures
+          c.in_ok-add_all-3.ensures;
       looked = looked-all index c.args.self.now (length c.args.self.now.survey.slots.items) _ _ 0 (omega arith) judged.looked;
     }

@@ -7,6 +7,7 @@ use Rattle.f11_vfy.proofs.findings.reading.Reading.read.Goals as goal
 
 pub returns-clause-reads : goal.returns-clause-reads
 returns-clause-reads g c =
-    reads-volume (index_kept c.args.index.now) (bitmap_at c.args.places.now c.args.size) _ (g.D.Device.disk c.args.device.now) (g.D.Device.disk c.free_blocks.new.device) (g.D.Device.disk c.survey_headers.new.device)
+    reads-volume (index_kept c.args.index.now) (bitmap_at c.args.places.now c.args.size) _ (g.D.Device.disk c.args.device.now)
+    (g.D.Device.disk c.free_blocks.new.device) (g.D.Device.disk c.survey_headers.new.device)
     (g.met.D.Device.is_image c.args.device.now) c.args.index.now.valid c.in_ok-free.ensures.reads c.in_ok-survey.ensures.surveys
     (λ t keeps. c.in_ok-chains.ensures.shows t (subst (KeepsTable t) (sym c.deref.ensures.value) keeps))

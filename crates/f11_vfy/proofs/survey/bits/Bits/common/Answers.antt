@@ -6,7 +6,9 @@ pub loop-i-init : goal.loop-i-init
 loop-i-init c = record { limit = c.in_ok-both.ensures.limit; common = common-none _ _ _ c.in_ok-both.ensures.none }
 
 pub returns : goal.returns
-returns c = common-all _ _ _ c.loop-i.i (omega (arith, c.loop-i-test.false, c.div_ceil-i-end.ensures)) c.loop-i.invariant.limit c.loop-i.invariant.common
+returns c =
+    common-all _ _ _ c.loop-i.i (omega (arith, c.loop-i-test.false, c.div_ceil-i-end.ensures)) c.loop-i.invariant.limit
+    c.loop-i.invariant.common
 
 pub loop-i-preserved : goal.loop-i-preserved
 loop-i-preserved c = record {

@@ -5,4 +5,6 @@ use Rattle.f11_vfy.proofs.survey.bits.Bits.insert.Goals as goal
 
 pub returns-clause-adds : goal.returns-clause-adds
 unfolding has
-returns-clause-adds c = λ j. inserted c.args.self.now.words.items c.args.k j c.index.result.now (omega (arith, c.args.self.now.words.ok.0, c.args.self.now.room)) c.index.ensures
+returns-clause-adds c =
+    λ j. inserted c.args.self.now.words.items c.args.k j c.index.result.now
+    (omega (arith, c.args.self.now.words.ok.0, c.args.self.now.room)) c.index.ensures

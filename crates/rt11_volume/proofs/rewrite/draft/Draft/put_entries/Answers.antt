@@ -10,5 +10,6 @@ loop-i-preserved c =
     let x = extra_bytes s in
     record {
       low = omega (arith, c.loop-i-test.true);
-      puts = Puts-entry _ _ _ (entries x s) c.args.first c.loop-i.i (entry_size x) (omega (arith, c.loop-i.auto)) (omega (arith, c.loop-i-test.true, c.requires.entries)) c.loop-i.invariant.puts c.put_entry.ensures;
+      puts = Puts-entry _ _ _ (entries x s) c.args.first c.loop-i.i (entry_size x) (omega (arith, c.loop-i.auto))
+          (omega (arith, c.loop-i-test.true, c.requires.entries)) c.loop-i.invariant.puts c.put_entry.ensures;
     }

@@ -8,5 +8,6 @@ use Rattle.rt11_volume.proofs.rewrite.draft.Draft.put_entries.Given as goal
 abbrev pub invariant-loop-i : goal.invariant-loop-i
 invariant-loop-i l = record {
   low : l.i ≤ l.end;
-  puts : Puts l.initial.self l.self (words_of_all (slice_range (entries (extra_bytes l.from) l.from) l.first l.i)) ((l.i - l.first) * entry_size (extra_bytes l.from));
+  puts : Puts l.initial.self l.self (words_of_all (slice_range (entries (extra_bytes l.from) l.from) l.first l.i))
+      ((l.i - l.first) * entry_size (extra_bytes l.from));
 }
