@@ -167,11 +167,22 @@ impl Left {
         if !is_zeroed || !has_words(&mut device, 8, &self.words)? {
             return Ok(false);
         }
-        Ok(match verify(alloc, device) {
-            Ok(Report::Accepted(_, notes)) => are_found(&notes, self.notes),
-            _ => false,
-        })
+        let Ok(Report::Accepted(_accepted, notes)) = verify(alloc, device) else {
+            return Ok(false);
+        };
+        Ok(are_found(&notes, self.notes))
     }
+}
+
+/// Which row of the table says what a stop leaves behind so many transfers: the last that begins no later.
+fn row_for(table: &[Left], transfers: u64) -> usize {
+    let mut row = 0;
+    for i in 0..table.len() {
+        if table[i].from <= transfers {
+            row = i;
+        }
+    }
+    row
 }
 
 /// The first number of transfers of the request behind which a stop leaves something else; and that of the first run that isn't stopped.
@@ -182,16 +193,13 @@ fn first_wrong_stop(
 ) -> Result<(Option<u64>, Option<u64>), Fail> {
     let begun = begun(alloc, words)?;
     for transfers in 0..400 {
-        let mut known = None;
-        for left in table {
-            if left.from <= transfers {
-                known = Some(left);
-            }
-        }
         let (device, is_served) = stopped(alloc, words, begun.saturating_add(transfers))?;
-        match known {
-            Some(left) if left.is_on(alloc, device, transfers)? => {}
-            _ => return Ok((Some(transfers), None)),
+        let is_right = match table.get(row_for(table, transfers)) {
+            Some(left) => left.is_on(alloc, device, transfers)?,
+            None => false,
+        };
+        if !is_right {
+            return Ok((Some(transfers), None));
         }
         if is_served {
             return Ok((None, Some(transfers)));
