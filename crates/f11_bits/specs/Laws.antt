@@ -1,8 +1,9 @@
--- Laws of the storage bitmap: what a write of other blocks leaves (profile).
+-- Laws of the storage bitmap: what a write of other blocks leaves, and what one of a bitmap block makes free (profile).
 use Rattle.std.specs.Prelude.{◌≡◌, ◌≢◌, ℕ, ◌<◌, Bool, IsTrue, List, length, slice_index, slice_set}
 use Rattle.f11_dev.specs.Disk.{Disk, with_transfer, with_block_at}
 use Rattle.f11_dev.specs.Image.{Image}
 use Rattle.f11_bits.specs.Bitmap.{Bitmap, IsBitmap, is_free, free_blocks, KeepsBitmap}
+use Rattle.f11_bits.specs.Replacing.{HasBitsPast, Replaces}
 use Rattle.f11_bits.specs.Storage.{bitmap_of, Keeps, IsFor}
 use Rattle.f11_bits.specs.declared.storage.Storage.{Storage}
 
@@ -37,3 +38,11 @@ ForStays =
     (s : Storage) (disk : Disk) (passed : Bool) (lbn : ℕ) (block : List ℕ) →
     (IsTrue disk.honest → (i : ℕ) → i < length (bitmap_of s).places → slice_index (bitmap_of s).places i ≢ lbn) →
     IsFor s disk → IsFor s (with_transfer passed (with_block_at lbn block disk))
+
+-- a write of a bitmap block makes the blocks free whose bits in it are 1, where its bits past the volume's size are those that were there
+abbrev pub BlockReplaces : Type 0
+BlockReplaces =
+    (bitmap : Bitmap) (index : ℕ) (block : List ℕ) (image : Image) →
+    IsBitmap bitmap → index < length bitmap.places → slice_index bitmap.places index < length image →
+    HasBitsPast bitmap index block image →
+    Replaces bitmap index block image (slice_set image (slice_index bitmap.places index) block)

@@ -10,3 +10,8 @@ pub fn other_writes()
     ensures kept { laws.KeptStays }
     ensures stays { laws.ForStays }
 {}
+
+/// What a write of one bitmap block makes of which blocks are free, where the bits past the volume's size are as they were.
+pub fn bitmap_writes()
+    ensures replaces { laws.BlockReplaces }
+{}

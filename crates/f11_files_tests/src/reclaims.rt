@@ -7,7 +7,7 @@ use std::alloc::Global;
 use std::test::Fail;
 
 /// A volume of 32 blocks: header 6 is dead; 7 and 8, which 7 links to, are orphans that name blocks 22 and 23; block 24 is lost; and
-/// file 9 has block 25.
+/// file 9 has block 25. The storage bitmap has two bits past the volume's size.
 fn idle(alloc: Global) -> Result<Memory, Fail> {
     let mut device = volumes::fresh(alloc, 32)?;
     keep(
@@ -25,7 +25,7 @@ fn idle(alloc: Global) -> Result<Memory, Fail> {
         11,
         &linked(file(9, 1), 0, file(0, 0), &[(25, 0)]),
     )?;
-    put_words(&mut device, 20, &[(2, 0xfc00)])?;
+    put_words(&mut device, 20, &[(2, 0xfc00), (4, 0x8001)])?;
     put_words(&mut device, 2, &[(0, 0x1ff)])?;
     Ok(device)
 }
@@ -57,6 +57,18 @@ fn transfers_of(alloc: Global) -> Result<u64, Fail> {
     Ok(device.transfers().saturating_sub(before))
 }
 
+/// How many verifying alone makes.
+fn reads_of(alloc: Global) -> Result<u64, Fail> {
+    let device = idle(alloc)?;
+    let before = device.transfers();
+    match verify(alloc, device) {
+        Ok(Report::Accepted(accepted, _)) => {
+            Ok(accepted.device().transfers().saturating_sub(before))
+        }
+        _ => Err(DeviceFault)?,
+    }
+}
+
 /// Whether the file is kept where the transfers end after so many, or the next one alone fails; and whether the volume is reclaimed then.
 fn stops(alloc: Global, transfers: u64, is_done: bool) -> Result<bool, Fail> {
     let (device, done) = reclaimed(alloc, Fuse::new(idle(alloc)?, transfers))?;
@@ -85,8 +97,20 @@ fn a_volume_is_reclaimed(rt: HostRuntime) -> Result<(), Fail> {
     assert!(rt; done);
     // slots 1 to 5 and 9, and blocks up to 21 and 25; the killed header keeps all but its number and its check word
     assert!(rt; has_words(&mut device, 2, &[(0, 0x11f)])?);
-    assert!(rt; has_words(&mut device, 20, &[(2, 0xfdc0)])?);
+    assert!(rt; has_words(&mut device, 20, &[(2, 0xfdc0), (4, 0x8001)])?);
     assert!(rt; has_words(&mut device, 9, &[(2, 0), (4, 1), (94, 8), (104, 22)])?);
     assert!(rt; keeps_file(rt.alloc(), device)?);
+    Ok(())
+}
+
+/// Reclaiming makes the reads of verifying but those of the directory's header and block, and a write for each of two orphans, three slots
+/// and one block of the storage bitmap.
+#[test]
+fn writes_alone_follow_what_is_read(rt: HostRuntime) -> Result<(), Fail> {
+    let reads = reads_of(rt.alloc())?;
+    assert_eq!(rt;
+        transfers_of(rt.alloc())?,
+        reads.saturating_mul(2).saturating_add(4)
+    );
     Ok(())
 }

@@ -3,7 +3,7 @@ ghost use Rattle.std.specs.Prelude.{◌≡◌, ◌<◌, ◌≤◌, ◌+◌, ℕ,
 ghost use Rattle.f11_bits.specs.Bitmap.{is_free};
 ghost use Rattle.f11_bits.specs.Storage.{IsFor, bitmap_of};
 
-use f11_bits::{Storage, count_free, first_run, ones, replace_free, sum, word_sum};
+use f11_bits::{Storage, count_free, first_run, ones, sum, word_sum};
 use f11_bytes::{BLOCK_SIZE, Block, set_bit};
 use f11_dev::{Device, DeviceFault, FailOnce, Fuse, Liar, Memory};
 use f11_fixtures::{ZEROS, put};
@@ -440,33 +440,5 @@ fn blocks_are_taken_one_after_another(rt: HostRuntime) -> Result<(), Fail> {
         Some((26, 4))
     );
     assert_eq!(rt; (storage.size(), storage.free()), (400, 370));
-    Ok(())
-}
-
-/// Makes the free blocks of a volume of 400 blocks those of this block.
-fn replace<D: Device>(device: &mut Liar<D>, wanted: &Block) -> Result<(), DeviceFault> {
-    if device.blocks() < 3 {
-        return Err(DeviceFault);
-    }
-    replace_free(device, &[1, 2], 400, 0, wanted)
-}
-
-/// Bits past the volume's size stay, and a block that doesn't change isn't written.
-#[test]
-fn free_blocks_are_told_anew(rt: HostRuntime) -> Result<(), Fail> {
-    let mut device = Liar::new(device_with(rt.alloc(), &ONES, &ONES)?, 0);
-    let mut wanted = ZEROS;
-    wanted[3] = 0b1000_0001;
-    replace(&mut device, &wanted)?;
-    replace(&mut device, &wanted)?;
-    let mut device = device.into_inner();
-    assert_eq!(rt; device.transfers(), 5);
-    assert!(rt; device.blocks() >= 3);
-    let mut block = ZEROS;
-    device.read(1, &mut block)?;
-    assert_eq!(rt;
-        (block[0], block[3], block[49], block[50]),
-        (0, 0b1000_0001, 0, 255)
-    );
     Ok(())
 }

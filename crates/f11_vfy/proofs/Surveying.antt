@@ -11,6 +11,7 @@ pub mod Table
 pub mod Pointers
 pub mod Extents
 pub mod Headers
+pub mod Extensions
 pub mod Cells
 pub mod Common
 pub mod Over

@@ -3,3 +3,4 @@ pub mod Scans
 pub mod Contiguous
 pub mod Parts
 pub mod Reading
+pub mod Kept

@@ -5,3 +5,4 @@ pub mod Extent
 pub mod Slot
 pub mod Free
 pub mod Headers
+pub mod Extensions

@@ -1,6 +1,7 @@
 //! What is kept of a volume's headers, blocks and slots once each was read.
 
 pub mod bits;
+pub mod extensions;
 pub mod extent;
 pub mod headers;
 pub(crate) mod pointers;

@@ -7,6 +7,7 @@ ghost use Rattle.f11_vfy.specs.Verify.{Examines, ExaminesVolume, LooksOver, Look
 
 use crate::accepted::Accepted;
 use crate::fault::ReadFault;
+use crate::findings::kept::Kept;
 use crate::findings::reading::Reading;
 use crate::frame::framing::{Frame, Framing};
 use crate::frame::read::read_frame;
@@ -115,7 +116,8 @@ fn examine_volume<D: Device>(
         (D.disk device.old) (D.disk device.new) 0 }
 {
     let index = &frame.index;
-    let reading = Reading::read(alloc, device, index, frame.places(), frame.size)?;
+    let mut kept = Kept::none(alloc);
+    let reading = Reading::read(alloc, device, index, frame.places(), frame.size, &mut kept)?;
     let mut notes = reading.notes(alloc)?;
     reading.add_directory_notes(alloc, device, index, &mut notes)?;
     reading.add_last_notes(&mut notes)?;

@@ -1,6 +1,6 @@
 -- Reclaiming behind what was read first.
-use Rattle.std.proofs.Common.{◌≡◌, ◌+◌, ◌≤◌, ℕ, IsTrue, sym, ap, subst, ◌∙◌, arith}
-use Rattle.f11_bits.specs.Bitmap.{Bitmap, IsBitmap}
+use Rattle.std.proofs.Common.{◌≡◌, ◌+◌, ◌<◌, ◌≤◌, ℕ, IsTrue, sym, ap, subst, ◌∙◌, arith}
+use Rattle.f11_bits.specs.Bitmap.{Bitmap}
 use Rattle.f11_dev.specs.Disk.{Disk}
 use Rattle.f11_dev.specs.Image.{Image, IsImage}
 use Rattle.f11_dev.specs.Looked.{Looked}
@@ -9,18 +9,21 @@ use Rattle.f11_dev.proofs.WentLemmas.{went_looked, went_more, went_weaker}
 use Rattle.f11_home.specs.Home.{HomeFields}
 use Rattle.f11_home.proofs.HomeLemmas.{home-unique}
 use Rattle.f11_index.specs.IndexFile.{Index, index_of}
+use Rattle.f11_index.specs.Table.{table_in}
 use Rattle.f11_vfy.specs.Frames.Frame.{frame_reads, AreOf, ReadsFrame, FindsFrameFault}
 use Rattle.f11_vfy.specs.Reclaiming.Moments.{IsReclaiming, Moment}
 use Rattle.f11_vfy.specs.Reclaiming.Slots.{none}
 use Rattle.f11_vfy.specs.Reclaiming.Whole.{IsSoundWith, HasReclaimed, Costs, GoesOn, GivesBack, LacksRoom, IsFrameOf, IsReadAs}
 use Rattle.f11_vfy.specs.Reclaiming.Whole.{reclaim_reads, Reclaims}
+use Rattle.f11_vfy.specs.Scanning.Kept.{HasKept, KeepsBlocks}
 use Rattle.f11_vfy.specs.Scanning.Reading.{ShowsVolume, ReadsVolume, volume_in, most_read}
+use Rattle.f11_vfy.specs.Surveying.Extensions.{IsToKeep}
+use Rattle.f11_vfy.specs.declared.findings.kept.Kept.{Kept}
 use Rattle.f11_vfy.specs.declared.findings.reading.Reading.{Reading}
 use Rattle.f11_volume.specs.Space.{storage_bitmap}
 use Rattle.f11_volume.specs.Verdict.{IsAccepted, of_frame}
 use Rattle.f11_volume.specs.Volume.{volume_of}
 use Rattle.f11_volume.proofs.AcceptedLemmas.{accepted-sound}
-use Rattle.f11_volume.proofs.FileLemmas.{bitmap-is}
 
 -- it was read no further
 module _ (L : HomeFields → Image → Type 0) (reads : HomeFields → ℕ) (n : ℕ) (d0 d1 : Disk)
@@ -104,16 +107,19 @@ module _ (K L : HomeFields → Image → Type 0) (less reads : HomeFields → �
     looked = looked_more looked lacks.looked;
   }
 
--- what was read of a volume is a reading of it
-pub read-as : (index : Index) (bitmap : Bitmap) (r : Reading) (d0 d1 : Disk) → ReadsVolume index bitmap r d0 d1 → IsTrue d0.honest
+-- what was read of a volume is a reading of it, with what was kept
+pub read-as : (index : Index) (bitmap : Bitmap) (r : Reading) (before kept : Kept) (d0 d1 : Disk) → ReadsVolume index bitmap r d0 d1
+    → KeepsBlocks index bitmap d0 before kept → 0 < bitmap.size → IsToKeep before.extensions → IsTrue d0.honest
     → (home : HomeFields) → IsFrameOf index bitmap home d0.image
-    → IsReadAs index bitmap r home d1.image
+    → IsReadAs index bitmap r kept home d1.image
 unfolding volume_of
-read-as index bitmap r d0 d1 reads honest home is = subst (IsReadAs index bitmap r home) (sym reads.looked.image) (record {
-  frame = is;
-  shows = subst (λ (x : Index). ShowsVolume (volume_in d0.image x (storage_bitmap d0.image home)) r) is.index_is
-      (subst (λ (b : Bitmap). ShowsVolume (volume_in d0.image index b) r) is.bitmap_is (reads.shows honest));
-})
+read-as index bitmap r before kept d0 d1 reads keeps sized keep honest home is =
+    subst (IsReadAs index bitmap r kept home) (sym reads.looked.image) (record {
+      frame = is;
+      shows = subst (λ (x : Index). ShowsVolume (volume_in d0.image x (storage_bitmap d0.image home)) r) is.index_is
+          (subst (λ (b : Bitmap). ShowsVolume (volume_in d0.image index b) r) is.bitmap_is (reads.shows honest));
+      has = subst (λ (x : Index). HasKept (table_in d0.image x) bitmap d0.image kept) is.index_is (keeps honest sized keep);
+    })
 
 -- the frame that was read is that of the volume
 module _ (index : Index) (bitmap : Bitmap) (d0 d1 : Disk) (reads : ReadsFrame index bitmap d0 d1) where
@@ -136,12 +142,6 @@ module _ (index : Index) (bitmap : Bitmap) (d0 d1 : Disk) (reads : ReadsFrame in
       let same : most_read index bitmap ≡ most_read (index_of d0.image home) (storage_bitmap d0.image home) =
       ap (λ (x : Index). most_read x bitmap) are.index_is ∙ ap (most_read (index_of d0.image home)) are.bitmap_is in
       omega (arith, same)
-
-  pub frame-bitmap : IsImage d0.image → (IsTrue d0.honest → IsAccepted d0.image) → IsTrue d1.honest → IsBitmap bitmap
-  frame-bitmap is_image accepted honest =
-      let before : IsTrue d0.honest = sym reads.looked.honest ∙ honest in
-      let sound = (accepted-sound d0.image is_image).0 (accepted before) in
-      subst IsBitmap (sym (framed-at before sound.home sound.volume).bitmap_is) (bitmap-is d0.image sound.home sound.volume).0
 
 -- no frame of an accepted image has a fault
 pub no-fault : (code a : ℕ) (d0 d1 : Disk) → (IsTrue d0.honest → IsAccepted d0.image) → FindsFrameFault code a d0 d1 → Reclaims d0 d1

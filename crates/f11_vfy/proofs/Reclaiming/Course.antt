@@ -1,9 +1,10 @@
 -- What a volume has after each part of reclaiming.
-use Rattle.std.proofs.Common.{◌≡◌, ◌↔◌, ◌||◌, ◌*◌, ◌<◌, ◌≤◌, ℕ, Bool, true, false, not, List, length, inl, inr, refl, sym, ap, subst, ◌∙◌}
+use Rattle.std.proofs.Common.{◌≡◌, ◌↔◌, ◌||◌, ◌-◌, ◌*◌, ◌/◌, ◌<◌, ◌≤◌, ℕ, Bool, true, false, not, List, length, inl, inr, refl, sym, ap}
+use Rattle.std.proofs.Common.{subst, ◌∙◌}
 use Rattle.std.proofs.Common.{arith}
 use Rattle.std.specs.List.{slice_get}
 use Rattle.std.proofs.lemmas.Bool.{both_ways, cases_Bool, leb-true, le-leb}
-use Rattle.f11_bits.specs.Bitmap.{Bitmap, is_free}
+use Rattle.f11_bits.specs.Bitmap.{Bitmap, IsBitmap, KeepsBitmap, is_free}
 use Rattle.f11_bits.proofs.LawLemmas.{is_free-kept}
 use Rattle.f11_dev.specs.Image.{Image}
 use Rattle.f11_header.proofs.HeaderFacts.{dead-not-valid}
@@ -21,6 +22,8 @@ use Rattle.f11_vfy.specs.Reclaiming.Slots.{HasNoOrphan, UsedAreOfFiles, IsIdle}
 use Rattle.f11_vfy.specs.Reclaiming.Steps.{IsShown, HasKilledUpTo, IsSwept, HasClearedUpTo, may_be_free, IsTold, HasFreedUpTo}
 use Rattle.f11_vfy.specs.Reclaiming.Whole.{IsReadAs, UnnamedAreFree, HasReclaimed}
 use Rattle.f11_vfy.specs.Surveying.Bits.{has, limit_of}
+use Rattle.f11_vfy.specs.Surveying.Free.{IsLastBlock}
+use Rattle.f11_vfy.specs.declared.findings.kept.Kept.{Kept}
 use Rattle.f11_vfy.specs.declared.findings.reading.Reading.{Reading}
 use Rattle.f11_vfy.specs.declared.survey.bits.Bits.{Bits}
 use Rattle.f11_vfy.proofs.Reclaiming.Files.{KeepsFiles, killed-keeps, cleared-keeps, in-old, in-new}
@@ -56,12 +59,13 @@ same-cell : (t u : Table) (m place lbn : ℕ) → IsLive u m → u.header m ≡ 
 same-cell t u m place lbn live same cell =
     record { live = live; names = ap (λ (b : List ℕ). slice_get (blocks_named b) place) same ∙ cell.names }
 
-module _ (index : Index) (bitmap : Bitmap) (r : Reading) (home : HomeFields) (a : Image) (is : IsReadAs index bitmap r home a) where
+module _ (index : Index) (bitmap : Bitmap) (r : Reading) (kept : Kept) (home : HomeFields) (a : Image)
+    (is : IsReadAs index bitmap r kept home a) where
   abbrev t : Table
   t = table_of a home
 
-  pub shown-so : IsShown index r home a
-  shown-so = record { sound = is.frame.sound; index_is = is.frame.index_is; shows = is.shows }
+  pub shown-so : IsShown index r kept.extensions home a
+  shown-so = record { sound = is.frame.sound; index_is = is.frame.index_is; shows = is.shows; extensions = is.has.extensions }
 
   fit : IsFit t
   unfolding volume_of
@@ -211,12 +215,21 @@ module _ (index : Index) (bitmap : Bitmap) (r : Reading) (home : HomeFields) (a 
           is.shows.free.each lbn ∙ sym (is_free-kept (storage_bitmap a home) a c lbn (bitmap-is a home is.frame.sound).0 kept)
           ∙ ap (λ (x : Bitmap). is_free c x lbn) (sym is.frame.bitmap_is)
 
+      -- and so is the last block of the bitmap
+      last-known : IsLastBlock c bitmap kept.last
+      last-known =
+          let stays = storage-then a b c home one.places.bitmap one.storage two.storage in
+          let valid : IsBitmap bitmap = subst IsBitmap (sym is.frame.bitmap_is) (bitmap-is a home is.frame.sound).0 in
+          subst (λ (x : Bitmap). KeepsBitmap x a c) (sym is.frame.bitmap_is) stays ((bitmap.size - 1) / 4096)
+          (omega (arith, valid.covered, valid.some)) ∙ is.has.last
+
       pub told-so : ((k : ℕ) → has before k ≡ false) → limit_of before ≡ bitmap.size
-          → IsTold bitmap r.free r.survey.tally.once unreferenced home c
+          → IsTold bitmap r.free r.survey.tally.once unreferenced kept.last home c
       told-so before_is limit = record {
         sound = two.places.reclaiming.freeing.sound;
         slots = files-used;
         bitmap_is = is.frame.bitmap_is ∙ sym one.places.bitmap ∙ sym two.places.bitmap;
+        last_is = last-known;
         free_are = free-known;
         tells = λ lbn inside. (may-unnamed before_is lbn, unnamed-may_be limit lbn inside);
       }

@@ -1,18 +1,19 @@
 -- Blocks that no header names, which become free, a block of the storage bitmap after another.
-use Rattle.std.proofs.Common.{◌≡◌, ◌≢◌, ◌⊎◌, ◌+◌, ◌-◌, ◌*◌, ◌/◌, ◌%◌, ◌<◌, ℕ, Bool, true, false, IsTrue, [], List, length, get_or, inl, inr}
-use Rattle.std.proofs.Common.{refl, sym, ap, subst, ◌∙◌, arith}
+use Rattle.std.proofs.Common.{◌≡◌, ◌≢◌, ◌⊎◌, ◌+◌, ◌-◌, ◌*◌, ◌/◌, ◌%◌, ◌<◌, ◌≤◌, ℕ, Bool, true, false, IsTrue, [], List, length, get_or, inl}
+use Rattle.std.proofs.Common.{inr}
+use Rattle.std.proofs.Common.{Some, set, refl, sym, ap, subst, ◌∙◌, arith}
 use Rattle.std.specs.List.{slice_get}
 use Rattle.std.proofs.lemmas.Bool.{both_ways, cases_eq, cases_lt}
-use Rattle.f11_bits.specs.Bitmap.{Bitmap, is_free, KeepsOthers}
-use Rattle.f11_bits.specs.Replacing.{BitmapBlockChanges, Replaces, Replacing, ReplacesOnDisk, read_alone, written, FailsToReplace}
-use Rattle.f11_bits.proofs.BitmapLemmas.{is_free-past, is_free-same}
+use Rattle.f11_bits.specs.Bitmap.{Bitmap, IsBitmap, LiesWithin, bitmap_bit, is_free, KeepsOthers}
+use Rattle.f11_bits.specs.Replacing.{BitmapBlockChanges, HasBitsPast, Replaces}
+use Rattle.f11_bits.proofs.BitmapLemmas.{bitmap_bit-here, is_free-past, is_free-same}
 use Rattle.f11_bits.proofs.LawLemmas.{bitmap_bit-same}
+use Rattle.f11_bits.proofs.ReplaceLemmas.{replaces-write}
 use Rattle.f11_bytes.specs.Bits.{bit}
-use Rattle.f11_dev.specs.Disk.{Disk}
+use Rattle.f11_dev.specs.Disk.{Disk, with_transfer, with_block_at}
 use Rattle.f11_dev.specs.Image.{Image}
-use Rattle.f11_dev.specs.Went.{Went}
 use Rattle.f11_dev.proofs.LookedLemmas.{looked_none}
-use Rattle.f11_dev.proofs.WentLemmas.{went_last, went_looked, went_more, went_weaker, went_within}
+use Rattle.f11_dev.proofs.WentLemmas.{went_looked, went_more, went_write, went_failed_write}
 use Rattle.f11_home.specs.Home.{HomeFields}
 use Rattle.f11_index.specs.IndexFile.{Index, index_of}
 use Rattle.f11_index.specs.Table.{Table, table_of}
@@ -29,21 +30,9 @@ use Rattle.f11_vfy.proofs.Reclaiming.Storage.{block-changed, changed-block, coun
 use Rattle.f11_volume.specs.Sound.{HasSoundVolume}
 use Rattle.f11_volume.specs.Space.{storage_bitmap}
 use Rattle.f11_volume.specs.Volume.{volume_of, IsNamed}
+use Rattle.f11_volume.proofs.FileLemmas.{bitmap-is}
 use Rattle.f11_writes.specs.Kept.{KeepsButFree}
 use Rattle.f11_writes.proofs.BitmapLemmas.{bitmap-keeps}
-
--- the next bit
-pub bit-more : (named unreferenced : Bits) (size i k : ℕ) (before after : List ℕ) (value : Bool)
-    → ((j : ℕ) → j < k → 4096 * i + j < size → bit before j ≡ may_be_free named unreferenced (4096 * i + j))
-    → (4096 * i + k < size → value ≡ may_be_free named unreferenced (4096 * i + k)) → bit after k ≡ value
-    → ((j : ℕ) → j ≢ k → bit after j ≡ bit before j)
-    → (j : ℕ) → j < k + 1 → 4096 * i + j < size → bit after j ≡ may_be_free named unreferenced (4096 * i + j)
-bit-more named unreferenced size i k before after value so_far is here others j below inside = elim (cases_eq j k) [
-  | inl same ↦
-      ap (bit after) same ∙ here ∙ is (omega (arith, inside, same))
-      ∙ ap (λ (x : ℕ). may_be_free named unreferenced (4096 * i + x)) (sym same)
-  | inr apart ↦ others j apart ∙ so_far j (omega (arith, below, apart)) inside
-]
 
 -- a free block is in the volume
 free-inside : (image : Image) (bitmap : Bitmap) (lbn : ℕ) → is_free image bitmap lbn ≡ true → lbn < bitmap.size
@@ -66,9 +55,9 @@ same-unless true false not_other = absurd (not_other (λ same. cc))
 same-unless false true not_other = absurd (not_other (λ same. cc))
 
 -- none so far
-pub space-none : (bitmap : Bitmap) (known named unreferenced : Bits) (disk : Disk)
-    → FreesUnnamed bitmap known named unreferenced 0 disk disk
-space-none bitmap known named unreferenced disk = record {
+pub space-none : (bitmap : Bitmap) (known named unreferenced : Bits) (last : List ℕ) (disk : Disk)
+    → FreesUnnamed bitmap known named unreferenced last 0 disk disk
+space-none bitmap known named unreferenced last disk = record {
   frees = λ honest home told. record {
     places = places-none home disk.image told.sound;
     table = refl;
@@ -77,37 +66,40 @@ space-none bitmap known named unreferenced disk = record {
   };
   count = 0;
   counts = λ honest home told. none;
-  went = went_within (Moment (IsTold bitmap known named unreferenced) disk)
-      (went_looked (Moment (IsTold bitmap known named unreferenced) disk) (looked_none disk)) (omega arith);
+  went = went_looked (Moment (IsTold bitmap known named unreferenced last) disk) (looked_none disk);
 }
 
-module _ (bitmap : Bitmap) (known named unreferenced : Bits) (i : ℕ) (old now : Disk)
-    (so_far : FreesUnnamed bitmap known named unreferenced i old now)
+module _ (bitmap : Bitmap) (known named unreferenced : Bits) (last : List ℕ) (i : ℕ) (old now : Disk)
+    (so_far : FreesUnnamed bitmap known named unreferenced last i old now)
     (few : i < length bitmap.places) where
-  so-until : (honest : IsTrue old.honest) (home : HomeFields) → IsTold bitmap known named unreferenced home old.image
+  so-until : (honest : IsTrue old.honest) (home : HomeFields) → IsTold bitmap known named unreferenced last home old.image
       → HasFreedUpTo i bitmap home old.image now.image
   so-until honest home told = so_far.frees honest home told
 
   -- this bitmap block is as it was until then
-  still : (honest : IsTrue old.honest) (home : HomeFields) → IsTold bitmap known named unreferenced home old.image
+  still : (honest : IsTrue old.honest) (home : HomeFields) → IsTold bitmap known named unreferenced last home old.image
       → ¬ BitmapBlockChanges bitmap i old.image now.image
   still honest home told changes =
       (so-until honest home told).rest (i + 1) (omega arith) (omega (arith, few)) (block-changed bitmap old.image now.image i changes)
 
-  -- so a block is free in it as it was read
-  as-read : (honest : IsTrue old.honest) (home : HomeFields) → IsTold bitmap known named unreferenced home old.image → (lbn : ℕ)
+  -- so its bits are
+  bit-still : (honest : IsTrue old.honest) (home : HomeFields) → IsTold bitmap known named unreferenced last home old.image → (k : ℕ)
+      → k / 4096 ≡ i → bitmap_bit now.image bitmap k ≡ bitmap_bit old.image bitmap k
+  bit-still honest home told k here =
+      same-unless _ _ (λ differs. still honest home told (λ same.
+      differs (bitmap_bit-same bitmap old.image now.image k
+      (subst (λ (x : ℕ). slice_get now.image (get_or bitmap.places x 0) ≡ slice_get old.image (get_or bitmap.places x 0)) (sym here)
+      same))))
+
+  -- and a block is free in it as it was read
+  as-read : (honest : IsTrue old.honest) (home : HomeFields) → IsTold bitmap known named unreferenced last home old.image → (lbn : ℕ)
       → lbn / 4096 ≡ i
       → is_free now.image bitmap lbn ≡ has known lbn
   as-read honest home told lbn here =
-      same-unless _ _ (λ differs. still honest home told (λ same.
-      differs (is_free-same old.image now.image bitmap lbn
-      (bitmap_bit-same bitmap old.image now.image lbn
-      (subst (λ (x : ℕ). slice_get now.image (get_or bitmap.places x 0) ≡ slice_get old.image (get_or bitmap.places x 0)) (sym here)
-      same))
-      ∙ sym (told.free_are lbn))))
+      is_free-same old.image now.image bitmap lbn (bit-still honest home told lbn here) ∙ sym (told.free_are lbn)
 
   -- no bit of it is to change
-  pub space-same : ¬ IsToChange bitmap.size known named unreferenced i → FreesUnnamed bitmap known named unreferenced (i + 1) old now
+  pub space-same : ¬ IsToChange bitmap.size known named unreferenced i → FreesUnnamed bitmap known named unreferenced last (i + 1) old now
   space-same none_here = record {
     frees = λ honest home told.
         let so = so-until honest home told in
@@ -130,30 +122,58 @@ module _ (bitmap : Bitmap) (known named unreferenced : Bits) (i : ℕ) (old now 
     went = so_far.went;
   }
 
-module _ (bitmap : Bitmap) (known named unreferenced : Bits) (i : ℕ) (wanted : List ℕ) (old now : Disk)
-    (so_far : FreesUnnamed bitmap known named unreferenced i old now)
-    (wanted_is : (k : ℕ) → k < 4096 → 4096 * i + k < bitmap.size → bit wanted k ≡ may_be_free named unreferenced (4096 * i + k))
-    (few : i < length bitmap.places) (change : IsToChange bitmap.size known named unreferenced i) where
-  module _ (honest : IsTrue old.honest) (home : HomeFields) (told : IsTold bitmap known named unreferenced home old.image) where
-    abbrev t : Table
-    t = table_of old.image home
+  -- where it is written, on the device
+  pub placed-still : LiesWithin bitmap (length old.image) → get_or bitmap.places i 0 < length now.image
+  placed-still lies = let there = lies i few in let size = so_far.went.size in omega (arith, there, size)
 
-    so : HasFreedUpTo i bitmap home old.image now.image
-    so = so_far.frees honest home told
+module _ (bitmap : Bitmap) (known named unreferenced : Bits) (last : List ℕ) (i : ℕ) (block : List ℕ) (old now : Disk)
+    (so_far : FreesUnnamed bitmap known named unreferenced last i old now)
+    (wanted_is : (k : ℕ) → k < 4096 → 4096 * i + k < bitmap.size → bit block k ≡ may_be_free named unreferenced (4096 * i + k))
+    (past_is : (k : ℕ) → bitmap.size ≤ 4096 * i + k → bit block k ≡ bit last k)
+    (few : i < length bitmap.places) (change : IsToChange bitmap.size known named unreferenced i)
+    (lies : LiesWithin bitmap (length old.image))
+  where
+    abbrev place : ℕ
+    place = get_or bitmap.places i 0
 
-    sound : HasSoundVolume now.image home
-    sound = so.places.reclaiming.freeing.sound
+    abbrev image : Image
+    image = set now.image place block
 
-    bitmap-is : bitmap ≡ storage_bitmap now.image home
-    bitmap-is = told.bitmap_is ∙ sym so.places.bitmap
+    module _ (honest : IsTrue old.honest) (home : HomeFields) (told : IsTold bitmap known named unreferenced last home old.image) where
+      abbrev t : Table
+      t = table_of old.image home
 
-    -- whether a block may be free, by its bit
-    wanted-at : (lbn : ℕ) → lbn / 4096 ≡ i → lbn < bitmap.size → bit wanted (lbn % 4096) ≡ may_be_free named unreferenced lbn
-    wanted-at lbn here inside =
-        let number : 4096 * i + lbn % 4096 ≡ lbn = omega (arith, here) in
-        wanted_is (lbn % 4096) (omega arith) (omega (arith, number, inside)) ∙ ap (may_be_free named unreferenced) number
+      so : HasFreedUpTo i bitmap home old.image now.image
+      so = so_far.frees honest home told
 
-    module _ (image : Image) (is : Replaces bitmap i wanted now.image image) where
+      sound : HasSoundVolume now.image home
+      sound = so.places.reclaiming.freeing.sound
+
+      bitmap-now : bitmap ≡ storage_bitmap now.image home
+      bitmap-now = told.bitmap_is ∙ sym so.places.bitmap
+
+      valid : IsBitmap bitmap
+      valid = subst IsBitmap (sym bitmap-now) (bitmap-is now.image home sound).0
+
+      -- only the last bitmap block has bits past the size
+      bits-past : HasBitsPast bitmap i block now.image
+      bits-past k here past =
+          let last_one : (bitmap.size - 1) / 4096 ≡ i = omega (arith, here, past, change.here, change.inside) in
+          past_is (k % 4096) (omega (arith, here, past))
+          ∙ sym (bitmap_bit-here old.image bitmap i k last here
+          (subst (λ (x : ℕ). slice_get old.image (get_or bitmap.places x 0) ≡ Some last) last_one told.last_is))
+          ∙ sym (bit-still bitmap known named unreferenced last i old now so_far few honest home told k here)
+
+      is : Replaces bitmap i block now.image image
+      is = replaces-write bitmap i block now.image valid few
+          (placed-still bitmap known named unreferenced last i old now so_far few lies) bits-past
+
+      -- whether a block may be free, by its bit
+      wanted-at : (lbn : ℕ) → lbn / 4096 ≡ i → lbn < bitmap.size → bit block (lbn % 4096) ≡ may_be_free named unreferenced lbn
+      wanted-at lbn here inside =
+          let number : 4096 * i + lbn % 4096 ≡ lbn = omega (arith, here) in
+          wanted_is (lbn % 4096) (omega arith) (omega (arith, number, inside)) ∙ ap (may_be_free named unreferenced) number
+
       only : (lbn : ℕ) → is_free image bitmap lbn ≡ true → (is_free now.image bitmap lbn ≡ true) ⊎ (¬ IsNamed (table_of now.image home) lbn)
       only lbn free = elim (cases_eq (lbn / 4096) i) [
         | inl here ↦
@@ -163,12 +183,16 @@ module _ (bitmap : Bitmap) (known named unreferenced : Bits) (i : ℕ) (wanted :
         | inr apart ↦ inl (sym (is.elsewhere lbn apart) ∙ free)
       ]
 
-      -- the block whose bit is to change isn't free as it was
-      changes-here : ¬ (image ≡ now.image)
+      -- the bitmap block is another than it was: the block whose bit is to change isn't free as it was
+      changes-here : BitmapBlockChanges bitmap i now.image image
       changes-here same =
           change.otherwise
-          (sym (as-read bitmap known named unreferenced i old now so_far few honest home told change.lbn change.here)
-          ∙ ap (λ (x : Image). is_free x bitmap change.lbn) (sym same) ∙ is.here change.lbn change.here change.inside
+          (sym (as-read bitmap known named unreferenced last i old now so_far few honest home told change.lbn change.here)
+          ∙ sym (is_free-same now.image image bitmap change.lbn
+          (bitmap_bit-same bitmap now.image image change.lbn
+          (subst (λ (x : ℕ). slice_get image (get_or bitmap.places x 0) ≡ slice_get now.image (get_or bitmap.places x 0)) (sym change.here)
+          same)))
+          ∙ is.here change.lbn change.here change.inside
           ∙ wanted-at change.lbn change.here change.inside)
 
       -- one that no header names is free then
@@ -180,12 +204,12 @@ module _ (bitmap : Bitmap) (known named unreferenced : Bits) (i : ℕ) (wanted :
         | inl here ↦
             here-free lbn here (free-inside now.image bitmap lbn free)
             (subst (λ (u : Table). ¬ IsNamed u lbn) so.table
-            (free-unnamed now.image home lbn sound (ap (λ (b : Bitmap). is_free now.image b lbn) (sym bitmap-is) ∙ free)))
+            (free-unnamed now.image home lbn sound (ap (λ (b : Bitmap). is_free now.image b lbn) (sym bitmap-now) ∙ free)))
         | inr apart ↦ is.elsewhere lbn apart ∙ free
       ]
 
       keeps : KeepsOthers (storage_bitmap now.image home) now.image image
-      keeps = subst (λ (b : Bitmap). KeepsOthers b now.image image) bitmap-is is.keeps
+      keeps = subst (λ (b : Bitmap). KeepsOthers b now.image image) bitmap-now is.keeps
 
       abbrev Only : Bitmap → Type 0
       Only b = (lbn : ℕ) → is_free image b lbn ≡ true → (is_free now.image b lbn ≡ true) ⊎ (¬ IsNamed (table_of now.image home) lbn)
@@ -194,15 +218,15 @@ module _ (bitmap : Bitmap) (known named unreferenced : Bits) (i : ℕ) (wanted :
       Stays b = (lbn : ℕ) → is_free now.image b lbn ≡ true → is_free image b lbn ≡ true
 
       kept : KeepsButFree home now.image image
-      kept = bitmap-keeps now.image image home sound keeps (subst Only bitmap-is only)
+      kept = bitmap-keeps now.image image home sound keeps (subst Only bitmap-now only)
 
       reclaiming : IsReclaiming home now.image image
       reclaiming = record {
-        freeing = unnamed-freed now.image image home sound keeps (subst Only bitmap-is only) (subst Stays bitmap-is stays);
+        freeing = unnamed-freed now.image image home sound keeps (subst Only bitmap-now only) (subst Stays bitmap-now stays);
         spares = spares-bitmap any_header (index_of now.image home) (storage_bitmap now.image home) [] now.image image keeps;
         headers = same-kept (table_of now.image home) (table_of image home) kept.index_file.table;
         left = same-left (table_of now.image home) (table_of image home) kept.index_file.table;
-        past = subst (λ (b : Bitmap). KeepsPast b now.image image) bitmap-is is.past;
+        past = subst (λ (b : Bitmap). KeepsPast b now.image image) bitmap-now is.past;
         order = record {
           kills_first = inl (ap (λ (x : Index). x.bitmap) kept.index_file.index);
           clears_first = inr (subst UsedAreOfFiles (sym (kept.index_file.table ∙ so.table)) told.slots);
@@ -228,60 +252,47 @@ module _ (bitmap : Bitmap) (known named unreferenced : Bits) (i : ℕ) (wanted :
             (is.others (m - 1) (omega (arith, high, within)) (λ same. omega (arith, same, high)));
       }
 
-  abbrev P : Image → Type 0
-  P = Moment (IsTold bitmap known named unreferenced) old
+      -- how many were other than they were before this one
+      counts-before : CountsUpTo (IsChangedBlock bitmap old.image image) i so_far.count
+      counts-before = counts-on bitmap old.image now.image image i so_far.count
+          (λ j low. is.others j (omega (arith, low, few)) (λ same. omega (arith, same, low))) (so_far.counts honest home told)
 
-  went-on : (new : Disk) (most faults : ℕ) → Went (Replacing now.honest bitmap i wanted now.image) now new most faults
-      → Went P old new (2 * so_far.count + most) faults
-  went-on new most faults went =
-      went_more P so_far.went
-      (went_weaker (Replacing now.honest bitmap i wanted now.image) P
-      (λ image has honest home told. stands honest home told image (has.replaces (so_far.went.honest ∙ honest))) went)
+      counts-more : CountsUpTo (IsChangedBlock bitmap old.image image) (i + 1) (so_far.count + 1)
+      counts-more =
+          such i so_far.count counts-before
+          (block-changed bitmap old.image image i
+          (stays-changed bitmap i old.image now.image image
+          (still bitmap known named unreferenced last i old now so_far few honest home told) changes-here))
 
-  -- how many were other than they were before this one
-  counts-before : (image : Image) → ((j : ℕ) → j < i → ¬ BitmapBlockChanges bitmap j now.image image) → IsTrue old.honest
-      → (home : HomeFields)
-      → IsTold bitmap known named unreferenced home old.image → CountsUpTo (IsChangedBlock bitmap old.image image) i so_far.count
-  counts-before image stay honest home told =
-      counts-on bitmap old.image now.image image i so_far.count stay (so_far.counts honest home told)
+    abbrev P : Image → Type 0
+    P = Moment (IsTold bitmap known named unreferenced last) old
 
-  others-stay : (image : Image) → Replaces bitmap i wanted now.image image → (j : ℕ) → j < i → ¬ BitmapBlockChanges bitmap j now.image image
-  others-stay image is j low = is.others j (omega (arith, low, few)) (λ same. omega (arith, same, low))
+    pub space-more : (new : Disk) → new ≡ with_transfer true (with_block_at place block now)
+        → FreesUnnamed bitmap known named unreferenced last (i + 1) old new
+    space-more new wrote =
+        let image_is : image ≡ new.image = ap (λ (d : Disk). d.image) (sym wrote) in
+        record {
+          frees = λ honest home told. subst (HasFreedUpTo (i + 1) bitmap home old.image) image_is (more honest home told);
+          count = so_far.count + 1;
+          counts = λ honest home told.
+              subst (λ (x : Image). CountsUpTo (IsChangedBlock bitmap old.image x) (i + 1) (so_far.count + 1)) image_is
+              (counts-more honest home told);
+          went = went_more P so_far.went (went_write P now new place block wrote stands);
+        }
 
-  pub space-more : (new : Disk) → ReplacesOnDisk bitmap i wanted now new → FreesUnnamed bitmap known named unreferenced (i + 1) old new
-  space-more new did = elim did.went [
-    | read_alone looked ↦ record {
-      frees = λ honest home told. more honest home told new.image (did.replaces (so_far.went.honest ∙ honest));
-      count = so_far.count + 1;
-      counts = λ honest home told.
-          absurd (changes-here honest home told new.image (did.replaces (so_far.went.honest ∙ honest)) looked.image);
-      went = went_within P (went_more P so_far.went (went_looked P looked)) (omega arith);
+    pub space-fail : (new : Disk) → (new ≡ with_transfer false now) ⊎ (new ≡ with_transfer false (with_block_at place block now))
+        → FailsToFree bitmap known named unreferenced last old new
+    space-fail new failed = record {
+      upto = i;
+      within = few;
+      count = so_far.count;
+      counts = λ honest home told. elim failed [
+        | inl left ↦
+            subst (λ (x : Image). CountsUpTo (IsChangedBlock bitmap old.image x) i so_far.count) (ap (λ (d : Disk). d.image) (sym left))
+            (so_far.counts honest home told)
+        | inr landed ↦
+            subst (λ (x : Image). CountsUpTo (IsChangedBlock bitmap old.image x) i so_far.count) (ap (λ (d : Disk). d.image) (sym landed))
+            (counts-before honest home told)
+      ];
+      went = went_more P so_far.went (went_failed_write P now new place block failed stands);
     }
-    | written went changes ↦ record {
-      frees = λ honest home told. more honest home told new.image (did.replaces (so_far.went.honest ∙ honest));
-      count = so_far.count + 1;
-      counts = λ honest home told.
-          such i so_far.count (counts-before new.image (others-stay new.image (did.replaces (so_far.went.honest ∙ honest))) honest home
-          told)
-          (block-changed bitmap old.image new.image i
-          (stays-changed bitmap i old.image now.image new.image
-          (still bitmap known named unreferenced i old now so_far few honest home told) (changes (so_far.went.honest ∙ honest))));
-      went = went_within P (went-on new 2 0 went) (omega arith);
-    }
-  ]
-
-  pub space-fail : (new : Disk) → FailsToReplace bitmap i wanted now new → FailsToFree bitmap known named unreferenced old new
-  space-fail new fails = record {
-    upto = i;
-    within = few;
-    count = so_far.count;
-    counts = λ honest.
-        counts-before new.image
-        (went_last (λ (image : Image). (j : ℕ) → j < i → ¬ BitmapBlockChanges bitmap j now.image image)
-        (went_weaker (Replacing now.honest bitmap i wanted now.image)
-        (λ (image : Image). (j : ℕ) → j < i → ¬ BitmapBlockChanges bitmap j now.image image)
-        (λ image has. others-stay image (has.replaces (so_far.went.honest ∙ honest))) fails)
-        (λ j low changes. changes refl))
-        honest;
-    went = went-on new 2 1 fails;
-  }

@@ -1,5 +1,5 @@
 -- A volume that was read.
-use Rattle.std.proofs.Common.{ℕ, ◌≡◌, IsTrue, refl, sym, ap, subst, ◌∙◌, inl, inr, arith}
+use Rattle.std.proofs.Common.{ℕ, ◌≡◌, IsTrue, List, refl, sym, ap, subst, ◌∙◌, inl, inr, arith}
 use Rattle.std.proofs.lemmas.Bool.{cases_lt, both_ways}
 use Rattle.f11_bits.specs.Bitmap.{Bitmap}
 use Rattle.f11_bits.proofs.BitmapLemmas.{is_free-past}
@@ -14,13 +14,17 @@ use Rattle.f11_index.proofs.InUseLemmas.{in_use-some, in_use-slot}
 use Rattle.f11_vfy.specs.Chain.{IsFit, KeepsTable, ShowsChains}
 use Rattle.f11_store.specs.Directory.{is_directory}
 use Rattle.f11_volume.specs.Contents.{file_of}
+use Rattle.f11_vfy.specs.Surveying.Extensions.{HasExtensions, KeepsExtensions}
 use Rattle.f11_vfy.specs.Surveying.Free.{ReadsFree}
+use Rattle.f11_vfy.specs.Scanning.Kept.{KeepsBlocks}
 use Rattle.f11_vfy.specs.Scanning.Reading.{ReadsVolume, ShowsVolume, volume_in}
 use Rattle.f11_vfy.specs.Surveying.Slot.{says_directory}
 use Rattle.f11_volume.specs.Space.{storage_bitmap}
 use Rattle.f11_vfy.specs.Surveying.Headers.{SurveysDisk, Surveys}
 use Rattle.f11_volume.specs.Volume.{volume_of}
+use Rattle.f11_vfy.specs.declared.findings.kept.Kept.{Kept}
 use Rattle.f11_vfy.specs.declared.findings.reading.Reading.{Reading}
+use Rattle.f11_vfy.specs.declared.survey.bits.Bits.{Bits}
 
 -- the headers of an image are as the format has them
 pub table-fit : (image : Image) (index : Index) → IsImage image → IsIndex index → IsFit (table_in image index)
@@ -38,9 +42,9 @@ table-slots image index = refl
 
 -- the bitmap was read, then the headers, and then their chains were found
 pub reads-volume : (index : Index) (bitmap : Bitmap) (r : Reading) (old now new : Disk) → IsImage old.image → IsIndex index
-    → ReadsFree bitmap r.free old now → SurveysDisk index bitmap.size r.survey now new
+    → (last : List ℕ) → ReadsFree bitmap r.free last old now → SurveysDisk index bitmap.size r.survey now new
     → ((t : Table) → KeepsTable t r.survey.slots.items → ShowsChains t r.chains) → ReadsVolume index bitmap r old new
-reads-volume index bitmap r old now new image valid free surveys chains = record {
+reads-volume index bitmap r old now new image valid last free surveys chains = record {
   slots = surveys.is_survey.count;
   size = free.limit;
   shows = λ honest. shows honest;
@@ -69,6 +73,16 @@ reads-volume index bitmap r old now new image valid free surveys chains = record
                 [ inl inside ↦ inside | inr past ↦ absurd (both_ways _ (is_free-past old.image bitmap lbn past) is) ];
           };
         }
+
+-- and what is to be written of it was kept
+pub keeps-blocks : (index : Index) (bitmap : Bitmap) (free : Bits) (old now : Disk) (before after : Kept)
+    → ReadsFree bitmap free after.last old now → KeepsExtensions index now before.extensions after.extensions
+    → KeepsBlocks index bitmap old before after
+keeps-blocks index bitmap free old now before after reads extensions honest sized keep = record {
+  extensions = subst (λ (t : Table). HasExtensions t after.extensions) (ap (λ (i : Image). table_in i index) reads.looked.image)
+      (extensions (reads.looked.honest ∙ honest) keep);
+  last = reads.last honest sized;
+}
 
 -- a file is a directory where its first header says so
 pub directory-said : (image : Image) (t : Table) (n : ℕ) → is_directory (file_of image t n) ≡ says_directory (t.header n)

@@ -1,5 +1,5 @@
 -- What reclaiming a volume does to a disk, by its outcome (profile).
-use Rattle.std.specs.Prelude.{◌≡◌, ◌↔◌, ℕ, ◌+◌, ◌*◌, ◌<◌, ◌≤◌, true, length}
+use Rattle.std.specs.Prelude.{◌≡◌, ◌↔◌, ℕ, ◌+◌, ◌<◌, ◌≤◌, true, length}
 use Rattle.f11_bits.specs.Bitmap.{Bitmap, is_free}
 use Rattle.f11_dev.specs.Disk.{Disk}
 use Rattle.f11_dev.specs.Image.{Image}
@@ -12,7 +12,9 @@ use Rattle.f11_vfy.specs.Frames.Frame.{frame_reads}
 use Rattle.f11_vfy.specs.Reclaiming.Moments.{IsReclaiming, Where, Moment}
 use Rattle.f11_vfy.specs.Reclaiming.Slots.{CountsUpTo, IsOrphan, UsedAreOfFiles, IsIdle}
 use Rattle.f11_vfy.specs.Reclaiming.Steps.{IsChangedBlock}
+use Rattle.f11_vfy.specs.Scanning.Kept.{HasKept}
 use Rattle.f11_vfy.specs.Scanning.Reading.{most_read, ShowsVolume}
+use Rattle.f11_vfy.specs.declared.findings.kept.Kept.{Kept}
 use Rattle.f11_vfy.specs.declared.findings.reading.Reading.{Reading}
 use Rattle.f11_vfy.specs.declared.verifier.VfyError.{VfyError}
 use Rattle.f11_vfy.specs.declared.verifier.VfyError.TheVariants.{DeviceFault, NoMemory}
@@ -39,9 +41,8 @@ pub record HasReclaimed (home : HomeFields) (old new : Image) : Type 0 where
   pub slots : UsedAreOfFiles (table_of new home)
   pub no_note : (code a b : ℕ) → code ≤ 3 → ¬ IsNote new code a b
 
--- At most so many transfers were made besides so many reads: an orphan is read and written, a slot that leaves use costs a write, and a
--- block of the storage bitmap that is another than it was is read and written. Where a transfer failed, two more may have been made: a
--- bitmap block was read, and its write failed and left it.
+-- At most so many transfers were made besides so many reads: a write for each orphan, for each slot that leaves use, and for each block of
+-- the storage bitmap that is another than it was. Where a transfer failed, that one besides.
 pub record Costs (home : HomeFields) (image new : Image) (reads faults most : ℕ) : Type 0 where
   pub orphan_slots : ℕ
   pub orphans : ℕ
@@ -55,7 +56,7 @@ pub record Costs (home : HomeFields) (image new : Image) (reads faults most : �
   pub changed : ℕ
   pub changed_are : CountsUpTo (IsChangedBlock (storage_bitmap image home) image new) bitmap_blocks changed
   pub changed_within : bitmap_blocks ≤ length (storage_bitmap image home).places
-  pub few : most ≤ reads + 2 * orphans + idle + 2 * changed + 2 * faults
+  pub few : most ≤ reads + orphans + idle + changed + faults
 
 -- So many transfers failed, of those at most. Each image that stood meanwhile is sound and has the files that there were.
 pub record GoesOn (K : HomeFields → Image → Type 0) (reads : HomeFields → ℕ) (old new : Disk) (faults : ℕ) : Type 0 where
@@ -80,10 +81,11 @@ pub record IsFrameOf (index : Index) (bitmap : Bitmap) (home : HomeFields) (imag
   pub index_is : index ≡ index_of image home
   pub bitmap_is : bitmap ≡ storage_bitmap image home
 
--- and this is a reading of it
-pub record IsReadAs (index : Index) (bitmap : Bitmap) (r : Reading) (home : HomeFields) (image : Image) : Type 0 where
+-- and this is a reading of it, and what was kept of its blocks
+pub record IsReadAs (index : Index) (bitmap : Bitmap) (r : Reading) (kept : Kept) (home : HomeFields) (image : Image) : Type 0 where
   pub frame : IsFrameOf index bitmap home image
   pub shows : ShowsVolume (volume_of image home) r
+  pub has : HasKept (table_of image home) bitmap image kept
 
 -- the reads of an accepted image: its frame, and each header in use and each block of the storage bitmap once
 abbrev pub reclaim_reads : Disk → HomeFields → ℕ

@@ -1,5 +1,5 @@
 //! What is read of a volume, and what is found of it without another transfer: all faults, and the notes of blocks and headers.
-ghost use Rattle.std.specs.Prelude.{◌≡◌, ◌↔◌, ◌<◌, ◌≤◌, ◌*◌, length, IfOk, IsErrOf, IsTrue};
+ghost use Rattle.std.specs.Prelude.{◌≡◌, ◌↔◌, ◌<◌, ◌≤◌, ◌*◌, length, IfOk, IsErrOf, IsTrue, OnOk};
 ghost use Rattle.f11_bits.specs.Bitmap.{LiesWithin as BitmapLiesWithin};
 ghost use Rattle.f11_index.specs.Kept.{index_kept, IndexLiesWithin};
 ghost use Rattle.f11_vfy.specs.Scanning.Parts.{IsReading};
@@ -7,6 +7,7 @@ ghost use Rattle.f11_vfy.specs.Surveying.Bits.{has};
 
 use crate::chains::{Chains, find_chains};
 use crate::fault::ReadFault;
+use crate::findings::kept::Kept;
 use crate::findings::scans::{Kind, add_all, add_headers, add_lost, add_marked};
 use crate::survey::bits::Bits;
 use crate::survey::headers::{Survey, survey_headers};
@@ -41,14 +42,16 @@ impl Reading {
     ghost use Rattle.f11_dev.specs.Image.{Image};
     ghost use Rattle.f11_findings.specs.Finding.{IsExactly};
     ghost use Rattle.f11_volume.specs.Faults.{IsVolumeFault};
+    ghost use Rattle.f11_vfy.specs.Scanning.Kept.{KeepsBlocks};
     ghost use Rattle.f11_vfy.specs.Scanning.Reading.{bitmap_at, ReadsVolume, FailsToScan, LacksMemoryToScan, ShowsVolume, IsFirstNote};
     ghost use Rattle.f11_volume.specs.Volume.{Volume};
 
     /// Reads a volume of `size` blocks whose bitmap blocks are at these places: at most 126 places, with a bit for each block; one
-    /// may be there more than once. It reads each of them once at most, and then each header whose slot is in use, once.
+    /// may be there more than once. It reads each of them once at most, and then each header whose slot is in use, once. What is to be
+    /// kept of these blocks is put into `kept`.
     ///
     /// It takes three bits for each block of the volume, two for each that a pointer can name where one names a block outside, and some 30
-    /// bytes a slot.
+    /// bytes a slot, besides what is put into `kept`.
     ///
     /// # Errors
     ///
@@ -59,6 +62,7 @@ impl Reading {
         index: &IndexFile,
         places: &[u32],
         size: u32,
+        kept: &mut Kept,
     ) -> Result<Reading, ReadFault>
         requires within { IndexLiesWithin (index_kept index.now) (length (D.disk device.old).image) }
         requires few { length places.now ≤ 126 }
@@ -68,6 +72,8 @@ impl Reading {
         ensures reads { IfOk result (λ reading.
             ReadsVolume (index_kept index.now) (bitmap_at places.now size) reading
             (D.disk device.old) (D.disk device.new)) }
+        ensures keeps { OnOk result (KeepsBlocks (index_kept index.now) (bitmap_at places.now size)
+            (D.disk device.old) kept.old kept.new) }
         ensures failed { IsErrOf result ReadFault.DeviceFault
             → FailsToScan (index_kept index.now) (bitmap_at places.now size)
             (D.disk device.old) (D.disk device.new) }
@@ -75,8 +81,8 @@ impl Reading {
             → LacksMemoryToScan (index_kept index.now) (bitmap_at places.now size)
             (D.disk device.old) (D.disk device.new) }
     {
-        let free = free_blocks(alloc, device, places, size)?;
-        let survey = survey_headers(alloc, device, index, size)?;
+        let free = free_blocks(alloc, device, places, size, &mut kept.last)?;
+        let survey = survey_headers(alloc, device, index, size, &mut kept.extensions)?;
         let chains = find_chains(alloc, &survey.slots)?;
         Ok(Reading {
             survey,
@@ -138,10 +144,9 @@ impl Reading {
 }
 
 impl Reading {
-    ghost use Rattle.f11_vfy.specs.Reclaiming.Slots.{IsOrphan};
-    ghost use Rattle.f11_index.specs.Headers.{IsInFile};
     ghost use Rattle.f11_volume.specs.Volume.{Volume};
     ghost use Rattle.f11_vfy.specs.Scanning.Reading.{ShowsVolume};
+    ghost use Rattle.f11_vfy.specs.Surveying.Extensions.{IsExtension};
 
     /// Whether header `n`, of one of the slots, is one of a file.
     pub(crate) fn in_file(&self, n: u16) -> bool
@@ -151,11 +156,11 @@ impl Reading {
         self.chains.in_file.contains(u32::from(n))
     }
 
-    /// Whether header `n`, of one of the slots, is live and one of no file.
-    pub(crate) fn is_orphan(&self, n: u16) -> bool
+    /// Whether header `n`, of one of the slots, is valid and has another segment number than 0.
+    pub(crate) fn is_extension(&self, n: u16) -> bool
         requires { (0 < n) × (n ≤ length self.now.survey.slots.items) }
-        ensures { (v : Volume) → ShowsVolume v self.now → IsTrue result ↔ IsOrphan v.table n }
+        ensures { (v : Volume) → ShowsVolume v self.now → IsTrue result ↔ IsExtension v.table n }
     {
-        self.survey.slots[usize::from(n) - 1].is_live() && !self.in_file(n)
+        self.survey.slots[usize::from(n) - 1].is_extension()
     }
 }

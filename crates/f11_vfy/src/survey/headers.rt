@@ -4,9 +4,11 @@ ghost use Rattle.f11_dev.specs.Looked.{Looked};
 ghost use Rattle.f11_header.specs.Header.{IsHeader};
 ghost use Rattle.f11_index.specs.IndexFile.{slots};
 ghost use Rattle.f11_index.specs.Kept.{index_kept, IndexLiesWithin};
+ghost use Rattle.f11_vfy.specs.Surveying.Extensions.{KeepsExtensions};
 ghost use Rattle.f11_vfy.specs.Surveying.Headers.{reads_of, used_slots, ReadsSlot, SurveysDisk};
 
 use crate::fault::ReadFault;
+use crate::survey::extensions::Extensions;
 use crate::survey::pointers::take_pointers;
 use crate::survey::slot::{Slot, State, judge, keep};
 use crate::survey::tally::Tally;
@@ -59,7 +61,8 @@ impl Survey {
     }
 }
 
-/// Surveys the headers of a volume of `size` blocks, in the order of their slots: it reads each header whose slot is in use, once.
+/// Surveys the headers of a volume of `size` blocks, in the order of their slots: it reads each header whose slot is in use, once, and
+/// keeps the blocks of extension headers where they are to be kept.
 ///
 /// # Errors
 ///
@@ -69,10 +72,13 @@ pub fn survey_headers<D: Device>(
     device: &mut D,
     index: &IndexFile,
     size: u32,
+    extensions: &mut Extensions,
 ) -> Result<Survey, ReadFault>
     requires within { IndexLiesWithin (index_kept index.now) (length (D.disk device.old).image) }
     ensures surveys { IfOk result (λ survey. SurveysDisk (index_kept index.now) size survey
         (D.disk device.old) (D.disk device.new)) }
+    ensures keeps { OnOk result (KeepsExtensions (index_kept index.now) (D.disk device.old)
+        extensions.old extensions.new) }
     ensures failed { IsErrOf result ReadFault.DeviceFault
         → Looked (D.disk device.old) (D.disk device.new) (used_slots (index_kept index.now)) 1 }
     ensures no_memory { IsErrOf result ReadFault.NoMemory
@@ -84,6 +90,7 @@ pub fn survey_headers<D: Device>(
         let n = (k + 1) as u16;
         let state = read_slot(device, index, n, &mut block)?;
         survey.take(n, state, &block, size)?;
+        extensions.take(state, &block)?;
     }
     Ok(survey)
 }

@@ -50,6 +50,13 @@ impl Slot {
         self.state == State::Live
     }
 
+    /// Whether its header is valid and has another segment number than 0.
+    pub fn is_extension(&self) -> bool
+        ensures { IsTrue result ↔ ((self.now.state ≡ State.Live) × (self.now.segment ≢ 0)) }
+    {
+        self.is_live() && self.segment != 0
+    }
+
     /// Whether its header is the first of a file.
     pub fn is_file(&self) -> bool
         ensures { IsTrue result ↔ ((self.now.state ≡ State.Live) × (self.now.segment ≡ 0)) }

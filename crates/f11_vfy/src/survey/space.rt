@@ -8,7 +8,7 @@ ghost use Rattle.f11_vfy.specs.Surveying.Free.{ReadsFree, has_bit};
 
 use crate::fault::ReadFault;
 use crate::survey::bits::Bits;
-use f11_bytes::{BLOCK_SIZE, Block, is_set, read_word};
+use f11_bytes::{Block, is_set, read_word};
 use f11_dev::Device;
 use std::alloc::Global;
 
@@ -16,7 +16,8 @@ use std::alloc::Global;
 const BITS: u32 = 4096;
 
 /// The set of the free blocks of a volume of `size` blocks whose bitmap blocks are at these places, in order: at most 126 places, on
-/// the device, with a bit for each block; one may be there more than once. Each place is read once at most.
+/// the device, with a bit for each block; one may be there more than once. Each place is read once at most, into `block`, where the last
+/// one that has a bit of the volume stays.
 ///
 /// # Errors
 ///
@@ -26,13 +27,14 @@ pub fn free_blocks<D: Device>(
     device: &mut D,
     places: &[u32],
     size: u32,
+    block: &mut Block,
 ) -> Result<Bits, ReadFault>
     requires few { length places.now ≤ 126 }
     requires covered { size ≤ 4096 * length places.now }
     requires within { LiesWithin (record { places = places.now; size = size })
         (length (D.disk device.old).image) }
     ensures reads { IfOk result (λ free.
-        ReadsFree (record { places = places.now; size = size }) free
+        ReadsFree (record { places = places.now; size = size }) free block.new
         (D.disk device.old) (D.disk device.new)) }
     ensures failed { IsErrOf result ReadFault.DeviceFault
         → Looked (D.disk device.old) (D.disk device.new) (length places.now) 1 }
@@ -40,11 +42,10 @@ pub fn free_blocks<D: Device>(
         → Looked (D.disk device.old) (D.disk device.new) 0 0 }
 {
     let mut free = Bits::new(alloc, size)?;
-    let mut block = [0; BLOCK_SIZE];
     for index in 0..size.div_ceil(BITS) {
-        device.read(places[index as usize], &mut block)?;
+        device.read(places[index as usize], block)?;
         let count = (size - index * BITS).min(BITS);
-        add_bits(&mut free, index * BITS, &block, count);
+        add_bits(&mut free, index * BITS, block, count);
     }
     Ok(free)
 }

@@ -1,8 +1,7 @@
 use Rattle.std.proofs.Common.{arith}
 use Rattle.f11_chain.proofs.AlongLemmas.{handed-on}
 use Rattle.f11_vfy.specs.Frames.Frame.{frame_reads}
-use Rattle.f11_vfy.specs.Frames.Read.{frame_index, frame_bitmap}
-use Rattle.f11_vfy.proofs.Reclaiming.Behind.{reads-failed, goes-behind, gives-behind, lacks-behind, frame-of, frame-cost, frame-bitmap}
+use Rattle.f11_vfy.proofs.Reclaiming.Behind.{reads-failed, goes-behind, gives-behind, lacks-behind, frame-of, frame-cost}
 use Rattle.f11_vfy.proofs.Reclaiming.Behind.{no-fault}
 use Rattle.f11_vfy.proofs.reclaimer.whole.reclaim_image.Goals as goal
 
@@ -10,12 +9,6 @@ pub returns-in_err-frame-clause-failed : goal.returns-in_err-frame-clause-failed
 returns-in_err-frame-clause-failed g c is =
     reads-failed _ _ (frame_reads (g.D.Device.disk c.args.device.now)) _ _ (λ honest home sound. omega arith)
     (c.in_err-frame.ensures.failed (handed-on _ _ _ c.from_residual.ensures.1 is))
-
-pub reclaim_volume-requires-clause-bitmap : goal.reclaim_volume-requires-clause-bitmap
-reclaim_volume-requires-clause-bitmap g c =
-    let reads = rw c.in-Framed.is at c.in_ok-frame.ensures.frames in
-    frame-bitmap (frame_index c.in-Framed.frame) (frame_bitmap c.in-Framed.frame) _ _ reads (g.met.D.Device.is_image c.args.device.now)
-    c.requires.accepted
 
 pub returns-in_err-reclaim_volume-in-Framed-clause-failed : goal.returns-in_err-reclaim_volume-in-Framed-clause-failed
 returns-in_err-reclaim_volume-in-Framed-clause-failed g c is =

@@ -14,12 +14,14 @@ pub returns-in_err-give_back-clause-failed : goal.returns-in_err-give_back-claus
 returns-in_err-give_back-clause-failed g c is =
     let reads = rw c.places.ensures at c.in_ok-reading.ensures.reads in
     goes-behind _ _ _ _ (most_read (frame_index c.args.frame) (frame_bitmap c.args.frame)) _ _ _ reads.looked
-    (read-as (frame_index c.args.frame) (frame_bitmap c.args.frame) _ _ _ reads) (λ honest home framed. omega arith)
+    (read-as (frame_index c.args.frame) (frame_bitmap c.args.frame) _ c.all-kept.result _ _ _ reads
+    (rw c.places.ensures at c.in_ok-reading.ensures.keeps) c.requires.lie.sized c.all-kept.ensures) (λ honest home framed. omega arith)
     c.in_err-give_back.ensures.failed
 
 pub returns-clause-reclaimed : goal.returns-clause-reclaimed
 returns-clause-reclaimed g c =
     let reads = rw c.places.ensures at c.in_ok-reading.ensures.reads in
     gives-behind _ _ _ _ (most_read (frame_index c.args.frame) (frame_bitmap c.args.frame)) _ _ _ reads.looked
-    (read-as (frame_index c.args.frame) (frame_bitmap c.args.frame) _ _ _ reads) (λ honest home framed. omega arith)
+    (read-as (frame_index c.args.frame) (frame_bitmap c.args.frame) _ c.all-kept.result _ _ _ reads
+    (rw c.places.ensures at c.in_ok-reading.ensures.keeps) c.requires.lie.sized c.all-kept.ensures) (λ honest home framed. omega arith)
     c.in_ok-give_back.ensures.reclaimed
