@@ -1,6 +1,6 @@
 -- A file that is accessed is laid out in one run.
-use Rattle.std.proofs.Common.{◌≡◌, ◌≢◌, ◌⊎◌, inl, inr, ℕ, ◌+◌, ◌-◌, ◌≤◌, ◌==◌, Bool, true, false, IsTrue, List, [], ◌∷◌, Option, Some, None}
-use Rattle.std.proofs.Common.{Result, Ok, Err, refl, sym, ◌∙◌, ap, subst, arith, if◌then◌else◌}
+use Rattle.std.proofs.Common.{◌≡◌, ◌≢◌, ◌⊎◌, inl, inr, ℕ, ◌+◌, ◌-◌, ◌≤◌, ◌==◌, Bool, true, false, IsTrue, List, [], ◌∷◌, Some, None}
+use Rattle.std.proofs.Common.{Ok, Err, refl, sym, ◌∙◌, ap, subst, arith, if◌then◌else◌}
 use Rattle.std.proofs.lemmas.Bool.{eq-eqb, not_from_false, not_from_true}
 use Rattle.f11_dev.specs.Image.{Image}
 use Rattle.f11_home.specs.Home.{HomeFields}
@@ -8,7 +8,7 @@ use Rattle.f11_store.specs.Causes as causes
 use Rattle.f11_store.specs.Causes.{Cause, ◌⇐◌, first_of, first_refusal, is_missing, is_no_write, is_no_writer, cannot_write, lacks}
 use Rattle.f11_store.specs.Changes.{LaysOut}
 use Rattle.f11_store.specs.Cost.{cost, contiguous_cost}
-use Rattle.f11_store.specs.File.{File, length_of}
+use Rattle.f11_store.specs.File.{File}
 use Rattle.f11_store.specs.Lags.{Work, contiguous_work, served_work}
 use Rattle.f11_store.specs.Rights.{may}
 use Rattle.f11_store.specs.Store.{Store, id_held, file_held, file_named}

@@ -17,6 +17,8 @@ use Rattle.f11_store.specs.declared.requests.Reply.{Reply}
 use Rattle.f11_files.specs.Answers.{is_fatal, is_refused}
 use Rattle.f11_files.specs.Open.{store_in}
 use Rattle.f11_image_store.proofs.StoreLemmas.{unused-is-empty}
+use Rattle.f11_writes.specs.Order.{WritesInOrder}
+use Rattle.f11_writes.proofs.InOrderLemmas.{order-none, order-then}
 use Rattle.f11_fcp.specs.Accesses.{Entry, HasAccessed, AccessTable, access_of, held_in, mark_kept, mark_there}
 use Rattle.f11_fcp.specs.Handles.{State, faults_in, is_damage}
 use Rattle.f11_fcp.specs.Lists.{AreAnswered, IsServed, KeepsCosts, KeepsLocks, ServesCall, ServesRun, answer_and, answers_in, asked_in}
@@ -155,6 +157,15 @@ module _ {D : Type 0} {met : Ghosts D} where
       → TidyRun (store_of_volume v) cs bs (store_of_volume w)
   tidy v w cs bs each sound none =
       each-sound ServesCall (Within FreeIsEmpty Steps) store_of_volume failures_of is_sound seen-as-steps v w cs bs each sound none
+
+  -- their blocks were written in order
+  pub each-ordered : (v w : Volume D met) (cs : List Call) (bs : List Answer) → Each ServesCall v cs bs w
+      → WritesInOrder (state_in v).disk (state_in w).disk
+  each-ordered v w [] [] h =
+      subst (λ (x : Volume D met). WritesInOrder (state_in v).disk (state_in x).disk) (sym h) (order-none (state_in v).disk)
+  each-ordered v w (c ∷ cs) (a ∷ bs) h = order-then _ _ _ h.1.serving.ordered (each-ordered h.0 w cs bs h.2)
+  each-ordered v w [] (a ∷ bs) h = absurd h
+  each-ordered v w (c ∷ cs) [] h = absurd h
 
   pub serves-run : (v w : Volume D met) (cs : List Call) (bs : List Answer) → Each ServesCall v cs bs w → ServesRun v cs bs w
   serves-run v w cs bs each sound none =

@@ -10,6 +10,7 @@ ghost use Rattle.f11_fcp.specs.Windows.{LeavesRows};
 ghost use Rattle.f11_store.specs.Cost.{header_count};
 ghost use Rattle.f11_store.specs.Directory.{record_bytes};
 ghost use Rattle.f11_store.specs.Store.{file_named};
+ghost use Rattle.f11_writes.specs.Order.{WritesInOrder};
 
 use crate::answer::of_known;
 use crate::entry::replace_entry;
@@ -48,6 +49,7 @@ fn end_block<D: Device>(
         (disk_in files.old) (disk_in files.new)) }
     ensures alive { OnOk result (has_failed files.new ≡ false) }
     ensures home { home_in files.new ≡ home_in files.old }
+    ensures ordered { WritesInOrder (disk_in files.old) (disk_in files.new) }
 {
     if found.count % RECORDS != 0 {
         return Ok(found.last);
@@ -104,6 +106,7 @@ fn append_entry<D: Device>(
     ensures alive { OnOk result (has_failed files.new ≡ false) }
     ensures rows { OnOk result (LeavesRows files.old files.new) }
     ensures home { home_in files.new ≡ home_in files.old }
+    ensures ordered { WritesInOrder (disk_in files.old) (disk_in files.new) }
 {
     match replace_entry(files, directory, &tail.spot, file, name) {
         Ok(()) => {}
@@ -137,6 +140,7 @@ fn append_in_block<D: Device>(
     ensures alive { OnOk result (has_failed files.new ≡ false) }
     ensures rows { OnOk result (LeavesRows files.old files.new) }
     ensures home { home_in files.new ≡ home_in files.old }
+    ensures ordered { WritesInOrder (disk_in files.old) (disk_in files.new) }
 {
     let block = match end_block(files, directory, found) {
         Ok(block) => block,
@@ -169,6 +173,7 @@ fn append_in_new_block<D: Device>(
     ensures alive { is_refused is_fatal result ≡ false → has_failed files.new ≡ false }
     ensures rows { OnOk result (LeavesRows files.old files.new) }
     ensures home { home_in files.new ≡ home_in files.old }
+    ensures ordered { WritesInOrder (disk_in files.old) (disk_in files.new) }
 {
     match files.extend(directory, 1) {
         Ok(_) => {}
@@ -206,6 +211,7 @@ pub(crate) fn put_entry<D: Device>(
     ensures alive { is_refused is_fatal result ≡ false → has_failed files.new ≡ false }
     ensures rows { OnOk result (LeavesRows files.old files.new) }
     ensures home { home_in files.new ≡ home_in files.old }
+    ensures ordered { WritesInOrder (disk_in files.old) (disk_in files.new) }
 {
     match empty {
         Some(spot) => match replace_entry(files, directory, &spot, file, name) {

@@ -6,6 +6,7 @@ ghost use Rattle.f11_entries.specs.Costs.{look_cost};
 ghost use Rattle.f11_fcp.specs.Directories.{lacks_for_purpose, is_barred_to, opening_causes, OpensDirectory, Searches};
 ghost use Rattle.f11_fcp.specs.Places.{access_table_of};
 ghost use Rattle.f11_store.specs.Store.{file_named};
+ghost use Rattle.f11_writes.specs.Order.{WritesInOrder};
 
 use crate::answer::of_known;
 use crate::look::look_through;
@@ -63,6 +64,7 @@ impl Accesses {
         ensures alive { is_refused is_fatal result ≡ false → has_failed files.new ≡ false }
         ensures told { counts_in files.new ≡ counts_in files.old }
         ensures home { home_in files.new ≡ home_in files.old }
+        ensures ordered { WritesInOrder (disk_in files.old) (disk_in files.new) }
     {
         if directory.number < 4 {
             return Err(Refusal::SystemFile);
@@ -111,6 +113,7 @@ impl Accesses {
         ensures alive { is_refused is_fatal result ≡ false → has_failed files.new ≡ false }
         ensures told { counts_in files.new ≡ counts_in files.old }
         ensures home { home_in files.new ≡ home_in files.old }
+        ensures ordered { WritesInOrder (disk_in files.old) (disk_in files.new) }
     {
         let attr = match self.open_directory(files, caller, directory, purpose) {
             Ok(attr) => attr,

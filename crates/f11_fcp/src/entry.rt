@@ -8,6 +8,7 @@ ghost use Rattle.f11_fcp.specs.Windows.{LeavesRows};
 ghost use Rattle.f11_store.specs.Cost.{header_count};
 ghost use Rattle.f11_store.specs.Directory.{empty_record, record_bytes};
 ghost use Rattle.f11_store.specs.Store.{file_named};
+ghost use Rattle.f11_writes.specs.Order.{WritesInOrder};
 
 use crate::answer::of_known;
 use f11_bytes::Block;
@@ -37,6 +38,7 @@ fn write_known<D: Device>(
         (disk_in files.old) (disk_in files.new)) }
     ensures alive { OnOk result (has_failed files.new ≡ false) }
     ensures home { home_in files.new ≡ home_in files.old }
+    ensures ordered { WritesInOrder (disk_in files.old) (disk_in files.new) }
 {
     match files.write_block(directory, number + 1, block) {
         Ok(()) => Ok(()),
@@ -63,6 +65,7 @@ pub(crate) fn replace_entry<D: Device>(
     ensures alive { OnOk result (has_failed files.new ≡ false) }
     ensures rows { OnOk result (LeavesRows files.old files.new) }
     ensures home { home_in files.new ≡ home_in files.old }
+    ensures ordered { WritesInOrder (disk_in files.old) (disk_in files.new) }
 {
     let mut block = spot.block;
     put(&mut block, spot.place, file, name);
@@ -88,6 +91,7 @@ pub(crate) fn clear_entry<D: Device>(
     ensures alive { OnOk result (has_failed files.new ≡ false) }
     ensures rows { OnOk result (LeavesRows files.old files.new) }
     ensures home { home_in files.new ≡ home_in files.old }
+    ensures ordered { WritesInOrder (disk_in files.old) (disk_in files.new) }
 {
     let mut block = spot.block;
     clear(&mut block, spot.place);

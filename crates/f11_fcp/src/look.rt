@@ -5,6 +5,7 @@ ghost use Rattle.f11_files.specs.Answers.{FailsToRead};
 ghost use Rattle.f11_files.specs.Open.{counts_in, disk_in, has_failed, home_in, is_honest, store_in, IsIdFrom};
 ghost use Rattle.f11_fcp.specs.Directories.{IsDirectoryOf, LooksThroughDirectory};
 ghost use Rattle.f11_store.specs.Store.{file_named};
+ghost use Rattle.f11_writes.specs.Order.{WritesInOrder};
 
 use crate::answer::of_known;
 use f11_bytes::Block;
@@ -37,6 +38,7 @@ pub(crate) fn look_through<D: Device>(
     ensures alive { OnOk result (has_failed files.new ≡ false) }
     ensures told { counts_in files.new ≡ counts_in files.old }
     ensures home { home_in files.new ≡ home_in files.old }
+    ensures ordered { WritesInOrder (disk_in files.old) (disk_in files.new) }
 {
     let mut empty: Option<Spot> = None;
     for number in 0..count.div_ceil(32) {

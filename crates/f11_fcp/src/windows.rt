@@ -9,6 +9,7 @@ ghost use Rattle.f11_files.specs.Open.{counts_in, disk_in, has_failed, home_in, 
 ghost use Rattle.f11_files.specs.Operations.{length_causes};
 ghost use Rattle.f11_store.specs.Cost.{header_count};
 ghost use Rattle.f11_store.specs.Store.{file_named};
+ghost use Rattle.f11_writes.specs.Order.{WritesInOrder};
 
 use crate::table::Held;
 use f11_bytes::Block;
@@ -35,6 +36,7 @@ fn next_window<D: Device>(files: &mut Files<D>, held: &Held, vbn: u32) -> Result
         (length_causes (store_in files.old) held.now.file vbn)
         (header_count (file_named (store_in files.old) held.now.file)) refusal
         (disk_in files.old) (disk_in files.new)) }
+    ensures ordered { WritesInOrder (disk_in files.old) (disk_in files.new) }
 {
     match held.window.lbn_of(vbn) {
         Some(_) => Ok(held.window),
@@ -69,6 +71,7 @@ pub(crate) fn read_by<D: Device>(
         (header_count (file_named (store_in files.old) held.now.file) + 1) refusal
         (disk_in files.old) (disk_in files.new)) }
     ensures kept { is_refused is_fatal result ≡ false → OnErr result (block.new ≡ block.old) }
+    ensures ordered { WritesInOrder (disk_in files.old) (disk_in files.new) }
 {
     let window = match next_window(files, held, vbn) {
         Ok(window) => window,
@@ -105,6 +108,7 @@ pub(crate) fn write_by<D: Device>(
     ensures refused { IfErr result (λ refusal. FailsToStore (has_failed files.old)
         (home_in files.old) held.now.file vbn block.now refusal
         (disk_in files.old) (disk_in files.new)) }
+    ensures ordered { WritesInOrder (disk_in files.old) (disk_in files.new) }
 {
     let window = match next_window(files, held, vbn) {
         Ok(window) => window,

@@ -18,7 +18,8 @@ use Rattle.f11_image_store.specs.StoreOf.{store_of}
 use Rattle.f11_files.specs.Answers.{Does, FailsOrWants, FailsToRead, FailsToWrite, IsRight, IsUnderWay, Meanwhile, ReadsAtMost}
 use Rattle.f11_files.specs.Answers.{WritesAtMost, WritesMoreOf, is_among, is_fatal, is_refused}
 use Rattle.f11_image_store.specs.Allocation.{free_list}
-use Rattle.f11_image_store.specs.Confines.{Confines, either, new_header, no_header}
+use Rattle.f11_image_store.specs.Confines.{either, new_header, no_header}
+use Rattle.f11_files.specs.Confined.{ConfinesInOrder}
 use Rattle.f11_files.specs.Structure.{bitmap_in, home_of, index_in, ConfinesTo, IsStructureOf, StaysFor}
 use Rattle.f11_files.specs.GrowingIndex.Headroom.{ConfinesSlots}
 use Rattle.f11_bits.specs.Bitmap.{Bitmap}
@@ -196,7 +197,7 @@ wants-as {causes = causes} {others = others} {work = work} {works = works} {home
 
 -- blocks are changed behind those that were read
 confines-behind : (headers : ℕ → Bool) (index : Index) (bitmap : Bitmap) (others : List ℕ) {a b c : Disk} {most faults : ℕ}
-    → Looked a b most faults → Confines headers index bitmap others b c → Confines headers index bitmap others a c
+    → Looked a b most faults → ConfinesInOrder headers index bitmap others b c → ConfinesInOrder headers index bitmap others a c
 confines-behind headers index bitmap others looked two =
     confines-then headers headers index index bitmap bitmap others others (λ l none out. none) (λ l out. out)
     (confines-looked headers index bitmap others looked) two
@@ -205,11 +206,13 @@ pub slots-behind : (k : ℕ) (home : HomeFields) (a b c : Disk) {most faults : �
     → ConfinesSlots k home a c
 slots-behind zero home a b c looked two = λ honest.
     confines-behind no_header (index_of a.image home) (storage_bitmap a.image home) [] looked
-    (subst (λ (i : Image). Confines no_header (index_of i home) (storage_bitmap i home) [] b c) looked.image (two (looked.honest ∙ honest)))
+    (subst (λ (i : Image). ConfinesInOrder no_header (index_of i home) (storage_bitmap i home) [] b c) looked.image
+    (two (looked.honest ∙ honest)))
 slots-behind (suc n) home a b c looked two = λ honest.
     confines-behind (either (is_in (headers_of (table_of a.image home) 1)) (new_header (index_of a.image home))) (index_of a.image home)
     (storage_bitmap a.image home) (free_list (volume_of a.image home)) looked
-    (subst (λ (i : Image). Confines (either (is_in (headers_of (table_of i home) 1)) (new_header (index_of i home))) (index_of i home)
+    (subst (λ (i : Image). ConfinesInOrder (either (is_in (headers_of (table_of i home) 1)) (new_header (index_of i home)))
+    (index_of i home)
     (storage_bitmap i home) (free_list (volume_of i home)) b c) looked.image (two (looked.honest ∙ honest)))
 
 -- what is kept of an image tells which blocks are changed
@@ -219,9 +222,10 @@ pub more-of : (t : Structure) (home : HomeFields) (f : ℕ) (a b : Disk) → hom
 more-of t home f a b at keeps one honest =
     let index : index_in t ≡ index_of a.image home = (keeps honest).index_is ∙ ap (index_of a.image) at in
     let bitmap : bitmap_in t ≡ storage_bitmap a.image home = (keeps honest).bitmap_is ∙ ap (storage_bitmap a.image) at in
-    subst (λ (x : Index). Confines (either (is_in (headers_of (table_of a.image home) f)) (new_header x)) x (storage_bitmap a.image home)
+    subst (λ (x : Index). ConfinesInOrder (either (is_in (headers_of (table_of a.image home) f)) (new_header x)) x
+    (storage_bitmap a.image home)
     (free_list (volume_of a.image home)) a b) index
-    (subst (λ (x : Bitmap). Confines (either (is_in (headers_of (table_of a.image home) f)) (new_header (index_in t))) (index_in t) x
+    (subst (λ (x : Bitmap). ConfinesInOrder (either (is_in (headers_of (table_of a.image home) f)) (new_header (index_in t))) (index_in t) x
     (free_list (volume_of a.image home)) a b) bitmap (one honest))
 
 -- or none is

@@ -1,4 +1,5 @@
 -- Which blocks the steps of a call write.
 pub mod SlotParts
 pub mod Confines
+pub mod InOrder
 pub mod Parts

@@ -25,7 +25,9 @@ use Rattle.f11_files.specs.Answers.{faults_of, is_fatal, Does, FailsOrWants, IsU
 use Rattle.f11_files.specs.GrowingIndex.Headroom.{ready_work, ConfinesSlots, ReadiesHeaders, WritesAfterSlots}
 use Rattle.f11_files.specs.Overall.{AllotsAfter}
 use Rattle.f11_files.proofs.AnswerLemmas.{reads-within}
-use Rattle.f11_files.proofs.Confining.Confines.{confines-none}
+use Rattle.f11_writes.specs.Order.{WritesInOrder}
+use Rattle.f11_writes.proofs.InOrderLemmas.{order-then}
+use Rattle.f11_files.proofs.Confining.Confines.{confines-none, in-order-if}
 use Rattle.f11_files.proofs.Extending.Cleared.{fatal-right}
 use Rattle.f11_files.proofs.WriteLemmas.{as-wanting, breaks-off, writes-within}
 
@@ -169,3 +171,15 @@ unchanged-after headers Rest home disk rest =
     by_count : (n : ℕ) → ConfinesSlots n home disk disk
     by_count zero = λ _. confines-none _ _ _ _ disk
     by_count (suc n) = λ _. confines-none _ _ _ _ disk
+
+-- slots that came first, and then the rest, were written in order
+pub after-slots-order : {headers : ℕ} {Rest : Disk → Disk → Type 0} {home : HomeFields} {old new : Disk}
+    → ((ready : Disk) → Rest ready new → WritesInOrder ready new) → WritesAfterSlots headers Rest home old new → WritesInOrder old new
+after-slots-order {headers} {Rest} {home} {old} {new} order after =
+    order-then old after.ready new (record {
+      ordered = λ honest. (by_count (slots_first (store_of old.image home) headers) (after.slots honest)).ordered honest;
+    }) (order after.ready after.rest)
+  where
+    by_count : (n : ℕ) → ConfinesSlots n home old after.ready → WritesInOrder old after.ready
+    by_count zero slots = in-order-if slots
+    by_count (suc n) slots = in-order-if slots

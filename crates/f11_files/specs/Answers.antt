@@ -25,8 +25,9 @@ use Rattle.f11_volume.specs.Sound.{HasSoundVolume}
 use Rattle.f11_volume.specs.Space.{storage_bitmap}
 use Rattle.f11_volume.specs.Volume.{Volume, volume_of}
 use Rattle.f11_image_store.specs.Allocation.{free_list}
-use Rattle.f11_image_store.specs.Confines.{Confines, no_header, only_header, new_header, either}
+use Rattle.f11_image_store.specs.Confines.{no_header, only_header, new_header, either}
 use Rattle.f11_image_store.specs.StoreOf.{store_of}
+use Rattle.f11_files.specs.Confined.{ConfinesInOrder}
 
 -- DeviceFault and Damaged fail the volume
 abbrev pub is_fatal : Refusal → Bool
@@ -126,10 +127,10 @@ pub record FailsOrWants (takes : Bool) (failed : Bool) (causes : List Cause) (mo
   pub unchanged : is_fatal refusal ≡ false → ReadsAtMost most old new 0
 
 -- Where the disk is honest, no block was changed but these headers, the index bitmap, the storage bitmap, and these: each image that stood
--- meanwhile spares all others.
+-- meanwhile spares all others. Each write was in order.
 abbrev pub WritesOnly : (ℕ → Bool) → List ℕ → HomeFields → Disk → Disk → Type 0
 WritesOnly headers others home old new =
-    IsTrue old.honest → Confines headers (index_of old.image home) (storage_bitmap old.image home) others old new
+    IsTrue old.honest → ConfinesInOrder headers (index_of old.image home) (storage_bitmap old.image home) others old new
 
 -- of headers, the first one of file f alone
 abbrev pub WritesFirstOf : FileId → HomeFields → Disk → Disk → Type 0

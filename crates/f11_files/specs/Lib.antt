@@ -1,3 +1,4 @@
+pub mod Confined
 pub mod Structure
 pub mod Open
 pub mod Answers

@@ -11,8 +11,9 @@ use Rattle.f11_store.specs.Changes.{is_in}
 use Rattle.f11_store.specs.Store.{Store}
 use Rattle.f11_volume.specs.Sound.{HasSoundVolume}
 use Rattle.f11_volume.specs.Space.{storage_bitmap}
-use Rattle.f11_image_store.specs.Confines.{Confines, IsNoPart, AreAlike}
+use Rattle.f11_image_store.specs.Confines.{IsNoPart, AreAlike}
 use Rattle.f11_image_store.specs.StoreOf.{store_of}
+use Rattle.f11_files.specs.Confined.{ConfinesInOrder}
 use Rattle.f11_files.specs.declared.structure.Structure.{Structure}
 
 -- the home block, the index file and the storage bitmap that are kept
@@ -63,9 +64,9 @@ pub record StaysFor (failed : Bool) (old new : Structure) (disk : Disk) : Type 0
   pub sound : IsTrue disk.honest → HasSoundVolume disk.image (home_of new)
   pub keeps : failed ≡ false → IsTrue disk.honest → IsStructureOf new disk.image
 
--- Calls changed no block but these headers, the bitmaps, and these.
+-- Calls changed no block but these headers, the bitmaps, and these, and wrote them in order.
 abbrev pub ConfinesTo : Structure → (ℕ → Bool) → List ℕ → Disk → Disk → Type 0
-ConfinesTo s headers others old new = Confines headers (index_in s) (bitmap_in s) others old new
+ConfinesTo s headers others old new = ConfinesInOrder headers (index_in s) (bitmap_in s) others old new
 
 -- They changed these headers and the bitmaps alone.
 abbrev pub WritesParts : Structure → (ℕ → Bool) → Disk → Disk → Type 0

@@ -140,6 +140,7 @@ impl Structure {
 }
 
 impl<D: Device> Files<D> {
+    ghost use Rattle.f11_writes.specs.Order.{WritesInOrder};
     ghost use Rattle.f11_files.specs.Open.{disk_in, has_failed, home_in, AnswersCall};
 
     /// Makes a file without blocks in the least free slot from 6 on, with the slot's next sequence number (profile), and gives its
@@ -168,6 +169,7 @@ impl<D: Device> Files<D> {
             (disk_in self.old) (disk_in self.new)) }
         ensures confined { let home = home_in self.old in
             WritesAfterSlots 1 (WritesNewHeaders home) home (disk_in self.old) (disk_in self.new) }
+        ensures ordered { WritesInOrder (disk_in self.old) (disk_in self.new) }
     {
         if self.failed {
             return Err(Refusal::VolumeFailed);

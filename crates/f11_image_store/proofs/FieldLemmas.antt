@@ -57,7 +57,7 @@ module _ (change : File → File) (old new : List ℕ) (says : SaysBut change ol
   unfolding link_of
   link-same = ap link says.map
 
-  blocks-same : blocks_named new ≡ blocks_named old
+  pub blocks-same : blocks_named new ≡ blocks_named old
   unfolding blocks_named
   blocks-same = ap blocks_of says.map
 

@@ -93,7 +93,7 @@ module _ (id : FileId) (owned : Uic) (protects : ℕ) (ident attr empty block : 
   no-runs : runs_of (map_area block) ≡ []
   no-runs = ap runs_of map-is ∙ runs-none (map_area empty) new.blank.no_pointer
 
-  names-none : blocks_named block ≡ []
+  pub names-none : blocks_named block ≡ []
   unfolding blocks_named
   names-none = ap blocks_in no-runs
 
@@ -105,7 +105,7 @@ module _ (id : FileId) (owned : Uic) (protects : ℕ) (ident attr empty block : 
   unfolding segment_number
   first-segment = ap segment map-is ∙ new.blank.segment_is
 
-  valid : IsHeader block id.number
+  pub valid : IsHeader block id.number
   valid = record { number = says.number ∙ new.blank.number_is; holds = says.holds; sum = says.sum }
 
   sequence-is : file_sequence block ≡ id.sequence

@@ -104,7 +104,7 @@ module _ (old new : Image) (home : HomeFields) (is : HasSoundVolume old home) (o
       }
 
 -- a block outside those that are marked is free where it was
-outside : (free : Bool) (b : Bitmap) (lbn count k : ℕ) (old new : Image) → Marks free b lbn count old new → is_free new b k ≡ true
+pub outside : (free : Bool) (b : Bitmap) (lbn count k : ℕ) (old new : Image) → Marks free b lbn count old new → is_free new b k ≡ true
     → (is_free old b k ≡ true) ⊎ (lbn ≤ k) × (k < lbn + count)
 outside free b lbn count k old new marks is = elim (cases_lt k lbn) [
   | inl before ↦ inl (sym (marks.before k before) ∙ is)

@@ -12,6 +12,8 @@ pub mod HeaderLemmas
 pub mod BitLemmas
 pub mod GrowLemmas
 pub mod NameLemmas
+pub mod OrderLemmas
+pub mod InOrderLemmas
 pub mod AddedLemmas
 pub mod MadeLemmas
 pub mod LinkedLemmas

@@ -117,7 +117,7 @@ fewer-names v n count lbns may = record {
 }
 
 -- where the other slots are as they were, a block that another header names was so before
-cell-was : (old new : Table) (n m place lbn : ℕ) → KeepsOtherSlots n old new → m ≢ n → IsCell new m place lbn → IsCell old m place lbn
+pub cell-was : (old new : Table) (n m place lbn : ℕ) → KeepsOtherSlots n old new → m ≢ n → IsCell new m place lbn → IsCell old m place lbn
 cell-was old new n m place lbn others away cell =
     let used = sym (others.in_use m away) ∙ cell.live.in_use in
     let same = others.header m away used in

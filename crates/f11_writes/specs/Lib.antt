@@ -3,5 +3,7 @@ pub mod Kept
 pub mod Volumes
 pub mod Laws
 pub mod HeaderLaws
+pub mod Order
+pub mod OrderLaws
 pub mod NameLaws
 pub mod Worked

@@ -2,6 +2,7 @@
 ghost use Rattle.f11_writes.specs.HeaderLaws as headers;
 ghost use Rattle.f11_writes.specs.Laws as laws;
 ghost use Rattle.f11_writes.specs.NameLaws as names;
+ghost use Rattle.f11_writes.specs.OrderLaws as order;
 ghost use Rattle.f11_writes.specs.OtherSlots as slots;
 ghost use Rattle.f11_writes.specs.Volumes as volumes;
 ghost use Rattle.f11_writes.specs.Worked as worked;
@@ -80,6 +81,48 @@ pub fn names()
     ensures own { names.OwnMayBeNamed }
     ensures more { names.MoreMayBeNamed }
     ensures fewer { names.FewerMayBeNamed }
+{}
+
+/// Writes of blocks that are in order.
+pub fn orderly_blocks()
+    ensures file { order.FileWriteIsOrderly }
+    ensures lost { order.LostWriteIsOrderly }
+    ensures bitmap { order.BitmapWriteIsOrderly }
+{}
+
+/// Writes of headers that are.
+pub fn orderly_headers()
+    ensures unused { order.UnusedHeaderWriteIsOrderly }
+    ensures killed { order.KillIsOrderly }
+    ensures any { order.HeaderRewriteIsOrderly }
+    ensures file { order.FileHeaderRewriteIsOrderly }
+    ensures grows { order.IndexFileGrowsInOrder }
+    ensures links { order.IndexFileGrowsByHeaderInOrder }
+{}
+
+/// Writes of slots' bits that are.
+pub fn orderly_bits()
+    ensures set { order.BitSetIsOrderly }
+    ensures clear { order.BitClearIsOrderly }
+{}
+
+/// Calls that write in order.
+pub fn ordered_calls()
+    ensures looked { order.LooksAreInOrder }
+    ensures wrote { order.WriteIsInOrder }
+    ensures failed { order.FailedWriteIsInOrder }
+    ensures kept { order.OrderIsKept }
+    ensures sound { order.OrderIsSound }
+{}
+
+/// Writes that are not.
+pub fn out_of_order()
+    ensures free { order.FreeBlocksAreSpared }
+    ensures comes { order.SlotsComeWithHeaders }
+    ensures leaves { order.LiveSlotsStay }
+    ensures linked { order.LinkedHeadersStay }
+    ensures zeros { order.NamedBlocksHoldZeros }
+    ensures used { order.NamedBlocksStayUsed }
 {}
 
 /// A block of zeros that is added to a file, an empty file that is made, a file that gets one more header, and one that is

@@ -23,6 +23,8 @@ use Rattle.f11_files.specs.Finding.First.{FindsFile}
 use Rattle.f11_image_store.specs.StoreOf.{store_of}
 use Rattle.f11_files.specs.Structure.{index_in, home_of, store_on, IsStructureOf, IsStructureFor, StaysFor}
 use Rattle.f11_files.specs.declared.structure.Structure.{Structure}
+use Rattle.f11_writes.specs.Order.{IsOrderlyWrite, WritesInOrder}
+use Rattle.f11_files.proofs.Confining.InOrder.{field-orderly, header-failed-order, header-order}
 use Rattle.f11_files.proofs.AnswerLemmas.{right-fault, reads-looked}
 use Rattle.f11_image_store.proofs.FieldLemmas.{changes-file, field-keeps}
 use Rattle.f11_files.proofs.Finding.First.{table-of}
@@ -80,7 +82,20 @@ module _ (s : Structure) (f : FileId) (change : File → File) (was block : List
         (change_lags (store_on s old) f.number change);
   }
 
+  -- the write is in order
+  orderly : IsTrue old.honest → IsOrderlyWrite (home_of s) old.image (with_header old.image (home_of s) f.number block)
+  orderly honest =
+      field-orderly old.image (home_of s) f.number block change (for.sound honest) (file-here honest) (says-here honest)
+      (subst (λ (i : Image). WritesHeader f.number block (home_of s) old.image i) (is-written honest) (changes honest).header)
+
   module _ (new : Disk) where
+    pub altered-order : new ≡ with_transfer true (with_block_at lbn block now) → WritesInOrder now new
+    altered-order = header-order s f.number lbn block old now finds.looked for at orderly new
+
+    pub unaltered-order : (new ≡ with_transfer false now) ⊎ (new ≡ with_transfer false (with_block_at lbn block now))
+        → WritesInOrder now new
+    unaltered-order = header-failed-order s f.number lbn block old now finds.looked for at orderly new
+
     pub alters : new ≡ with_transfer true (with_block_at lbn block now) → Alters change (home_of s) f old new
     alters is = record {
       no_cause = λ honest. no-file-cause s f was old for finds.holds honest;

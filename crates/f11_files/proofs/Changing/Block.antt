@@ -19,6 +19,9 @@ use Rattle.f11_image_store.specs.StoreOf.{store_of}
 use Rattle.f11_files.specs.Structure.{home_of, store_on, IsStructureOf, IsStructureFor, StaysFor}
 use Rattle.f11_files.specs.declared.structure.Structure.{Structure}
 use Rattle.f11_image_store.proofs.AllocationLemmas.{keeps-same}
+use Rattle.f11_writes.specs.Order.{IsOrderlyWrite, WritesInOrder}
+use Rattle.f11_writes.proofs.OrderLemmas.{file-orderly}
+use Rattle.f11_files.proofs.Confining.InOrder.{block-failed-order, block-order}
 use Rattle.f11_files.proofs.AnswerLemmas.{right-fault}
 use Rattle.f11_image_store.proofs.StoreLemmas.{block-stored}
 use Rattle.f11_files.proofs.WriteLemmas.{breaks-off, keeps-volume, failed-stays, served-stays, writes-behind}
@@ -52,7 +55,18 @@ module _ (s : Structure) (f : FileId) (vbn lbn : ℕ) (block : List ℕ) (old no
         (change_lags (store_on s old) f.number (with_block vbn block));
   }
 
+  -- the write is in order
+  orderly : IsTrue old.honest → IsOrderlyWrite (home_of s) old.image written
+  orderly honest = subst (λ (i : Image). IsOrderlyWrite (home_of s) old.image (set i lbn block)) (sym same)
+      (file-orderly old.image (home_of s) (for.sound honest) f.number vbn lbn block (finds.file honest) own (finds.block_is honest))
+
   module _ (new : Disk) where
+    pub stored-order : new ≡ with_transfer true (with_block_at lbn block now) → WritesInOrder now new
+    stored-order = block-order (home_of s) old now finds.reads.looked for.sound lbn block orderly new
+
+    pub unstored-order : (new ≡ with_transfer false now) ⊎ (new ≡ with_transfer false (with_block_at lbn block now)) → WritesInOrder now new
+    unstored-order = block-failed-order (home_of s) old now finds.reads.looked for.sound lbn block orderly new
+
     pub stores-block : new ≡ with_transfer true (with_block_at lbn block now) → StoresBlock (home_of s) f vbn block old new
     stores-block is = record {
       no_cause = finds.no_cause;

@@ -11,13 +11,15 @@ use Rattle.f11_index.specs.Table.{table_of}
 use Rattle.f11_store.specs.declared.files.FileId.{FileId}
 use Rattle.f11_store.specs.declared.refusals.Refusal.TheVariants.{DeviceFault, VolumeFailed}
 use Rattle.f11_volume.specs.Space.{storage_bitmap}
-use Rattle.f11_image_store.specs.Confines.{Confines, no_header}
+use Rattle.f11_image_store.specs.Confines.{no_header}
+use Rattle.f11_writes.specs.Order.{WritesInOrder}
+use Rattle.f11_files.specs.Confined.{ConfinesInOrder}
 use Rattle.f11_files.specs.Answers.{WritesBlocksOf}
 use Rattle.f11_files.specs.Finding.Blocks.{FindsBlock}
 use Rattle.f11_files.specs.Finding.Windows.{FailsToStoreBy, IsOfFile, IsWindowOn, StoresBy}
 use Rattle.f11_files.specs.Structure.{bitmap_in, home_of, ConfinesTo, IsStructureFor, StaysFor}
 use Rattle.f11_files.specs.declared.structure.Structure.{Structure}
-use Rattle.f11_files.proofs.Changing.Block.{fails-stays, fails-store, stored-stays, stores-block}
+use Rattle.f11_files.proofs.Changing.Block.{fails-stays, fails-store, stored-order, stored-stays, stores-block, unstored-order}
 use Rattle.f11_files.proofs.Confining.Confines.{confines-none}
 use Rattle.f11_files.proofs.Confining.Parts.{at-in, other-failed, other-wrote}
 use Rattle.f11_files.proofs.Finding.Windows.{finds-in-window, in-place}
@@ -40,8 +42,8 @@ module _ (s : Structure) (w : Window) (vbn lbn : ℕ) (block : List ℕ) (old ne
   confined : (f : FileId) → (IsTrue old.honest → ConfinesTo s no_header (blocks f) old new) → WritesBlocksOf f (home_of s) old new
   confined f is = λ honest.
       let keeps = for.keeps honest in
-      subst (λ (b : Bitmap). Confines no_header (index_of old.image (home_of s)) b (blocks f) old new) keeps.bitmap_is
-      (subst (λ (i : Index). Confines no_header i (bitmap_in s) (blocks f) old new) keeps.index_is (is honest))
+      subst (λ (b : Bitmap). ConfinesInOrder no_header (index_of old.image (home_of s)) b (blocks f) old new) keeps.bitmap_is
+      (subst (λ (i : Index). ConfinesInOrder no_header i (bitmap_in s) (blocks f) old new) keeps.index_is (is honest))
 
   -- it was written
   module _ (is : new ≡ with_transfer true (with_block_at lbn block old)) where
@@ -53,11 +55,15 @@ module _ (s : Structure) (w : Window) (vbn lbn : ℕ) (block : List ℕ) (old ne
       of_file = λ f on. stores-block s f vbn lbn block old old for on.id.number (finds f on) new is;
       confined = λ f on. confined f (λ honest.
           other-wrote s no_header (blocks f) lbn block old new
-          (at-in (blocks f) (vbn - 1) lbn (in-place s f w old for on some vbn lbn held honest)) is);
+          (at-in (blocks f) (vbn - 1) lbn (in-place s f w old for on some vbn lbn held honest)) is
+          (stored-order s f vbn lbn block old old for on.id.number (finds f on) new is));
     }
 
     pub stored-by-stays : IsOfFile (home_of s) w old → StaysFor false s s new
     stored-by-stays of = stored-stays s of.file vbn lbn block old old for of.is.id.number (finds of.file of.is) new is
+
+    pub stored-by-order : IsOfFile (home_of s) w old → WritesInOrder old new
+    stored-by-order of = stored-order s of.file vbn lbn block old old for of.is.id.number (finds of.file of.is) new is
 
   -- the transfer failed
   module _ (is : (new ≡ with_transfer false old) ⊎ (new ≡ with_transfer false (with_block_at lbn block old))) where
@@ -68,11 +74,15 @@ module _ (s : Structure) (w : Window) (vbn lbn : ℕ) (block : List ℕ) (old ne
       of_file = λ f on. fails-store s f vbn lbn block old old for on.id.number (finds f on) new is;
       confined = λ f on. confined f (λ honest.
           other-failed s no_header (blocks f) lbn block old new
-          (at-in (blocks f) (vbn - 1) lbn (in-place s f w old for on some vbn lbn held honest)) is);
+          (at-in (blocks f) (vbn - 1) lbn (in-place s f w old for on some vbn lbn held honest)) is
+          (unstored-order s f vbn lbn block old old for on.id.number (finds f on) new is));
     }
 
     pub failed-by-stays : IsOfFile (home_of s) w old → StaysFor true s s new
     failed-by-stays of = fails-stays s of.file vbn lbn block old old for of.is.id.number (finds of.file of.is) new is
+
+    pub failed-by-order : IsOfFile (home_of s) w old → WritesInOrder old new
+    failed-by-order of = unstored-order s of.file vbn lbn block old old for of.is.id.number (finds of.file of.is) new is
 
 -- the volume had failed, and nothing is done
 pub had-failed-by : {failed : Bool} {home : HomeFields} {w : Window} {vbn : ℕ} {block : List ℕ} (old : Disk) → failed ≡ true

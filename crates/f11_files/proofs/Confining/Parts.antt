@@ -8,7 +8,7 @@ use Rattle.std.proofs.lemmas.List.{get_or-append_right, get_or-take, get_or_appe
 use Rattle.std.proofs.lemmas.List.{take-append-drop}
 use Rattle.std.proofs.lemmas.List.FromFn.{get_or-range_with_len, length-range_with_len}
 use Rattle.std.specs.List.{range_with_len, slice_get}
-use Rattle.f11_bits.specs.Bitmap.{Bitmap}
+use Rattle.f11_bits.specs.Bitmap.{Bitmap, KeepsOthers}
 use Rattle.f11_bits.specs.Changes.{Changing}
 use Rattle.f11_chain.specs.Calls.{FailsToReadNext, FindsWrongLink}
 use Rattle.f11_chain.specs.declared.fault.ChainFault.{ChainFault}
@@ -25,6 +25,7 @@ use Rattle.f11_index.proofs.InUseLemmas.{in_use-some, in_use-slot}
 use Rattle.f11_store.specs.Changes.{is_in}
 use Rattle.f11_store.specs.declared.files.FileId.{FileId}
 use Rattle.f11_image_store.specs.Confines.{no_header, only_header, either}
+use Rattle.f11_writes.specs.Order.{WritesInOrder}
 use Rattle.f11_files.specs.Finding.First.{FindsFile}
 use Rattle.f11_files.specs.Structure.{index_in, bitmap_in, ConfinesTo, WritesParts, StandsAlike, StandsWithin}
 use Rattle.f11_files.specs.declared.structure.Structure.{Structure}
@@ -121,14 +122,15 @@ next-parts s headers block old new chain.DeviceFault never damaged failed = part
 -- a slot's header, whether or not it is in use
 pub slot-wrote : (s : Structure) (headers : ℕ → Bool) (n lbn : ℕ) (block : List ℕ) (old new : Disk) → headers n ≡ true → 0 < n
     → n ≤ slots (index_in s) → lbn ≡ header_lbn (index_in s) n
-    → new ≡ with_transfer true (with_block_at lbn block old) → WritesParts s headers old new
+    → new ≡ with_transfer true (with_block_at lbn block old) → WritesInOrder old new → WritesParts s headers old new
 slot-wrote s headers n lbn block old new may some slot at wrote =
     confines-write headers (index_in s) (bitmap_in s) [] old new lbn block
     (λ l none _. header-apart headers (index_in s) (bitmap_in s) n lbn may some slot at l none) wrote
 
 pub slot-failed : (s : Structure) (headers : ℕ → Bool) (n lbn : ℕ) (block : List ℕ) (old new : Disk) → headers n ≡ true → 0 < n
     → n ≤ slots (index_in s) → lbn ≡ header_lbn (index_in s) n
-    → (new ≡ with_transfer false old) ⊎ (new ≡ with_transfer false (with_block_at lbn block old)) → WritesParts s headers old new
+    → (new ≡ with_transfer false old) ⊎ (new ≡ with_transfer false (with_block_at lbn block old)) → WritesInOrder old new
+    → WritesParts s headers old new
 slot-failed s headers n lbn block old new may some slot at is =
     confines-failed headers (index_in s) (bitmap_in s) [] old new lbn block
     (λ l none _. header-apart headers (index_in s) (bitmap_in s) n lbn may some slot at l none) is
@@ -136,44 +138,47 @@ slot-failed s headers n lbn block old new may some slot at is =
 -- a header in use was written, or wasn't
 pub header-wrote : (s : Structure) (headers : ℕ → Bool) (n lbn : ℕ) (block : List ℕ) (old new : Disk) → headers n ≡ true
     → is_in_use (index_in s) n ≡ true → lbn ≡ header_lbn (index_in s) n
-    → new ≡ with_transfer true (with_block_at lbn block old) → WritesParts s headers old new
+    → new ≡ with_transfer true (with_block_at lbn block old) → WritesInOrder old new → WritesParts s headers old new
 header-wrote s headers n lbn block old new may used =
     slot-wrote s headers n lbn block old new may (in_use-some (index_in s) n used) (in_use-slot (index_in s) n used)
 
 pub header-failed : (s : Structure) (headers : ℕ → Bool) (n lbn : ℕ) (block : List ℕ) (old new : Disk) → headers n ≡ true
     → is_in_use (index_in s) n ≡ true → lbn ≡ header_lbn (index_in s) n
-    → (new ≡ with_transfer false old) ⊎ (new ≡ with_transfer false (with_block_at lbn block old)) → WritesParts s headers old new
+    → (new ≡ with_transfer false old) ⊎ (new ≡ with_transfer false (with_block_at lbn block old)) → WritesInOrder old new
+    → WritesParts s headers old new
 header-failed s headers n lbn block old new may used =
     slot-failed s headers n lbn block old new may (in_use-some (index_in s) n used) (in_use-slot (index_in s) n used)
 
 -- and no other
 pub only-wrote : (s : Structure) (n lbn : ℕ) (block : List ℕ) (old new : Disk) → is_in_use (index_in s) n ≡ true
-    → lbn ≡ header_lbn (index_in s) n → new ≡ with_transfer true (with_block_at lbn block old)
+    → lbn ≡ header_lbn (index_in s) n → new ≡ with_transfer true (with_block_at lbn block old) → WritesInOrder old new
     → WritesParts s (only_header n) old new
 only-wrote s n lbn block old new = header-wrote s (only_header n) n lbn block old new (in-only n)
 
 pub only-failed : (s : Structure) (n lbn : ℕ) (block : List ℕ) (old new : Disk) → is_in_use (index_in s) n ≡ true
     → lbn ≡ header_lbn (index_in s) n
-    → (new ≡ with_transfer false old) ⊎ (new ≡ with_transfer false (with_block_at lbn block old)) → WritesParts s (only_header n) old new
+    → (new ≡ with_transfer false old) ⊎ (new ≡ with_transfer false (with_block_at lbn block old)) → WritesInOrder old new
+    → WritesParts s (only_header n) old new
 only-failed s n lbn block old new = header-failed s (only_header n) n lbn block old new (in-only n)
 
 -- a file's first header was read, and then written, or wasn't
 pub first-wrote : (s : Structure) (f : FileId) (lbn : ℕ) (block next : List ℕ) (old read new : Disk)
     → FindsFile (index_in s) f block old read → lbn ≡ header_lbn (index_in s) f.number
-    → new ≡ with_transfer true (with_block_at lbn next read) → WritesParts s (only_header f.number) old new
-first-wrote s f lbn block next old read new found at wrote =
-    parts-behind s (only_header f.number) found.looked (only-wrote s f.number lbn next read new found.holds.header.in_use at wrote)
+    → new ≡ with_transfer true (with_block_at lbn next read) → WritesInOrder read new → WritesParts s (only_header f.number) old new
+first-wrote s f lbn block next old read new found at wrote order =
+    parts-behind s (only_header f.number) found.looked (only-wrote s f.number lbn next read new found.holds.header.in_use at wrote order)
 
 pub first-failed : (s : Structure) (f : FileId) (lbn : ℕ) (block next : List ℕ) (old read new : Disk)
     → FindsFile (index_in s) f block old read → lbn ≡ header_lbn (index_in s) f.number
-    → (new ≡ with_transfer false read) ⊎ (new ≡ with_transfer false (with_block_at lbn next read))
+    → (new ≡ with_transfer false read) ⊎ (new ≡ with_transfer false (with_block_at lbn next read)) → WritesInOrder read new
     → WritesParts s (only_header f.number) old new
-first-failed s f lbn block next old read new found at failed =
-    parts-behind s (only_header f.number) found.looked (only-failed s f.number lbn next read new found.holds.header.in_use at failed)
+first-failed s f lbn block next old read new found at failed order =
+    parts-behind s (only_header f.number) found.looked (only-failed s f.number lbn next read new found.holds.header.in_use at failed order)
 
 -- a slot's bit
 pub bit-went : (s : Structure) (headers : ℕ → Bool) (value : Bool) (n : ℕ) {old new : Disk} {most faults : ℕ} → 0 < n
-    → n ≤ slots (index_in s) → Went (HasBitWritten value n (index_in s) old.image) old new most faults → WritesParts s headers old new
+    → n ≤ slots (index_in s) → Went (HasBitWritten value n (index_in s) old.image) old new most faults → WritesInOrder old new
+    → WritesParts s headers old new
 bit-went s headers value n {old = old} some slot went =
     confines-went headers (index_in s) (bitmap_in s) []
     (λ image wrote l none out.
@@ -198,21 +203,32 @@ bit-alike s after value n bit same = record {
 
 -- blocks of the storage bitmap
 pub marks-went : (s : Structure) (headers : ℕ → Bool) (honest free : Bool) (lbn count : ℕ) {old new : Disk} {most faults : ℕ}
-    → Went (Changing honest free (bitmap_in s) lbn count old.image) old new most faults → WritesParts s headers old new
+    → Went (Changing honest free (bitmap_in s) lbn count old.image) old new most faults → WritesInOrder old new
+    → WritesParts s headers old new
 marks-went s headers honest free lbn count {old = old} went =
     confines-went headers (index_in s) (bitmap_in s) []
     (λ image is. spares-bitmap headers (index_in s) (bitmap_in s) [] old.image image is.keeps) went
 
+-- whichever they were
+pub keeps-went : (s : Structure) (headers : ℕ → Bool) {P : Image → Type 0} {old new : Disk} {most faults : ℕ}
+    → ((image : Image) → P image → KeepsOthers (bitmap_in s) old.image image) → Went P old new most faults → WritesInOrder old new
+    → WritesParts s headers old new
+keeps-went s headers {old = old} keeps went =
+    confines-went headers (index_in s) (bitmap_in s) []
+    (λ image is. spares-bitmap headers (index_in s) (bitmap_in s) [] old.image image (keeps image is)) went
+
 -- a block among others was written, or wasn't
 pub other-wrote : (s : Structure) (headers : ℕ → Bool) (others : List ℕ) (lbn : ℕ) (block : List ℕ) (old new : Disk)
-    → is_in others lbn ≡ true → new ≡ with_transfer true (with_block_at lbn block old) → ConfinesTo s headers others old new
+    → is_in others lbn ≡ true → new ≡ with_transfer true (with_block_at lbn block old) → WritesInOrder old new
+    → ConfinesTo s headers others old new
 other-wrote s headers others lbn block old new is wrote =
     confines-write headers (index_in s) (bitmap_in s) others old new lbn block
     (λ l _ out same. false≢true (sym out ∙ ap (is_in others) (sym same) ∙ is)) wrote
 
 pub other-failed : (s : Structure) (headers : ℕ → Bool) (others : List ℕ) (lbn : ℕ) (block : List ℕ) (old new : Disk)
     → is_in others lbn ≡ true
-    → (new ≡ with_transfer false old) ⊎ (new ≡ with_transfer false (with_block_at lbn block old)) → ConfinesTo s headers others old new
+    → (new ≡ with_transfer false old) ⊎ (new ≡ with_transfer false (with_block_at lbn block old)) → WritesInOrder old new
+    → ConfinesTo s headers others old new
 other-failed s headers others lbn block old new is failed =
     confines-failed headers (index_in s) (bitmap_in s) others old new lbn block
     (λ l _ out same. false≢true (sym out ∙ ap (is_in others) (sym same) ∙ is)) failed

@@ -9,6 +9,7 @@ use Rattle.f11_index.specs.Calls.{HasBitWritten}
 use Rattle.f11_index.specs.IndexFile.{Index, slots, slot_bit, header_lbn, is_in_use}
 use Rattle.f11_index.specs.Slots.{IsLeastFree}
 use Rattle.f11_image_store.specs.Confines.{new_header, only_header}
+use Rattle.f11_writes.specs.Order.{WritesInOrder}
 use Rattle.f11_files.specs.Structure.{index_in, WritesParts}
 use Rattle.f11_files.specs.declared.structure.Structure.{Structure}
 use Rattle.f11_files.proofs.Confining.Parts.{bit-went, only-wrote, parts-behind, parts-then, slot-failed, slot-wrote, stands-same}
@@ -41,23 +42,25 @@ module _ (s : Structure) (n lbn : ℕ) (block : List ℕ) (old read : Disk) (lea
 
   -- and not written
   pub slot-unwritten : {now : Disk} → (now ≡ with_transfer false read) ⊎ (now ≡ with_transfer false (with_block_at lbn block read))
-      → WritesParts s new old now
-  slot-unwritten {now = now} failed =
+      → WritesInOrder read now → WritesParts s new old now
+  slot-unwritten {now = now} failed order =
       parts-behind s new (looked_read old read reads)
-      (slot-failed s new n lbn block read now (least-new least) (least-some least) least.high at failed)
+      (slot-failed s new n lbn block read now (least-new least) (least-some least) least.high at failed order)
 
   -- or written, and then its bit, or that failed
   pub slot-entered : {now end : Disk} {most faults : ℕ} → now ≡ with_transfer true (with_block_at lbn block read)
-      → Went (HasBitWritten true n (index_in s) now.image) now end most faults → WritesParts s new old end
-  slot-entered {now = now} wrote went =
-      let header = slot-wrote s new n lbn block read now (least-new least) (least-some least) least.high at wrote in
+      → Went (HasBitWritten true n (index_in s) now.image) now end most faults → WritesInOrder read now → WritesInOrder now end
+      → WritesParts s new old end
+  slot-entered {now = now} wrote went one two =
+      let header = slot-wrote s new n lbn block read now (least-new least) (least-some least) least.high at wrote one in
       parts-behind s new (looked_read old read reads)
-      (parts-then s s new (stands-same s) header (bit-went s new true n (least-some least) least.high went))
+      (parts-then s s new (stands-same s) header (bit-went s new true n (least-some least) least.high went two))
 
 -- a header in use was written, and then its bit, or that failed
 pub slot-freed : (s : Structure) (n lbn : ℕ) (block : List ℕ) (old now : Disk) {end : Disk} {most faults : ℕ}
     → is_in_use (index_in s) n ≡ true → lbn ≡ header_lbn (index_in s) n → now ≡ with_transfer true (with_block_at lbn block old)
-    → Went (HasBitWritten false n (index_in s) now.image) now end most faults → WritesParts s (only_header n) old end
-slot-freed s n lbn block old now used at wrote went =
-    parts-then s s (only_header n) (stands-same s) (only-wrote s n lbn block old now used at wrote)
-    (bit-went s (only_header n) false n (in_use-some (index_in s) n used) (in_use-slot (index_in s) n used) went)
+    → Went (HasBitWritten false n (index_in s) now.image) now end most faults → WritesInOrder old now → WritesInOrder now end
+    → WritesParts s (only_header n) old end
+slot-freed s n lbn block old now used at wrote went one two =
+    parts-then s s (only_header n) (stands-same s) (only-wrote s n lbn block old now used at wrote one)
+    (bit-went s (only_header n) false n (in_use-some (index_in s) n used) (in_use-slot (index_in s) n used) went two)

@@ -5,12 +5,12 @@ use Rattle.std.specs.List.{All, slice_get}
 use Rattle.std.proofs.lemmas.List.{length-set}
 use Rattle.std.proofs.Math.ListN.{set}
 use Rattle.std.proofs.lemmas.Bool.{cases_eq, eq-eqb, ne_eqb}
-use Rattle.std.proofs.lemmas.Option.{slice_get_within}
+use Rattle.std.proofs.lemmas.Option.{slice_get_within, none-some}
 use Rattle.f11_bits.specs.Bitmap.{Bitmap, LiesWithin as BitmapLiesWithin}
 use Rattle.f11_bits.specs.Storage.{bitmap_of, Keeps}
 use Rattle.f11_bits.specs.declared.storage.Storage.{Storage}
 use Rattle.f11_dev.specs.Disk.{Disk, with_transfer, with_block_at}
-use Rattle.f11_dev.specs.Image.{Image}
+use Rattle.f11_dev.specs.Image.{Image, image_block}
 use Rattle.f11_dev.specs.Went.{Went}
 use Rattle.f11_dev.proofs.LookedLemmas.{looked_read}
 use Rattle.f11_dev.proofs.WentLemmas.{went_write, went_failed_write, went_more, went_weaker}
@@ -32,6 +32,11 @@ use Rattle.f11_volume.specs.Sound.{HasSoundVolume}
 use Rattle.f11_volume.specs.Space.{storage_bitmap}
 use Rattle.f11_volume.specs.Volume.{volume_of}
 use Rattle.f11_image_store.specs.Allocation.{KeepsBlocks}
+use Rattle.f11_bytes.specs.Block.{zero_block}
+use Rattle.f11_map.specs.HeaderBlock.{blocks_named}
+use Rattle.f11_image_store.proofs.NewFileLemmas.{names-none, valid, free-stored, least-stored, writes-first, enters-file, entered-keeps}
+use Rattle.f11_writes.specs.Order.{WritesInOrder}
+use Rattle.f11_files.proofs.Confining.InOrder.{entered-order, unwritten-order, written-order}
 use Rattle.f11_files.specs.Answers.{Meanwhile, IsUnderWay}
 use Rattle.f11_files.specs.Create.{EntersFile, FailsToEnter}
 use Rattle.f11_image_store.specs.NewFileLaws.{IsNewFirst, WritesNewFirst, EntersNewFile}
@@ -43,7 +48,6 @@ use Rattle.f11_files.specs.declared.structure.Structure.{Structure}
 use Rattle.f11_files.proofs.Changing.Alter.{keeps-header}
 use Rattle.f11_files.proofs.AnswerLemmas.{right-fault, reads-looked}
 use Rattle.f11_files.proofs.Creating.FreeSlot.{IsReadAt, read-at}
-use Rattle.f11_image_store.proofs.NewFileLemmas.{free-stored, least-stored, writes-first, enters-file, entered-keeps}
 use Rattle.f11_files.proofs.WriteLemmas.{keeps-storage, breaks-off, failed-stays, sound-went, writes-behind, writes-within}
 
 -- a slot that was given its next sequence number
@@ -166,6 +170,32 @@ module _ (s : Structure) (owner : Uic) (protection : ℕ) (ident attr : List ℕ
           sound = here.bit.slot.sound;
           lags = subst (λ (t : Store). LagsBy work t st) (sym here.store) (created_lags st owner protection ident attr);
         }
+
+    -- the writes are in order
+    names-zeros : IsTrue old.honest → (i l : ℕ) → slice_get (blocks_named block) i ≡ Some l
+        → ((volume_of first home).free l ≡ false) × (image_block first l ≡ zero_block)
+    names-zeros honest i l is =
+        absurd (none-some l (ap (λ (ls : List ℕ). slice_get ls i) (sym (names-none id owner protection ident attr empty block new)) ∙ is))
+
+    pub header-unwritten : (wrote : Disk) → (wrote ≡ with_transfer false mid) ⊎ (wrote ≡ with_transfer false (with_block_at lbn block mid))
+        → WritesInOrder mid wrote
+    header-unwritten =
+        unwritten-order s n lbn sequence block old mid for (omega (arith, least.low)) (looked_read old mid counts) slot
+        (valid id owner protection ident attr empty block new) (λ honest. (wrote honest).header)
+        (λ after honest bit. (entered after honest bit).bit) names-zeros
+
+    pub header-written : (wrote : Disk) → wrote ≡ with_transfer true (with_block_at lbn block mid) → WritesInOrder mid wrote
+    header-written =
+        written-order s n lbn sequence block old mid for (omega (arith, least.low)) (looked_read old mid counts) slot
+        (valid id owner protection ident attr empty block new) (λ honest. (wrote honest).header)
+        (λ after honest bit. (entered after honest bit).bit) names-zeros
+
+    pub bit-entered : (written : Disk) → written ≡ with_transfer true (with_block_at lbn block mid) → (done : Disk) {faults : ℕ}
+        → Went (HasBitWritten true n (index_in s) written.image) written done 1 faults → WritesInOrder written done
+    bit-entered written landed done went =
+        entered-order s n lbn sequence block old mid for (omega (arith, least.low)) (looked_read old mid counts) slot
+        (valid id owner protection ident attr empty block new) (λ honest. (wrote honest).header)
+        (λ after honest bit. (entered after honest bit).bit) names-zeros written landed done least.high went
 
     module _ (one : Disk) where
       -- the header couldn't be written

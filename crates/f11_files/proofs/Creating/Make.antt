@@ -40,7 +40,8 @@ use Rattle.f11_store.specs.declared.refusals.Refusal.TheVariants.{
 }
 use Rattle.f11_store.proofs.SlotsFirst.{new-file-stays}
 use Rattle.f11_volume.specs.Space.{storage_bitmap}
-use Rattle.f11_image_store.specs.Confines.{new_header, Confines}
+use Rattle.f11_image_store.specs.Confines.{new_header}
+use Rattle.f11_files.specs.Confined.{ConfinesInOrder}
 use Rattle.f11_image_store.specs.StoreOf.{store_of}
 use Rattle.f11_files.specs.Answers.{faults_of, is_cause, is_fatal, IsRight, Meanwhile, WritesAtMost, WritesNewHeaders}
 use Rattle.f11_files.specs.Create.{FailsToCreate, FailsToEnter}
@@ -139,5 +140,5 @@ make-confined s t old mid new stays slots parts = record { ready = mid; slots = 
         let keeps = stays.keeps refl honest in
         let index : index_in t ≡ index_of mid.image (home_of s) = keeps.index_is ∙ ap (index_of mid.image) stays.home in
         let bitmap : bitmap_in t ≡ storage_bitmap mid.image (home_of s) = keeps.bitmap_is ∙ ap (storage_bitmap mid.image) stays.home in
-        subst (λ (x : Index). Confines (new_header x) x (storage_bitmap mid.image (home_of s)) [] mid new) index
-        (subst (λ (b : Bitmap). Confines (new_header (index_in t)) (index_in t) b [] mid new) bitmap parts)
+        subst (λ (x : Index). ConfinesInOrder (new_header x) x (storage_bitmap mid.image (home_of s)) [] mid new) index
+        (subst (λ (b : Bitmap). ConfinesInOrder (new_header (index_in t)) (index_in t) b [] mid new) bitmap parts)

@@ -32,6 +32,8 @@ use Rattle.f11_writes.specs.OtherSlots.{KeepsOtherSlots}
 use Rattle.f11_volume.specs.Volume.{volume_of}
 use Rattle.f11_volume.proofs.FileLemmas.{image-files}
 use Rattle.f11_image_store.specs.Allocation.{ownership_in, AddsZeroSlots, GainsBlocks}
+use Rattle.f11_writes.specs.Order.{IsOrderlyWrite, WritesInOrder}
+use Rattle.f11_files.proofs.Confining.InOrder.{field-orderly, header-failed-order, header-order}
 use Rattle.f11_files.specs.Extending.Mark.{Clearing, ClearsMark}
 use Rattle.f11_image_store.specs.FieldLaws.{SaysBut, ChangesFile}
 use Rattle.f11_files.specs.Finding.First.{HoldsFile, IsFirstOf}
@@ -166,6 +168,19 @@ module _ (s : Structure) (f : FileId) (was : List ℕ) (old : Disk) (for : IsStr
       moment : P (set old.image place block)
       moment honest =
           subst (HasStore home (with_change (store_on s old) f.number with_no_mark)) (sym (written-is honest)) (store-next honest)
+
+      -- the write is in order
+      orderly : IsTrue old.honest → IsOrderlyWrite home old.image next
+      orderly honest =
+          field-orderly old.image home f.number block with_no_mark (for.sound honest) (file-here honest)
+          (subst (λ (b : List ℕ). SaysBut with_no_mark b block) (block-is s f was old for holds honest) says) (changes honest).header
+
+      pub clear-order : new ≡ with_transfer true (with_block_at place block old) → WritesInOrder old new
+      clear-order = header-order s f.number place block old old (looked_none old) for at orderly new
+
+      pub unclear-order : (new ≡ with_transfer false old) ⊎ (new ≡ with_transfer false (with_block_at place block old))
+          → WritesInOrder old new
+      unclear-order = header-failed-order s f.number place block old old (looked_none old) for at orderly new
 
       pub fails-clear : (new ≡ with_transfer false old) ⊎ (new ≡ with_transfer false (with_block_at place block old))
           → Went (Clearing s f old) old new 1 1

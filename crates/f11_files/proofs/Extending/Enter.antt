@@ -7,7 +7,7 @@ use Rattle.std.proofs.lemmas.Bool.{both_ways, cases_eq, eq-eqb, ne_eqb}
 use Rattle.std.proofs.lemmas.List.{get_or-set_other}
 use Rattle.f11_bytes.specs.Block.{zero_block}
 use Rattle.f11_dev.specs.Disk.{Disk, with_transfer, with_block_at}
-use Rattle.f11_dev.specs.Image.{Image}
+use Rattle.f11_dev.specs.Image.{Image, image_block}
 use Rattle.f11_dev.specs.Went.{Went}
 use Rattle.f11_dev.proofs.LookedLemmas.{looked_read, looked_failed_read}
 use Rattle.f11_dev.proofs.WentLemmas.{went_looked, went_write, went_failed_write, went_more, went_weaker}
@@ -16,7 +16,7 @@ use Rattle.f11_home.specs.Home.{HomeFields}
 use Rattle.f11_chain.specs.Calls.{HoldsHeader}
 use Rattle.f11_chain.proofs.StepLemmas.{table-in_use}
 use Rattle.f11_index.specs.Calls.{SetsBit, HasBitWritten, WritesBit, FailsToWriteBit, bitmap_place, bitmap_block, with_bitmap_block}
-use Rattle.f11_map.specs.HeaderBlock.{segment_number, link_of}
+use Rattle.f11_map.specs.HeaderBlock.{segment_number, link_of, blocks_named}
 use Rattle.f11_index.specs.IndexFile.{Index, index_of, index_file_blocks, is_in_use, header_lbn, slots, free_slots_in as free_in_index}
 use Rattle.f11_index.specs.Kept.{index_kept, room}
 use Rattle.f11_index.specs.Slots.{IsLeastFree}
@@ -37,6 +37,8 @@ use Rattle.f11_writes.specs.NameLaws.{AreUnreferenced}
 use Rattle.f11_writes.proofs.HeaderLemmas.{unused-keeps}
 use Rattle.f11_writes.proofs.NameLemmas.{unentered-unreferenced}
 use Rattle.f11_writes.proofs.OwnerLemmas.{in-index-file, named-of}
+use Rattle.f11_writes.specs.Order.{WritesInOrder}
+use Rattle.f11_files.proofs.Confining.InOrder.{entered-order, unwritten-order, written-order, zeros-at}
 use Rattle.f11_files.specs.Answers.{Breaks, WritesAtMost}
 use Rattle.f11_files.specs.Extending.Header.{IsExtension, EntersHeader}
 use Rattle.f11_image_store.specs.ExtensionLaws.{IsNewExtension, EntersExtension}
@@ -247,6 +249,37 @@ module _ (s : Structure) (tail : Tail) (lbn count : ℕ) (old : Disk) (for : IsS
           let unreferenced = unentered-unreferenced old.image first home n lbn count (one honest).slot (given.unreferenced honest) unused in
           zeros-kept first home _ (after.bitmap_lbn + bitmap_place n) lbn count (bitmap_block after n) sound there unreferenced
           (zeros-first honest)
+
+      -- and were used
+      unreferenced-first : IsTrue old.honest → AreUnreferenced (volume_of first home) lbn count
+      unreferenced-first honest =
+          unentered-unreferenced old.image first home n lbn count (one honest).slot (given.unreferenced honest)
+          (ap (λ (f : ℕ → Bool). f n) (one honest).in_use ∙ (slot honest).unused)
+
+      names-zeros : IsTrue old.honest → (i l : ℕ) → slice_get (blocks_named block) i ≡ Some l
+          → ((volume_of first home).free l ≡ false) × (image_block first l ≡ zero_block)
+      names-zeros honest i l is =
+          zeros-at first home lbn count i l (one honest).slot.sound (unreferenced-first honest) (zeros-first honest)
+          (ap (λ (ls : List ℕ). slice_get ls i) (sym new.names) ∙ is)
+
+      -- the writes are in order
+      pub header-unwritten : (wrote : Disk)
+          → (wrote ≡ with_transfer false mid) ⊎ (wrote ≡ with_transfer false (with_block_at place block mid))
+          → WritesInOrder mid wrote
+      header-unwritten =
+          unwritten-order s n place sequence block old mid for some (looked_read old mid counts) slot new.valid one
+          (λ after honest bit. (entered after honest bit).bit) names-zeros
+
+      pub header-written : (wrote : Disk) → wrote ≡ with_transfer true (with_block_at place block mid) → WritesInOrder mid wrote
+      header-written =
+          written-order s n place sequence block old mid for some (looked_read old mid counts) slot new.valid one
+          (λ after honest bit. (entered after honest bit).bit) names-zeros
+
+      pub bit-entered : (wrote : Disk) → wrote ≡ with_transfer true (with_block_at place block mid) → (done : Disk) {faults : ℕ}
+          → Went (HasBitWritten true n (index_in s) wrote.image) wrote done 1 faults → WritesInOrder wrote done
+      bit-entered wrote landed done went =
+          entered-order s n place sequence block old mid for some (looked_read old mid counts) slot new.valid one
+          (λ after honest bit. (entered after honest bit).bit) names-zeros wrote landed done least.high went
 
       module _ (wrote : Disk) where
         -- the header couldn't be written

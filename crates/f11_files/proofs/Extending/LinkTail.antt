@@ -1,6 +1,7 @@
 -- A file's last header that links on.
 use Rattle.std.proofs.Common.{Bool, ◌++◌, ◌==◌, [], ◌≡◌, ◌⊎◌, ◌+◌, ◌-◌, ◌/◌, ◌<◌, ◌≤◌, ℕ, true, false, IsTrue, List, length, min, get_or}
 use Rattle.std.proofs.Common.{sym, ap, subst, ◌∙◌, arith, inl, inr, map, refl}
+use Rattle.std.specs.List.{slice_get}
 use Rattle.std.proofs.Math.ListN.{set}
 use Rattle.std.proofs.lemmas.List.{get_or-drop, append-nil}
 use Rattle.f11_dev.specs.Disk.{Disk, with_transfer, with_block_at}
@@ -27,6 +28,10 @@ use Rattle.f11_writes.proofs.HeaderLemmas.{file-rewrite-keeps}
 use Rattle.f11_writes.proofs.NameLemmas.{own-names}
 use Rattle.f11_image_store.specs.Allocation.{LinksFileless, AddsZeroSlots}
 use Rattle.f11_image_store.specs.FileLaws.{SaysAlike, HasPointersMore, LinksOnTo, with_header_more, HasSlotsMore, with_header_linked}
+use Rattle.f11_dev.proofs.LookedLemmas.{looked_none}
+use Rattle.f11_writes.specs.Order.{IsOrderlyWrite, WritesInOrder}
+use Rattle.f11_writes.proofs.OrderLemmas.{rewritten-orderly}
+use Rattle.f11_files.proofs.Confining.InOrder.{header-failed-order, header-order, own-named}
 use Rattle.f11_files.specs.Extending.Growing.{SameFree}
 use Rattle.f11_files.specs.Extending.Link.{MayFollow, Linking, LinksTail, NamesThese, with_header_of, with_run_linked}
 use Rattle.f11_files.specs.Structure.{index_in, home_of, store_on, IsStructureFor, StaysFor, bitmap_in}
@@ -203,6 +208,12 @@ module _ (s : Structure) (tail : Tail) (block : List ℕ) (id : FileId) (old : D
       written : HasWritten n block home old.image next
       written = has-written gets n block lbn count home old.image next live (wrote gets)
 
+      -- the write is in order
+      orderly : IsOrderlyWrite home old.image next
+      orderly =
+          rewritten-orderly old.image home (for.sound honest) n block written.slot written.in_use written.header live valid
+          (λ i l at. inl (own-named t n live i l (ap (λ (ls : List ℕ). slice_get ls i) (sym (blocks-are honest)) ∙ at)))
+
       -- as slots
       index-slots : (one : f ≡ 1) → HasSlotsMore count t (table_of next home)
       index-slots one =
@@ -249,6 +260,13 @@ module _ (s : Structure) (tail : Tail) (block : List ℕ) (id : FileId) (old : D
           subst (HasStore home then) (ap (λ (x : Index). set old.image (header_lbn x n) block) (sym (for.keeps honest).index_is)
           ∙ ap (λ (l : ℕ). set old.image l block) (sym at))
           (has-store honest)
+
+      pub linked-order : new ≡ with_transfer true (with_block_at place block old) → WritesInOrder old new
+      linked-order = header-order s n place block old old (looked_none old) for at orderly new
+
+      pub unlinked-order : (new ≡ with_transfer false old) ⊎ (new ≡ with_transfer false (with_block_at place block old))
+          → WritesInOrder old new
+      unlinked-order = header-failed-order s n place block old old (looked_none old) for at orderly new
 
       pub fails-link : (new ≡ with_transfer false old) ⊎ (new ≡ with_transfer false (with_block_at place block old))
           → Went (Linking s tail id count old) old new 1 1

@@ -1,7 +1,7 @@
 -- Blocks of zeros that a file's last header names.
 use Rattle.std.proofs.Common.{◌≡◌, ◌⊎◌, ◌+◌, ◌≤◌, ◌==◌, ℕ, zero, suc, Bool, true, false, IsTrue, List, inl, inr, ◌∷◌, ◌++◌, length}
 use Rattle.std.proofs.Common.{option_map, refl, sym, ap, subst, ◌∙◌, arith}
-use Rattle.std.specs.List.{range_with_len}
+use Rattle.std.specs.List.{range_with_len, slice_get}
 use Rattle.std.proofs.Math.ListN.{set}
 use Rattle.f11_dev.specs.Disk.{Disk, with_transfer, with_block_at}
 use Rattle.f11_dev.specs.Image.{Image}
@@ -33,6 +33,11 @@ use Rattle.f11_writes.proofs.NameLemmas.{more-names}
 use Rattle.f11_image_store.specs.Allocation.{AddsZeroSlots, NamesMore}
 use Rattle.f11_image_store.specs.FileLaws.{SaysAlike, HasPointersMore, HasSlotsMore, NamesMoreOf, held_from, room_in}
 use Rattle.f11_store.specs.Pieces.{new_blocks, with_blocks_named, with_more_blocks, with_slots_if}
+use Rattle.f11_dev.proofs.LookedLemmas.{looked_none}
+use Rattle.f11_volume.proofs.MemberLemmas.{at-place, contained, in-either, in-range}
+use Rattle.f11_writes.specs.Order.{IsOrderlyWrite, WritesInOrder}
+use Rattle.f11_writes.proofs.OrderLemmas.{rewritten-orderly}
+use Rattle.f11_files.proofs.Confining.InOrder.{header-failed-order, header-order, own-named, zeros-held}
 use Rattle.f11_files.specs.Extending.Growing.{SameFree}
 use Rattle.f11_files.specs.Extending.Slots.{GetsBlocks, MayCome, index_behind}
 use Rattle.f11_files.specs.Structure.{index_in, bitmap_in, home_of, store_on, IsStructureFor, StaysFor}
@@ -216,6 +221,19 @@ module _ (s : Structure) (tail : Tail) (block : List ℕ) (lbn count : ℕ) (old
         written : HasWritten n block home old.image next
         written = has-written gets n block lbn count home old.image next live (wrote gets)
 
+        -- the write is in order
+        orderly : IsOrderlyWrite home old.image next
+        orderly =
+            rewritten-orderly old.image home (for.sound honest) n block written.slot written.in_use written.header live valid
+            (λ i l at. elim (in-either (blocks_named (t.header n)) (range_with_len lbn count) l
+            (contained _ i l (ap (λ (ls : List ℕ). slice_get ls i) (sym (blocks-are honest)) ∙ at))) [
+              | inl own ↦ inl (own-named t n live own.0 l (at-place (blocks_named (t.header n)) l own))
+              | inr more ↦
+                  let row = in-range lbn count l more in
+                  inr (zeros-held old.image home lbn count (for.sound honest) (given.unreferenced honest) (given.zeros honest) l row.0
+                  row.1)
+            ])
+
         -- as slots
         index-slots : (one : f ≡ 1) → HasSlotsMore count t (table_of next home)
         index-slots one =
@@ -258,6 +276,13 @@ module _ (s : Structure) (tail : Tail) (block : List ℕ) (lbn count : ℕ) (old
             subst (HasStore home then) (ap (λ (x : Index). set old.image (header_lbn x n) block) (sym (for.keeps honest).index_is)
             ∙ ap (λ (l : ℕ). set old.image l block) (sym at))
             (has-store honest)
+
+        pub named-order : new ≡ with_transfer true (with_block_at place block old) → WritesInOrder old new
+        named-order = header-order s n place block old old (looked_none old) for at orderly new
+
+        pub unnamed-order : (new ≡ with_transfer false old) ⊎ (new ≡ with_transfer false (with_block_at place block old))
+            → WritesInOrder old new
+        unnamed-order = header-failed-order s n place block old old (looked_none old) for at orderly new
 
         pub fails-name : (new ≡ with_transfer false old) ⊎ (new ≡ with_transfer false (with_block_at place block old))
             → FailsToName s tail lbn count old new

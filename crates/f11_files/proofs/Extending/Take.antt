@@ -2,8 +2,8 @@
 use Rattle.std.proofs.Common.{◌≡◌, ◌+◌, ◌-◌, ◌<◌, ◌≤◌, ℕ, zero, suc, Bool, true, false, IsTrue, refl, sym, ap, subst, ◌∙◌, ◌++◌, inl, inr}
 use Rattle.std.proofs.Common.{arith}
 use Rattle.std.specs.List.{filter, range_with_len}
-use Rattle.std.proofs.lemmas.Bool.{cases_lt}
-use Rattle.f11_bits.specs.Bitmap.{Bitmap, count_below, free_blocks, is_free, Marks}
+use Rattle.std.proofs.lemmas.Bool.{cases_lt, false≢true}
+use Rattle.f11_bits.specs.Bitmap.{Bitmap, count_below, free_blocks, is_free, Marks, KeepsOthers}
 use Rattle.f11_bits.specs.Calls.{Takes, FindsNone, FailsToTake}
 use Rattle.f11_bits.specs.Changes.{Changing, Taking as TakingBits}
 use Rattle.f11_bits.specs.Storage.{bitmap_of}
@@ -24,9 +24,11 @@ use Rattle.f11_volume.specs.Space.{storage_bitmap}
 use Rattle.f11_volume.specs.Volume.{volume_of}
 use Rattle.f11_writes.specs.Kept.{KeepsButFree}
 use Rattle.f11_writes.specs.NameLaws.{AreUnreferenced}
-use Rattle.f11_writes.proofs.BitmapLemmas.{used-keeps}
+use Rattle.f11_writes.proofs.BitmapLemmas.{used-keeps, outside}
 use Rattle.f11_writes.proofs.NameLemmas.{taken-unreferenced}
 use Rattle.f11_image_store.specs.Allocation.{free_list}
+use Rattle.f11_writes.specs.Order.{WritesInOrder}
+use Rattle.f11_writes.proofs.InOrderLemmas.{order-marked}
 use Rattle.f11_files.specs.Answers.{Breaks}
 use Rattle.f11_files.specs.Extending.Growing.{IsTaking, Taking}
 use Rattle.f11_store.specs.Pieces.{TakesSome}
@@ -118,6 +120,25 @@ module _ (s : Structure) (from most : ℕ) (old : Disk) (for : IsStructureFor s 
   run-moment lbn count asked each image is honest =
       let marking = is.marking honest in
       front-takes lbn count marking.part image marking.some marking.within asked honest (each honest) marking.marks
+
+  -- the writes are in order
+  pub taken-order : (P : Image → Type 0)
+      → ((image : Image) → P image → (lbn : ℕ) × (count : ℕ) × Changing old.honest false (bitmap_in s) lbn count old.image image)
+      → (new : Disk) {transfers faults : ℕ} → Went P old new transfers faults → WritesInOrder old new
+  taken-order P changing new went =
+      order-marked P old new home for.sound
+      (λ honest image is.
+      let (lbn, count, here) = changing image is in
+      let marking = here.marking honest in
+      record {
+        keeps = subst (λ (b : Bitmap). KeepsOthers b old.image image) (bitmap honest) here.keeps;
+        only = λ k free. elim (outside false (storage_bitmap old.image home) lbn marking.part k old.image image
+            (subst (λ (b : Bitmap). Marks false b lbn marking.part old.image image) (bitmap honest) marking.marks) free) [
+              | inl was ↦ inl was
+              | inr row ↦ absurd (false≢true (sym (marking.marks.inside k row.0 row.1)
+                  ∙ ap (λ (b : Bitmap). is_free image b k) (bitmap honest) ∙ free))
+            ];
+      }) went
 
   first-moment : (image : Image) → TakingBits old.honest (bitmap_in s) from most old.image image → Taking home most 0 st old image
   first-moment image is honest = run-moment is.lbn is.count (is.run honest).asked (λ sure. (is.run sure).each) image is.changing honest

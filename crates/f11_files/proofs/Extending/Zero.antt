@@ -17,6 +17,9 @@ use Rattle.f11_writes.specs.Kept.{KeepsVolume, KeepsFiles}
 use Rattle.f11_writes.specs.NameLaws.{AreUnreferenced}
 use Rattle.f11_writes.proofs.NameLemmas.{unreferenced-stay}
 use Rattle.f11_writes.proofs.OtherLemmas.{unnamed-keeps}
+use Rattle.f11_writes.specs.Order.{IsOrderlyWrite, WritesInOrder}
+use Rattle.f11_writes.proofs.InOrderLemmas.{order-failed, order-write}
+use Rattle.f11_writes.proofs.OrderLemmas.{lost-orderly}
 use Rattle.f11_files.specs.Extending.Zeros.{HoldsZeros, Keeping, Zeroes, FailsToZero}
 use Rattle.f11_image_store.proofs.StoreLemmas.{stays}
 
@@ -97,6 +100,26 @@ module _ (home : HomeFields) (lbn count : ℕ) (old : Disk) (within : lbn + coun
 
     inside : lbn + k < length now.image
     inside = omega (arith, so_far.went.size, within, few)
+
+    -- the write is in order
+    sound-now : IsTrue now.honest → HasSoundVolume now.image home
+    sound-now honest = (so_far.keeps (sym so_far.went.honest ∙ honest)).volume.sound
+
+    orderly : IsTrue now.honest → IsOrderlyWrite home now.image next
+    unfolding volume_of
+    orderly sure =
+        let honest = sym so_far.went.honest ∙ sure in
+        let before = (so_far.keeps honest).volume in
+        let still = unreferenced-stay old.image now.image home lbn count before (unreferenced honest) in
+        lost-orderly now.image home before.sound (lbn + k) zero_block (still.used (lbn + k) (omega arith) (omega (arith, few)))
+        (unnamed honest)
+
+    pub zeroed-order : new ≡ with_transfer true (with_block_at (lbn + k) zero_block now) → WritesInOrder now new
+    zeroed-order = order-write now home sound-now (lbn + k) zero_block orderly new
+
+    pub unzeroed-order : (new ≡ with_transfer false now) ⊎ (new ≡ with_transfer false (with_block_at (lbn + k) zero_block now))
+        → WritesInOrder now new
+    unzeroed-order = order-failed now home sound-now (lbn + k) zero_block orderly new
 
     pub zeroes-more : new ≡ with_transfer true (with_block_at (lbn + k) zero_block now) → Zeroes home lbn (k + 1) old new
     zeroes-more is = record {

@@ -1,6 +1,6 @@
 -- A file that is cut: its last header that stays, and what is kept of the volume then.
 use Rattle.std.proofs.Common.{◌≡◌, ◌≢◌, ◌⊎◌, ◌+◌, ◌-◌, ◌*◌, ◌<◌, ◌≤◌, ◌==◌, ◌||◌, ℕ, Bool, true, false, cond, IsTrue, List, [], ◌∷◌, ◌++◌}
-use Rattle.std.proofs.Common.{Option, Some, None, option_map, length, take, drop, refl, sym, ap, subst, ◌∙◌, arith}
+use Rattle.std.proofs.Common.{Option, Some, None, option_map, length, take, drop, refl, sym, ap, subst, ◌∙◌, arith, inl}
 use Rattle.std.proofs.Math.ListN.{set}
 use Rattle.std.proofs.Math.Seq.{drop-append_seam, take-append_seam}
 use Rattle.std.specs.List.{slice_get, sum_by}
@@ -45,6 +45,9 @@ use Rattle.f11_writes.proofs.HeaderLemmas.{file-rewrite-keeps}
 use Rattle.f11_writes.proofs.NameLemmas.{own-names, fewer-names, lost-unnamed}
 use Rattle.f11_writes.proofs.OtherSlotLemmas.{turned, in-file-was, nowhere}
 use Rattle.f11_image_store.specs.Allocation.{FreesBlocks, IsEnd, LosesBlocks, LosesHeaders}
+use Rattle.f11_writes.specs.Order.{IsOrderlyWrite, WritesInOrder}
+use Rattle.f11_writes.proofs.OrderLemmas.{rewritten-orderly}
+use Rattle.f11_files.proofs.Confining.InOrder.{header-failed-order, header-order, own-named}
 use Rattle.f11_files.specs.Answers.{WritesAtMost, Meanwhile}
 use Rattle.f11_files.specs.Removing.Truncate.{FindsLastKept, CutsOff, Cuts, FailsToCut, cut_work}
 use Rattle.f11_files.specs.Removing.Drops.{BreaksOff, AreAllUnreferenced, GivesBlocks, DropsBehind, HangsBehind, headers_behind, tail_cost}
@@ -202,6 +205,14 @@ module _ (s : Structure) (f : FileId) (to n keep lbn : ℕ) (block cut : List �
     pub one : WritesHeader n cut h old.image written
     one = subst (WritesHeader n cut h old.image) (sym is-written) (file-rewrite-keeps old.image h sound n cut f.number own of becomes)
 
+    -- the write is in order
+    orderly : IsOrderlyWrite h old.image (with_header old.image h n cut)
+    orderly =
+        let there = subst (WritesHeader n cut h old.image) is-written one in
+        rewritten-orderly old.image h sound n cut there.slot (λ i. there.in_use i n) there.index_file.header live valid
+        (λ i l is. inl (own-named t n live i l
+        (take-at (blocks_named (t.header n)) keep i l (ap (λ (ls : List ℕ). slice_get ls i) (sym ends.blocks) ∙ is)).1))
+
     abbrev pub u : Table
     u = table_of written h
 
@@ -309,6 +320,14 @@ module _ (s : Structure) (f : FileId) (to n keep lbn : ℕ) (block cut : List �
   written-moment : Freeing h base old written
   written-moment honest =
       record { sound = (one honest).slot.sound; frees = subst (FreesMore base) (sym (store-written honest)) (frees-none base) }
+
+  -- the write is in order
+  pub uncut-order : (new : Disk) → (new ≡ with_transfer false read) ⊎ (new ≡ with_transfer false (with_block_at lbn cut read))
+      → WritesInOrder read new
+  uncut-order = header-failed-order s n lbn cut old read finds.looked for at orderly
+
+  pub cut-order : (new : Disk) → new ≡ with_transfer true (with_block_at lbn cut read) → WritesInOrder read new
+  cut-order = header-order s n lbn cut old read finds.looked for at orderly
 
   pub fails-written : (new : Disk) → (new ≡ with_transfer false read) ⊎ (new ≡ with_transfer false (with_block_at lbn cut read))
       → FailsToCut false h f to DeviceFault old new

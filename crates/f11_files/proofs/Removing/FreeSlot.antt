@@ -1,5 +1,6 @@
 -- A header that is killed, and whose slot leaves use.
 use Rattle.std.proofs.Common.{◌≡◌, ◌⊎◌, ◌<◌, ◌≤◌, ℕ, Bool, true, false, IsTrue, List, None, length, refl, sym, ap, subst, ◌∙◌, arith}
+use Rattle.f11_volume.specs.Sound.{HasSoundVolume}
 use Rattle.std.proofs.Math.ListN.{set}
 use Rattle.f11_dev.specs.Disk.{Disk, with_transfer, with_block_at}
 use Rattle.f11_dev.specs.Image.{Image}
@@ -30,6 +31,11 @@ use Rattle.f11_writes.specs.OtherSlots.{KeepsOtherSlots}
 use Rattle.f11_writes.proofs.BitLemmas.{clear-keeps}
 use Rattle.f11_writes.proofs.HeaderLemmas.{kill-keeps}
 use Rattle.f11_writes.proofs.NameLemmas.{own-names, lost-unnamed}
+use Rattle.f11_dev.proofs.LookedLemmas.{looked_none}
+use Rattle.f11_writes.specs.Order.{IsOrderlyWrite, WritesInOrder}
+use Rattle.f11_writes.proofs.InOrderLemmas.{order-bit}
+use Rattle.f11_writes.proofs.OrderLemmas.{bit-clear-orderly, kill-orderly}
+use Rattle.f11_files.proofs.Confining.InOrder.{header-failed-order, header-order}
 use Rattle.f11_files.specs.Removing.Drops.{BreaksOff, AreAllUnreferenced, MayDrop, FreesSlot}
 use Rattle.f11_image_store.specs.Freeing.{FreesMore, IsFreeing, Freeing}
 use Rattle.f11_files.specs.Extending.Growing.{SameFree}
@@ -98,6 +104,12 @@ module _ (s : Structure) (n lbn : ℕ) (block dead : List ℕ) (old : Disk) (for
         subst (WritesHeader n dead home old.image) (sym is-killed)
         (kill-keeps old.image home (for.sound honest) n dead (may honest).late slot killed_is (may honest).unlinked)
 
+    -- the write is in order
+    kill-is-orderly : IsOrderlyWrite home old.image (with_header old.image home n dead)
+    kill-is-orderly =
+        let slot : n ≤ slots (index_of old.image home) = let count = ap slots (for.keeps honest).index_is in omega (arith, few, count) in
+        kill-orderly old.image home (for.sound honest) n dead (may honest).late slot killed_is (may honest).unlinked
+
     abbrev u : Table
     u = table_of killed home
 
@@ -130,6 +142,12 @@ module _ (s : Structure) (n lbn : ℕ) (block dead : List ℕ) (old : Disk) (for
       two : WritesSlotBit n after home killed cleared
       two =
           clear-keeps killed home n after one.slot.sound
+          (record { in_use = ap (λ (f : ℕ → Bool). f n) one.in_use ∙ live.in_use; dead = dead-now })
+          (subst (λ (x : Index). SetsBit false n x after) ((for.keeps honest).index_is ∙ sym one.index_file.index) bit)
+
+      clear-is-orderly : IsOrderlyWrite home killed cleared
+      clear-is-orderly =
+          bit-clear-orderly killed home one.slot.sound n after
           (record { in_use = ap (λ (f : ℕ → Bool). f n) one.in_use ∙ live.in_use; dead = dead-now })
           (subst (λ (x : Index). SetsBit false n x after) ((for.keeps honest).index_is ∙ sym one.index_file.index) bit)
 
@@ -200,6 +218,14 @@ module _ (s : Structure) (n lbn : ℕ) (block dead : List ℕ) (old : Disk) (for
         frees = subst (FreesMore gone) (sym (store-cleared honest wrote.written wrote.bit)) (frees-slot gone n);
       })
 
+  -- the writes are in order
+  pub unkilled-order : (new : Disk) → (new ≡ with_transfer false old) ⊎ (new ≡ with_transfer false (with_block_at lbn dead old))
+      → WritesInOrder old new
+  unkilled-order = header-failed-order s n lbn dead old old (looked_none old) for at kill-is-orderly
+
+  pub killed-order : (now : Disk) → now ≡ with_transfer true (with_block_at lbn dead old) → WritesInOrder old now
+  killed-order = header-order s n lbn dead old old (looked_none old) for at kill-is-orderly
+
   -- the header couldn't be written
   pub fails-killed : (new : Disk) → (new ≡ with_transfer false old) ⊎ (new ≡ with_transfer false (with_block_at lbn dead old))
       → BreaksOff home gone 2 DeviceFault old new
@@ -216,6 +242,21 @@ module _ (s : Structure) (n lbn : ℕ) (block dead : List ℕ) (old : Disk) (for
 
     honest-now : now.honest ≡ old.honest
     honest-now = ap (λ (d : Disk). d.honest) wrote
+
+    pub cleared-order : {faults : ℕ} → Went (HasBitWritten false n (index_in s) now.image) now new 1 faults → WritesInOrder now new
+    cleared-order =
+        order-bit false n (index_in s) now new home
+        (λ sure. subst (λ (i : Image). HasSoundVolume i home) (sym image-now) (one (sym honest-now ∙ sure)).slot.sound)
+        (λ sure. subst (λ (i : Image). index_in s ≡ index_of i home) (sym image-now) (index-killed (sym honest-now ∙ sure))) some few
+        (λ sure after. subst (λ (i : Image). SetsBit false n (index_of i home) after
+        → WritesSlotBit n after home i (with_bitmap_block i after n) × IsOrderlyWrite home i (with_bitmap_block i after n)) (sym image-now)
+        (λ bit.
+        let honest = sym honest-now ∙ sure in
+        let here = subst (λ (x : Index). SetsBit false n x after) (sym (index-killed honest)) bit in
+        (two honest after here, clear-is-orderly honest after here)))
+      where
+        index-killed : IsTrue old.honest → index_in s ≡ index_of killed home
+        index-killed honest = (for.keeps honest).index_is ∙ sym (one honest).index_file.index
 
     first-write : Went P old now 1 0
     first-write = went_write P old now lbn dead wrote killed-moment

@@ -1,7 +1,8 @@
 -- What carries `FreesMore`, `Freeing` and `WritesAtMost` from call to call, and one run of blocks that is marked free.
-use Rattle.std.proofs.Common.{◌≡◌, ◌+◌, ◌*◌, ◌<◌, ◌≤◌, ℕ, Bool, true, false, IsTrue, Result, Ok, Err, refl, sym, ap, subst, ◌∙◌, arith}
+use Rattle.std.proofs.Common.{◌≡◌, ◌+◌, ◌*◌, ◌<◌, ◌≤◌, ℕ, Bool, true, false, IsTrue, Result, Ok, Err, refl, sym, ap, subst, ◌∙◌, arith, inl}
+use Rattle.std.proofs.Common.{inr}
 use Rattle.std.specs.Prelude.{IsErrAnd}
-use Rattle.f11_bits.specs.Bitmap.{Bitmap, is_free, Marks}
+use Rattle.f11_bits.specs.Bitmap.{Bitmap, is_free, Marks, KeepsOthers}
 use Rattle.f11_bits.specs.Calls.{Gives, FailsToGive}
 use Rattle.f11_bits.specs.Changes.{Changing}
 use Rattle.f11_bits.specs.Storage.{bitmap_of}
@@ -12,6 +13,7 @@ use Rattle.f11_bits.proofs.BitmapLemmas.{KeepsOthers-refl}
 use Rattle.f11_dev.specs.Disk.{Disk}
 use Rattle.f11_dev.specs.Image.{Image}
 use Rattle.f11_dev.proofs.LookedLemmas.{looked_none}
+use Rattle.f11_dev.specs.Went.{Went}
 use Rattle.f11_dev.proofs.WentLemmas.{went_looked, went_more, went_weaker, went_last}
 use Rattle.f11_home.specs.Home.{HomeFields}
 use Rattle.f11_index.specs.Kept.{IndexLiesWithin}
@@ -24,8 +26,10 @@ use Rattle.f11_volume.specs.Space.{storage_bitmap}
 use Rattle.f11_volume.specs.Volume.{volume_of}
 use Rattle.f11_writes.specs.Kept.{KeepsButFree}
 use Rattle.f11_writes.specs.NameLaws.{AreUnreferenced}
-use Rattle.f11_writes.proofs.BitmapLemmas.{free-keeps}
+use Rattle.f11_writes.proofs.BitmapLemmas.{free-keeps, outside}
 use Rattle.f11_writes.proofs.NameLemmas.{part-unreferenced}
+use Rattle.f11_writes.specs.Order.{WritesInOrder}
+use Rattle.f11_writes.proofs.InOrderLemmas.{order-marked}
 use Rattle.f11_files.specs.Answers.{WritesAtMost, Breaks, is_fatal, is_refused}
 use Rattle.f11_files.specs.Removing.Drops.{BreaksOff, GivesRun}
 use Rattle.f11_image_store.specs.Freeing.{FreesMore, Freeing}
@@ -156,6 +160,23 @@ module _ (s : Structure) (lbn count : ℕ) (old : Disk) (for : IsStructureFor s 
         frees = subst (FreesMore (store_of old.image home)) (sym (run-store old.image image home lbn marking.part sound some marks))
             (frees-blocks (store_of old.image home) marking.part);
       }
+
+  -- the writes are in order
+  pub run-order : (new : Disk) {most faults : ℕ} → Went (Changing old.honest true (bitmap_in s) lbn count old.image) old new most faults
+      → WritesInOrder old new
+  unfolding volume_of
+  run-order new went =
+      order-marked (Changing old.honest true (bitmap_in s) lbn count old.image) old new home for.sound
+      (λ honest image is.
+      let marking = is.marking honest in
+      record {
+        keeps = subst (λ (b : Bitmap). KeepsOthers b old.image image) (bitmap honest) is.keeps;
+        only = λ k here. elim (outside true (storage_bitmap old.image home) lbn marking.part k old.image image
+            (subst (λ (b : Bitmap). Marks true b lbn marking.part old.image image) (bitmap honest) marking.marks) here) [
+              | inl was ↦ inl was
+              | inr row ↦ inr ((unreferenced honest).unnamed k row.0 (let part = marking.within in omega (arith, row.1, part)))
+            ];
+      }) went
 
   few-touched : count ≤ 256 → 2 * blocks_touched lbn count ≤ 4
   few-touched few = omega (arith, few)

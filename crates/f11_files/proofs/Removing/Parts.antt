@@ -15,7 +15,7 @@ use Rattle.f11_image_store.specs.FileLaws.{pointers_in}
 use Rattle.f11_files.specs.Finding.First.{FindsFile}
 use Rattle.f11_files.specs.Structure.{index_in, home_of, IsStructureFor, StandsAlike, WritesParts}
 use Rattle.f11_files.specs.declared.structure.Structure.{Structure}
-use Rattle.f11_files.proofs.Removing.Cut.{behind-listed, honest-now, listed}
+use Rattle.f11_files.proofs.Removing.Cut.{behind-listed, cut-order, honest-now, listed, uncut-order}
 use Rattle.f11_files.proofs.Removing.Gone.{first-listed}
 use Rattle.f11_files.proofs.Confining.Parts.{header-failed, header-wrote, of-none, of-only, parts-behind, parts-then, stands-same, to-parts}
 
@@ -42,13 +42,18 @@ module _ (s : Structure) (f : FileId) (to n keep lbn : ℕ) (block cut : List �
   -- it wasn't written
   pub cut-failed : (new : Disk) → (new ≡ with_transfer false read) ⊎ (new ≡ with_transfer false (with_block_at lbn cut read))
       → WritesParts s all old new
-  cut-failed new is = parts-behind s all finds.looked (header-failed s all n lbn cut read new one-of finds.header.in_use at is)
+  cut-failed new is =
+      parts-behind s all finds.looked
+      (header-failed s all n lbn cut read new one-of finds.header.in_use at is
+      (uncut-order s f to n keep lbn block cut old read for own finds cuts at old_image new is))
 
   module _ (now : Disk) (wrote : now ≡ with_transfer true (with_block_at lbn cut read)) where
     -- it was, and then its other blocks marked free
     pub cut-given : {given : Disk} → WritesParts s no_header now given → WritesParts s all old given
     cut-given gives =
-        let written = parts-behind s all finds.looked (header-wrote s all n lbn cut read now one-of finds.header.in_use at wrote) in
+        let written = parts-behind s all finds.looked
+        (header-wrote s all n lbn cut read now one-of finds.header.in_use at wrote
+        (cut-order s f to n keep lbn block cut old read for own finds cuts at old_image now wrote)) in
         parts-then s s all (stands-same s) written (to-parts s all no_header [] (of-none all) gives)
 
     -- and then the headers behind it dropped

@@ -113,6 +113,7 @@ impl Structure {
 }
 
 impl<D: Device> Files<D> {
+    ghost use Rattle.f11_writes.specs.Order.{WritesInOrder};
     ghost use Rattle.f11_files.specs.Open.{counts_in, disk_in, has_failed, home_in, store_in, AnswersCall, IsIdFrom};
 
     /// What a file's header says of it, of one that is marked for delete too, and of the volume's own files. One transfer at most.
@@ -153,6 +154,7 @@ impl<D: Device> Files<D> {
             (with_replacement change.now) (home_in self.old) f refusal
             (disk_in self.old) (disk_in self.new)) }
         ensures confined { WritesFirstOf f (home_in self.old) (disk_in self.old) (disk_in self.new) }
+        ensures ordered { WritesInOrder (disk_in self.old) (disk_in self.new) }
     {
         if self.failed {
             return Err(Refusal::VolumeFailed);
@@ -176,6 +178,7 @@ impl<D: Device> Files<D> {
         ensures refused { IfErr result (λ refusal. FailsToAlter (has_failed self.old)
             with_delete_mark (home_in self.old) f refusal (disk_in self.old) (disk_in self.new)) }
         ensures confined { WritesFirstOf f (home_in self.old) (disk_in self.old) (disk_in self.new) }
+        ensures ordered { WritesInOrder (disk_in self.old) (disk_in self.new) }
     {
         if self.failed {
             return Err(Refusal::VolumeFailed);

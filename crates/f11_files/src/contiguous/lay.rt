@@ -189,6 +189,7 @@ impl Structure {
 }
 
 impl<D: Device> Files<D> {
+    ghost use Rattle.f11_writes.specs.Order.{WritesInOrder};
     ghost use Rattle.f11_files.specs.Open.{disk_in, has_failed, home_in, AnswersCall, IsIdFrom};
 
     /// Lays a file without blocks out in one run of `n` blocks of zeros, and answers how many it has then. The run is the lowest place that has
@@ -213,6 +214,7 @@ impl<D: Device> Files<D> {
             (home_in self.old) f n refusal (disk_in self.old) (disk_in self.new)) }
         ensures confined { WritesMoreOf f.number (home_in self.old) (disk_in self.old)
             (disk_in self.new) }
+        ensures ordered { WritesInOrder (disk_in self.old) (disk_in self.new) }
     {
         if self.failed {
             return Err(Refusal::VolumeFailed);

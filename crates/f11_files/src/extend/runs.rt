@@ -271,6 +271,7 @@ impl Structure {
 }
 
 impl<D: Device> Files<D> {
+    ghost use Rattle.f11_writes.specs.Order.{WritesInOrder};
     ghost use Rattle.f11_files.specs.Open.{disk_in, has_failed, home_in, AnswersCall, IsIdFrom};
 
     /// Extends a file by `n` blocks of zeros, and answers how many it has then. Where fewer headers are free than it may need, the index file
@@ -299,6 +300,7 @@ impl<D: Device> Files<D> {
         ensures confined { let home = home_in self.old in
             WritesAfterSlots (headers_for home f n (disk_in self.old)) (WritesMoreOf f.number home)
             home (disk_in self.old) (disk_in self.new) }
+        ensures ordered { WritesInOrder (disk_in self.old) (disk_in self.new) }
     {
         if self.failed {
             return Err(Refusal::VolumeFailed);

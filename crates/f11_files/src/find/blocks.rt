@@ -82,6 +82,7 @@ impl Structure {
 }
 
 impl<D: Device> Files<D> {
+    ghost use Rattle.f11_writes.specs.Order.{WritesInOrder};
     ghost use Rattle.f11_files.specs.Open.{counts_in, disk_in, has_failed, home_in, store_in, AnswersCall, IsIdFrom};
 
     /// Reads block `vbn` of a file, from 1, into the block that is lent, which stays as it is where the call is refused for another cause
@@ -128,6 +129,7 @@ impl<D: Device> Files<D> {
         ensures refused { IfErr result (λ refusal. FailsToStore (has_failed self.old)
             (home_in self.old) f vbn block.now refusal (disk_in self.old) (disk_in self.new)) }
         ensures confined { WritesBlocksOf f (home_in self.old) (disk_in self.old) (disk_in self.new) }
+        ensures ordered { WritesInOrder (disk_in self.old) (disk_in self.new) }
     {
         if self.failed {
             return Err(Refusal::VolumeFailed);

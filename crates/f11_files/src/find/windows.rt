@@ -1,6 +1,7 @@
 //! Windows over a file's blocks.
 ghost use Rattle.std.specs.Prelude.{◌≡◌, ◌<◌, ◌≤◌, false, length, IfErr, IfOk, OnOk};
 ghost use Rattle.f11_chain.specs.Windows.{HoldsBlock, LiesOn, ReadsIn};
+ghost use Rattle.f11_writes.specs.Order.{WritesInOrder};
 ghost use Rattle.f11_files.specs.Answers.{FailsToRead, is_fatal, is_refused};
 ghost use Rattle.f11_files.specs.Finding.Windows.{FailsToReadBy, FailsToStoreBy, FindsFileWindow, IsOfFile, ReadsBy, StoresBy};
 ghost use Rattle.f11_files.specs.Open.{IsIdFrom};
@@ -74,6 +75,7 @@ impl Structure {
             window.now vbn block.now refusal (D.disk device.old) (D.disk device.new)) }
         ensures stays { StaysFor (is_refused is_fatal result) self.now self.now
             (D.disk device.new) }
+        ensures ordered { WritesInOrder (D.disk device.old) (D.disk device.new) }
     {
         match window.write_in(device, vbn, block) {
             Ok(()) => Ok(()),
@@ -179,6 +181,7 @@ impl<D: Device> Files<D> {
         ensures refused { IfErr result (λ refusal. FailsToStoreBy (has_failed self.old)
             (home_in self.old) window.now vbn block.now refusal
             (disk_in self.old) (disk_in self.new)) }
+        ensures ordered { WritesInOrder (disk_in self.old) (disk_in self.new) }
     {
         if self.failed {
             return Err(Refusal::VolumeFailed);

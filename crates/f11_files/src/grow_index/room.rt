@@ -170,6 +170,7 @@ impl Structure {
 }
 
 impl<D: Device> Files<D> {
+    ghost use Rattle.f11_writes.specs.Order.{WritesInOrder};
     ghost use Rattle.f11_files.specs.Open.{disk_in, has_failed, home_in, AnswersCall};
 
     /// Gives the index file `n` slots more, and answers how many there are then. First all memory is taken, and the contiguous mark cleared
@@ -192,6 +193,7 @@ impl<D: Device> Files<D> {
         ensures refused { IfErr result (λ refusal. FailsToGrow (has_failed self.old)
             (home_in self.old) n refusal (disk_in self.old) (disk_in self.new)) }
         ensures confined { WritesMoreOf 1 (home_in self.old) (disk_in self.old) (disk_in self.new) }
+        ensures ordered { WritesInOrder (disk_in self.old) (disk_in self.new) }
     {
         if self.failed {
             return Err(Refusal::VolumeFailed);

@@ -5,6 +5,7 @@ use Rattle.f11_image_store.specs.StoreOf.{store_of}
 use Rattle.f11_home.specs.Home.{HomeFields}
 use Rattle.f11_store.specs.Directory.{record_bytes}
 use Rattle.f11_store.specs.declared.refusals.Refusal.{Refusal}
+use Rattle.f11_writes.proofs.InOrderLemmas.{order-then}
 use Rattle.f11_fcp.specs.Entries.{FailsToPut, IsDirectoryTail}
 use Rattle.f11_fcp.proofs.RowLemmas.{extended-honest, extended-leaves, leaves-then}
 use Rattle.f11_fcp.proofs.AppendLemmas.{appends-at-home, breaks-at-home, new-appended, new-not-appended, new-tail, not-extended-by-one}
@@ -66,3 +67,9 @@ returns-in-Ok-append_entry-clause-rows g c =
     (extended-leaves c.args.files.now c.extend.new.self (g.met.D.Device.is_image c.args.files.now.device)
     (g.met.D.Device.is_image c.extend.new.self.device) c.in-Ok.ensures.answers.home c.args.directory 1 c.in-Ok.ensures.extended.1)
     c.in-Ok-append_entry.ensures.rows
+
+pub returns-in-Ok-append_entry-clause-ordered : goal.returns-in-Ok-append_entry-clause-ordered
+returns-in-Ok-append_entry-clause-ordered g c = order-then _ _ _ c.extend.ensures.ordered c.append_entry.ensures.ordered
+
+pub returns-in-Err-append_entry-clause-ordered : goal.returns-in-Err-append_entry-clause-ordered
+returns-in-Err-append_entry-clause-ordered g c = order-then _ _ _ c.extend.ensures.ordered c.append_entry.ensures.ordered

@@ -6,6 +6,7 @@ use Rattle.f11_store.specs.Store.{Store}
 use Rattle.f11_files.specs.Answers.{is_fatal}
 use Rattle.f11_files.specs.Open.{store_in, disk_in, home_in}
 use Rattle.f11_image_store.specs.StoreOf.{store_of}
+use Rattle.f11_writes.proofs.InOrderLemmas.{order-then, order-looked}
 use Rattle.f11_fcp.specs.Accesses.{AccessTable, HasAccessed, with_marks}
 use Rattle.f11_fcp.specs.Handles.{state_of}
 use Rattle.f11_fcp.specs.Places.{access_table_of}
@@ -197,3 +198,16 @@ returns-in-Ok-delete-clause-windows g c = keeps-same (access_table_of c.args.sel
 pub returns-in-Ok-mark-clause-windows : goal.returns-in-Ok-mark-clause-windows
 returns-in-Ok-mark-clause-windows g c =
     keeps-marked c.args.file (access_table_of c.args.self.now) (access_table_of c.set_marks.new.self) c.set_marks.ensures
+
+pub returns-in-Ok-delete-clause-ordered : goal.returns-in-Ok-delete-clause-ordered
+returns-in-Ok-delete-clause-ordered g c = order-then _ _ _ (order-looked _ _ _ _ c.in-Ok.ensures.read.reads.looked) c.delete.ensures.ordered
+
+pub returns-in-Err-delete-clause-ordered : goal.returns-in-Err-delete-clause-ordered
+returns-in-Err-delete-clause-ordered g c =
+    order-then _ _ _ (order-looked _ _ _ _ c.in-Ok.ensures.read.reads.looked) c.delete.ensures.ordered
+
+pub returns-in-Ok-mark-clause-ordered : goal.returns-in-Ok-mark-clause-ordered
+returns-in-Ok-mark-clause-ordered g c = order-then _ _ _ (order-looked _ _ _ _ c.in-Ok.ensures.read.reads.looked) c.mark.ensures.ordered
+
+pub returns-in-Err-mark-clause-ordered : goal.returns-in-Err-mark-clause-ordered
+returns-in-Err-mark-clause-ordered g c = order-then _ _ _ (order-looked _ _ _ _ c.in-Ok.ensures.read.reads.looked) c.mark.ensures.ordered

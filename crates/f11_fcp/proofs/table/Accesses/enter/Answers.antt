@@ -1,4 +1,5 @@
 use Rattle.std.proofs.Common.{refl, sym, ◌∙◌}
+use Rattle.f11_writes.proofs.InOrderLemmas.{order-then}
 use Rattle.f11_fcp.specs.Handles.{state_of}
 use Rattle.f11_fcp.specs.Places.{access_table_of}
 use Rattle.f11_fcp.proofs.WindowLemmas.{windows-on}
@@ -83,3 +84,9 @@ pub returns-in-Err-put_entry-clause-open : goal.returns-in-Err-put_entry-clause-
 returns-in-Err-put_entry-clause-open g c =
     stays-open-entered (access_table_of c.args.self.now) c.args.files.now c.put_entry.new.files c.args.task c.args.caller c.args.directory
     c.args.name.now c.args.file _ c.requires.open (returns-in-Err-put_entry-clause-handles g c) c.in-Err-put_entry.ensures.alive tt
+
+pub returns-in-Ok-put_entry-clause-ordered : goal.returns-in-Ok-put_entry-clause-ordered
+returns-in-Ok-put_entry-clause-ordered g c = order-then _ _ _ c.search.ensures.ordered c.put_entry.ensures.ordered
+
+pub returns-in-Err-put_entry-clause-ordered : goal.returns-in-Err-put_entry-clause-ordered
+returns-in-Err-put_entry-clause-ordered g c = order-then _ _ _ c.search.ensures.ordered c.put_entry.ensures.ordered

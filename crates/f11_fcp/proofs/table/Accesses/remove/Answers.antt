@@ -1,4 +1,5 @@
 use Rattle.std.proofs.Common.{[], refl, sym, ◌∙◌}
+use Rattle.f11_writes.proofs.InOrderLemmas.{order-then}
 use Rattle.f11_fcp.specs.Handles.{state_of}
 use Rattle.f11_fcp.specs.Places.{access_table_of}
 use Rattle.f11_fcp.proofs.WindowLemmas.{windows-on}
@@ -71,3 +72,9 @@ returns-in-Err-clear_entry-clause-handles g c =
 
 pub returns-in-Err-clear_entry-clause-open : goal.returns-in-Err-clear_entry-clause-open
 returns-in-Err-clear_entry-clause-open g c = λ clean. absurd (let fatal = c.in-Err-clear_entry.ensures.refused.fatal in cc)
+
+pub returns-in-Ok-clear_entry-clause-ordered : goal.returns-in-Ok-clear_entry-clause-ordered
+returns-in-Ok-clear_entry-clause-ordered g c = order-then _ _ _ c.search.ensures.ordered c.clear_entry.ensures.ordered
+
+pub returns-in-Err-clear_entry-clause-ordered : goal.returns-in-Err-clear_entry-clause-ordered
+returns-in-Err-clear_entry-clause-ordered g c = order-then _ _ _ c.search.ensures.ordered c.clear_entry.ensures.ordered

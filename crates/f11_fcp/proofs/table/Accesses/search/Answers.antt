@@ -9,6 +9,7 @@ use Rattle.f11_home.specs.Home.{HomeFields}
 use Rattle.f11_store.specs.Cost.{header_count}
 use Rattle.f11_store.specs.Store.{file_named}
 use Rattle.f11_store.specs.declared.refusals.Refusal.{Refusal}
+use Rattle.f11_writes.proofs.InOrderLemmas.{order-looked}
 use Rattle.f11_fcp.specs.Directories.{IsDirectoryOf, LooksThroughDirectory, opening_causes}
 use Rattle.f11_fcp.specs.Places.{access_table_of}
 use Rattle.f11_fcp.proofs.AppendLemmas.{fatal-alone}
@@ -90,3 +91,6 @@ returns-in-Err-length-clause-alive g c = λ clean.
 pub returns-in-Err-look_through-clause-alive : goal.returns-in-Err-look_through-clause-alive
 returns-in-Err-look_through-clause-alive g c =
     λ clean. absurd (let fatal = fatal-alone c.in-Err-look_through.refusal c.in-Err-look_through.ensures.refused.right in cc)
+
+pub returns-in-Err-look_through-clause-ordered : goal.returns-in-Err-look_through-clause-ordered
+returns-in-Err-look_through-clause-ordered g c = order-looked _ _ _ _ (returns-in-Err-look_through-clause-refused g c).reads.looked

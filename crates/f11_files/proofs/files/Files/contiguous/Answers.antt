@@ -2,6 +2,7 @@ use Rattle.f11_files.proofs.Opening.Values.{files-for}
 use Rattle.f11_files.specs.Structure.{StaysFor}
 use Rattle.f11_files.proofs.Opening.Kept.{stays-opened}
 use Rattle.f11_files.proofs.LayingOut.Whole.{laying-failed}
+use Rattle.f11_files.proofs.Confining.Confines.{in-order-if}
 use Rattle.f11_files.proofs.files.Files.contiguous.Goals as goal
 
 pub contiguous-answer-requires-clause-is_for : goal.contiguous-answer-requires-clause-is_for
@@ -17,3 +18,6 @@ invariant_of-self g c =
 
 pub returns-then-self-clause-refused : goal.returns-then-self-clause-refused
 returns-then-self-clause-refused g c = laying-failed _ c.if-self.true
+
+pub returns-clause-ordered : goal.returns-clause-ordered
+returns-clause-ordered g c = in-order-if c.contiguous-answer.ensures.confined

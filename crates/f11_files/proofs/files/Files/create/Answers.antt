@@ -3,8 +3,8 @@ use Rattle.f11_files.proofs.Opening.Values.{files-for}
 use Rattle.f11_files.specs.Open.{disk_in}
 use Rattle.f11_files.specs.Structure.{StaysFor}
 use Rattle.f11_files.proofs.Opening.Kept.{stays-opened}
-use Rattle.f11_files.proofs.Confining.Confines.{confines-none}
-use Rattle.f11_files.proofs.Readied.{unchanged-after}
+use Rattle.f11_files.proofs.Confining.Confines.{confines-none, in-order-if}
+use Rattle.f11_files.proofs.Readied.{after-slots-order, unchanged-after}
 use Rattle.f11_files.proofs.WriteLemmas.{as-wanting, had-failed}
 use Rattle.f11_files.proofs.files.Files.create.Goals as goal
 
@@ -24,3 +24,6 @@ returns-then-self-clause-refused g c = as-wanting (λ is. omega (arith, is)) (ha
 
 pub returns-then-self-clause-confined : goal.returns-then-self-clause-confined
 returns-then-self-clause-confined g c = unchanged-after _ _ _ _ (λ _. confines-none _ _ _ _ (disk_in c.args.self.now))
+
+pub returns-clause-ordered : goal.returns-clause-ordered
+returns-clause-ordered g c = after-slots-order (λ ready rest. in-order-if rest) c.create-answer.ensures.confined

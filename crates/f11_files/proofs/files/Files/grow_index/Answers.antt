@@ -3,6 +3,7 @@ use Rattle.f11_files.proofs.Opening.Values.{files-for}
 use Rattle.f11_files.specs.Structure.{StaysFor}
 use Rattle.f11_files.proofs.Opening.Kept.{stays-opened}
 use Rattle.f11_files.proofs.WriteLemmas.{as-wanting, had-failed}
+use Rattle.f11_files.proofs.Confining.Confines.{in-order-if}
 use Rattle.f11_files.proofs.files.Files.grow_index.Goals as goal
 
 pub grow_index-answer-requires-clause-is_for : goal.grow_index-answer-requires-clause-is_for
@@ -18,3 +19,6 @@ invariant_of-self g c =
 
 pub returns-then-self-clause-refused : goal.returns-then-self-clause-refused
 returns-then-self-clause-refused g c = as-wanting (λ is. omega (arith, is)) (had-failed _ c.if-self.true)
+
+pub returns-clause-ordered : goal.returns-clause-ordered
+returns-clause-ordered g c = in-order-if c.grow_index-answer.ensures.confined

@@ -2,6 +2,7 @@ use Rattle.f11_files.proofs.Opening.Values.{files-for}
 use Rattle.f11_files.specs.Structure.{StaysFor}
 use Rattle.f11_files.proofs.Opening.Kept.{stays-opened}
 use Rattle.f11_files.proofs.WriteLemmas.{had-failed}
+use Rattle.f11_files.proofs.Confining.Confines.{in-order}
 use Rattle.f11_files.proofs.files.Files.write_attr.Goals as goal
 
 pub write_attr-answer-requires-clause-is_for : goal.write_attr-answer-requires-clause-is_for
@@ -17,3 +18,6 @@ invariant_of-self g c =
 
 pub returns-then-self-clause-refused : goal.returns-then-self-clause-refused
 returns-then-self-clause-refused g c = had-failed _ c.if-self.true
+
+pub returns-clause-ordered : goal.returns-clause-ordered
+returns-clause-ordered g c = in-order c.write_attr-answer.ensures.confined

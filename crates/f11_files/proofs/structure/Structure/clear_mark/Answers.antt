@@ -2,7 +2,7 @@ use Rattle.std.proofs.Common.{refl, sym, subst, List, ℕ}
 use Rattle.f11_index.proofs.InUseLemmas.{in_use-slot}
 use Rattle.f11_files.specs.Extending.Mark.{ClearsMark}
 use Rattle.f11_files.specs.Structure.{index_in}
-use Rattle.f11_files.proofs.Extending.Clear.{clears-none, clears-mark, fails-clear}
+use Rattle.f11_files.proofs.Extending.Clear.{clear-order, clears-mark, clears-none, fails-clear, unclear-order}
 use Rattle.f11_files.proofs.Finding.First.{place-within}
 use Rattle.f11_files.proofs.Confining.Parts.{only-failed, only-wrote}
 use Rattle.f11_files.proofs.structure.Structure.clear_mark.Goals as goal
@@ -37,7 +37,13 @@ returns-in-Err-clause-failed g c =
 pub returns-in-Ok-clause-confined : goal.returns-in-Ok-clause-confined
 returns-in-Ok-clause-confined g c =
     only-wrote c.args.self.now c.args.f.number _ _ _ _ c.requires.holds.header.in_use c.lbn_of_header.ensures c.in-Ok.ensures.writes.ok
+    (clear-order c.args.self.now c.args.f c.args.first.now (g.D.Device.disk c.args.device.now) c.requires.is_for c.requires.holds
+    c.requires.own _ (c.clear_contiguous.ensures.cleared c.if-not-clear_contiguous.false)
+    _ _ c.lbn_of_header.ensures c.in-Ok.ensures.writes.ok)
 
 pub returns-in-Err-clause-confined : goal.returns-in-Err-clause-confined
 returns-in-Err-clause-confined g c =
     only-failed c.args.self.now c.args.f.number _ _ _ _ c.requires.holds.header.in_use c.lbn_of_header.ensures c.in-Err.ensures.writes.err
+    (unclear-order c.args.self.now c.args.f c.args.first.now (g.D.Device.disk c.args.device.now) c.requires.is_for c.requires.holds
+    c.requires.own _ (c.clear_contiguous.ensures.cleared c.if-not-clear_contiguous.false)
+    _ _ c.lbn_of_header.ensures c.in-Err.ensures.writes.err)

@@ -4,7 +4,8 @@ use Rattle.f11_dev.proofs.LookedLemmas.{looked_none, looked_failed_read}
 use Rattle.f11_index.proofs.InUseLemmas.{header-within}
 use Rattle.f11_files.specs.Structure.{index_in}
 use Rattle.f11_files.proofs.AnswerLemmas.{right-cause, right-fault, reads-looked}
-use Rattle.f11_files.proofs.Creating.Create.{none-free, fails-first, fails-first-stays, fails-bit, fails-bit-stays, creates, created-stays}
+use Rattle.f11_files.proofs.Creating.Create.{bit-entered, created-stays, creates, fails-bit, fails-bit-stays, fails-first}
+use Rattle.f11_files.proofs.Creating.Create.{fails-first-stays, header-unwritten, header-written, none-free}
 use Rattle.f11_files.proofs.WriteLemmas.{fails-unread}
 use Rattle.f11_files.proofs.Confining.SlotParts.{slot-entered, slot-unwritten}
 use Rattle.f11_files.proofs.structure.Structure.enter_file.Goals as goal
@@ -81,13 +82,33 @@ pub returns-in-Err-write-clause-confined : goal.returns-in-Err-write-clause-conf
 returns-in-Err-write-clause-confined g c =
     slot-unwritten c.args.self.now c.in-Some.number _ _ _ _ c.in-Some.ensures c.lbn_of_header-lbn.ensures c.in-Ok.ensures.reads.counts
     c.in-Err-write.ensures.writes.err
+    (header-unwritten c.args.self.now c.args.owner c.args.protection c.args.ident.now c.args.attr.now c.in-Some.number _ _ _ c.read.new.into
+    c.next_sequence.result c.requires.is_for c.in-Some.ensures c.lbn_of_header-lbn.ensures c.in-Ok.ensures.reads.counts
+    c.in-Ok.ensures.reads.gives
+    c.next_sequence.ensures.next _ _ c.fill_first.ensures _ c.in-Err-write.ensures.writes.err)
 
 pub returns-in-Ok-set-clause-confined : goal.returns-in-Ok-set-clause-confined
 returns-in-Ok-set-clause-confined g c =
     slot-entered c.args.self.now c.in-Some.number _ _ _ _ c.in-Some.ensures c.lbn_of_header-lbn.ensures c.in-Ok.ensures.reads.counts
     c.in-Ok-write.ensures.writes.ok c.in-Ok-set.ensures.done.went
+    (header-written c.args.self.now c.args.owner c.args.protection c.args.ident.now c.args.attr.now c.in-Some.number _ _ _ c.read.new.into
+    c.next_sequence.result c.requires.is_for c.in-Some.ensures c.lbn_of_header-lbn.ensures c.in-Ok.ensures.reads.counts
+    c.in-Ok.ensures.reads.gives
+    c.next_sequence.ensures.next _ _ c.fill_first.ensures _ c.in-Ok-write.ensures.writes.ok)
+    (bit-entered c.args.self.now c.args.owner c.args.protection c.args.ident.now c.args.attr.now c.in-Some.number _ _ _ c.read.new.into
+    c.next_sequence.result c.requires.is_for c.in-Some.ensures c.lbn_of_header-lbn.ensures c.in-Ok.ensures.reads.counts
+    c.in-Ok.ensures.reads.gives
+    c.next_sequence.ensures.next _ _ c.fill_first.ensures _ c.in-Ok-write.ensures.writes.ok _ c.in-Ok-set.ensures.done.went)
 
 pub returns-in-Err-set-clause-confined : goal.returns-in-Err-set-clause-confined
 returns-in-Err-set-clause-confined g c =
     slot-entered c.args.self.now c.in-Some.number _ _ _ _ c.in-Some.ensures c.lbn_of_header-lbn.ensures c.in-Ok.ensures.reads.counts
     c.in-Ok-write.ensures.writes.ok c.in-Err-set.ensures.failed
+    (header-written c.args.self.now c.args.owner c.args.protection c.args.ident.now c.args.attr.now c.in-Some.number _ _ _ c.read.new.into
+    c.next_sequence.result c.requires.is_for c.in-Some.ensures c.lbn_of_header-lbn.ensures c.in-Ok.ensures.reads.counts
+    c.in-Ok.ensures.reads.gives
+    c.next_sequence.ensures.next _ _ c.fill_first.ensures _ c.in-Ok-write.ensures.writes.ok)
+    (bit-entered c.args.self.now c.args.owner c.args.protection c.args.ident.now c.args.attr.now c.in-Some.number _ _ _ c.read.new.into
+    c.next_sequence.result c.requires.is_for c.in-Some.ensures c.lbn_of_header-lbn.ensures c.in-Ok.ensures.reads.counts
+    c.in-Ok.ensures.reads.gives
+    c.next_sequence.ensures.next _ _ c.fill_first.ensures _ c.in-Ok-write.ensures.writes.ok _ c.in-Err-set.ensures.failed)

@@ -2,7 +2,8 @@ use Rattle.std.proofs.Common.{length, refl, ap, arith}
 use Rattle.f11_dev.specs.Disk.{Disk}
 use Rattle.f11_index.proofs.InUseLemmas.{header-within}
 use Rattle.f11_files.specs.Structure.{index_in}
-use Rattle.f11_files.proofs.Extending.Enter.{none-free, fails-read, fails-first, fails-bit, enters-header, entered-stays}
+use Rattle.f11_files.proofs.Extending.Enter.{bit-entered, entered-stays, enters-header, fails-bit, fails-first, fails-read}
+use Rattle.f11_files.proofs.Extending.Enter.{header-unwritten, header-written, none-free}
 use Rattle.f11_files.proofs.Extending.Growing.{taking-stays}
 use Rattle.f11_files.proofs.Confining.SlotParts.{least-new, slot-entered, slot-unwritten}
 use Rattle.f11_files.proofs.structure.Structure.enter_header.Goals as goal
@@ -84,16 +85,41 @@ pub returns-in-Err-write-clause-confined : goal.returns-in-Err-write-clause-conf
 returns-in-Err-write-clause-confined g c =
     slot-unwritten c.args.self.now c.in-Some.number _ _ _ _ c.in-Some.ensures c.lbn_of_header-at.ensures c.in-Ok.ensures.reads.counts
     c.in-Err-write.ensures.writes.err
+    (header-unwritten c.args.self.now c.args.tail.now c.args.lbn c.args.count (g.D.Device.disk c.args.device.now) c.requires.is_for
+    c.requires.last c.requires.given
+    c.in-Some.number _ _ c.read.new.into c.next_sequence.result c.in-Some.ensures c.lbn_of_header-at.ensures c.in-Ok.ensures.reads.counts
+    c.in-Ok.ensures.reads.gives c.next_sequence.ensures.next
+    c.fill_extension.new.block c.fill_extension.ensures _ c.in-Err-write.ensures.writes.err)
 
 pub returns-in-Ok-set-clause-confined : goal.returns-in-Ok-set-clause-confined
 returns-in-Ok-set-clause-confined g c =
     slot-entered c.args.self.now c.in-Some.number _ _ _ _ c.in-Some.ensures c.lbn_of_header-at.ensures c.in-Ok.ensures.reads.counts
     c.in-Ok-write.ensures.writes.ok c.in-Ok-set.ensures.done.went
+    (header-written c.args.self.now c.args.tail.now c.args.lbn c.args.count (g.D.Device.disk c.args.device.now) c.requires.is_for
+    c.requires.last c.requires.given
+    c.in-Some.number _ _ c.read.new.into c.next_sequence.result c.in-Some.ensures c.lbn_of_header-at.ensures c.in-Ok.ensures.reads.counts
+    c.in-Ok.ensures.reads.gives c.next_sequence.ensures.next
+    c.fill_extension.new.block c.fill_extension.ensures _ c.in-Ok-write.ensures.writes.ok)
+    (bit-entered c.args.self.now c.args.tail.now c.args.lbn c.args.count (g.D.Device.disk c.args.device.now) c.requires.is_for
+    c.requires.last c.requires.given
+    c.in-Some.number _ _ c.read.new.into c.next_sequence.result c.in-Some.ensures c.lbn_of_header-at.ensures c.in-Ok.ensures.reads.counts
+    c.in-Ok.ensures.reads.gives c.next_sequence.ensures.next
+    c.fill_extension.new.block c.fill_extension.ensures _ c.in-Ok-write.ensures.writes.ok _ c.in-Ok-set.ensures.done.went)
 
 pub returns-in-Err-set-clause-confined : goal.returns-in-Err-set-clause-confined
 returns-in-Err-set-clause-confined g c =
     slot-entered c.args.self.now c.in-Some.number _ _ _ _ c.in-Some.ensures c.lbn_of_header-at.ensures c.in-Ok.ensures.reads.counts
     c.in-Ok-write.ensures.writes.ok c.in-Err-set.ensures.failed
+    (header-written c.args.self.now c.args.tail.now c.args.lbn c.args.count (g.D.Device.disk c.args.device.now) c.requires.is_for
+    c.requires.last c.requires.given
+    c.in-Some.number _ _ c.read.new.into c.next_sequence.result c.in-Some.ensures c.lbn_of_header-at.ensures c.in-Ok.ensures.reads.counts
+    c.in-Ok.ensures.reads.gives c.next_sequence.ensures.next
+    c.fill_extension.new.block c.fill_extension.ensures _ c.in-Ok-write.ensures.writes.ok)
+    (bit-entered c.args.self.now c.args.tail.now c.args.lbn c.args.count (g.D.Device.disk c.args.device.now) c.requires.is_for
+    c.requires.last c.requires.given
+    c.in-Some.number _ _ c.read.new.into c.next_sequence.result c.in-Some.ensures c.lbn_of_header-at.ensures c.in-Ok.ensures.reads.counts
+    c.in-Ok.ensures.reads.gives c.next_sequence.ensures.next
+    c.fill_extension.new.block c.fill_extension.ensures _ c.in-Ok-write.ensures.writes.ok _ c.in-Err-set.ensures.failed)
 
 pub returns-in-Ok-set-clause-places : goal.returns-in-Ok-set-clause-places
 returns-in-Ok-set-clause-places g c = record { was_new = least-new c.in-Some.ensures; bit = c.in-Ok-set.ensures.done.bit; bitmap = refl }

@@ -1,7 +1,8 @@
 use Rattle.std.proofs.Common.{false, refl}
 use Rattle.f11_index.proofs.InUseLemmas.{in_use-some, in_use-slot}
 use Rattle.f11_files.specs.Structure.{index_in}
-use Rattle.f11_files.proofs.Removing.FreeSlot.{fails-killed, fails-bit, frees_slot, freed-stays}
+use Rattle.f11_files.proofs.Removing.FreeSlot.{cleared-order, fails-bit, fails-killed, freed-stays, frees_slot, killed-order}
+use Rattle.f11_files.proofs.Removing.FreeSlot.{unkilled-order}
 use Rattle.f11_files.proofs.Removing.Freeing.{broken-stays}
 use Rattle.f11_files.proofs.Finding.First.{place-within}
 use Rattle.f11_files.proofs.Confining.Parts.{bit-alike, only-failed}
@@ -63,11 +64,17 @@ returns-in-Err-clear-clause-stays g c =
 pub returns-in-Err-clause-confined : goal.returns-in-Err-clause-confined
 returns-in-Err-clause-confined g c =
     only-failed c.args.self.now c.args.n _ _ _ _ c.requires.holds.in_use c.lbn_of_header.ensures c.in-Err.ensures.writes.err
+    (unkilled-order c.args.self.now c.args.n _ c.args.block.now _ _ c.requires.is_for c.requires.holds c.requires.may c.kill.ensures.block
+    c.kill.ensures.dead c.lbn_of_header.ensures _ c.in-Err.ensures.writes.err)
 
 pub returns-in-Ok-clear-clause-confined : goal.returns-in-Ok-clear-clause-confined
 returns-in-Ok-clear-clause-confined g c =
     slot-freed c.args.self.now c.args.n _ _ _ _ c.requires.holds.in_use c.lbn_of_header.ensures c.in-Ok.ensures.writes.ok
     c.in-Ok-clear.ensures.done.went
+    (killed-order c.args.self.now c.args.n _ c.args.block.now _ _ c.requires.is_for c.requires.holds c.requires.may c.kill.ensures.block
+    c.kill.ensures.dead c.lbn_of_header.ensures _ c.in-Ok.ensures.writes.ok)
+    (cleared-order c.args.self.now c.args.n _ c.args.block.now _ _ c.requires.is_for c.requires.holds c.requires.may c.kill.ensures.block
+    c.kill.ensures.dead c.lbn_of_header.ensures _ c.in-Ok.ensures.writes.ok _ c.in-Ok-clear.ensures.done.went)
 
 pub returns-in-Ok-clear-clause-places : goal.returns-in-Ok-clear-clause-places
 returns-in-Ok-clear-clause-places g c =
@@ -77,3 +84,7 @@ pub returns-in-Err-clear-clause-confined : goal.returns-in-Err-clear-clause-conf
 returns-in-Err-clear-clause-confined g c =
     slot-freed c.args.self.now c.args.n _ _ _ _ c.requires.holds.in_use c.lbn_of_header.ensures c.in-Ok.ensures.writes.ok
     c.in-Err-clear.ensures.failed
+    (killed-order c.args.self.now c.args.n _ c.args.block.now _ _ c.requires.is_for c.requires.holds c.requires.may c.kill.ensures.block
+    c.kill.ensures.dead c.lbn_of_header.ensures _ c.in-Ok.ensures.writes.ok)
+    (cleared-order c.args.self.now c.args.n _ c.args.block.now _ _ c.requires.is_for c.requires.holds c.requires.may c.kill.ensures.block
+    c.kill.ensures.dead c.lbn_of_header.ensures _ c.in-Ok.ensures.writes.ok _ c.in-Err-clear.ensures.failed)

@@ -1,5 +1,5 @@
 use Rattle.std.proofs.Common.{◌≡◌, ◌<◌, ℕ, true, arith, refl}
-use Rattle.f11_files.proofs.Removing.Freeing.{no-run, outside-run, run-used, gives-run, fails-run, run-stays, broken-stays}
+use Rattle.f11_files.proofs.Removing.Freeing.{no-run, outside-run, run-order, run-used, gives-run, fails-run, run-stays, broken-stays}
 use Rattle.f11_image_store.specs.Confines.{no_header}
 use Rattle.f11_files.proofs.Confining.Parts.{marks-went}
 use Rattle.f11_files.proofs.structure.Structure.give_run.Goals as goal
@@ -46,7 +46,13 @@ returns-in-Err-clause-stays g c =
     (λ honest. c.requires.unreferenced honest (some _ c.if-count-eq0.false)) _ c.requires.few c.in-Err.ensures.failed)
 
 pub returns-in-Ok-clause-confined : goal.returns-in-Ok-clause-confined
-returns-in-Ok-clause-confined g c = marks-went c.args.self.now no_header _ true c.args.lbn c.args.count c.in-Ok.ensures.gives.went
+returns-in-Ok-clause-confined g c =
+    marks-went c.args.self.now no_header _ true c.args.lbn c.args.count c.in-Ok.ensures.gives.went
+    (run-order c.args.self.now c.args.lbn c.args.count _ c.requires.is_for
+    (λ honest. c.requires.unreferenced honest (some _ c.if-count-eq0.false)) _ c.in-Ok.ensures.gives.went)
 
 pub returns-in-Err-clause-confined : goal.returns-in-Err-clause-confined
-returns-in-Err-clause-confined g c = marks-went c.args.self.now no_header _ true c.args.lbn c.args.count c.in-Err.ensures.failed
+returns-in-Err-clause-confined g c =
+    marks-went c.args.self.now no_header _ true c.args.lbn c.args.count c.in-Err.ensures.failed
+    (run-order c.args.self.now c.args.lbn c.args.count _ c.requires.is_for
+    (λ honest. c.requires.unreferenced honest (some _ c.if-count-eq0.false)) _ c.in-Err.ensures.failed)

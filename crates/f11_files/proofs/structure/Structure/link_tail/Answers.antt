@@ -2,7 +2,7 @@ use Rattle.std.proofs.Common.{◌==◌, refl}
 use Rattle.f11_files.proofs.Extending.Written.{stays-behind}
 use Rattle.f11_index.proofs.InUseLemmas.{in_use-some, in_use-slot}
 use Rattle.f11_files.specs.Structure.{index_in}
-use Rattle.f11_files.proofs.Extending.LinkTail.{links-tail, links-stays, fails-link}
+use Rattle.f11_files.proofs.Extending.LinkTail.{fails-link, linked-order, links-stays, links-tail, unlinked-order}
 use Rattle.f11_files.proofs.Finding.First.{place-within}
 use Rattle.f11_files.proofs.Confining.Parts.{only-failed, only-wrote}
 use Rattle.f11_files.proofs.structure.Structure.link_tail.Goals as goal
@@ -44,11 +44,19 @@ pub returns-in-Err-clause-confined : goal.returns-in-Err-clause-confined
 returns-in-Err-clause-confined g c =
     only-failed c.args.self.now c.args.tail.now.number _ _ _ _ c.requires.last.header.in_use c.lbn_of_header.ensures
     c.in-Err.ensures.writes.err
+    (unlinked-order c.args.self.now c.args.tail.now c.set_link.new.block c.args.id (g.D.Device.disk c.args.device.now) c.requires.is_for
+    c.requires.last c.requires.early
+    c.requires.next c.set_link.ensures.sets c.requires.gets c.args.lbn c.args.count c.requires.named c.requires.within c.requires.zeros
+    c.requires.come _ _ c.lbn_of_header.ensures c.in-Err.ensures.writes.err)
 
 pub returns-clause-confined : goal.returns-clause-confined
 returns-clause-confined g c =
     only-wrote c.args.self.now c.args.tail.now.number _ _ _ _ c.requires.last.header.in_use c.lbn_of_header.ensures
     c.in-Ok.ensures.writes.ok
+    (linked-order c.args.self.now c.args.tail.now c.set_link.new.block c.args.id (g.D.Device.disk c.args.device.now) c.requires.is_for
+    c.requires.last c.requires.early
+    c.requires.next c.set_link.ensures.sets c.requires.gets c.args.lbn c.args.count c.requires.named c.requires.within c.requires.zeros
+    c.requires.come _ _ c.lbn_of_header.ensures c.in-Ok.ensures.writes.ok)
 
 pub returns-clause-places : goal.returns-clause-places
 returns-clause-places g c =

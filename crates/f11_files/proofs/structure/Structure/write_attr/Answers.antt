@@ -3,7 +3,7 @@ use Rattle.f11_dev.specs.Image.{Image}
 use Rattle.f11_index.proofs.InUseLemmas.{in_use-slot}
 use Rattle.f11_store.specs.Changes.{with_replacement}
 use Rattle.f11_files.specs.Structure.{index_in}
-use Rattle.f11_files.proofs.Changing.Alter.{alters, altered-stays, fails-alter, fails-altered}
+use Rattle.f11_files.proofs.Changing.Alter.{alters, altered-order, altered-stays, fails-alter, fails-altered, unaltered-order}
 use Rattle.f11_files.proofs.Finding.First.{place-within}
 use Rattle.f11_files.proofs.Confining.Parts.{first-failed, first-wrote}
 use Rattle.f11_files.proofs.structure.Structure.write_attr.Goals as goal
@@ -45,7 +45,13 @@ returns-in-Err-clause-stays g c =
 pub returns-in-Ok-clause-confined : goal.returns-in-Ok-clause-confined
 returns-in-Ok-clause-confined g c =
     first-wrote c.args.self.now c.args.f _ _ _ _ _ _ c.in_ok-read_first.ensures.found c.lbn_of_header.ensures c.in-Ok.ensures.writes.ok
+    (altered-order c.args.self.now c.args.f (with_replacement c.args.change.now) _ _ _ _ _ c.requires.is_for c.requires.own
+    c.in_ok-read_first.ensures.found
+    c.replace.ensures c.lbn_of_header.ensures _ c.in-Ok.ensures.writes.ok)
 
 pub returns-in-Err-clause-confined : goal.returns-in-Err-clause-confined
 returns-in-Err-clause-confined g c =
     first-failed c.args.self.now c.args.f _ _ _ _ _ _ c.in_ok-read_first.ensures.found c.lbn_of_header.ensures c.in-Err.ensures.writes.err
+    (unaltered-order c.args.self.now c.args.f (with_replacement c.args.change.now) _ _ _ _ _ c.requires.is_for c.requires.own
+    c.in_ok-read_first.ensures.found
+    c.replace.ensures c.lbn_of_header.ensures _ c.in-Err.ensures.writes.err)

@@ -1,4 +1,4 @@
-use Rattle.f11_files.proofs.Changing.Block.{stores-block, stored-stays, fails-store, fails-stays}
+use Rattle.f11_files.proofs.Changing.Block.{stores-block, stored-order, stored-stays, fails-store, fails-stays, unstored-order}
 use Rattle.std.proofs.Common.{◌-◌}
 use Rattle.f11_chain.specs.FileHeaders.{file_blocks}
 use Rattle.f11_index.specs.Table.{table_of}
@@ -35,7 +35,8 @@ returns-in-Ok-clause-confined g c = λ honest.
     to-then s s no_header no_header blocks blocks (stands-within s s no_header no_header blocks (λ n is. is) (stands-same s)) (λ l out. out)
     (to-parts s no_header no_header blocks (λ n is. is) (parts-looked s no_header found.reads.looked))
     (other-wrote s no_header blocks c.in_ok-lbn.lbn _ _ _ (at-in blocks (c.args.vbn - 1) c.in_ok-lbn.lbn (found.block_is honest))
-    c.in-Ok.ensures.writes.ok)
+    c.in-Ok.ensures.writes.ok
+    (stored-order s c.args.f c.args.vbn _ _ _ _ c.requires.is_for c.requires.own found _ c.in-Ok.ensures.writes.ok))
 
 pub returns-in-Err-clause-confined : goal.returns-in-Err-clause-confined
 returns-in-Err-clause-confined g c = λ honest.
@@ -45,4 +46,5 @@ returns-in-Err-clause-confined g c = λ honest.
     to-then s s no_header no_header blocks blocks (stands-within s s no_header no_header blocks (λ n is. is) (stands-same s)) (λ l out. out)
     (to-parts s no_header no_header blocks (λ n is. is) (parts-looked s no_header found.reads.looked))
     (other-failed s no_header blocks c.in_ok-lbn.lbn _ _ _ (at-in blocks (c.args.vbn - 1) c.in_ok-lbn.lbn (found.block_is honest))
-    c.in-Err.ensures.writes.err)
+    c.in-Err.ensures.writes.err
+    (unstored-order s c.args.f c.args.vbn _ _ _ _ c.requires.is_for c.requires.own found _ c.in-Err.ensures.writes.err))

@@ -8,7 +8,7 @@ use Rattle.f11_files.specs.declared.structure.Structure.{Structure}
 use Rattle.f11_files.proofs.Removing.Loss.{in-run}
 use Rattle.f11_files.proofs.Confining.Parts.{other-failed, other-wrote, parts-none, stands-same, stands-within, to-parts, to-then}
 use Rattle.f11_files.specs.Extending.Zeros.{Zeroes}
-use Rattle.f11_files.proofs.Extending.Zero.{zeroes-none, zeroes-more, fails-zero}
+use Rattle.f11_files.proofs.Extending.Zero.{fails-zero, unzeroed-order, zeroed-order, zeroes-more, zeroes-none}
 use Rattle.f11_files.proofs.structure.Structure.zero_run.Goals as goal
 
 after : (s : Structure) (lbn count : ℕ) {a b c : Disk} → ConfinesTo s no_header (range_with_len lbn count) a b
@@ -46,7 +46,10 @@ loop-k-preserved g c =
       confined = after c.args.self.now c.args.lbn c.args.count c.loop-k.invariant.confined
           (other-wrote c.args.self.now no_header (range_with_len c.args.lbn c.args.count) (c.args.lbn + c.loop-k.k) _ _ _
           (in-run c.args.lbn c.args.count (c.args.lbn + c.loop-k.k) (omega arith) (omega (arith, c.loop-k-test.true)))
-          c.in_ok-write.ensures.writes.ok);
+          c.in_ok-write.ensures.writes.ok
+          (zeroed-order (home_of c.args.self.now) c.args.lbn c.args.count (g.D.Device.disk c.args.device.now) c.requires.within
+          c.requires.is_for.sound c.requires.unreferenced
+          c.loop-k.k now _ c.loop-k-test.true c.loop-k.invariant.zeroes (rw c.zeros-zeros.ensures at c.in_ok-write.ensures.writes.ok)));
     }
 
 pub returns-clause-zeroes : goal.returns-clause-zeroes
@@ -60,7 +63,11 @@ returns-in_err-write-clause-confined g c =
     after c.args.self.now c.args.lbn c.args.count c.loop-k.invariant.confined
     (other-failed c.args.self.now no_header (range_with_len c.args.lbn c.args.count) (c.args.lbn + c.loop-k.k) _ _ _
     (in-run c.args.lbn c.args.count (c.args.lbn + c.loop-k.k) (omega arith) (omega (arith, c.loop-k-test.true)))
-    c.in_err-write.ensures.writes.err)
+    c.in_err-write.ensures.writes.err
+    (unzeroed-order (home_of c.args.self.now) c.args.lbn c.args.count (g.D.Device.disk c.args.device.now) c.requires.within
+    c.requires.is_for.sound c.requires.unreferenced
+    c.loop-k.k (g.D.Device.disk c.loop-k.device) _ c.loop-k-test.true c.loop-k.invariant.zeroes
+    (rw c.zeros-zeros.ensures at c.in_err-write.ensures.writes.err)))
 
 pub returns-clause-confined : goal.returns-clause-confined
 returns-clause-confined g c = c.loop-k.invariant.confined
