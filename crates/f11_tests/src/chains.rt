@@ -20,7 +20,7 @@ use std::test::Fail;
 
 /// A small volume with file 6, whose first header names blocks 22 to 25, 30 and 31, and whose second, header 7, names blocks
 /// 40 and 50 to 52.
-fn two_headers(alloc: Global) -> Result<Memory, Fail> {
+pub fn two_headers(alloc: Global) -> Result<Memory, Fail> {
     let mut device = small_index_file(alloc, 0x007f)?;
     let header = linked(file(6, 1), 0, file(7, 3), &[(22, 3), (30, 1)]);
     put(&mut device, 8, &header)?;
@@ -253,7 +253,7 @@ fn headers_are_read(rt: HostRuntime) -> Result<(), Fail> {
 }
 
 /// Makes a byte of a header this, and seals it.
-fn change(device: &mut Memory, lbn: u32, at: usize, value: u8) -> Result<(), Fail> {
+pub fn change(device: &mut Memory, lbn: u32, at: usize, value: u8) -> Result<(), Fail> {
     let mut block = get(device, lbn)?;
     if at < 512 {
         block[at] = value;
@@ -342,7 +342,7 @@ fn a_transfer_along_headers_fails(rt: HostRuntime) -> Result<(), Fail> {
 }
 
 /// A volume of 282 slots with file 17, which has 256 headers and as many blocks, 300 to 555. The last header has this link.
-fn long_file(alloc: Global, link: FileId) -> Result<Memory, Fail> {
+pub fn long_file(alloc: Global, link: FileId) -> Result<Memory, Fail> {
     let mut bits = ZEROS;
     bits[..35].copy_from_slice(&[255; 35]);
     let mut device = index_file(alloc, &bits, &[(0, 18), (20, 255), (276, 9)])?;

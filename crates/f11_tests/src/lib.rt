@@ -17,3 +17,5 @@ mod headers;
 mod index;
 #[cfg(test)]
 mod pointers;
+#[cfg(test)]
+mod readers;
