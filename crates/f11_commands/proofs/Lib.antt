@@ -1,5 +1,6 @@
 pub mod LineLemmas
 pub mod VolumeLemmas
+mod LsLemmas
 mod RunLemmas
 mod UpdateLemmas
 mod AskedLemmas
@@ -7,3 +8,4 @@ mod BrokenLemmas
 mod CopyLemmas
 mod NamedLemmas
 mod DirectoryLemmas
+mod TakingOutLemmas

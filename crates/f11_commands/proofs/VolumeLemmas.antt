@@ -7,10 +7,11 @@ use Rattle.f11_dev.specs.Image.{Image, image_block}
 use Rattle.f11_dev.proofs.ImageLemmas.{image_block-read}
 use Rattle.f11_dev.proofs.LookedLemmas.{looked_more, looked_within}
 use Rattle.f11_home.specs.Home.{HomeFields, FindsHome, candidates, IsSound}
-use Rattle.f11_index.specs.Calls.{Loads}
+use Rattle.f11_index.specs.Calls.{Loads, ReadsIndex}
 use Rattle.f11_index.specs.IndexFile.{Index, index_of, slots, header_lbn, HasNonePast}
 use Rattle.f11_index.specs.Table.{table_in}
 use Rattle.f11_index.specs.Sound.{IsIndexFile}
+use Rattle.f11_commands.specs.LsCommand.{FindsVolume}
 use Rattle.f11_commands.specs.DumpCommand.{FindsIndex, IsHeaderDump, no_header_line}
 use Rattle.f11_commands.specs.Dump.{IsDump}
 
@@ -64,4 +65,16 @@ unfolding table_in
 slot-dump index image n lbn block text some within at reads dump = record {
   slot = λ _ _. subst (λ (b : List ℕ). IsDump b n text) (sym (image_block-read image lbn block reads) ∙ ap (image_block image) at) dump;
   no_slot = λ none. elim none [ inl is ↦ absurd (omega (arith, is, some)) | inr past ↦ absurd (omega (arith, past, within)) ];
+}
+
+-- the index file was read, whatever its bits past the slots are
+pub FindsVolume-read : (home : HomeFields) (index : Index) (old mid new : Disk) → FindsHome old mid home → ReadsIndex home index mid new
+    → FindsVolume home index old new
+FindsVolume-read home index old mid new finds reads = record {
+  readable = λ honest. record {
+    is_home = finds.is_home honest;
+    index_file = subst (λ (i : Image). IsIndexFile i home) finds.looked.image (reads.sound (finds.looked.honest ∙ honest));
+  };
+  is_for = reads.is_for;
+  reads = (_, looked_more finds.looked reads.looked.looked);
 }

@@ -8,6 +8,7 @@ pub mod InitCommand
 pub mod Label
 pub mod Name
 pub mod Output
+pub mod LsCommand
 pub mod Report
 pub mod RtReport
 pub mod Lines
@@ -15,5 +16,6 @@ pub mod Rights
 pub mod RtList
 pub mod RunCommand
 pub mod RtVolume
+pub mod TakingOut
 pub mod VfyCommand
 pub mod UpdateCommand

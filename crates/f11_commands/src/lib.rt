@@ -6,11 +6,13 @@
 //! names, on [`f11_store`], for rights, on [`f11_fcp`] and [`f11_serving`], for scripts, and on [`f11_flx`], for copies.
 #![tactic(auto)]
 
+mod contents;
 mod copy;
 mod dump;
 mod home;
 mod init;
 mod label;
+mod ls;
 mod name;
 mod outcome;
 mod report;
@@ -24,12 +26,14 @@ mod vfy;
 mod volume;
 mod volume_dump;
 
+pub use contents::write_contents;
 pub use copy::names::{read_names, refuse_names};
 pub use copy::{CopyAnswer, Copying, Direction, print_copy};
 pub use dump::dump_header;
 pub use home::print_home;
 pub use init::{print_init, refuse_init};
 pub use label::Label;
+pub use ls::{Served, print_ls};
 pub use name::print_name;
 pub use outcome::{Answer, Failure};
 pub use report::System;

@@ -3,6 +3,7 @@ ghost use Rattle.std.specs.Prelude.{◌≡◌, ◌⊎◌, IfOk, IfErr, IsErrOf};
 ghost use Rattle.f11_dev.specs.Looked.{Looked};
 ghost use Rattle.f11_index.specs.Kept.{index_kept};
 ghost use Rattle.f11_commands.specs.DumpCommand.{FindsIndex, FindsFault, index_reads};
+ghost use Rattle.f11_commands.specs.LsCommand.{FindsVolume, Hinders};
 
 use crate::outcome::Failure;
 use crate::report::files11::FaultText;
@@ -88,6 +89,42 @@ pub(crate) fn find_index<D: Device>(
         Err(HomeFault::NoHome) => return Ok(Err(VolumeFault::NoHome)),
     };
     match IndexFile::load(alloc, device, &home) {
+        Ok(index) => Ok(Ok((home, index))),
+        Err(IndexFault::Misplaced) => Ok(Err(VolumeFault::IndexMisplaced)),
+        Err(IndexFault::PastSlots(n)) => Ok(Err(VolumeFault::PastSlots(n))),
+        Err(IndexFault::DeviceFault) => Err(Failure::DeviceFault),
+        Err(IndexFault::NoMemory) => Err(Failure::NoMemory),
+    }
+}
+
+/// Finds the home block of a device and reads the index file, or says by which fault the volume can't be read: that of a bit past the slots
+/// isn't one.
+///
+/// # Errors
+///
+/// [`Failure::DeviceFault`] where a transfer failed, and [`Failure::NoMemory`] where there was no memory.
+pub(crate) fn read_index<D: Device>(
+    alloc: Global,
+    device: &mut D,
+) -> Result<Result<(Home, IndexFile), VolumeFault>, Failure>
+    ensures found { IfOk result (λ answer. IfOk answer (λ found.
+        FindsVolume found.0 (index_kept found.1) (D.disk device.old) (D.disk device.new))) }
+    ensures fault { IfOk result (λ answer. IfErr answer (λ fault.
+        FindsFault fault (D.disk device.old) (D.disk device.new))) }
+    ensures hinders { IfOk result (λ answer. IfErr answer Hinders) }
+    ensures device_fault { IsErrOf result Failure.DeviceFault
+        → Looked (D.disk device.old) (D.disk device.new) (index_reads (D.disk device.old)) 1 }
+    ensures memory { IsErrOf result Failure.NoMemory
+        → Looked (D.disk device.old) (D.disk device.new) (index_reads (D.disk device.old)) 0 }
+    ensures failures { IfErr result (λ failure. (failure ≡ Failure.DeviceFault)
+        ⊎ (failure ≡ Failure.NoMemory)) }
+{
+    let home = match find(device) {
+        Ok(home) => home,
+        Err(HomeFault::DeviceFault) => return Err(Failure::DeviceFault),
+        Err(HomeFault::NoHome) => return Ok(Err(VolumeFault::NoHome)),
+    };
+    match IndexFile::read(alloc, device, &home) {
         Ok(index) => Ok(Ok((home, index))),
         Err(IndexFault::Misplaced) => Ok(Err(VolumeFault::IndexMisplaced)),
         Err(IndexFault::PastSlots(n)) => Ok(Err(VolumeFault::PastSlots(n))),

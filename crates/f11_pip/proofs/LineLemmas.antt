@@ -9,6 +9,7 @@ use Rattle.f11_pip.specs.Words.{
   from_rt_line,
   home_line,
   is_option,
+  ls_line,
   name_line,
   rights_line,
   rt_init_line,
@@ -18,13 +19,14 @@ use Rattle.f11_pip.specs.Words.{
   texts_of,
   to_rt_line,
   update_line,
+  user_line,
   vfy_line,
   words_given,
 }
 use Rattle.f11_pip.proofs.CopyLemmas.{takes-from_rt, takes-to_rt}
 use Rattle.f11_pip.proofs.PlainLemmas.{no_hyphens, not_two}
 use Rattle.f11_pip.proofs.WordsLemmas.{takes-dump, takes-home, takes-name, takes-rights, takes-rt_list, takes-rt_vfy, takes-run}
-use Rattle.f11_pip.proofs.WordsLemmas.{takes-update, takes-vfy}
+use Rattle.f11_pip.proofs.WordsLemmas.{takes-ls, takes-update, takes-user, takes-vfy}
 
 pub takes-rt_init : (program blocks segments image : Text) → is_option blocks ≡ false → is_option segments ≡ false → is_option image ≡ false
     → takes program_app (program ∷ codes "rt-init" ∷ codes "--blocks" ∷ blocks ∷ codes "--segments" ∷ segments ∷ image ∷ []) ≡ true
@@ -67,6 +69,8 @@ takes-line (dump_line image number) program plain = takes-dump program image num
 takes-line (from_rt_line mode rt rt_name image uic name) program plain = takes-from_rt program mode rt rt_name image uic name plain
 takes-line (to_rt_line mode image uic name rt rt_name) program plain = takes-to_rt program mode image uic name rt rt_name plain
 takes-line (home_line image) program plain = takes-home program image (plain 0 [] (omega arith))
+takes-line (ls_line image) program plain = takes-ls program image (plain 0 [] (omega arith))
+takes-line (user_line image uic) program plain = takes-user program image uic (plain 0 [] (omega arith)) (plain 1 [] (omega arith))
 takes-line (name_line text) program plain = takes-name program text (plain 0 [] (omega arith))
 takes-line (rights_line caller owner word) program plain =
     takes-rights program caller owner word (plain 0 [] (omega arith)) (plain 1 [] (omega arith)) (plain 2 [] (omega arith))

@@ -1,7 +1,7 @@
 -- What clap makes of the words.
 use Rattle.std.specs.Option.{option_map_or}
 use Rattle.std.proofs.Common.{IfSome, ok_or, ◌⊎◌, inl, inr, length, ◌≤◌, arith, Result, Ok, Err, IsErrAnd, IsOkAnd, MatchResult, Bool, not}
-use Rattle.std.proofs.Common.{◌&&◌, ap, ◌∙◌, ◌≡◌, List, [], ◌∷◌, Option, Some, None, true, false, codes, refl, map, option_map}
+use Rattle.std.proofs.Common.{◌&&◌, ap, sym, ◌∙◌, ◌≡◌, List, [], ◌∷◌, Option, Some, None, true, false, codes, refl, map, option_map}
 use Rattle.std.proofs.Common.{option_and_then}
 use Rattle.clap.specs.Words.{Row, Text, first_of, is_simple, one_of, subcommand_of, takes}
 use Rattle.clap.proofs.OnLiterals.{clap_on_literals}
@@ -11,7 +11,8 @@ use Rattle.f11_pip.specs.declared.outcome.Failure.{Failure}
 use Rattle.f11_pip.specs.declared.outcome.Failure.TheVariants.{NoMemory}
 use Rattle.f11_pip.specs.Outcome.{failure_of_kind}
 use Rattle.f11_store.specs.declared.callers.Uic.{Uic}
-use Rattle.f11_pip.specs.Commands.{MeetsDump, MeetsRights, MeetsRun, MeetsVfy, command_and_flag, command_and_word, command_and_words}
+use Rattle.f11_pip.specs.Commands.{MeetsDump, MeetsLs, MeetsRights, MeetsRun, MeetsVfy, command_and_flag, command_and_word}
+use Rattle.f11_pip.specs.Commands.{command_and_words}
 use Rattle.f11_pip.specs.Commands.{program_app, words_in}
 use Rattle.f11_numbers.specs.Octal.{SpellsUic}
 use Rattle.f11_pip.specs.Words.{IsNoUic, is_option}
@@ -130,6 +131,33 @@ subcommand_of-dump program [] (b ∷ ys) p q = (rw (q, q) refl, rw (q, q) refl)
 subcommand_of-dump program (a ∷ xs) [] p q = (rw (p, p) refl, rw (p, p) refl)
 subcommand_of-dump program (a ∷ xs) (b ∷ ys) p q = (rw (p, p, q, q) refl, rw (p, p, q, q) refl)
 
+pub takes-ls : (program image : Text) → is_option image ≡ false → takes program_app (program ∷ codes "ls" ∷ image ∷ []) ≡ true
+unfolding clap_on_literals
+takes-ls program [] plain = refl
+takes-ls program (b ∷ bs) plain = simp plain
+
+pub subcommand_of-ls : (program image : Text) → is_option image ≡ false
+    → MeetsLs image None (subcommand_of program_app (program ∷ codes "ls" ∷ image ∷ []))
+unfolding clap_on_literals
+subcommand_of-ls program [] plain = refl
+subcommand_of-ls program (b ∷ bs) plain = rw (plain, plain) refl
+
+pub takes-user : (program image uic : Text) → is_option image ≡ false → is_option uic ≡ false
+    → takes program_app (program ∷ codes "ls" ∷ image ∷ uic ∷ []) ≡ true
+unfolding clap_on_literals
+takes-user program [] [] p q = refl
+takes-user program [] (b ∷ ys) p q = rw (q, q) refl
+takes-user program (a ∷ xs) [] p q = rw (p, p) refl
+takes-user program (a ∷ xs) (b ∷ ys) p q = rw (p, p, q, q) refl
+
+pub subcommand_of-user : (program image uic : Text) → is_option image ≡ false → is_option uic ≡ false
+    → MeetsLs image (Some uic) (subcommand_of program_app (program ∷ codes "ls" ∷ image ∷ uic ∷ []))
+unfolding clap_on_literals
+subcommand_of-user program [] [] p q = refl
+subcommand_of-user program [] (b ∷ ys) p q = rw (q, q) refl
+subcommand_of-user program (a ∷ xs) [] p q = rw (p, p) refl
+subcommand_of-user program (a ∷ xs) (b ∷ ys) p q = rw (p, p, q, q) refl
+
 pub takes-run : (program image script : Text) → is_option image ≡ false → is_option script ≡ false
     → takes program_app (program ∷ codes "run" ∷ image ∷ script ∷ []) ≡ true
 unfolding clap_on_literals
@@ -214,3 +242,8 @@ pub none_or_no_memory : {T : Type 0} (P : T → Type 0) (N : Type 0) (r : Result
     → MatchResult r P (λ failure. (failure ≡ NoMemory) ⊎ N)
 none_or_no_memory P N (Ok x) holds = holds
 none_or_no_memory P N (Err failure) none = inr none
+
+-- the user whose code a text spells
+pub user-or-none : (r : Option Uic) (text : Text) → IfSome r (SpellsUic text) → ((uic : Uic) → SpellsUic text uic → r ≡ Some uic)
+    → r ≡ None → IsNoUic text
+user-or-none r text spelled every none = λ uic s. let same = sym none ∙ every uic s in absurd cc

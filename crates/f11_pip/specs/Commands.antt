@@ -26,6 +26,14 @@ needed_rule name = record (new_rule name) { required = true; action = Some Set }
 abbrev pub home_app : App
 home_app = with_rule (new_app (codes "home")) (needed_rule (codes "image"))
 
+-- a word that may be there
+abbrev pub word_rule : Text → Rule
+word_rule name = record (new_rule name) { action = Some Set }
+
+-- `ls IMAGE [UIC]`
+abbrev pub ls_app : App
+ls_app = with_rule (with_rule (new_app (codes "ls")) (needed_rule (codes "image"))) (word_rule (codes "uic"))
+
 -- `name TEXT`
 abbrev pub name_app : App
 name_app = with_rule (new_app (codes "name")) (needed_rule (codes "text"))
@@ -99,9 +107,9 @@ rt_vfy_app = with_rule (new_app (codes "rt-vfy")) (needed_rule (codes "image"))
 
 -- the commands on Files-11 volumes
 abbrev pub files_app : App
-files_app = with_subcommand (with_subcommand (with_subcommand
+files_app = with_subcommand (with_subcommand (with_subcommand (with_subcommand
     (with_subcommand (with_subcommand (with_subcommand (with_subcommand (new_app (codes "f11_pip")) home_app.top)
-    name_app.top) rights_app.top) dump_app.top) vfy_app.top) init_app.top) run_app.top
+    name_app.top) rights_app.top) dump_app.top) vfy_app.top) init_app.top) ls_app.top) run_app.top
 
 -- those on RT-11 volumes, and the copies between the two
 abbrev pub program_app : App
@@ -151,12 +159,15 @@ words_in ids rows = map (λ id. first_of id rows) ids
 abbrev pub command_and_words : List Text → Option (Text × List Row) → Option (Text × List (Option Text))
 command_and_words ids = option_map (λ p. (p.0, words_in ids p.1))
 
--- the names of the words of a copy, of those of `init`, and of those of `rt-init`
+-- the names of the words of a copy, of those of `init`, `ls`, and `rt-init`
 abbrev pub copy_names : List Text
 copy_names = codes "mode" ∷ codes "image" ∷ codes "uic" ∷ codes "name" ∷ codes "rt" ∷ codes "rt-name" ∷ []
 
 abbrev pub init_names : List Text
 init_names = codes "blocks" ∷ codes "slots" ∷ codes "label" ∷ codes "max" ∷ codes "image" ∷ []
+
+abbrev pub ls_names : List Text
+ls_names = codes "image" ∷ codes "uic" ∷ []
 
 abbrev pub rt_init_names : List Text
 rt_init_names = codes "blocks" ∷ codes "segments" ∷ codes "image" ∷ []
@@ -170,6 +181,10 @@ MeetsCopy command mode image uic name rt rt_name met = command_and_words copy_na
 abbrev pub MeetsInit : Text → Text → Text → Option Text → Text → Option (Text × List Row) → Type 0
 MeetsInit blocks slots label max image met =
     command_and_words init_names met ≡ Some (codes "init", Some blocks ∷ Some slots ∷ Some label ∷ max ∷ Some image ∷ [])
+
+-- `ls` was met, with these words, the user's code among them or not
+abbrev pub MeetsLs : Text → Option Text → Option (Text × List Row) → Type 0
+MeetsLs image uic met = command_and_words ls_names met ≡ Some (codes "ls", Some image ∷ uic ∷ [])
 
 -- `rt-init` was met, with these words
 abbrev pub MeetsRtInit : Text → Text → Text → Option (Text × List Row) → Type 0
@@ -214,6 +229,11 @@ pub record HasInitWords (blocks slots label : Text) (max : Option Text) (image :
   pub label_is : HasWord (codes "label") label given
   pub max_is : first_value (found_of given) (codes "max") ≡ max
   pub image_is : HasWord (codes "image") image given
+
+-- `ls` has these words, the user's code among them or not
+pub record HasLsWords (image : Text) (uic : Option Text) (given : ArgMatches) : Type 0 where
+  pub image_is : HasWord (codes "image") image given
+  pub uic_is : first_value (found_of given) (codes "uic") ≡ uic
 
 -- `rt-init` has these words
 pub record HasRtInitWords (blocks segments image : Text) (given : ArgMatches) : Type 0 where

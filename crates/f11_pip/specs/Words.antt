@@ -14,6 +14,7 @@ use Rattle.f11_pip.specs.declared.words.Words.TheVariants.{
   FlxToRt,
   Home,
   Init,
+  Ls,
   Name,
   Rights,
   RtInit,
@@ -34,6 +35,8 @@ pub data CommandLine : Type 0 where
   from_rt_line : (mode rt rt_name image uic name : List ℕ) → CommandLine
   to_rt_line : (mode image uic name rt rt_name : List ℕ) → CommandLine
   home_line : (image : List ℕ) → CommandLine
+  ls_line : (image : List ℕ) → CommandLine
+  user_line : (image uic : List ℕ) → CommandLine
   name_line : (text : List ℕ) → CommandLine
   rights_line : (caller owner word : List ℕ) → CommandLine
   rt_init_line : (blocks segments image : List ℕ) → CommandLine
@@ -51,6 +54,8 @@ words_given (from_rt_line mode rt rt_name image uic name) =
 words_given (to_rt_line mode image uic name rt rt_name) =
     codes "flx-to-rt" ∷ codes "--mode" ∷ mode ∷ image ∷ uic ∷ name ∷ rt ∷ rt_name ∷ []
 words_given (home_line image) = codes "home" ∷ image ∷ []
+words_given (ls_line image) = codes "ls" ∷ image ∷ []
+words_given (user_line image uic) = codes "ls" ∷ image ∷ uic ∷ []
 words_given (name_line text) = codes "name" ∷ text ∷ []
 words_given (rights_line caller owner word) = codes "rights" ∷ caller ∷ owner ∷ word ∷ []
 words_given (rt_init_line blocks segments image) = codes "rt-init" ∷ codes "--blocks" ∷ blocks ∷ codes "--segments" ∷ segments ∷ image ∷ []
@@ -66,6 +71,8 @@ texts_of (dump_line image number) = image ∷ number ∷ []
 texts_of (from_rt_line mode rt rt_name image uic name) = mode ∷ rt ∷ rt_name ∷ image ∷ uic ∷ name ∷ []
 texts_of (to_rt_line mode image uic name rt rt_name) = mode ∷ image ∷ uic ∷ name ∷ rt ∷ rt_name ∷ []
 texts_of (home_line image) = image ∷ []
+texts_of (ls_line image) = image ∷ []
+texts_of (user_line image uic) = image ∷ uic ∷ []
 texts_of (name_line text) = text ∷ []
 texts_of (rights_line caller owner word) = caller ∷ owner ∷ word ∷ []
 texts_of (rt_init_line blocks segments image) = blocks ∷ segments ∷ image ∷ []
@@ -149,6 +156,17 @@ AsksRtInit blocks segments image (RtInit to count segments_are) =
     (to.now ≡ image) × SpellsNumber blocks count × SpellsNumber segments segments_are
 AsksRtInit blocks segments image _ = ⊥
 
+-- the user whose code a text spells, and none where there is no text
+abbrev pub SpellsUser : Option (List ℕ) → Option Uic → Type 0
+SpellsUser (Some text) (Some user) = SpellsUic text user
+SpellsUser None None = Unit {0}
+SpellsUser _ _ = ⊥
+
+-- the words ask that this user's directory be listed, or without a text those of all users
+abbrev pub AsksLs : List ℕ → Option (List ℕ) → Words → Type 0
+AsksLs name uic (Ls image user) = (image.now ≡ name) × SpellsUser uic user
+AsksLs name uic _ = ⊥
+
 -- the words ask for this name's words
 abbrev pub AsksName : List ℕ → Words → Type 0
 AsksName name (Name text) = text.now ≡ name
@@ -165,6 +183,8 @@ Asks (dump_line image number) words = AsksDump image number words
 Asks (from_rt_line mode rt rt_name image uic name) words = AsksFromRt mode rt rt_name image uic name words
 Asks (to_rt_line mode image uic name rt rt_name) words = AsksToRt mode image uic name rt rt_name words
 Asks (home_line image) words = AsksHome image words
+Asks (ls_line image) words = AsksLs image None words
+Asks (user_line image uic) words = AsksLs image (Some uic) words
 Asks (name_line text) words = AsksName text words
 Asks (rights_line caller owner word) words = AsksRights caller owner word words
 Asks (rt_init_line blocks segments image) words = AsksRtInit blocks segments image words
@@ -183,6 +203,11 @@ abbrev pub IsNoMax : Option (List ℕ) → Type 0
 IsNoMax None = ⊥
 IsNoMax (Some text) = ¬ IsNumber text
 
+-- a text is there, and no user's code
+abbrev pub IsNoUser : Option (List ℕ) → Type 0
+IsNoUser None = ⊥
+IsNoUser (Some text) = IsNoUic text
+
 -- one of the numbers of `init` isn't one
 abbrev pub IsNoInit : List ℕ → List ℕ → Option (List ℕ) → Type 0
 IsNoInit blocks slots max = ¬ IsCount blocks ⊎ (¬ IsNumber slots ⊎ IsNoMax max)
@@ -197,6 +222,8 @@ IsUnreadable (dump_line image number) = ¬ IsNumber number
 IsUnreadable (from_rt_line mode rt rt_name image uic name) = IsNoCopy mode uic
 IsUnreadable (to_rt_line mode image uic name rt rt_name) = IsNoCopy mode uic
 IsUnreadable (home_line image) = ⊥
+IsUnreadable (ls_line image) = ⊥
+IsUnreadable (user_line image uic) = IsNoUic uic
 IsUnreadable (name_line text) = ⊥
 IsUnreadable (rights_line caller owner word) = IsNoUic caller ⊎ (IsNoUic owner ⊎ ¬ IsProtection word)
 IsUnreadable (rt_init_line blocks segments image) = ¬ IsNumber blocks ⊎ ¬ IsNumber segments

@@ -11,7 +11,7 @@ struct Synopsis {
 /// The program's name and version, and what it was built with.
 const VERSION: &str = "f11_pip 0.1, built with Rattle, logic dac8208d650f15bf";
 
-const COMMANDS: [Synopsis; 12] = [
+const COMMANDS: [Synopsis; 13] = [
     Synopsis {
         name: "dump",
         words: "f11_pip dump IMAGE NUMBER",
@@ -36,6 +36,11 @@ const COMMANDS: [Synopsis; 12] = [
         name: "init",
         words: "f11_pip init --blocks N --slots N --label L [--max N] IMAGE",
         does: "makes an image file with a fresh Files-11 volume",
+    },
+    Synopsis {
+        name: "ls",
+        words: "f11_pip ls IMAGE [UIC]",
+        does: "lists the directories of a Files-11 volume, or one, as 200,1, also of a volume that has faults",
     },
     Synopsis {
         name: "name",

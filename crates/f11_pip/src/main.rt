@@ -11,9 +11,9 @@ mod remarks;
 mod words;
 
 use f11_commands::{
-    Answer, CopyAnswer, Copying, Direction, System, print_copy, print_header, print_home,
-    print_init, print_name, print_rights, print_rt_init, print_rt_list, print_rt_vfy, print_run,
-    print_vfy, print_vfy_update, read_names, refuse_init, refuse_names,
+    Answer, CopyAnswer, Copying, Direction, Served, System, print_copy, print_header, print_home,
+    print_init, print_ls, print_name, print_rights, print_rt_init, print_rt_list, print_rt_vfy,
+    print_run, print_vfy, print_vfy_update, read_names, refuse_init, refuse_names,
 };
 use f11_dev::{CannotOpen, FileImage};
 use f11_flx::CopyMode;
@@ -195,6 +195,11 @@ fn run<'a, W: Write>(
             };
             init(rt, image, blocks, &params, writer, remark)
         }
+        Words::Ls { image, user } => {
+            let device = opened(FileImage::open_to_read(rt, image), image, remark)?;
+            let (_, served) = print_ls(rt.alloc(), device, writer, user);
+            Ok(judged(rt, image, served?, remark))
+        }
         Words::Name { text } => Ok(print_name(text, writer)?),
         Words::Rights {
             caller,
@@ -253,6 +258,21 @@ fn vfy<'a, W: Write>(
         answer?
     };
     Ok(looked(rt, image, answer, remark))
+}
+
+/// The answer of a command that serves any volume, and what there is to say of its image.
+fn judged<'a>(
+    rt: &HostRuntime,
+    image: &'a str,
+    served: Served,
+    remark: &mut Option<Remark<'a>>,
+) -> Answer {
+    *remark = remarks::of_volume(rt, image, served.faulty);
+    if served.faulty {
+        Answer::Fault
+    } else {
+        served.answer
+    }
 }
 
 /// What a command that copies is asked.

@@ -46,6 +46,9 @@ pub enum Why {
     /// Its file begins as that of another program does, which packs what it keeps.
     #[error("not a raw image")]
     NotRaw,
+    /// The volume in it has faults.
+    #[error("the volume has faults, which vfy tells")]
+    Faulty,
     /// Its file has so many bytes behind the last whole block.
     #[error("length not a multiple of 512 bytes, the rest of {0} is left out")]
     Remainder(u64),
@@ -108,6 +111,27 @@ fn limit(word: &'static str, limit: &'static str) -> Remark<'static> {
         word: Which::Text(word),
         why: Why::Limit(limit),
     }
+}
+
+/// What there is to say of the image of a volume that is served whether it has faults or not: that it has some, or is no raw image; and
+/// where it has none, that not all of its file is read.
+pub fn of_volume<'a>(rt: &HostRuntime, word: &'a str, is_faulty: bool) -> Option<Remark<'a>> {
+    if !is_faulty {
+        return of_image(rt, word, false);
+    }
+    let why = match of_image(rt, word, true) {
+        Some(
+            Remark {
+                why: Why::NotRaw,
+                ..
+            },
+        ) => Why::NotRaw,
+        _ => Why::Faulty,
+    };
+    Some(Remark {
+        word: Which::Text(word),
+        why,
+    })
 }
 
 /// What there is to say of the file that a word names as an image: that it isn't one, which is asked where a fault was found,

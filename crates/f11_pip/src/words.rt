@@ -2,8 +2,8 @@
 ghost use Rattle.std.specs.Prelude.{◌≡◌, ◌≤◌, ◌⊎◌, length, ℕ, Bool, List, false, codes, map, option_map, Option, None, IfOk, IfErr, IsErr, IsOkAnd, MatchResult};
 ghost use Rattle.std.specs.Result.{result_ok};
 ghost use Rattle.clap.specs.Words.{app_of, first_value, found_of, rule_of, subcommand_rows_of};
-ghost use Rattle.f11_pip.specs.Words.{Asks, AsksDump, AsksFromRt, AsksHome, AsksInit, AsksName, AsksRights, AsksRtInit, AsksRtList, AsksRtVfy, AsksRun, AsksToRt, AsksVfy, CommandLine, FailsToAsk, IsLineOf, IsMode, IsNoCopy, IsNoInit, IsNoMax, IsNoUic, IsUnreadable, SpellsMax, SpellsMode, rights_line, rt_init_line};
-ghost use Rattle.f11_pip.specs.Commands.{HasCopyWords, HasDumpWords, HasInitWords, HasRightsWords, HasRtInitWords, HasRunWords, HasVfyWords, HasWord, MeetsCopy, MeetsDump, MeetsInit, MeetsRights, MeetsRtInit, MeetsRun, MeetsVfy, MeetsWord, copy_app, dump_app, files_app, flag_rule, from_rt_app, home_app, init_app, init_options, name_app, needed_rule, option_rule, program_app, rights_app, rt_init_app, rt_list_app, rt_vfy_app, run_app, to_rt_app, vfy_app, with_file_words, with_rt_words};
+ghost use Rattle.f11_pip.specs.Words.{Asks, AsksDump, AsksFromRt, AsksHome, AsksInit, AsksLs, AsksName, AsksRights, AsksRtInit, AsksRtList, AsksRtVfy, AsksRun, AsksToRt, AsksVfy, CommandLine, FailsToAsk, IsLineOf, IsMode, IsNoCopy, IsNoInit, IsNoMax, IsNoUic, IsNoUser, IsUnreadable, SpellsMax, SpellsMode, SpellsUser, rights_line, rt_init_line};
+ghost use Rattle.f11_pip.specs.Commands.{HasCopyWords, HasDumpWords, HasInitWords, HasLsWords, HasRightsWords, HasRtInitWords, HasRunWords, HasVfyWords, HasWord, MeetsCopy, MeetsDump, MeetsInit, MeetsLs, MeetsRights, MeetsRtInit, MeetsRun, MeetsVfy, MeetsWord, copy_app, dump_app, files_app, flag_rule, from_rt_app, home_app, init_app, init_options, ls_app, name_app, needed_rule, option_rule, program_app, rights_app, rt_init_app, rt_list_app, rt_vfy_app, run_app, to_rt_app, vfy_app, with_file_words, with_rt_words, word_rule};
 ghost use Rattle.f11_numbers.specs.Decimal.{IsNumber, SpellsNumber};
 ghost use Rattle.f11_numbers.specs.Octal.{IsProtection, SpellsProtection, SpellsUic};
 
@@ -52,6 +52,11 @@ pub enum Words<'a> {
         slots: u16,
         label: &'a str,
         max_files: u16,
+    },
+    /// `ls IMAGE [UIC]`: of one user's directory, or of all
+    Ls {
+        image: &'a str,
+        user: Option<Uic>,
     },
     /// `name TEXT`
     Name {
@@ -130,6 +135,7 @@ fn files<'a>(alloc: Global) -> Result<Command<'a>, AllocError>
         .subcommand(dump(alloc)?)?
         .subcommand(vfy(alloc)?)?
         .subcommand(init(alloc)?)?
+        .subcommand(ls(alloc)?)?
         .subcommand(run(alloc)?)
 }
 
@@ -151,6 +157,9 @@ fn command_of<'a>(matches: &ArgMatches<'a>) -> Result<Words<'a>, Failure>
     ensures home { (image : List ℕ)
         → MeetsWord (codes "home") (codes "image") image (subcommand_rows_of matches.now)
         → IsOkAnd result (AsksHome image) }
+    ensures ls { (image : List ℕ) → (uic : Option (List ℕ))
+        → MeetsLs image uic (subcommand_rows_of matches.now)
+        → MatchResult result (AsksLs image uic) (λ _. IsNoUser uic) }
     ensures name { (text : List ℕ)
         → MeetsWord (codes "name") (codes "text") text (subcommand_rows_of matches.now)
         → IsOkAnd result (AsksName text) }
@@ -185,6 +194,7 @@ fn command_of<'a>(matches: &ArgMatches<'a>) -> Result<Words<'a>, Failure>
         Some(("dump", given)) => dump_of(given),
         Some(("home", given)) => home_of(given),
         Some(("init", given)) => init_of(given),
+        Some(("ls", given)) => ls_of(given),
         Some(("name", given)) => name_of(given),
         Some(("rights", given)) => rights_of(given),
         Some(("rt-init", given)) => rt_init_of(given),
@@ -393,6 +403,40 @@ fn max_files_of(given: &ArgMatches<'_>) -> Result<u16, Failure>
     }
 }
 
+fn ls<'a>(alloc: Global) -> Result<Command<'a>, AllocError>
+    ensures { IfOk result (λ command. app_of command ≡ ls_app) }
+{
+    Command::new(alloc, "ls")
+        .arg(needed(alloc, "image"))?
+        .arg(word(alloc, "uic"))
+}
+
+fn ls_of<'a>(given: &ArgMatches<'a>) -> Result<Words<'a>, Failure>
+    ensures ls { (image : List ℕ) → (uic : Option (List ℕ)) → HasLsWords image uic given.now
+        → MatchResult result (AsksLs image uic) (λ _. IsNoUser uic) }
+    ensures usage { IfErr result (λ failure. failure ≡ Failure.Usage) }
+{
+    Ok(Words::Ls {
+        image: word_of(given, "image")?,
+        user: user_of(given)?,
+    })
+}
+
+/// The user whose directory is listed, where one is among the words.
+fn user_of(given: &ArgMatches<'_>) -> Result<Option<Uic>, Failure>
+    ensures user { (uic : Option (List ℕ)) → first_value (found_of given.now) (codes "uic") ≡ uic
+        → MatchResult result (SpellsUser uic) (λ _. IsNoUser uic) }
+    ensures usage { IfErr result (λ failure. failure ≡ Failure.Usage) }
+{
+    match given.get_str("uic") {
+        Some(text) => match read_uic(text) {
+            Some(user) => Ok(Some(user)),
+            None => Err(Failure::Usage),
+        },
+        None => Ok(None),
+    }
+}
+
 fn name<'a>(alloc: Global) -> Result<Command<'a>, AllocError>
     ensures { IfOk result (λ command. app_of command ≡ name_app) }
 {
@@ -563,6 +607,14 @@ fn needed<'a>(alloc: Global, name: &'a str) -> Arg<'a>
     ensures local { result.global ≡ false }
 {
     Arg::new(alloc, name).required(true).action(ArgAction::Set)
+}
+
+/// A word that may be there.
+fn word<'a>(alloc: Global, name: &'a str) -> Arg<'a>
+    ensures rule { rule_of result ≡ word_rule name.entry.now }
+    ensures local { result.global ≡ false }
+{
+    Arg::new(alloc, name).action(ArgAction::Set)
 }
 
 fn word_of<'a>(given: &ArgMatches<'a>, name: &str) -> Result<&'a str, Failure>

@@ -1,6 +1,6 @@
 use Rattle.std.proofs.Common.{◌∙◌, ap, codes, List, Option, None, slice_index_or}
 use Rattle.clap.specs.Words.{Text, found_of}
-use Rattle.f11_pip.specs.Commands.{init_names, rt_init_names}
+use Rattle.f11_pip.specs.Commands.{init_names, ls_names, rt_init_names}
 use Rattle.clap.proofs.WalkLemmas.{first_value-rows, one_text-rows}
 use Rattle.f11_pip.proofs.WordsLemmas.{first_of-met, one_of-met, words_met}
 use Rattle.f11_pip.proofs.words.command_of.Goals as goal
@@ -73,6 +73,15 @@ returns-in-Some-init-default-clause-init c blocks slots label image max met =
       label_is = first_value-rows (found_of given) (codes "label") ∙ ap (λ (l : List (Option Text)). slice_index_or l 2 None) words;
       max_is = first_value-rows (found_of given) (codes "max") ∙ ap (λ (l : List (Option Text)). slice_index_or l 3 None) words;
       image_is = first_value-rows (found_of given) (codes "image") ∙ ap (λ (l : List (Option Text)). slice_index_or l 4 None) words;
+    })
+
+pub returns-in-Some-ls-default-clause-ls : goal.returns-in-Some-ls-default-clause-ls
+returns-in-Some-ls-default-clause-ls c image uic met =
+    let given = c.in-Some-ls-default.given.now in
+    let words = words_met _ _ _ ls_names _ c.in-Some-ls-default.ensures.rows met in
+    c.ls_of.ensures.ls image uic (record {
+      image_is = first_value-rows (found_of given) (codes "image") ∙ ap (λ (l : List (Option Text)). slice_index_or l 0 None) words;
+      uic_is = first_value-rows (found_of given) (codes "uic") ∙ ap (λ (l : List (Option Text)). slice_index_or l 1 None) words;
     })
 
 pub returns-in-Some-text-default-clause-rt_init : goal.returns-in-Some-text-default-clause-rt_init

@@ -1,12 +1,13 @@
-use Rattle.std.proofs.Common.{[], arith, ◌∙◌, ap, ap₂, codes, false, map, true}
+use Rattle.std.proofs.Common.{[], arith, ◌∙◌, None, Some, ap, ap₂, codes, false, map, true}
 use Rattle.clap.specs.Words.{is_simple, subcommand_of, takes}
-use Rattle.f11_pip.specs.Commands.{command_and_flag, command_and_word, command_and_words, copy_names, rt_init_names}
+use Rattle.f11_pip.specs.Commands.{command_and_flag, command_and_word, command_and_words, copy_names, ls_names, rt_init_names}
 use Rattle.f11_pip.specs.Words.{
   Asks,
   IsUnreadable,
   dump_line,
   from_rt_line,
   home_line,
+  ls_line,
   name_line,
   rights_line,
   rt_init_line,
@@ -15,13 +16,15 @@ use Rattle.f11_pip.specs.Words.{
   run_line,
   to_rt_line,
   update_line,
+  user_line,
   vfy_line,
 }
 use Rattle.f11_pip.proofs.CopyLemmas.{subcommand_of-from_rt, subcommand_of-to_rt}
 use Rattle.f11_pip.proofs.LineLemmas.{takes-line, subcommand_of-rt_init}
 use Rattle.f11_pip.proofs.WordsLemmas.{failure_out_of_memory, match_ok, no_memory_or_none, none_or_no_memory, subcommand_of-rt_list}
 use Rattle.f11_pip.proofs.WordsLemmas.{subcommand_of-rt_vfy, subcommand_of-run, subcommand_of-update, subcommand_of-vfy, subcommand_of-dump}
-use Rattle.f11_pip.proofs.WordsLemmas.{subcommand_of-home, subcommand_of-name, subcommand_of-rights, subcommand_of-none, is_simple-program}
+use Rattle.f11_pip.proofs.WordsLemmas.{subcommand_of-home, subcommand_of-ls, subcommand_of-name, subcommand_of-rights, subcommand_of-none}
+use Rattle.f11_pip.proofs.WordsLemmas.{subcommand_of-user, is_simple-program}
 use Rattle.f11_pip.proofs.words.parse.Goals as goal
 
 pub returns-in_err-matches-clause-asks : goal.returns-in_err-matches-clause-asks
@@ -45,6 +48,18 @@ returns-clause-asks g c (name_line word) line =
     (match_ok _ _ c.command_of.result
     (c.command_of.ensures.name word
     (ap (command_and_word (codes "text")) met ∙ subcommand_of-name line.program word (line.plain 0 [] (omega arith)))))
+returns-clause-asks g c (ls_line word) line =
+    let simple = ap is_simple c.in_ok-program.ensures ∙ is_simple-program in
+    let met = (c.in_ok-matches.ensures.matches simple).1 ∙ ap₂ subcommand_of c.in_ok-program.ensures line.is_line in
+    none_or_no_memory (Asks (ls_line word)) (IsUnreadable (ls_line word)) c.command_of.result
+    (c.command_of.ensures.ls word None
+    (ap (command_and_words ls_names) met ∙ subcommand_of-ls line.program word (line.plain 0 [] (omega arith))))
+returns-clause-asks g c (user_line image uic) line =
+    let simple = ap is_simple c.in_ok-program.ensures ∙ is_simple-program in
+    let met = (c.in_ok-matches.ensures.matches simple).1 ∙ ap₂ subcommand_of c.in_ok-program.ensures line.is_line in
+    none_or_no_memory (Asks (user_line image uic)) (IsUnreadable (user_line image uic)) c.command_of.result
+    (c.command_of.ensures.ls image (Some uic) (ap (command_and_words ls_names) met
+    ∙ subcommand_of-user line.program image uic (line.plain 0 [] (omega arith)) (line.plain 1 [] (omega arith))))
 returns-clause-asks g c (rt_list_line word) line =
     let simple = ap is_simple c.in_ok-program.ensures ∙ is_simple-program in
     let met = (c.in_ok-matches.ensures.matches simple).1 ∙ ap₂ subcommand_of c.in_ok-program.ensures line.is_line in

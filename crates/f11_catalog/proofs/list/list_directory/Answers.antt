@@ -1,0 +1,14 @@
+use Rattle.f11_catalog.specs.Lines.{record_lines}
+use Rattle.f11_catalog.proofs.LineLemmas.{breaks-behind}
+use Rattle.f11_catalog.proofs.ListingLemmas.{lists-all}
+use Rattle.f11_catalog.proofs.list.list_directory.Goals as goal
+
+pub returns-in-Ok-clause-lists : goal.returns-in-Ok-clause-lists
+returns-in-Ok-clause-lists g c =
+    let opens = rw c.in-Ok-Ok.field-0-is at c.in-Ok-Ok.ensures.opens in
+    record { readable = opens.readable; writes = lists-all record_lines _ _ _ opens c.in-Ok.ensures.writes }
+
+pub returns-in-Err-write_records-clause-failed : goal.returns-in-Err-write_records-clause-failed
+returns-in-Err-write_records-clause-failed g c =
+    let opens = rw c.in-Ok-Ok.field-0-is at c.in-Ok-Ok.ensures.opens in
+    breaks-behind _ _ _ _ (_, opens.looked) c.in-Err-write_records.ensures.failed

@@ -1,0 +1,22 @@
+//! The directories of any Files-11 volume whose index file can be read, sound or not: their records in order, files found by name, and
+//! the lines that list them (Files-11 On-Disk Structure Level 1, "Directories").
+//!
+//! Nothing is written to the volume, and no memory is taken. The crate stands on [`f11_reader`], for files, and on [`f11_dir`], for the
+//! records of a block.
+#![tactic(auto)]
+
+mod directory;
+mod facts;
+mod fault;
+mod list;
+mod record_line;
+mod records;
+mod search;
+mod shown;
+mod users;
+
+pub use directory::DirectoryReader;
+pub use fault::ListFault;
+pub use list::{list_directory, list_users};
+pub use search::find;
+pub use users::user_of;

@@ -1,0 +1,55 @@
+-- What taking out a file's content tells (profile).
+use Rattle.std.specs.Prelude.{◌≡◌, ℕ, ◌+◌, ◌/◌, ◌≤◌, IsTrue, List, ◌++◌, length, take, Option}
+use Rattle.std.specs.List.{concat}
+use Rattle.f11_dev.specs.Disk.{Disk}
+use Rattle.f11_dev.specs.Looked.{Looked}
+use Rattle.f11_index.specs.IndexFile.{Index}
+use Rattle.f11_reader.specs.Reading.{contents_to_come, headers_left}
+use Rattle.f11_reader.specs.declared.file.FileReader.{FileReader}
+use Rattle.f11_commands.specs.Output.{TakesText}
+use Rattle.f11_commands.specs.declared.outcome.Failure.{Failure}
+use Rattle.f11_commands.specs.declared.outcome.Failure.TheVariants.{DeviceFault, NoMemory, CannotWrite}
+
+-- a text begins with another
+pub record BeginsWith (part whole : List ℕ) : Type 0 where
+  pub rest : List ℕ
+  pub is : whole ≡ part ++ rest
+
+-- the bytes of a file that are still to come before an end
+abbrev pub bytes_to_come : Index → Disk → FileReader → ℕ → List ℕ
+bytes_to_come index disk file end = take end (concat (contents_to_come index disk file))
+
+-- Blocks of a file were read that hold bytes before an end, each once, and the headers that lead to them; so many transfers failed.
+pub record ReadsBefore (index : Index) (file : FileReader) (end : ℕ) (old new : Disk) (faults : ℕ) : Type 0 where
+  pub blocks : ℕ
+  pub few : blocks ≤ (end + 511) / 512
+  pub each_once : IsTrue old.honest → blocks ≤ length (contents_to_come index old file)
+  pub looked : Looked old new (headers_left file + blocks + faults) faults
+
+-- a text is the file's before an end
+pub record IsContent (index : Index) (file : FileReader) (end : ℕ) (disk : Disk) (text : List ℕ) : Type 0 where
+  pub few : length text ≤ end
+  pub is : IsTrue disk.honest → text ≡ bytes_to_come index disk file end
+
+-- or a beginning of it
+pub record IsBeginning (index : Index) (file : FileReader) (end : ℕ) (disk : Disk) (text : List ℕ) : Type 0 where
+  pub few : length text ≤ end
+  pub begins : IsTrue disk.honest → BeginsWith text (bytes_to_come index disk file end)
+
+-- The file's content before an end was written.
+pub record WritesContent {W : Type 0} (index : Index) (file : FileReader) (end : ℕ) (old new : Disk)
+    (contents : W → Option (List ℕ)) (before after : W) : Type 0 where
+  pub takes : TakesText contents (IsContent index file end old) before after
+  pub reads : ReadsBefore index file end old new 0
+
+-- A transfer failed: a beginning of it was written.
+pub record BreaksOff {W : Type 0} (index : Index) (file : FileReader) (end : ℕ) (old new : Disk)
+    (contents : W → Option (List ℕ)) (before after : W) : Type 0 where
+  pub takes : TakesText contents (IsBeginning index file end old) before after
+  pub reads : ReadsBefore index file end old new 1
+
+-- what is left where the content couldn't be written: it takes no memory
+abbrev pub FailsToWriteContent : {W : Type 0} → Failure → Index → FileReader → ℕ → Disk → Disk → (W → Option (List ℕ)) → W → W → Type 0
+FailsToWriteContent DeviceFault index file end old new contents before after = BreaksOff index file end old new contents before after
+FailsToWriteContent NoMemory index file end old new contents before after = ⊥
+FailsToWriteContent CannotWrite index file end old new contents before after = ReadsBefore index file end old new 0

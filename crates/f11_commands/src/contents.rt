@@ -1,0 +1,46 @@
+//! A file's content, taken out.
+ghost use Rattle.std.specs.Prelude.{◌≡◌, length, IfErr, OnOk};
+ghost use Rattle.f11_commands.specs.TakingOut.{WritesContent, FailsToWriteContent};
+ghost use Rattle.f11_index.specs.Kept.{index_kept, IndexLiesWithin};
+ghost use Rattle.f11_reader.specs.Reading.{IsReading};
+
+use crate::outcome::Failure;
+use f11_bytes::BLOCK_SIZE;
+use f11_dev::Device;
+use f11_index::IndexFile;
+use f11_reader::FileReader;
+use std::io::Write;
+
+/// Writes the bytes of a file that are still to come, before `end` bytes: each block whole, and the last one cut there. Where the file
+/// ends earlier, so does the text. No block behind the end is read, and no memory is taken.
+///
+/// # Errors
+///
+/// [`Failure::DeviceFault`] where a transfer failed: then the writer holds what was read before. [`Failure::CannotWrite`] where the
+/// writer takes no more: then it may hold a part of the bytes.
+pub fn write_contents<D: Device, W: Write>(
+    device: &mut D,
+    index: &IndexFile,
+    file: FileReader,
+    end: u64,
+    writer: &mut W,
+) -> Result<(), Failure>
+    requires within { IndexLiesWithin (index_kept index.now) (length (D.disk device.old).image) }
+    requires reading { IsReading (index_kept index.now) file (D.disk device.old) }
+    ensures writes { OnOk result (WritesContent (index_kept index.now) file end
+        (D.disk device.old) (D.disk device.new) W.contents writer.old writer.new) }
+    ensures failed { IfErr result (λ failure. FailsToWriteContent failure (index_kept index.now)
+        file end (D.disk device.old) (D.disk device.new) W.contents writer.old writer.new) }
+{
+    let (mut reader, mut left) = (file, end);
+    let mut block = [0; BLOCK_SIZE];
+    while left > 0 {
+        if !reader.read(device, index, &mut block)? {
+            return Ok(());
+        }
+        let count = left.min(512);
+        writer.write_all(&block[..count as usize])?;
+        left -= count;
+    }
+    Ok(())
+}

@@ -1,0 +1,177 @@
+//! The command `ls`.
+ghost use Rattle.std.specs.Prelude.{◌≡◌, IfErr, IfOk, OnOk, length};
+ghost use Rattle.f11_catalog.specs.Listing.{BreaksOff};
+ghost use Rattle.f11_index.specs.Kept.{index_kept, IndexLiesWithin};
+ghost use Rattle.f11_commands.specs.LsCommand.{FailsToList, FailsToListIndex, IsNotListed, ListsIndex, ListsVolume, PrintsListing, WritesListing, listed, user_listed};
+
+use crate::copy::finding::{MASTER_DIRECTORY, directory_name};
+use crate::outcome::{Answer, Failure};
+use crate::volume::read_index;
+use f11_catalog::{ListFault, find, list_directory, list_users};
+use f11_dev::{Device, DeviceFault};
+use f11_index::IndexFile;
+use f11_store::{Refusal, Uic};
+use f11_vfy::{Report, VfyError, verify};
+use std::alloc::Global;
+use std::io::Write;
+
+/// What a command that serves any volume answers.
+#[derive(Clone, Copy, Debug, PartialEq, Eq)]
+pub struct Served {
+    /// How its work ended.
+    pub answer: Answer,
+    /// Whether the volume has faults, which `vfy` tells.
+    pub faulty: bool,
+}
+
+/// Lists a user's directory, or without a user each directory of one that the master file directory names, under `[g,m]`: a line for each
+/// record, in their order. It serves any volume whose home block and index file can be read, faulty or not, and writes nothing to it.
+///
+/// A record's line is `file NAME.TYP;V N,S blocks B bytes E owner [g,m] prot W`, and behind it ` contiguous`, ` marked` or ` open` where
+/// the file is that, with the blocks that are reached from its first header; or `entry NAME.TYP;V N,S no file` where it names none; `?` stands for
+/// a name that is none. Where a directory can't be listed the line is `no NoSuchFile`, `no NotDirectory` or `no NoSuchEntry`, and where the
+/// volume can't be read that of its fault, F1 or F2; then the answer is [`Answer::Fault`].
+///
+/// # Errors
+///
+/// [`Failure::DeviceFault`] where a transfer failed, [`Failure::NoMemory`] where there was no memory, and
+/// [`Failure::CannotWrite`] where the writer takes no more: then it may hold a part of the lines.
+pub fn print_ls<D: Device, W: Write>(
+    alloc: Global,
+    device: D,
+    writer: &mut W,
+    user: Option<Uic>,
+) -> (D, Result<Served, Failure>)
+    ensures lists { IfOk result.1 (λ served. PrintsListing user served
+        (D.disk device) (D.disk result.0) W.contents writer.old writer.new) }
+    ensures failed { IfErr result.1 (λ failure. FailsToList failure
+        (D.disk device) (D.disk result.0) W.contents writer.old writer.new) }
+{
+    match verify(alloc, device) {
+        Ok(Report::Accepted(accepted, _)) => list(alloc, accepted.device(), false, writer, user),
+        Ok(Report::Faulty(device, _, _)) => list(alloc, device, true, writer, user),
+        Err(VfyError::DeviceFault(device)) => (device, Err(Failure::DeviceFault)),
+        Err(VfyError::NoMemory(device)) => (device, Err(Failure::NoMemory)),
+    }
+}
+
+/// Lists what is asked of a volume that has faults or hasn't.
+fn list<D: Device, W: Write>(
+    alloc: Global,
+    device: D,
+    faulty: bool,
+    writer: &mut W,
+    user: Option<Uic>,
+) -> (D, Result<Served, Failure>)
+    ensures served { IfOk result.1 (λ served. (served.faulty ≡ faulty)
+        × ListsVolume user served.answer (D.disk device) (D.disk result.0) W.contents writer.old writer.new) }
+    ensures failed { IfErr result.1 (λ failure. FailsToList failure
+        (D.disk device) (D.disk result.0) W.contents writer.old writer.new) }
+{
+    let mut device = device;
+    match list_volume(alloc, &mut device, writer, user) {
+        Ok(answer) => (device, Ok(Served { answer, faulty })),
+        Err(failure) => (device, Err(failure)),
+    }
+}
+
+/// Reads the index file, and lists what is asked.
+fn list_volume<D: Device, W: Write>(
+    alloc: Global,
+    device: &mut D,
+    writer: &mut W,
+    user: Option<Uic>,
+) -> Result<Answer, Failure>
+    ensures lists { IfOk result (λ answer. ListsVolume user answer
+        (D.disk device.old) (D.disk device.new) W.contents writer.old writer.new) }
+    ensures failed { IfErr result (λ failure. FailsToList failure
+        (D.disk device.old) (D.disk device.new) W.contents writer.old writer.new) }
+{
+    match read_index(alloc, device) {
+        Ok(Ok((_, index))) => match list_index(device, &index, writer, user) {
+            Ok(answer) => Ok(answer),
+            Err(failure) => Err(failure),
+        },
+        Ok(Err(fault)) => match writeln!(writer, "fault {fault}") {
+            Ok(()) => Ok(Answer::Fault),
+            Err(_) => Err(Failure::CannotWrite),
+        },
+        Err(failure) => Err(failure),
+    }
+}
+
+/// Lists what is asked of the files that an index file has, or says why it can't.
+fn list_index<D: Device, W: Write>(
+    device: &mut D,
+    index: &IndexFile,
+    writer: &mut W,
+    user: Option<Uic>,
+) -> Result<Answer, Failure>
+    requires within { IndexLiesWithin (index_kept index.now) (length (D.disk device.old).image) }
+    ensures lists { IfOk result (λ answer. ListsIndex (index_kept index.now) user answer
+        (D.disk device.old) (D.disk device.new) W.contents writer.old writer.new) }
+    ensures failed { IfErr result (λ failure. FailsToListIndex failure
+        (D.disk device.old) (D.disk device.new)) }
+{
+    match list_asked(device, index, writer, user) {
+        Ok(Ok(())) => Ok(Answer::Done),
+        Ok(Err(refusal)) => match writeln!(writer, "no {refusal}") {
+            Ok(()) => Ok(Answer::Fault),
+            Err(_) => Err(Failure::CannotWrite),
+        },
+        Err(ListFault::DeviceFault) => Err(Failure::DeviceFault),
+        Err(ListFault::CannotWrite) => Err(Failure::CannotWrite),
+    }
+}
+
+/// Lists one user's directory, or those of all users.
+fn list_asked<D: Device, W: Write>(
+    device: &mut D,
+    index: &IndexFile,
+    writer: &mut W,
+    user: Option<Uic>,
+) -> Result<Result<(), Refusal>, ListFault>
+    requires within { IndexLiesWithin (index_kept index.now) (length (D.disk device.old).image) }
+    ensures lists { IfOk result (λ answer. OnOk answer (WritesListing (λ image t. listed image t user)
+        (index_kept index.now) (D.disk device.old) (D.disk device.new) W.contents writer.old writer.new)) }
+    ensures refused { IfOk result (λ answer. IfErr answer (λ refusal. (writer.new ≡ writer.old)
+        × IsNotListed (λ image t. listed image t user) (index_kept index.now) refusal
+        (D.disk device.old) (D.disk device.new))) }
+    ensures failed { IfErr result (λ fault. BreaksOff fault (D.disk device.old) (D.disk device.new)) }
+{
+    match user {
+        Some(user) => list_user(device, index, writer, user),
+        None => match list_users(device, index, writer, MASTER_DIRECTORY) {
+            Ok(Ok(())) => Ok(Ok(())),
+            Ok(Err(refusal)) => Ok(Err(refusal)),
+            Err(fault) => Err(fault),
+        },
+    }
+}
+
+/// Lists a user's directory, which the master file directory names.
+fn list_user<D: Device, W: Write>(
+    device: &mut D,
+    index: &IndexFile,
+    writer: &mut W,
+    user: Uic,
+) -> Result<Result<(), Refusal>, ListFault>
+    requires within { IndexLiesWithin (index_kept index.now) (length (D.disk device.old).image) }
+    ensures lists { IfOk result (λ answer. OnOk answer (WritesListing (λ image t. user_listed image t user)
+        (index_kept index.now) (D.disk device.old) (D.disk device.new) W.contents writer.old writer.new)) }
+    ensures refused { IfOk result (λ answer. IfErr answer (λ refusal. (writer.new ≡ writer.old)
+        × IsNotListed (λ image t. user_listed image t user) (index_kept index.now) refusal
+        (D.disk device.old) (D.disk device.new))) }
+    ensures failed { IfErr result (λ fault. BreaksOff fault (D.disk device.old) (D.disk device.new)) }
+{
+    let name = directory_name(user);
+    match find(device, index, MASTER_DIRECTORY, &name) {
+        Ok(Ok(id)) => match list_directory(device, index, writer, id) {
+            Ok(Ok(())) => Ok(Ok(())),
+            Ok(Err(refusal)) => Ok(Err(refusal)),
+            Err(fault) => Err(fault),
+        },
+        Ok(Err(refusal)) => Ok(Err(refusal)),
+        Err(DeviceFault) => Err(ListFault::DeviceFault),
+    }
+}
