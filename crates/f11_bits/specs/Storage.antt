@@ -40,7 +40,7 @@ pub record IsFor (s : Storage) (disk : Disk) : Type 0 where
   pub keeps : IsTrue disk.honest → Keeps s disk.image
 
 -- The bitmap was loaded, and each of its blocks was read once at most.
-pub record Loads (bitmap : Bitmap) (s : Storage) (old new : Disk) : Type 0 where
+pub record LoadsBitmap (bitmap : Bitmap) (s : Storage) (old new : Disk) : Type 0 where
   pub bitmap_is : bitmap_of s ≡ bitmap
   pub is_for : IsFor s new
   pub looked : Looked old new (length bitmap.places) 0

@@ -7,7 +7,7 @@ use crate::bits::{BITS, LONGEST, count_free_to, first_run_to, run_length, set_bi
 use f11_bytes::{BLOCK_SIZE, Block};
 use f11_dev::{Device, DeviceFault};
 
-mod contiguous;
+mod take_run;
 
 /// The most blocks that a bitmap has (Files-11 On-Disk Structure Level 1, "Storage Bitmap File").
 pub const MAX_PLACES: usize = 126;
@@ -47,7 +47,7 @@ impl Storage {
     ghost use Rattle.f11_bits.specs.Bitmap.{free_blocks, KeepsFrom};
     ghost use Rattle.f11_bits.specs.Calls.{MarksOnDisk, FailsToMark, Gives, FailsToGive, Takes, FindsNone, FailsToTake};
     ghost use Rattle.f11_bits.specs.Parts.{IsPart, HasBitOf, HasBits, FindsPart, FindsRest, FindsRun, FailsToFindPart, FailsToFindRest};
-    ghost use Rattle.f11_bits.specs.Storage.{bitmap_of, count_of, kept_at, Keeps, IsOn, IsFor, Loads, UsesKept};
+    ghost use Rattle.f11_bits.specs.Storage.{bitmap_of, count_of, kept_at, Keeps, IsOn, IsFor, LoadsBitmap, UsesKept};
     ghost use Rattle.f11_bits.specs.Transfers.{blocks_to, blocks_touched, taking_transfers, giving_transfers, MakesFewer};
 
     /// Counts the free blocks of a volume of `size` blocks whose bitmap blocks are at `places`, in order. It reads each of
@@ -65,7 +65,7 @@ impl Storage {
         requires within { LiesWithin (record { places = places.now; size = size })
             (length (D.disk device.old).image) }
         ensures loads { IfOk result (λ storage.
-            Loads (record { places = places.now; size = size }) storage
+            LoadsBitmap (record { places = places.now; size = size }) storage
             (D.disk device.old) (D.disk device.new)) }
         ensures keeps { IfOk result (λ storage. kept_at storage ≡ (size - 1) / 4096) }
         ensures failed { OnErr result (FailsToCount (record { places = places.now; size = size })

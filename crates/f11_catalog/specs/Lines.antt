@@ -45,7 +45,7 @@ facts_of f = record {
   characteristics = f.characteristics;
 }
 
--- the line of a file under a name: owner and protection word in octal, all else in decimal
+-- the line of a file under a name: owner, protection word and the name's version in octal, all else in decimal
 abbrev pub file_line : List ℕ → FileId → FileFacts → List ℕ
 file_line name id facts = concat (codes "file " ∷ name ∷ codes " " ∷ id_text id
     ∷ codes " blocks " ∷ decimal facts.blocks

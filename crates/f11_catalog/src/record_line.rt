@@ -20,7 +20,7 @@ use std::io::{self, Write};
 
 /// Writes the line of a record of a directory: `file NAME.TYP;V N,S blocks B bytes E owner [g,m] prot W`, and behind it ` contiguous`,
 /// ` marked` or ` open` where the file is that, with `?` for a name that is none; or `entry NAME.TYP;V N,S no file` where the record
-/// names no file. Nothing for an empty record. Protection word and user's code are octal, all else is decimal (profile).
+/// names no file. Nothing for an empty record. Protection word, user's code and a name's version are octal, all else is decimal (profile).
 ///
 /// # Errors
 ///

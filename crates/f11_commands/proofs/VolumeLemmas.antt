@@ -7,7 +7,7 @@ use Rattle.f11_dev.specs.Image.{Image, image_block}
 use Rattle.f11_dev.proofs.ImageLemmas.{image_block-read}
 use Rattle.f11_dev.proofs.LookedLemmas.{looked_more, looked_within}
 use Rattle.f11_home.specs.Home.{HomeFields, FindsHome, candidates, IsSound}
-use Rattle.f11_index.specs.Calls.{Loads, ReadsIndex}
+use Rattle.f11_index.specs.Calls.{LoadsIndex, ReadsIndex}
 use Rattle.f11_index.specs.IndexFile.{Index, index_of, slots, header_lbn, HasNonePast}
 use Rattle.f11_index.specs.Table.{table_in}
 use Rattle.f11_index.specs.Sound.{IsIndexFile}
@@ -28,26 +28,27 @@ reads-few home blocks headers sound at_most =
     let count = candidates-counted blocks (omega (arith, many)) in
     omega (arith, few, is, many, count, sound.within, at_most)
 
-module _ (home : HomeFields) (index : Index) (old mid new : Disk) (finds : FindsHome old mid home) (loads : Loads home index mid new) where
-  image-is : new.image ≡ old.image
-  image-is = loads.looked.looked.image ∙ finds.looked.image
+module _ (home : HomeFields) (index : Index) (old mid new : Disk) (finds : FindsHome old mid home) (loads : LoadsIndex home index mid new)
+  where
+    image-is : new.image ≡ old.image
+    image-is = loads.looked.looked.image ∙ finds.looked.image
 
-  mid-honest : IsTrue old.honest → IsTrue mid.honest
-  mid-honest honest = finds.looked.honest ∙ honest
+    mid-honest : IsTrue old.honest → IsTrue mid.honest
+    mid-honest honest = finds.looked.honest ∙ honest
 
-  pub FindsIndex-loaded : FindsIndex home index old new
-  FindsIndex-loaded = record {
-    indexed = λ honest. record {
-      is_home = finds.is_home honest;
-      index_file = subst (λ (i : Image). IsIndexFile i home) finds.looked.image (loads.sound (mid-honest honest));
-      none_past = subst HasNonePast
-          (loads.is_for.keeps (loads.looked.looked.honest ∙ mid-honest honest) ∙ ap (λ (i : Image). index_of i home) image-is)
-          loads.none_past;
-    };
-    is_for = loads.is_for;
-    looked = looked_within (looked_more finds.looked loads.looked.looked)
-        (reads-few home (length old.image) loads.looked.headers finds.sound loads.looked.few);
-  }
+    pub FindsIndex-loaded : FindsIndex home index old new
+    FindsIndex-loaded = record {
+      indexed = λ honest. record {
+        is_home = finds.is_home honest;
+        index_file = subst (λ (i : Image). IsIndexFile i home) finds.looked.image (loads.sound (mid-honest honest));
+        none_past = subst HasNonePast
+            (loads.is_for.keeps (loads.looked.looked.honest ∙ mid-honest honest) ∙ ap (λ (i : Image). index_of i home) image-is)
+            loads.none_past;
+      };
+      is_for = loads.is_for;
+      looked = looked_within (looked_more finds.looked loads.looked.looked)
+          (reads-few home (length old.image) loads.looked.headers finds.sound loads.looked.few);
+    }
 
 -- what is said of a header whose slot isn't there, and of one that is
 pub no_slot-dump : (index : Index) (image : Image) (n : ℕ) → (n ≡ 0) ⊎ (slots index < n)

@@ -35,11 +35,11 @@ pub record MeetsFailOnce {D E : Type 0} (disk : D → Disk) (result : Result Uni
   pub next : (fails_at new ≡ fails_at old - 1) × (is_landing new ≡ is_landing old)
 
 -- the read that fails: the inner device stays
-abbrev pub FailsToRead : {D : Type 0} → FailOnce D → FailOnce D → Type 0
-FailsToRead old new = behind_fail_once new ≡ behind_fail_once old
+abbrev pub FailsOnRead : {D : Type 0} → FailOnce D → FailOnce D → Type 0
+FailsOnRead old new = behind_fail_once new ≡ behind_fail_once old
 
 -- The write that fails: where it lands, the inner device wrote the block; else that stays.
-pub record FailsToWrite {D : Type 0} (disk : D → Disk) (lbn : ℕ) (from : List ℕ) (old new : FailOnce D) : Type 0 where
+pub record FailsOnWrite {D : Type 0} (disk : D → Disk) (lbn : ℕ) (from : List ℕ) (old new : FailOnce D) : Type 0 where
   pub lands : is_landing old ≡ true
       → (inner : Result Unit DeviceFault) × Writes inner lbn from (disk (behind_fail_once old)) (disk (behind_fail_once new))
   pub stays : is_landing old ≡ false → behind_fail_once new ≡ behind_fail_once old

@@ -18,7 +18,7 @@ pub struct FailOnce<D> {
 }
 
 impl<D: Device> FailOnce<D> {
-    ghost use Rattle.f11_dev.specs.FailOnce.{behind_fail_once, fails_at, is_landing, fail_once_disk, fail_once_outcomes, FailsToWrite};
+    ghost use Rattle.f11_dev.specs.FailOnce.{behind_fail_once, fails_at, is_landing, fail_once_disk, fail_once_outcomes, FailsOnWrite};
 
     /// A device whose transfer number `transfer`, from 1, fails; where it is a write, it replaces its block if
     /// `lands` is true, and changes nothing otherwise.
@@ -40,7 +40,7 @@ impl<D: Device> FailOnce<D> {
     fn fail_to_write(&mut self, lbn: u32, from: &Block) -> Result<(), DeviceFault>
         requires { lbn < length (D.disk (behind_fail_once self.old)).image }
         ensures fails { IsErr result }
-        ensures writes { FailsToWrite D.disk lbn from.now self.old self.new }
+        ensures writes { FailsOnWrite D.disk lbn from.now self.old self.new }
         ensures next { fails_at self.new ≡ fails_at self.old }
         ensures landing { is_landing self.new ≡ is_landing self.old }
         ensures outcomes { fail_once_outcomes self.new ≡ fail_once_outcomes self.old }
@@ -66,7 +66,7 @@ impl<D: Device> FailOnce<D> {
 }
 
 impl<D: Device> Device for FailOnce<D> {
-    ghost use Rattle.f11_dev.specs.FailOnce.{fails_at, fail_once_disk, FailsToRead, FailsToWrite, MeetsFailOnce};
+    ghost use Rattle.f11_dev.specs.FailOnce.{fails_at, fail_once_disk, FailsOnRead, FailsOnWrite, MeetsFailOnce};
 
     ghost disk = { fail_once_disk D.disk };
 
@@ -79,7 +79,7 @@ impl<D: Device> Device for FailOnce<D> {
     fn read(&mut self, lbn: u32, into: &mut Block) -> Result<(), DeviceFault>
         requires { lbn < length (fail_once_disk D.disk self.old).image }
         ensures read { MeetsFailOnce D.disk result (Reads result lbn into.new) self.old self.new }
-        ensures fails { fails_at self.old ≡ 1 → FailsToRead self.old self.new }
+        ensures fails { fails_at self.old ≡ 1 → FailsOnRead self.old self.new }
     {
         let done = if self.fails_at == 1 {
             Err(DeviceFault)
@@ -94,7 +94,7 @@ impl<D: Device> Device for FailOnce<D> {
     fn write(&mut self, lbn: u32, from: &Block) -> Result<(), DeviceFault>
         requires { lbn < length (fail_once_disk D.disk self.old).image }
         ensures write { MeetsFailOnce D.disk result (Writes result lbn from.now) self.old self.new }
-        ensures fails { fails_at self.old ≡ 1 → FailsToWrite D.disk lbn from.now self.old self.new }
+        ensures fails { fails_at self.old ≡ 1 → FailsOnWrite D.disk lbn from.now self.old self.new }
     {
         let done = if self.fails_at == 1 {
             self.fail_to_write(lbn, from)

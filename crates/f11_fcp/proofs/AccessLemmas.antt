@@ -24,7 +24,7 @@ use Rattle.f11_store.specs.declared.requests.Request.TheVariants as request
 use Rattle.f11_files.specs.Answers.{ReadsAtMost, FailsToRead}
 use Rattle.f11_files.specs.Operations.{attr_of, file_causes}
 use Rattle.f11_image_store.specs.StoreOf.{store_of}
-use Rattle.f11_fcp.specs.Accesses.{AccessTable, Entry, access_of, with_entry, held_in, is_held_in, mark_there, mark_kept, HasAccessed}
+use Rattle.f11_fcp.specs.Accesses.{AccessTable, Entry, access_of, with_table_entry, held_in, is_held_in, mark_there, mark_kept, HasAccessed}
 use Rattle.f11_fcp.specs.Handles.{State, store_at, Handles}
 use Rattle.f11_fcp.specs.Rights.{lacks_by}
 use Rattle.f11_fcp.proofs.HandleLemmas.{handled-clean, handled-served}
@@ -134,7 +134,7 @@ module _ (task lun : ℕ) (caller : Uic) (id : FileId) (m : Mode) (old : State) 
                     home table counts
 
                 pub access-taken : (w : Window)
-                    → mid.table ≡ with_entry old.table task lun (Some (record { file = id; mode = m; marked = false; window = w }))
+                    → mid.table ≡ with_table_entry old.table task lun (Some (record { file = id; mode = m; marked = false; window = w }))
                     → false ≡ is_held_in (bars m) old.table id
                     → Handles task caller r (Ok reply.Done) old [] mid []
                 access-taken w table clear =
@@ -152,12 +152,13 @@ module _ (task lun : ℕ) (caller : Uic) (id : FileId) (m : Mode) (old : State) 
                     by_test true o = refl
                     by_test false o = refl
 
-                    entered : held_in (with_entry old.table task lun (Some (record { file = id; mode = m; marked = false; window = w })))
+                    entered : held_in (with_table_entry old.table task lun
+                        (Some (record { file = id; mode = m; marked = false; window = w })))
                         s0 ≡ with_access s task lun (Some (record { file = id; mode = m }))
                     entered = λ i. record s0 { access = λ k l. by_test ((k == task) && (l == lun)) (old.table k l) i }
 
                 pub access-kept : (t : AccessTable) (s' : Store) → s' ≡ s0 → (w : Window)
-                    → t ≡ with_entry old.table task lun (Some (record { file = id; mode = m; marked = false; window = w }))
+                    → t ≡ with_table_entry old.table task lun (Some (record { file = id; mode = m; marked = false; window = w }))
                     → IsTrue old.disk.honest → HasAccessed old.table s0
                     → HasAccessed t s'
                 access-kept t s' same w is_t honest kept k l low small =

@@ -40,7 +40,7 @@ use Rattle.f11_image_store.specs.StoreOf.{store_of}
 use Rattle.f11_fcp.proofs.RequestLemmas.{still}
 use Rattle.f11_fcp.specs.Accesses.{AccessTable, Entry, access_of, accesses, held_in, mark_there, mark_kept, HasAccessed}
 use Rattle.f11_store.specs.Accesses.{mark_of}
-use Rattle.f11_fcp.specs.Handles.{State, store_at, own_causes, Meanwhile, Handles, of_accessed}
+use Rattle.f11_fcp.specs.Handles.{State, store_at, own_causes, WhileServing, Handles, of_accessed}
 use Rattle.f11_store.proofs.HeldLaws.{extend-causes-held, lengthen-work-held, lengthens-held}
 use Rattle.f11_fcp.proofs.SlotsLemmas.{gets-held, lengthen-cost-held}
 use Rattle.f11_fcp.proofs.HandleLemmas.{work-then, clean-cause, handled-served, same-store, handled-clean, handled-fatal, handled-refused}
@@ -127,10 +127,10 @@ module _ (task : ℕ) (caller : Uic) (r : Request) (block : List ℕ) (old : Sta
 
   -- blocks were read alone
   pub writes-looked : {m faults : ℕ} (new : Disk) → ReadsAtMost m old.disk new faults → m ≤ cost (store_at old) task r
-      → WritesAtMost (Meanwhile task caller r block old) (cost (store_at old) task r) old.disk new faults
+      → WritesAtMost (WhileServing task caller r block old) (cost (store_at old) task r) old.disk new faults
   writes-looked new reads fewer = record {
     transfers = reads.reads;
-    went = went_looked (Meanwhile task caller r block old) reads.looked;
+    went = went_looked (WhileServing task caller r block old) reads.looked;
     few = λ honest. let few = reads.few honest in omega (arith, few, fewer);
   }
 
@@ -142,7 +142,7 @@ module _ (task : ℕ) (caller : Uic) (r : Request) (block : List ℕ) (old : Sta
   accessed-unread e res missing mid block' alive fails fewer there home is =
       subst (λ (x : Refusal). Handles task caller r (Err x) old block mid block') (sym is) (by_fatal (is_fatal e) refl)
     where
-      writes : WritesAtMost (Meanwhile task caller r block old) (cost (store_at old) task r) old.disk mid.disk (faults_of e)
+      writes : WritesAtMost (WhileServing task caller r block old) (cost (store_at old) task r) old.disk mid.disk (faults_of e)
       writes = writes-looked mid.disk fails.reads fewer
 
       by_fatal : (b : Bool) → is_fatal e ≡ b → Handles task caller r (Err (of_accessed e)) old block mid block'
@@ -163,7 +163,7 @@ module _ (task : ℕ) (caller : Uic) (r : Request) (block : List ℕ) (old : Sta
           (fails.right.cause honest (clean-cause e clean other).0) in
           let none : None ≡ Some NoSuchFile = sym (drop-false missing (Some NoSuchFile) None (there honest)) ∙ first in cc
           ))
-          (subst (λ (x : Refusal). WritesAtMost (Meanwhile task caller r block old) (cost (store_at old) task r) old.disk mid.disk
+          (subst (λ (x : Refusal). WritesAtMost (WhileServing task caller r block old) (cost (store_at old) task r) old.disk mid.disk
           (faults_of x)) file writes) home)
 
   -- a call that only a missing file stands against broke off
@@ -185,7 +185,7 @@ module _ (task : ℕ) (caller : Uic) (r : Request) (block : List ℕ) (old : Sta
           ap (λ o. work_if o work) (drop-false missing (Some NoSuchFile) None (there honest)) ∙ works honest
           ∙ work-then task caller r block old (none honest)
 
-      writes : WritesAtMost (Meanwhile task caller r block old) (cost (store_at old) task r) old.disk new.disk (faults_of e)
+      writes : WritesAtMost (WhileServing task caller r block old) (cost (store_at old) task r) old.disk new.disk (faults_of e)
       writes =
           behind task caller r block old (work_if (first_of causes) work) old new (reads-none old.disk) refl works-if fails.writes fewer
 
@@ -206,7 +206,7 @@ module _ (task : ℕ) (caller : Uic) (r : Request) (block : List ℕ) (old : Sta
           let first = subst (λ (x : Refusal). first_of causes ≡ Some x) file (fails.right.cause honest (clean-cause e clean other).0) in
           let no : None ≡ Some NoSuchFile = sym (drop-false missing (Some NoSuchFile) None (there honest)) ∙ first in cc
           ))
-          (subst (λ (x : Refusal). WritesAtMost (Meanwhile task caller r block old) (cost (store_at old) task r) old.disk new.disk
+          (subst (λ (x : Refusal). WritesAtMost (WhileServing task caller r block old) (cost (store_at old) task r) old.disk new.disk
           (faults_of x)) file writes) home)
 
   -- a call on a file that is accessed was refused
@@ -242,7 +242,7 @@ module _ (task : ℕ) (caller : Uic) (r : Request) (block : List ℕ) (old : Sta
           (handled-fatal task caller r block old Damaged new block' refl
           (λ honest _. never (sym (whole honest) ∙ subst (λ (x : Refusal). first_of causes ≡ Some x) is
           (fails.right.cause (reads.looked.honest ∙ honest) (ap (λ x. is_cause x) is))))
-          (subst (λ (x : Refusal). WritesAtMost (Meanwhile task caller r block old) (cost (store_at old) task r) old.disk new.disk
+          (subst (λ (x : Refusal). WritesAtMost (WhileServing task caller r block old) (cost (store_at old) task r) old.disk new.disk
           (faults_of x)) is
           (behind task caller r block old (work_if (first_of causes) work) mid new reads home works-if fails.writes fewer)) (home' ∙ home))
 

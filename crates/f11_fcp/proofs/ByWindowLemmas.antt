@@ -7,7 +7,7 @@ use Rattle.f11_chain.specs.Windows.{HoldsBlock}
 use Rattle.f11_store.specs.Store.{is_same}
 use Rattle.f11_store.specs.declared.files.FileId.{FileId}
 use Rattle.f11_store.specs.declared.requests.Request.{Request}
-use Rattle.f11_fcp.specs.Accesses.{Entry, AccessTable, marked_if, with_entry, with_marks}
+use Rattle.f11_fcp.specs.Accesses.{Entry, AccessTable, marked_if, with_table_entry, with_marks}
 use Rattle.f11_fcp.specs.ByWindow.{KeepsWindows, TakesOneTransfer, WasHeld, block_of}
 use Rattle.f11_fcp.specs.Handles.{State}
 
@@ -42,7 +42,7 @@ keeps-marked f t t' is task lun e held = by_entry (t task lun) refl (ap (λ (u :
     by_entry (Some was) at some = by_test was at (is_same was.file f) (same_Some _ _ some)
 
 -- and where an access is given up
-pub keeps-given : (t t' : AccessTable) (k l : ℕ) → t' ≡ with_entry t k l None → KeepsWindows t t'
+pub keeps-given : (t t' : AccessTable) (k l : ℕ) → t' ≡ with_table_entry t k l None → KeepsWindows t t'
 keeps-given t t' k l is task lun e held = go ((task == k) && (lun == l)) (ap (λ (u : AccessTable). u task lun) (sym is) ∙ held)
   where
     go : (b : Bool) → (if b then None else t task lun) ≡ Some e → WasHeld t task lun e

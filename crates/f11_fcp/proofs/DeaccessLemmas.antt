@@ -21,10 +21,10 @@ use Rattle.f11_dev.specs.Disk.{Disk}
 use Rattle.f11_files.specs.Answers.{WritesAtMost, is_fatal}
 use Rattle.f11_files.specs.Removing.Delete.{Deletes, FailsToDelete}
 use Rattle.f11_image_store.specs.StoreOf.{store_of}
-use Rattle.f11_fcp.specs.Accesses.{AccessTable, Entry, access_of, with_entry, held_in, is_held_in, any_mode, mark_there, mark_kept}
+use Rattle.f11_fcp.specs.Accesses.{AccessTable, Entry, access_of, with_table_entry, held_in, is_held_in, any_mode, mark_there, mark_kept}
 use Rattle.f11_fcp.specs.Accesses.{HasAccessed}
 use Rattle.f11_store.specs.Accesses.{mark_of}
-use Rattle.f11_fcp.specs.Handles.{State, store_at, Meanwhile, Handles, of_accessed}
+use Rattle.f11_fcp.specs.Handles.{State, store_at, WhileServing, Handles, of_accessed}
 use Rattle.f11_fcp.proofs.HandleLemmas.{clean-cause, handled-served, handled-does, reads-none, writes-none}
 use Rattle.f11_fcp.proofs.AccessedLemmas.{among-file, drop-false, take-true, refused-early, accessed-broke, there-marked}
 use Rattle.f11_store.proofs.FateLaws.{mark-stays, held-at, fate-gone}
@@ -62,7 +62,7 @@ module _ (task lun : ℕ) (caller : Uic) (old : State) where
 
   -- the table without the access
   abbrev given : AccessTable
-  given = with_entry old.table task lun None
+  given = with_table_entry old.table task lun None
 
   pub deaccess-none : old.table task lun ≡ None → Handles task caller r (Err NoSuchAccess) old [] old []
   deaccess-none none =
@@ -110,8 +110,8 @@ module _ (task lun : ℕ) (caller : Uic) (old : State) where
         ∙ ap (λ (t : AccessTable). held_in t s0) table ∙ given-is s0
         ∙ sym (after-is ∙ drop-false (is_due u e.file) _ _ (not-due honest stays)))
         (λ _. refl)
-        (subst (λ (d : Disk). WritesAtMost (Meanwhile task caller r [] old) (cost s task r) old.disk d 0) (sym disk)
-        (writes-none (Meanwhile task caller r [] old) old.disk (cost s task r))) home
+        (subst (λ (d : Disk). WritesAtMost (WhileServing task caller r [] old) (cost s task r) old.disk d 0) (sym disk)
+        (writes-none (WhileServing task caller r [] old) old.disk (cost s task r))) home
       where
         not-due : IsTrue old.disk.honest → (e.marked ≡ false) ⊎ (true ≡ is_held_in any_mode given e.file) → is_due u e.file ≡ false
         not-due honest (inl unmarked) =

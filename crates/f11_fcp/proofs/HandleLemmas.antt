@@ -18,13 +18,13 @@ use Rattle.f11_store.specs.declared.refusals.Refusal.TheVariants.{VolumeFailed, 
 use Rattle.f11_store.specs.declared.requests.Reply.{Reply}
 use Rattle.f11_store.specs.declared.requests.Request.{Request}
 use Rattle.f11_files.specs.Answers.{ReadsAtMost, WritesAtMost, FailsOrWants, FailsToWrite, Does, is_among, is_fatal, is_clean, is_cause}
-use Rattle.f11_files.specs.Answers.{faults_of, Meanwhile as FilesMeanwhile}
+use Rattle.f11_files.specs.Answers.{faults_of, Meanwhile}
 use Rattle.f11_image_store.specs.StoreOf.{store_of}
 use Rattle.f11_files.proofs.AnswerLemmas.{reads-more, reads-looked}
 use Rattle.f11_dev.proofs.LookedLemmas.{looked_none}
 use Rattle.f11_volume.specs.Volume.{Volume}
 use Rattle.f11_fcp.specs.Accesses.{AccessTable, held_in, accesses}
-use Rattle.f11_fcp.specs.Handles.{State, store_at, Meanwhile, is_failed, is_damage, own_causes, Handles}
+use Rattle.f11_fcp.specs.Handles.{State, store_at, WhileServing, is_failed, is_damage, own_causes, Handles}
 use Rattle.f11_store.proofs.HeldLaws.{lags-held}
 
 -- a refusal that doesn't fail the volume, of one that hasn't failed, is that of a cause
@@ -122,7 +122,7 @@ module _ (task : ℕ) (caller : Uic) (r : Request) (block : List ℕ) (old : Sta
   s = store_at old
 
   abbrev P : Image → Type 0
-  P = Meanwhile task caller r block old
+  P = WhileServing task caller r block old
 
   -- it is refused as it may be, and nothing was written
   handled-unchanged : (e : Refusal) (new : State) → is_fatal e ≡ false → e ≢ VolumeFailed → is_among (own_causes s task caller r) e ≡ true
@@ -201,7 +201,7 @@ module _ (task : ℕ) (caller : Uic) (r : Request) (block : List ℕ) (old : Sta
   -- an image that stands while a part of the work is done, behind a look: what lags by the part lags by the request
   pub under-way-by : (work : Work) (mid : State) → mid.disk.image ≡ old.disk.image → mid.disk.honest ≡ old.disk.honest → mid.home ≡ old.home
       → (IsTrue old.disk.honest → (t : Store) → LagsBy work t s → LagsBy (work_of s task caller r block) t s) → (image : Image)
-      → FilesMeanwhile work mid.home mid.disk image → P image
+      → Meanwhile work mid.home mid.disk image → P image
   under-way-by work mid same honest home more image stands sure =
       let u = stands (honest ∙ sure) in
       let t : Store = store_of image old.home in
@@ -216,7 +216,7 @@ module _ (task : ℕ) (caller : Uic) (r : Request) (block : List ℕ) (old : Sta
   -- an image that stands while a call on files does its work, behind a look
   pub under-way : (work : Work) (mid : State) → mid.disk.image ≡ old.disk.image → mid.disk.honest ≡ old.disk.honest → mid.home ≡ old.home
       → (IsTrue old.disk.honest → work ≡ work_of s task caller r block)
-      → (image : Image) → FilesMeanwhile work mid.home mid.disk image → P image
+      → (image : Image) → Meanwhile work mid.home mid.disk image → P image
   under-way work mid same honest home is =
       under-way-by work mid same honest home (λ sure t lags. subst (λ (w : Work). LagsBy w t s) (is sure) lags)
 
@@ -234,10 +234,10 @@ module _ (task : ℕ) (caller : Uic) (r : Request) (block : List ℕ) (old : Sta
   -- what was written behind a look
   pub behind : (work : Work) (mid new : State) {m n faults : ℕ} → ReadsAtMost m old.disk mid.disk 0 → mid.home ≡ old.home
       → (IsTrue old.disk.honest → work ≡ work_of s task caller r block)
-      → WritesAtMost (FilesMeanwhile work mid.home mid.disk) n mid.disk new.disk faults → (IsTrue old.disk.honest → m + n ≤ cost s task r)
+      → WritesAtMost (Meanwhile work mid.home mid.disk) n mid.disk new.disk faults → (IsTrue old.disk.honest → m + n ≤ cost s task r)
       → WritesAtMost P (cost s task r) old.disk new.disk faults
   behind work mid new reads home is writes fewer =
-      behind-by (FilesMeanwhile work mid.home mid.disk) mid new reads (under-way work mid reads.looked.image reads.looked.honest home is)
+      behind-by (Meanwhile work mid.home mid.disk) mid new reads (under-way work mid reads.looked.image reads.looked.honest home is)
       writes fewer
 
   -- a call on files behind a look was refused

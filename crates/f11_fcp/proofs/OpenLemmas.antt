@@ -21,7 +21,7 @@ use Rattle.f11_store.specs.Changes.{Changes}
 use Rattle.f11_store.specs.Lags.{Work, LagsBy, work_if, served_work}
 use Rattle.f11_store.specs.declared.requests.Request.TheVariants as request
 use Rattle.f11_store.specs.Accesses.{is_blockless}
-use Rattle.f11_fcp.specs.Handles.{State, Meanwhile, state_of, store_at, Handles, IsOpen, StaysOpen}
+use Rattle.f11_fcp.specs.Handles.{State, WhileServing, state_of, store_at, Handles, IsOpen, StaysOpen}
 use Rattle.f11_fcp.specs.Places.{access_table_of}
 use Rattle.f11_fcp.specs.Serving.{is_spent}
 use Rattle.f11_fcp.specs.Windows.{HasWindows}
@@ -119,7 +119,7 @@ handles-block task caller r result old new block is h = record {
   undamaged = h.undamaged;
   writes = record {
     transfers = h.writes.transfers;
-    went = went_weaker (Meanwhile task caller r [] old) (Meanwhile task caller r block old)
+    went = went_weaker (WhileServing task caller r [] old) (WhileServing task caller r block old)
         (λ image stands honest. let u = stands honest in record {
           sound = u.sound;
           lags = subst (λ (w : Work). LagsBy (work_if (first_refusal (store_at old) task caller r) w) (store_of image old.home)

@@ -22,14 +22,14 @@ use Rattle.f11_files.specs.Answers.{WritesAtMost, is_fatal}
 use Rattle.f11_image_store.specs.StoreOf.{store_of}
 use Rattle.f11_files.proofs.WriteLemmas.{writes-within}
 use Rattle.f11_fcp.specs.Accesses.{Entry, access_of}
-use Rattle.f11_fcp.specs.Handles.{State, store_at, Meanwhile, faults_in, Handles}
+use Rattle.f11_fcp.specs.Handles.{State, store_at, WhileServing, faults_in, Handles}
 use Rattle.f11_fcp.proofs.AccessedLemmas.{drop-false}
 use Rattle.f11_fcp.proofs.HandleLemmas.{handled-fatal, handled-served, writes-none}
 
 -- the first luns of a task, so many, were given up
 pub record Released (task : ℕ) (caller : Uic) (old now : State) (k : ℕ) : Type 0 where
   pub store : IsTrue old.disk.honest → store_at now ≡ released (store_at old) task k
-  pub writes : WritesAtMost (Meanwhile task caller request.Release [] old) (released_cost (store_at old) task k) old.disk now.disk 0
+  pub writes : WritesAtMost (WhileServing task caller request.Release [] old) (released_cost (store_at old) task k) old.disk now.disk 0
   pub home : now.home ≡ old.home
 
 module _ (task : ℕ) (caller : Uic) (old : State) where
@@ -37,7 +37,7 @@ module _ (task : ℕ) (caller : Uic) (old : State) where
   s = store_at old
 
   abbrev P : Image → Type 0
-  P = Meanwhile task caller request.Release [] old
+  P = WhileServing task caller request.Release [] old
 
   pub released-none : Released task caller old old 0
   released-none = record { store = λ _. refl; writes = writes-none P old.disk (released_cost s task 0); home = refl }
@@ -63,7 +63,7 @@ module _ (task : ℕ) (caller : Uic) (old : State) where
       none-held = drop-false (holds_none (store_at now) task k) _ _ (ap (λ (o : Option Entry). is_none (option_map access_of o)) held)
 
       -- an image that stands meanwhile lags the store before all luns
-      under-way : (image : Image) → Meanwhile task caller (request.Deaccess k) [] now image → P image
+      under-way : (image : Image) → WhileServing task caller (request.Deaccess k) [] now image → P image
       under-way image stands honest =
           let u = stands (so.writes.went.honest ∙ honest) in
           let t : Store = store_of image old.home in
@@ -81,7 +81,8 @@ module _ (task : ℕ) (caller : Uic) (old : State) where
           → WritesAtMost P (released_cost s task (k + 1)) old.disk next.disk (faults_in result)
       writes-more result handles = record {
         transfers = so.writes.transfers + handles.writes.transfers;
-        went = went_more P so.writes.went (went_weaker (Meanwhile task caller (request.Deaccess k) [] now) P under-way handles.writes.went);
+        went = went_more P so.writes.went
+            (went_weaker (WhileServing task caller (request.Deaccess k) [] now) P under-way handles.writes.went);
         few = λ honest.
             let one = so.writes.few honest in
             let two : handles.writes.transfers ≤ deaccess_cost (released s task k) task k =

@@ -31,7 +31,7 @@ use Rattle.f11_image_store.specs.StoreOf.{store_of}
 use Rattle.f11_fcp.specs.Accesses.{AccessTable, held_in}
 use Rattle.f11_fcp.specs.Directories.{opening_causes, Searches}
 use Rattle.f11_fcp.specs.Entries.{HoldsSpot, put_at, put_work, ReplacesEntry, BreaksReplacing}
-use Rattle.f11_fcp.specs.Handles.{State, store_at, own_causes, Handles, Meanwhile as Standing}
+use Rattle.f11_fcp.specs.Handles.{State, store_at, own_causes, Handles, WhileServing}
 use Rattle.f11_fcp.specs.declared.purpose.Purpose.TheVariants as purpose
 use Rattle.f11_fcp.specs.declared.search.Search.{Search}
 use Rattle.f11_fcp.proofs.AccessLemmas.{barred-same}
@@ -124,7 +124,8 @@ module _ (task : ℕ) (caller : Uic) (d : FileId) (name : List ℕ) (old : State
             (tells honest).1 (tells honest).0.index
 
         module _ (below : spot.place < 32) where
-          weaker : (image : Image) → Meanwhile (put_work d spot empty_record) mid.home mid.disk image → Standing task caller r [] old image
+          weaker : (image : Image) → Meanwhile (put_work d spot empty_record) mid.home mid.disk image
+              → WhileServing task caller r [] old image
           weaker =
               under-way-by task caller r [] old (put_work d spot empty_record) mid searches.reads.looked.image searches.reads.looked.honest
               home (λ honest t lags. (by honest below).putting t lags)

@@ -21,7 +21,7 @@ use Rattle.f11_files.specs.Operations.{IsSpaceOf}
 use Rattle.f11_files.proofs.Overall.{creates-is}
 use Rattle.f11_image_store.specs.StoreOf.{store_of}
 use Rattle.f11_fcp.specs.Accesses.{AccessTable, held_in, accesses}
-use Rattle.f11_fcp.specs.Handles.{State, store_at, own_causes, Meanwhile, Handles}
+use Rattle.f11_fcp.specs.Handles.{State, store_at, own_causes, WhileServing, Handles}
 use Rattle.f11_store.proofs.HeldLaws.{create-causes-held, free-held, make-work-held, makes-held}
 use Rattle.f11_fcp.proofs.HandleLemmas.{handled-served, handled-does, handled-wants, reads-none, wants-still, writes-none}
 use Rattle.f11_fcp.proofs.SlotsLemmas.{gets-held, next-held, slots-cost-held}
@@ -44,7 +44,7 @@ space-told task caller old free headers slots is =
     ∙ ap (λ (x : ℕ). reply.Space (store_of old.disk.image old.home).free x slots)
     (k.headers_are ∙ sym (free-held (accesses old.table) (store_of old.disk.image old.home)))
     ∙ ap (λ (x : ℕ). reply.Space (store_of old.disk.image old.home).free (free_headers (store_at old)) x) k.slots_are)
-    (λ _. refl) (λ _. refl) (writes-none (Meanwhile task caller request.Space [] old) old.disk 0) refl
+    (λ _. refl) (λ _. refl) (writes-none (WhileServing task caller request.Space [] old) old.disk 0) refl
 
 -- Create
 module _ (task : ℕ) (caller : Uic) (word : ℕ) (ident attr : List ℕ) where

@@ -11,7 +11,7 @@ use Rattle.f11_store.specs.declared.files.FileId.{FileId}
 use Rattle.f11_store.specs.declared.files.Mode.{Mode}
 use Rattle.f11_store.specs.Store.{is_to}
 use Rattle.f11_fcp.specs.declared.table.Held.{Held}
-use Rattle.f11_fcp.specs.Accesses.{access_of, accesses, is_held_in, with_entry}
+use Rattle.f11_fcp.specs.Accesses.{access_of, accesses, is_held_in, with_table_entry}
 use Rattle.f11_fcp.specs.Places.{entry_of, access_table_in}
 use Rattle.f11_store.proofs.FateLaws.{any-range}
 
@@ -60,7 +60,7 @@ stands-at test id places k h is number sequence passes =
 
 -- what is put at a place stands there
 pub set-at : (places : List (Option Held)) (k task lun : ℕ) (o : Option Held) → length places ≡ 32 → k ≡ 4 * task + lun → task < 8 → lun < 4
-    → access_table_in (slice_set places k o) ≡ with_entry (access_table_in places) task lun (option_map entry_of o)
+    → access_table_in (slice_set places k o) ≡ with_table_entry (access_table_in places) task lun (option_map entry_of o)
 set-at places k task lun o all is low small = λ i t l. by_test t l ((t == task) && (l == lun)) refl i
   where
     within : k < length places

@@ -33,7 +33,7 @@ use Rattle.f11_files.proofs.Opening.Kept.{accepted-opened}
 use Rattle.f11_image_store.specs.Allocation.{BeginsWith}
 use Rattle.f11_image_store.specs.StoreOf.{store_of}
 use Rattle.f11_fcp.specs.Accesses.{Entry, HasAccessed, AccessTable, access_of, accesses, any_mode, emptied_if, held_in, is_held_in}
-use Rattle.f11_fcp.specs.Accesses.{mark_kept, mark_there, marked_if, with_empty_windows, with_entry, with_marks, with_window}
+use Rattle.f11_fcp.specs.Accesses.{mark_kept, mark_there, marked_if, with_empty_windows, with_table_entry, with_marks, with_window}
 use Rattle.f11_fcp.specs.Handles.{Handles, IsOpen, State, store_at}
 use Rattle.f11_fcp.specs.Windows.{HasWindows, IsSliceOf, KeepsWindow, LeavesRows}
 use Rattle.f11_fcp.proofs.AccessedLemmas.{there-held}
@@ -222,11 +222,11 @@ module _ {D : Type 0} {met : Ghosts D} (t : AccessTable) (old new : Files D met)
 
 -- a table with another entry
 pub windows-with : {D : Type 0} {met : Ghosts D} (t t' : AccessTable) (files : Files D met) (k l : ℕ) (o : Option Entry)
-    → t' ≡ with_entry t k l o → ((e : Entry) → o ≡ Some e → KeepsWindow e files) → HasWindows t files
+    → t' ≡ with_table_entry t k l o → ((e : Entry) → o ≡ Some e → KeepsWindow e files) → HasWindows t files
     → HasWindows t' files
 windows-with t t' files k l o is new has task lun e low small held = go ((task == k) && (lun == l)) refl
   where
-    held' : with_entry t k l o task lun ≡ Some e
+    held' : with_table_entry t k l o task lun ≡ Some e
     held' = ap (λ (u : AccessTable). u task lun) (sym is) ∙ held
 
     go : (b : Bool) → ((task == k) && (lun == l)) ≡ b → KeepsWindow e files
@@ -255,7 +255,7 @@ at-place t task lun k l here =
 
 -- accesses are what they were where one has another window
 pub accesses-with : (t : AccessTable) (k l : ℕ) (e : Entry) (w : Window) → t k l ≡ Some e
-    → accesses (with_entry t k l (Some (with_window w e))) ≡ accesses t
+    → accesses (with_table_entry t k l (Some (with_window w e))) ≡ accesses t
 accesses-with t k l e w held = λ i task lun. go task lun ((task == k) && (lun == l)) refl i
   where
     go : (task lun : ℕ) (b : Bool) → ((task == k) && (lun == l)) ≡ b
@@ -264,7 +264,7 @@ accesses-with t k l e w held = λ i task lun. go task lun ((task == k) && (lun =
     go task lun false other = refl
 
 pub kept-with : (t : AccessTable) (s : Store) (k l : ℕ) (e : Entry) (w : Window) → t k l ≡ Some e → HasAccessed t s
-    → HasAccessed (with_entry t k l (Some (with_window w e))) s
+    → HasAccessed (with_table_entry t k l (Some (with_window w e))) s
 kept-with t s k l e w held kept task lun low small = go ((task == k) && (lun == l)) refl
   where
     go : (b : Bool) → ((task == k) && (lun == l)) ≡ b

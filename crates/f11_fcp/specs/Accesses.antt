@@ -24,8 +24,8 @@ abbrev pub no_entries : AccessTable
 no_entries task lun = None
 
 -- what the task holds by the lun becomes this
-abbrev pub with_entry : AccessTable → ℕ → ℕ → Option Entry → AccessTable
-with_entry t task lun e = λ k l. if (k == task) && (l == lun) then e else t k l
+abbrev pub with_table_entry : AccessTable → ℕ → ℕ → Option Entry → AccessTable
+with_table_entry t task lun e = λ k l. if (k == task) && (l == lun) then e else t k l
 
 -- an entry, of a file that is marked then if it is this one
 abbrev pub marked_if : FileId → Entry → Entry

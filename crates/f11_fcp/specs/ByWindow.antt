@@ -7,7 +7,7 @@ use Rattle.f11_store.specs.declared.refusals.Refusal.{Refusal}
 use Rattle.f11_store.specs.declared.requests.Reply.{Reply}
 use Rattle.f11_store.specs.declared.requests.Request.{Request}
 use Rattle.f11_store.specs.declared.requests.Request.TheVariants as request
-use Rattle.f11_fcp.specs.Accesses.{Entry, AccessTable, with_empty_windows, with_entry, with_window}
+use Rattle.f11_fcp.specs.Accesses.{Entry, AccessTable, with_empty_windows, with_table_entry, with_window}
 use Rattle.f11_fcp.specs.Handles.{State}
 use Rattle.f11_fcp.specs.Serving.{state_in}
 use Rattle.f11_fcp.specs.Windows.{IsNextWindow}
@@ -36,7 +36,7 @@ pub record ReachesByWindow (task lun vbn : ℕ) (old new : State) : Type 0 where
   pub held : old.table task lun ≡ Some entry
   pub window : Window
   pub next : IsNextWindow old.home entry vbn window old.disk
-  pub table_is : new.table ≡ with_entry old.table task lun (Some (with_window window entry))
+  pub table_is : new.table ≡ with_table_entry old.table task lun (Some (with_window window entry))
 
 -- The file that a lun holds was cut: the windows of all accesses to it hold no run.
 pub record EmptiesWindows (task lun : ℕ) (old new : State) : Type 0 where
@@ -59,7 +59,7 @@ KeepsWindows old new = (task lun : ℕ) (e : Entry) → new task lun ≡ Some e 
 -- cut; a block that was read or written was reached by one; and all others are what they were.
 abbrev pub WindowsAfter : ℕ → Request → State → State → Type 0
 WindowsAfter task (request.Access f mode lun) old new =
-    new.table ≡ with_entry old.table task lun (Some (record { file = f; mode = mode; marked = false; window = empty_window }))
+    new.table ≡ with_table_entry old.table task lun (Some (record { file = f; mode = mode; marked = false; window = empty_window }))
 WindowsAfter task (request.ReadBlock lun vbn) old new = ReachesByWindow task lun vbn old new
 WindowsAfter task (request.WriteBlock lun vbn) old new = ReachesByWindow task lun vbn old new
 WindowsAfter task (request.Truncate lun to) old new = EmptiesWindows task lun old new

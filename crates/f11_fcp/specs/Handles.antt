@@ -46,8 +46,8 @@ pub record Stands (task : ℕ) (caller : Uic) (r : Request) (block : List ℕ) (
   pub lags : Lags (store_of image old.home) (store_at old) task caller r block
 
 -- that of an honest disk
-abbrev pub Meanwhile : ℕ → Uic → Request → List ℕ → State → Image → Type 0
-Meanwhile task caller r block old image = IsTrue old.disk.honest → Stands task caller r block old image
+abbrev pub WhileServing : ℕ → Uic → Request → List ℕ → State → Image → Type 0
+WhileServing task caller r block old image = IsTrue old.disk.honest → Stands task caller r block old image
 
 -- how many transfers failed where this is the answer
 abbrev pub faults_in : Result Reply Refusal → ℕ
@@ -96,7 +96,7 @@ pub record Handles (task : ℕ) (caller : Uic) (r : Request) (result : Result Re
   pub step : IsTrue old.disk.honest → is_refused is_fatal result ≡ false →
       Step (store_at old) task caller r block result (store_at new) block'
   pub undamaged : IsTrue old.disk.honest → is_refused is_damage result ≡ false
-  pub writes : WritesAtMost (Meanwhile task caller r block old) (cost (store_at old) task r) old.disk new.disk (faults_in result)
+  pub writes : WritesAtMost (WhileServing task caller r block old) (cost (store_at old) task r) old.disk new.disk (faults_in result)
   pub left : is_refused is_clean result ≡ true → IsLeft old block new block'
   pub among : is_refused is_cause result ≡ true → is_refused (is_among (own_causes (store_at old) task caller r)) result ≡ true
   pub unfailed : is_refused is_failed result ≡ false

@@ -1,6 +1,6 @@
 //! What tasks hold.
 ghost use Rattle.std.specs.Prelude.{◌≡◌, ◌+◌, ◌*◌, ◌<◌, ◌≤◌, option_map, true, false, IfSome, IsNone, Some};
-ghost use Rattle.f11_fcp.specs.Accesses.{no_entries, with_entry, with_empty_windows, with_marks, emptied_if, marked_if, is_held_in, any_mode, accesses, with_window};
+ghost use Rattle.f11_fcp.specs.Accesses.{no_entries, with_table_entry, with_empty_windows, with_marks, emptied_if, marked_if, is_held_in, any_mode, accesses, with_window};
 ghost use Rattle.f11_fcp.specs.Places.{entry_of, access_table_of};
 ghost use Rattle.f11_store.specs.Causes.{is_no_write, is_no_writer};
 ghost use Rattle.f11_store.specs.Store.{bars};
@@ -103,7 +103,7 @@ impl Accesses {
 
     /// The task holds this by the lun.
     pub(crate) fn set(&mut self, task: Task, lun: Lun, held: Option<Held>)
-        ensures value { access_table_of self.new ≡ with_entry (access_table_of self.old) task lun
+        ensures value { access_table_of self.new ≡ with_table_entry (access_table_of self.old) task lun
             (option_map entry_of held) }
         ensures within { (task < 8) × (lun < 4) }
     {
@@ -112,7 +112,7 @@ impl Accesses {
 
     /// What the task holds by the lun is this, with this window.
     pub(crate) fn keep(&mut self, task: Task, lun: Lun, held: Held, window: Window)
-        ensures value { access_table_of self.new ≡ with_entry (access_table_of self.old) task lun
+        ensures value { access_table_of self.new ≡ with_table_entry (access_table_of self.old) task lun
             (Some (with_window window (entry_of held))) }
         ensures within { (task < 8) × (lun < 4) }
     {

@@ -7,13 +7,13 @@
 
 mod answer;
 mod change;
-mod contiguous;
 mod create;
 mod extend;
 mod files;
 mod find;
 mod grow_index;
 pub mod laws;
+mod lay_out;
 mod open;
 mod remove;
 mod structure;

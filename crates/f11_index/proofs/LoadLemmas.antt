@@ -7,7 +7,7 @@ use Rattle.f11_dev.specs.Disk.{Disk}
 use Rattle.f11_dev.specs.Image.{Image}
 use Rattle.f11_dev.specs.Looked.{Looked}
 use Rattle.f11_home.specs.Home.{HomeFields, IsSound}
-use Rattle.f11_index.specs.Calls.{ReadsIndex, Loads, FindsMisplaced, FindsPast, LooksThrough}
+use Rattle.f11_index.specs.Calls.{ReadsIndex, LoadsIndex, FindsMisplaced, FindsPast, LooksThrough}
 use Rattle.f11_index.specs.IndexFile.{Index, index_of, index_file_blocks, headers_among, most_slots, IsFirstPast, HasNonePast}
 use Rattle.f11_index.specs.Sound.{IsPlaced, IsIndexFile}
 use Rattle.f11_index.specs.Walk.{first_place, ReadsBitmap, Follows}
@@ -97,5 +97,5 @@ finds_past home index old new n reads is = record {
 
 -- none is
 pub loads : (home : HomeFields) (index : Index) (old new : Disk) → ReadsIndex home index old new → HasNonePast index
-    → Loads home index old new
+    → LoadsIndex home index old new
 loads home index old new reads none = record { sound = reads.sound; none_past = none; is_for = reads.is_for; looked = reads.looked }

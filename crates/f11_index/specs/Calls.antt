@@ -31,7 +31,7 @@ pub record ReadsIndex (home : HomeFields) (index : Index) (old new : Disk) : Typ
   pub looked : LooksThrough home old new 0
 
 -- The index file was loaded: it is as it should be where the disk is honest, and no bit past the slots is 1.
-pub record Loads (home : HomeFields) (index : Index) (old new : Disk) : Type 0 where
+pub record LoadsIndex (home : HomeFields) (index : Index) (old new : Disk) : Type 0 where
   pub sound : IsTrue old.honest → IsIndexFile old.image home
   pub none_past : HasNonePast index
   pub is_for : IsIndexFor index home new

@@ -2,7 +2,7 @@
 ghost use Rattle.std.specs.Prelude.{◌≡◌, ◌≤◌, [], length, IfOk, IfErr, IsErrOf, OnOk, OnErr, MatchOption, vec_capacity};
 ghost use Rattle.f11_dev.specs.Looked.{Looked};
 ghost use Rattle.f11_home.specs.Home.{IsSound};
-ghost use Rattle.f11_index.specs.Calls.{ReadsIndex, Loads, FindsMisplaced, FindsPast, FailsToLoad, LacksMemory};
+ghost use Rattle.f11_index.specs.Calls.{ReadsIndex, LoadsIndex, FindsMisplaced, FindsPast, FailsToLoad, LacksMemory};
 ghost use Rattle.f11_index.specs.IndexFault.{IfPast};
 ghost use Rattle.f11_index.specs.IndexFile.{IsFirstPast, HasNonePast};
 ghost use Rattle.f11_index.specs.Kept.{index_kept};
@@ -33,7 +33,7 @@ impl IndexFile {
     ) -> Result<IndexFile, IndexFault>
         requires { IsSound home.now (length (D.disk device.old).image) }
         ensures loads { IfOk result (λ index.
-            Loads home.now (index_kept index) (D.disk device.old) (D.disk device.new)) }
+            LoadsIndex home.now (index_kept index) (D.disk device.old) (D.disk device.new)) }
         ensures misplaced { IsErrOf result IndexFault.Misplaced
             → FindsMisplaced home.now (D.disk device.old) (D.disk device.new) }
         ensures past { IfErr result (λ fault. IfPast fault (λ n.

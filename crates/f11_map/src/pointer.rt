@@ -31,7 +31,7 @@ pub fn put_last(area: &mut [u8], i: usize, lbn: u32, count: u32)
     ensures pointers { runs_of area.new ≡ take i (runs_of area.old) ++ (lbn, count) ∷ [] }
     ensures rest { WritesPointers area.old area.new }
 {
-    put_run(area, i, lbn, count);
+    put_pointer(area, i, lbn, count);
     put_words_in_use(area, i + 1);
 }
 
@@ -74,7 +74,7 @@ pub fn put_link(area: &mut [u8], id: FileId)
 }
 
 /// Writes retrieval pointer `i`.
-fn put_run(area: &mut [u8], i: usize, lbn: u32, count: u32)
+fn put_pointer(area: &mut [u8], i: usize, lbn: u32, count: u32)
     requires room { 14 + 4 * i ≤ length area.old }
     requires lbn { lbn < 2 ^ 24 }
     requires count { (0 < count) × (count ≤ 256) }

@@ -26,7 +26,7 @@ use Rattle.f11_store.specs.declared.files.FileId.{FileId}
 use Rattle.f11_volume.specs.Contents.{block_or_zeros, blocks_reached, following}
 use Rattle.f11_volume.proofs.FileLemmas.{following-none}
 use Rattle.f11_reader.specs.Reading.{IsReading, HasToCome, headers_left, headers_to_come, blocks_to_come, contents_to_come}
-use Rattle.f11_reader.specs.Reading.{OpensFile, FindsNone, ReadsOn, HasEnded, FailsToRead}
+use Rattle.f11_reader.specs.Reading.{OpensFile, FindsNone, ReadsOn, HasEnded, FailsToReadOn}
 use Rattle.f11_reader.specs.Steps.{ReadsOrZeros, StepsOn, StepsNowhere, FailsToStep, ComesTo}
 use Rattle.f11_reader.specs.declared.file.FileReader.{FileReader}
 
@@ -247,7 +247,7 @@ module _ (index : Index) (file later : FileReader) (k : ℕ) (old now : Disk) (g
     pub fails-looked : Looked old new (headers_left file) 1
     fails-looked = looked_within (looked_more gone.looked fails.looked) (omega (arith, gone.segment, gone.few))
 
-    pub fails-on : HasToCome index file later old → FailsToRead index file after old new
+    pub fails-on : HasToCome index file later old → FailsToReadOn index file after old new
     fails-on same = record { same = rw fails.stays same; looked = looked_within fails-looked (omega arith) }
 
   -- the header names a block that is to come

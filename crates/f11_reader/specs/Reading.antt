@@ -82,6 +82,6 @@ pub record HasEnded (index : Index) (file later : FileReader) (old new : Disk) :
   pub looked : Looked old new (headers_left file) 0
 
 -- A transfer failed, and no block was passed.
-pub record FailsToRead (index : Index) (file later : FileReader) (old new : Disk) : Type 0 where
+pub record FailsToReadOn (index : Index) (file later : FileReader) (old new : Disk) : Type 0 where
   pub same : HasToCome index file later old
   pub looked : Looked old new (headers_left file + 1) 1

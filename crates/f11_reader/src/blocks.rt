@@ -6,7 +6,7 @@ ghost use Rattle.f11_header.specs.Header.{holds_header};
 ghost use Rattle.f11_index.specs.IndexFile.{slots};
 ghost use Rattle.f11_index.specs.Kept.{index_kept, IndexLiesWithin};
 ghost use Rattle.f11_reader.specs.Reading.{OpensFile, FindsNone, IsReading, header_in_hand, headers_left, CountsBlocks};
-ghost use Rattle.f11_reader.specs.Reading.{ReadsOn, HasEnded, FailsToRead};
+ghost use Rattle.f11_reader.specs.Reading.{ReadsOn, HasEnded, FailsToReadOn};
 ghost use Rattle.f11_reader.specs.Steps.{ReadsOrZeros, StepsOn, StepsNowhere, FailsToStep, ComesTo};
 
 use crate::file::FileReader;
@@ -138,7 +138,7 @@ impl FileReader {
             (D.disk device.old) (D.disk device.new) }
         ensures ended { result ≡ Ok false → HasEnded (index_kept index.now) self.old self.new
             (D.disk device.old) (D.disk device.new) }
-        ensures failed { OnErr result (FailsToRead (index_kept index.now) self.old self.new
+        ensures failed { OnErr result (FailsToReadOn (index_kept index.now) self.old self.new
             (D.disk device.old) (D.disk device.new)) }
     {
         let Some(lbn) = self.next_lbn(device, index)? else {
@@ -165,7 +165,7 @@ impl FileReader {
         ensures ended { IfOk result (λ answer. IfNone answer
             (HasEnded (index_kept index.now) self.old self.new
             (D.disk device.old) (D.disk device.new))) }
-        ensures failed { OnErr result (FailsToRead (index_kept index.now) self.old self.new
+        ensures failed { OnErr result (FailsToReadOn (index_kept index.now) self.old self.new
             (D.disk device.old) (D.disk device.new)) }
     {
         for _ in 0..MOST_HEADERS {

@@ -19,7 +19,7 @@ use Rattle.f11_volume.specs.Volume.{volume_of}
 use Rattle.f11_volume.proofs.FileLemmas.{image-files}
 use Rattle.f11_writes.specs.Kept.{file_in, WritesHeader, WritesSlotBit}
 use Rattle.f11_writes.specs.Volumes.{MayName, MayBecome, links_to_none}
-use Rattle.f11_writes.specs.Worked.{IsNewHeader, with_new_header, MakesFile}
+use Rattle.f11_writes.specs.Worked.{IsNewHeader, with_new_header, WritesNewFile}
 use Rattle.f11_writes.proofs.BitLemmas.{set-keeps}
 use Rattle.f11_writes.proofs.HeaderLemmas.{unused-keeps}
 use Rattle.f11_writes.proofs.NameLemmas.{unreferenced-names}
@@ -125,7 +125,7 @@ module _ (old : Image) (home : HomeFields) (n : ℕ) (header : List ℕ) (after 
     not-one : n ≢ 1
     not-one same = not-in 1 (subst (IsHeaderOf t 1) (sym same) (IsHeaderOf.first is.framed.indexed.file.whole.file))
 
-    pub makes-file : MakesFile n header after home old
+    pub makes-file : WritesNewFile n header after home old
     makes-file = record {
       written = one.slot.sound;
       entered = two.slot.sound;

@@ -13,7 +13,7 @@ use Rattle.f11_index.specs.Table.{table_of, IsLive, IsNext}
 use Rattle.f11_volume.specs.Sound.{HasSoundVolume}
 use Rattle.f11_volume.specs.Volume.{volume_of, IsNamed}
 
--- A write to a sound volume leaves it sound, and is in order. No block that is free is written. A slot comes into use when its header is
+-- A write to a sound volume leaves it sound, and is in order. No block that is free is changed. A slot comes into use when its header is
 -- there, and leaves use when that is dead. A header is lost to which no header of a file links. A block that none named, and one names
 -- then, was used and held zeros. A block that comes to be free was named by none.
 pub record IsOrderlyWrite (home : HomeFields) (old new : Image) : Type 0 where

@@ -65,7 +65,7 @@ abbrev pub with_new_header : Image → HomeFields → ℕ → List ℕ → Index
 with_new_header image home n header after = with_bitmap_block (with_header image home n header) after n
 
 -- The volume is sound after each write, and at the end it has the empty file, and each other from 2 on is as it was.
-pub record MakesFile (n : ℕ) (header : List ℕ) (after : Index) (home : HomeFields) (old : Image) : Type 0 where
+pub record WritesNewFile (n : ℕ) (header : List ℕ) (after : Index) (home : HomeFields) (old : Image) : Type 0 where
   pub written : HasSoundVolume (with_header old home n header) home
   pub entered : HasSoundVolume (with_new_header old home n header after) home
   pub file : IsFile (table_of (with_new_header old home n header after) home) n
@@ -77,7 +77,7 @@ abbrev pub FileIsMade : Type 0
 FileIsMade =
     (old : Image) (home : HomeFields) (n : ℕ) (header : List ℕ) (after : Index) → HasSoundVolume old home →
     IsNewHeader (index_of old home) n header →
-    segment_number header ≡ 0 → SetsBit true n (index_of old home) after → MakesFile n header after home old
+    segment_number header ≡ 0 → SetsBit true n (index_of old home) after → WritesNewFile n header after home old
 
 -- Header n, the last of a file from 4 on, may become this block, which names what it names and links to this header m.
 pub record LinksToNew (t : Table) (f n m : ℕ) (last header : List ℕ) : Type 0 where

@@ -20,7 +20,7 @@ use Rattle.f11_files.specs.Answers.{Breaks}
 use Rattle.f11_store.specs.Pieces.{with_more_free, GrowsAs, MayGrowAs, new_blocks, with_slots_if}
 use Rattle.f11_files.specs.Extending.Header.{AppendingRun, AppendsRun, EntersHeader}
 use Rattle.f11_image_store.specs.FileLaws.{pointers_in, room_in}
-use Rattle.f11_files.specs.Extending.Growing.{Taking, Grew, SameFree}
+use Rattle.f11_files.specs.Extending.Growing.{WhileTaking, Grew, SameFree}
 use Rattle.f11_files.specs.Extending.Link.{Linking, LinksTail, with_header_of, NamesThese}
 use Rattle.f11_image_store.specs.StoreOf.{store_of}
 use Rattle.f11_files.specs.Structure.{home_of, store_on, IsStructureFor, StaysFor, bitmap_in}
@@ -58,7 +58,7 @@ module _ (s : Structure) (tail : Tail) (lbn count : ℕ) (old : Disk) (for : IsS
   abbrev P : Image → Type 0
   P = AppendingRun s tail count old
 
-  moment : (image : Image) → Taking home 0 1 st old image → P image
+  moment : (image : Image) → WhileTaking home 0 1 st old image → P image
   moment = taken-moment s tail lbn count old for last given full may
 
   module _ (after : Structure) (id : FileId) (block : List ℕ) (mid : Disk) (enters : EntersHeader s after tail lbn count id block old mid)
@@ -150,7 +150,7 @@ module _ (s : Structure) (tail : Tail) (lbn count : ℕ) (old : Disk) (for : IsS
     both-went : (new : Disk) (faults : ℕ) → Went (Linking after tail id count mid) mid new 1 faults
         → Went P old new (enters.writes.transfers + 1) faults
     both-went new faults went =
-        went_more P (went_weaker (Taking home 0 1 st old) P moment enters.writes.went)
+        went_more P (went_weaker (WhileTaking home 0 1 st old) P moment enters.writes.went)
         (went_weaker (Linking after tail id count mid) P linked-moment went)
 
     -- the link couldn't be written

@@ -13,7 +13,7 @@ use Rattle.f11_files.specs.Answers.{WritesAtMost, Breaks}
 use Rattle.f11_store.specs.Pieces.{with_more_free, file_numbered, TakesSome, GrowsAs, MayGrowAs, GrowsSome}
 use Rattle.f11_files.specs.Extending.Runs.{AddsRun}
 use Rattle.f11_files.specs.Extending.Header.{AppendingRun, AppendsRun}
-use Rattle.f11_files.specs.Extending.Growing.{Taking, IsGrowing, GrowingBy, Grew}
+use Rattle.f11_files.specs.Extending.Growing.{WhileTaking, IsGrowing, GrowingBy, Grew}
 use Rattle.f11_image_store.specs.StoreOf.{store_of}
 use Rattle.f11_files.specs.Structure.{bitmap_in, home_of, store_on, IsStructureFor, StaysFor}
 use Rattle.f11_files.specs.Extending.Tail.{HoldsLast, ownership_of}
@@ -36,7 +36,8 @@ fits-one (suc room) count short =
     (omega (arith, short))
 
 -- what stands while a run is taken
-taking-grows : (s : Structure) (tail : Tail) (most : ℕ) (old : Disk) (image : Image) → Taking (home_of s) most 0 (store_on s old) old image
+taking-grows : (s : Structure) (tail : Tail) (most : ℕ) (old : Disk) (image : Image)
+    → WhileTaking (home_of s) most 0 (store_on s old) old image
     → GrowingBy (home_of s) (store_on s old) tail.file.number most most old image
 taking-grows s tail most old image is honest =
     let here = is honest in
@@ -49,7 +50,7 @@ taking-grows s tail most old image is honest =
 
 -- no run could be taken
 pub fails-take : (s : Structure) (tail : Tail) (from most : ℕ) (old new : Disk) (r : Refusal)
-    → Breaks (Taking (home_of s) most 0 (store_on s old) old) (blocks_from (bitmap_in s) from + 2) r old new
+    → Breaks (WhileTaking (home_of s) most 0 (store_on s old) old) (blocks_from (bitmap_in s) from + 2) r old new
     → Breaks (GrowingBy (home_of s) (store_on s old) tail.file.number most most old) (blocks_from (bitmap_in s) from + 5 * most + 3) r old
     new
 fails-take s tail from most old new r breaks = record {
@@ -108,7 +109,7 @@ module _ (s t : Structure) (tail : Tail) (from most lbn count : ℕ) (old mid : 
   taken =
       record {
         transfers = takes.writes.transfers;
-        went = went_weaker (Taking home most 0 st old) P (taking-grows s tail most old)
+        went = went_weaker (WhileTaking home most 0 st old) P (taking-grows s tail most old)
             takes.writes.went;
         few = takes.writes.few;
       }

@@ -36,7 +36,7 @@ use Rattle.f11_writes.specs.Order.{IsOrderlyWrite, WritesInOrder}
 use Rattle.f11_files.proofs.Confining.InOrder.{field-orderly, header-failed-order, header-order}
 use Rattle.f11_files.specs.Extending.Mark.{Clearing, ClearsMark}
 use Rattle.f11_image_store.specs.FieldLaws.{SaysBut, ChangesFile}
-use Rattle.f11_files.specs.Finding.First.{HoldsFile, IsFirstOf}
+use Rattle.f11_files.specs.Finding.First.{HoldsFile, IsFirstHeaderOf}
 use Rattle.f11_image_store.specs.StoreOf.{as_seen}
 use Rattle.f11_files.specs.Structure.{index_in, home_of, store_on, FitsOn, IsStructureOf, IsStructureFor}
 use Rattle.f11_files.specs.Extending.Tail.{HasStore}
@@ -206,7 +206,7 @@ module _ (s : Structure) (f : FileId) (was : List ℕ) (old : Disk) (for : IsStr
               (keeps-header s f.number block old.image next (changes before).header (for.keeps before));
         }
 
-        first-now : IsFirstOf f block
+        first-now : IsFirstHeaderOf f block
         first-now = record {
           valid = record { number = says.number ∙ holds.is_first.valid.number; holds = says.holds; sum = says.sum };
           first = segment-same with_no_mark was block says ∙ holds.is_first.first;

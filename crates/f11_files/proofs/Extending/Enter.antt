@@ -42,7 +42,7 @@ use Rattle.f11_files.proofs.Confining.InOrder.{entered-order, unwritten-order, w
 use Rattle.f11_files.specs.Answers.{Breaks, WritesAtMost}
 use Rattle.f11_files.specs.Extending.Header.{IsExtension, EntersHeader}
 use Rattle.f11_image_store.specs.ExtensionLaws.{IsNewExtension, EntersExtension}
-use Rattle.f11_files.specs.Extending.Growing.{IsTaking, Taking}
+use Rattle.f11_files.specs.Extending.Growing.{IsTaking, WhileTaking}
 use Rattle.f11_files.specs.Extending.Link.{MayFollow}
 use Rattle.f11_store.specs.Pieces.{TakesSome}
 use Rattle.f11_image_store.specs.SlotLaws.{with_last, with_use}
@@ -136,7 +136,7 @@ module _ (s : Structure) (tail : Tail) (lbn count : ℕ) (old : Disk) (for : IsS
   home = home_of s
 
   abbrev P : Image → Type 0
-  P = Taking home 0 1 st old
+  P = WhileTaking home 0 1 st old
 
   -- no slot is free, though one should be
   pub none-free : (IsTrue old.honest → 0 < free_headers st) → free_in_index (index_in s) ≡ [] → Breaks P 3 Damaged old old

@@ -21,7 +21,7 @@ use Rattle.f11_writes.specs.Kept.{file_in}
 use Rattle.f11_files.specs.Answers.{WritesAtMost, Breaks}
 use Rattle.f11_store.specs.Pieces.{with_more_free, file_numbered, GrowsAs, TakesSome}
 use Rattle.f11_image_store.specs.FileLaws.{room_in}
-use Rattle.f11_files.specs.Extending.Growing.{Taking, IsGrowing, Grew, GrowingInto}
+use Rattle.f11_files.specs.Extending.Growing.{WhileTaking, IsGrowing, Grew, GrowingInto}
 use Rattle.f11_image_store.specs.StoreOf.{as_seen, store_of}
 use Rattle.f11_files.specs.Structure.{home_of, store_on, IsStructureFor, StaysFor}
 use Rattle.f11_files.specs.Extending.Tail.{HoldsLast}
@@ -162,11 +162,11 @@ breaks-stays {s = s} {t = t} {new = new} weaker same for breaks = record {
 }
 
 pub taking-sound : (home : HomeFields) (blocks headers : ℕ) (from : Store) (old : Disk) (image : Image)
-    → Taking home blocks headers from old image → IsTrue old.honest → HasSoundVolume image home
+    → WhileTaking home blocks headers from old image → IsTrue old.honest → HasSoundVolume image home
 taking-sound home blocks headers from old image is honest = (is honest).sound
 
 pub taking-stays : {blocks headers most : ℕ} {from : Store} {r : Refusal} {s t : Structure} {old new : Disk} → home_of t ≡ home_of s
-    → IsStructureFor s old → Breaks (Taking (home_of s) blocks headers from old) most r old new
+    → IsStructureFor s old → Breaks (WhileTaking (home_of s) blocks headers from old) most r old new
     → StaysFor true s t new
 taking-stays {blocks = blocks} {headers = headers} {from = from} {s = s} {old = old} same for breaks =
     breaks-stays (taking-sound (home_of s) blocks headers from old) same for breaks

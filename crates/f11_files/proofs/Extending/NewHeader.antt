@@ -11,7 +11,7 @@ use Rattle.f11_store.specs.declared.refusals.Refusal.TheVariants.{Damaged}
 use Rattle.f11_files.specs.Answers.{Breaks}
 use Rattle.f11_store.specs.Pieces.{with_more_free, file_numbered, HasRoom, MayGrowAs}
 use Rattle.f11_image_store.specs.FileLaws.{room_in}
-use Rattle.f11_files.specs.Extending.Growing.{Taking}
+use Rattle.f11_files.specs.Extending.Growing.{WhileTaking}
 use Rattle.f11_files.specs.Extending.Header.{AppendingRun}
 use Rattle.f11_image_store.specs.StoreOf.{store_of}
 use Rattle.f11_files.specs.Structure.{home_of, store_on, IsStructureFor}
@@ -67,7 +67,7 @@ module _ (s : Structure) (tail : Tail) (lbn count : ℕ) (old : Disk) (for : IsS
       record { fatal = refl; undamaged = λ honest _. let early = is-early honest in omega (arith, early, is); writes = writes-none P 4 old }
 
   -- a header was taken for it
-  pub taken-moment : (image : Image) → Taking home 0 1 st old image → P image
+  pub taken-moment : (image : Image) → WhileTaking home 0 1 st old image → P image
   taken-moment image is honest =
       record {
         sound = (is honest).sound;
@@ -75,5 +75,5 @@ module _ (s : Structure) (tail : Tail) (lbn count : ℕ) (old : Disk) (for : IsS
             (is honest).takes);
       }
 
-  pub fails-enter : (mid : Disk) (r : Refusal) → Breaks (Taking home 0 1 st old) 3 r old mid → Breaks P 4 r old mid
+  pub fails-enter : (mid : Disk) (r : Refusal) → Breaks (WhileTaking home 0 1 st old) 3 r old mid → Breaks P 4 r old mid
   fails-enter mid r breaks = breaks-within (λ _. omega arith) (breaks-weaker taken-moment breaks)

@@ -25,7 +25,7 @@ use Rattle.f11_files.specs.Extending.Header.{TakesSlot}
 use Rattle.f11_files.specs.Extending.Slots.{StaysBehind}
 use Rattle.f11_files.specs.Extending.Room.{HoldsEnd}
 use Rattle.f11_files.specs.Structure.{index_in, home_of, ConfinesTo, IsStructureFor, WritesParts, StandsAlike, StandsWithin}
-use Rattle.f11_files.specs.Extending.Tail.{growth_headers, GrowthStandsWithin, WritesGrowth}
+use Rattle.f11_files.specs.Extending.Tail.{growth_headers, GrowthStandsWithin, ConfinesGrowth}
 use Rattle.f11_files.specs.Extending.Take.{TakesNextRun}
 use Rattle.f11_files.specs.declared.structure.Structure.{Structure}
 use Rattle.f11_files.specs.declared.extend.tail.Tail.{Tail}
@@ -67,7 +67,7 @@ of-new s tail = in-other (only_header tail.number) (new_header (index_in s))
 
 -- a header is entered, and then the link to it written
 pub grows-linked : (s t : Structure) (tail : Tail) (n : ℕ) (others : List ℕ) {a b c : Disk} → TakesSlot s t n
-    → WritesParts s (new_header (index_in s)) a b → WritesParts t (only_header tail.number) b c → WritesGrowth s tail others a c
+    → WritesParts s (new_header (index_in s)) a b → WritesParts t (only_header tail.number) b c → ConfinesGrowth s tail others a c
 grows-linked s t tail n others taken one two =
     to-then s t (growth_headers s tail) (only_header tail.number) others []
     (stands-within s t (growth_headers s tail) (only_header tail.number) others (of-tail s tail) (taken-alike s t n taken))
@@ -151,23 +151,24 @@ grows-then s t u tail later last others more fewer one two = record {
 }
 
 pub growth-then : (s t : Structure) (tail later : Tail) (others more : List ℕ) {a b c : Disk} → GrowthStandsWithin s tail others t later
-    → ((l : ℕ) → is_in others l ≡ false → is_in more l ≡ false) → WritesGrowth s tail others a b → WritesGrowth t later more b c
-    → WritesGrowth s tail others a c
+    → ((l : ℕ) → is_in others l ≡ false → is_in more l ≡ false) → ConfinesGrowth s tail others a b → ConfinesGrowth t later more b c
+    → ConfinesGrowth s tail others a c
 growth-then s t tail later others more stands fewer one two =
     to-then s t (growth_headers s tail) (growth_headers t later) others more stands.grown fewer one two
 
 -- no header is written: bits of the bitmap,
 pub growth-marked : (s : Structure) (tail : Tail) (others : List ℕ) {a b : Disk} → WritesParts s no_header a b
-    → WritesGrowth s tail others a b
+    → ConfinesGrowth s tail others a b
 growth-marked s tail others one = to-parts s (growth_headers s tail) no_header others (of-none (growth_headers s tail)) one
 
 -- or zeros
-pub growth-zeroed : (s : Structure) (tail : Tail) (run : List ℕ) {a b : Disk} → ConfinesTo s no_header run a b → WritesGrowth s tail run a b
+pub growth-zeroed : (s : Structure) (tail : Tail) (run : List ℕ) {a b : Disk} → ConfinesTo s no_header run a b
+    → ConfinesGrowth s tail run a b
 growth-zeroed s tail run one = to-wider s (growth_headers s tail) no_header run run (of-none (growth_headers s tail)) (λ l out. out) one
 
 -- zeros are written, and then the last header
 pub growth-named : (s : Structure) (tail : Tail) (run : List ℕ) {a b c : Disk} → ConfinesTo s no_header run a b
-    → WritesParts s (only_header tail.number) b c → WritesGrowth s tail run a c
+    → WritesParts s (only_header tail.number) b c → ConfinesGrowth s tail run a c
 growth-named s tail run one two =
     let all = growth_headers s tail in
     to-then s s all (only_header tail.number) run [] (stands-within s s all (only_header tail.number) run (of-tail s tail) (stands-same s))
@@ -175,8 +176,8 @@ growth-named s tail run one two =
 
 -- blocks are marked used, and then it grows by them
 pub growth-taken : (s t : Structure) (tail : Tail) (others run : List ℕ) {a b c : Disk} → index_in t ≡ index_in s → StandsAlike s t
-    → ((l : ℕ) → is_in others l ≡ false → is_in run l ≡ false) → WritesParts s no_header a b → WritesGrowth t tail run b c
-    → WritesGrowth s tail others a c
+    → ((l : ℕ) → is_in others l ≡ false → is_in run l ≡ false) → WritesParts s no_header a b → ConfinesGrowth t tail run b c
+    → ConfinesGrowth s tail others a c
 growth-taken s t tail others run same alike fewer one two =
     growth-then s t tail tail others run (grows-marked s t tail others same alike) fewer (growth-marked s tail others one) two
 
@@ -217,7 +218,8 @@ run-free s t from most lbn count old taken honest takes l out =
 -- blocks are taken, and then the file grows by them
 pub growth-run : (s t : Structure) (tail : Tail) (from most lbn count : ℕ) (old taken new : Disk) → IsTrue old.honest
     → TakesNextRun s t from most lbn count old taken → StandsAlike s t → WritesParts s no_header old taken
-    → WritesGrowth t tail (range_with_len lbn count) taken new → WritesGrowth s tail (free_list (volume_of old.image (home_of s))) old new
+    → ConfinesGrowth t tail (range_with_len lbn count) taken new
+    → ConfinesGrowth s tail (free_list (volume_of old.image (home_of s))) old new
 growth-run s t tail from most lbn count old taken new honest takes alike one two =
     growth-taken s t tail (free_list (volume_of old.image (home_of s))) (range_with_len lbn count) takes.index alike
     (run-free s t from most lbn count old taken honest takes) one two
@@ -249,7 +251,7 @@ module _ (s : Structure) (index : IndexFile) (f : FileId) (end : FileEnd) (first
   -- and then the file grows
   pub growing-confined : {cleared : List ℕ} {tail : Tail} {now new : Disk} → ClearsMark t f first cleared old now
       → IsTailOf f cleared end.number last tail → WritesParts t (only_header f.number) old now
-      → (IsTrue now.honest → WritesGrowth t tail (free_list (volume_of now.image (home_of s))) now new) → ConfinesTo s all free old new
+      → (IsTrue now.honest → ConfinesGrowth t tail (free_list (volume_of now.image (home_of s))) now new) → ConfinesTo s all free old new
   growing-confined {cleared = cleared} {tail = tail} {now = now} clears of one two =
       let left = free_list (volume_of now.image (home_of s)) in
       let fewer : (l : ℕ) → is_in free l ≡ false → is_in left l ≡ false = fewer-free free left 0 (clears.gains honest).free in

@@ -30,7 +30,7 @@ use Rattle.f11_image_store.specs.Allocation.{free_list}
 use Rattle.f11_writes.specs.Order.{WritesInOrder}
 use Rattle.f11_writes.proofs.InOrderLemmas.{order-marked}
 use Rattle.f11_files.specs.Answers.{Breaks}
-use Rattle.f11_files.specs.Extending.Growing.{IsTaking, Taking}
+use Rattle.f11_files.specs.Extending.Growing.{IsTaking, WhileTaking}
 use Rattle.f11_store.specs.Pieces.{TakesSome}
 use Rattle.f11_image_store.specs.StoreOf.{store_of}
 use Rattle.f11_files.specs.Structure.{index_in, bitmap_in, home_of, store_on, IsStructureFor, StaysFor}
@@ -116,7 +116,7 @@ module _ (s : Structure) (from most : ℕ) (old : Disk) (for : IsStructureFor s 
   -- the images that stand while a run is marked used
   pub run-moment : (lbn count : ℕ) → count ≤ most
       → (IsTrue old.honest → (k : ℕ) → lbn ≤ k → k < lbn + count → is_free old.image (bitmap_in s) k ≡ true)
-      → (image : Image) → Changing old.honest false (bitmap_in s) lbn count old.image image → Taking home most 0 st old image
+      → (image : Image) → Changing old.honest false (bitmap_in s) lbn count old.image image → WhileTaking home most 0 st old image
   run-moment lbn count asked each image is honest =
       let marking = is.marking honest in
       front-takes lbn count marking.part image marking.some marking.within asked honest (each honest) marking.marks
@@ -140,19 +140,19 @@ module _ (s : Structure) (from most : ℕ) (old : Disk) (for : IsStructureFor s 
             ];
       }) went
 
-  first-moment : (image : Image) → TakingBits old.honest (bitmap_in s) from most old.image image → Taking home most 0 st old image
+  first-moment : (image : Image) → TakingBits old.honest (bitmap_in s) from most old.image image → WhileTaking home most 0 st old image
   first-moment image is honest = run-moment is.lbn is.count (is.run honest).asked (λ sure. (is.run sure).each) image is.changing honest
 
   pub fails-taking : (new : Disk) → FailsToTake (bitmap_in s) from most old new
-      → Breaks (Taking home most 0 st old) (blocks_from (bitmap_in s) from + 2) DeviceFault old new
+      → Breaks (WhileTaking home most 0 st old) (blocks_from (bitmap_in s) from + 2) DeviceFault old new
   fails-taking new fails =
       breaks-fault (went-writes
-      (went_weaker (TakingBits old.honest (bitmap_in s) from most old.image) (Taking home most 0 st old) first-moment fails))
+      (went_weaker (TakingBits old.honest (bitmap_in s) from most old.image) (WhileTaking home most 0 st old) first-moment fails))
 
   -- on an honest disk a block is free, where some are asked for
   pub finds-none : (new : Disk) → 0 < most → (IsTrue old.honest → most ≤ st.free)
       → (IsTrue old.honest → NoneFreeBelow old.image (bitmap_in s) from) → FindsNone (bitmap_in s) from old new
-      → Breaks (Taking home most 0 st old) (blocks_from (bitmap_in s) from + 2) Damaged old new
+      → Breaks (WhileTaking home most 0 st old) (blocks_from (bitmap_in s) from + 2) Damaged old new
   finds-none new some enough below finds = record {
     fatal = refl;
     undamaged = λ honest _.
@@ -163,14 +163,14 @@ module _ (s : Structure) (from most : ℕ) (old : Disk) (for : IsStructureFor s 
         let same = ap (free_blocks old.image) (bitmap honest) in
         let many = enough honest in
         omega (arith, none, free, same, many, some);
-    writes = writes-within (λ _. omega arith) (went-writes (went_looked (Taking home most 0 st old) finds.looked));
+    writes = writes-within (λ _. omega arith) (went-writes (went_looked (WhileTaking home most 0 st old) finds.looked));
   }
 
   module _ (lbn count : ℕ) (new : Disk) (below : IsTrue old.honest → NoneFreeBelow old.image (bitmap_in s) from)
       (takes : Takes (bitmap_in s) from most lbn count old new) where
-    went : Went (Taking home most 0 st old) old new (blocks_to (bitmap_in s) from (lbn + count) + blocks_touched lbn count) 0
+    went : Went (WhileTaking home most 0 st old) old new (blocks_to (bitmap_in s) from (lbn + count) + blocks_touched lbn count) 0
     went =
-        went_weaker (Changing old.honest false (bitmap_in s) lbn count old.image) (Taking home most 0 st old)
+        went_weaker (Changing old.honest false (bitmap_in s) lbn count old.image) (WhileTaking home most 0 st old)
         (run-moment lbn count takes.within.asked (λ sure. (takes.first sure).each)) takes.marked.went
 
     none-before : IsTrue old.honest → NoneFreeBelow old.image (bitmap_in s) lbn

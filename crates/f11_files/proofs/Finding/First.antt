@@ -16,7 +16,7 @@ use Rattle.f11_chain.specs.Calls.{table}
 use Rattle.f11_chain.proofs.StepLemmas.{table-in_use, table-header}
 use Rattle.f11_store.specs.declared.files.FileId.{FileId}
 use Rattle.f11_volume.specs.Volume.{volume_of}
-use Rattle.f11_files.specs.Finding.First.{IsFirstOf, IsFileOf, FindsFile}
+use Rattle.f11_files.specs.Finding.First.{IsFirstHeaderOf, IsFileOf, FindsFile}
 use Rattle.f11_files.specs.Structure.{index_in, home_of, IsStructureFor}
 use Rattle.f11_files.specs.declared.structure.Structure.{Structure}
 
@@ -54,16 +54,16 @@ module _ (index : Index) (f : FileId) (lbn : ℕ) (block : List ℕ) (old new : 
   pub read-is : IsTrue old.honest → block ≡ (table index old).header f.number
   read-is honest = table-header index old f.number lbn block at (gives honest)
 
-  pub FindsFile-read : IsFirstOf f block → FindsFile index f block old new
+  pub FindsFile-read : IsFirstHeaderOf f block → FindsFile index f block old new
   FindsFile-read is = record {
     holds = record { header = record { in_use = in_use; valid = is.valid; block_is = read-is }; is_first = is };
     looked = looked_read old new counts;
   }
 
   -- it is no such file's
-  pub none-read : ¬ IsFirstOf f block → IsTrue old.honest → ¬ IsFileOf f index old
+  pub none-read : ¬ IsFirstHeaderOf f block → IsTrue old.honest → ¬ IsFileOf f index old
   none-read other honest is =
-      other (subst (IsFirstOf f) (sym (read-is honest)) record {
+      other (subst (IsFirstHeaderOf f) (sym (read-is honest)) record {
         valid = is.file.live.valid;
         first = is.file.first;
         sequence = is.sequence;
@@ -82,6 +82,6 @@ never-bad s f lbn block old new for in_use at counts gives not_dead not_valid ho
     ]
 
 -- the segment number in its map area
-pub first-segment : (f : FileId) (block : List ℕ) → IsFirstOf f block → segment (map_area block) ≡ 0
+pub first-segment : (f : FileId) (block : List ℕ) → IsFirstHeaderOf f block → segment (map_area block) ≡ 0
 unfolding segment_number
 first-segment f block is = is.first

@@ -28,7 +28,7 @@ use Rattle.f11_image_store.specs.StoreOf.{store_of}
 use Rattle.f11_image_store.proofs.AllocationLemmas.{names-twice}
 use Rattle.f11_files.specs.Answers.{IsUnderWay, Meanwhile}
 use Rattle.f11_files.specs.Changing.Fields.{Alters}
-use Rattle.f11_files.specs.Extending.Growing.{Taking}
+use Rattle.f11_files.specs.Extending.Growing.{WhileTaking}
 use Rattle.f11_files.specs.Extending.Runs.{IsTailOf}
 use Rattle.f11_files.specs.Extending.Tail.{ownership_of}
 use Rattle.f11_files.specs.LayingOut.Lay.{run_free, IsLaying, LayingRun, LaysRun}
@@ -82,7 +82,7 @@ module _ (s : Structure) (f : FileId) (n : ℕ) (end : FileEnd) (was last : List
       (numbered s f n end was last old for own room is_image honest) lags)
 
   -- the run is marked used
-  pub take-moment : (image : Image) → Taking home n 0 st old image → P image
+  pub take-moment : (image : Image) → WhileTaking home n 0 st old image → P image
   take-moment image is honest =
       let here = is honest in
       let may = may-lay s f n end was last old for own room is_image honest in

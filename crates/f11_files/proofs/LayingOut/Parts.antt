@@ -16,7 +16,7 @@ use Rattle.f11_image_store.specs.Allocation.{free_list}
 use Rattle.f11_image_store.specs.Confines.{either, new_header, no_header, only_header}
 use Rattle.f11_files.specs.Extending.Room.{HoldsEnd}
 use Rattle.f11_files.specs.Extending.Runs.{IsTailOf}
-use Rattle.f11_files.specs.Extending.Tail.{growth_headers, GrowthStandsWithin, WritesGrowth}
+use Rattle.f11_files.specs.Extending.Tail.{growth_headers, GrowthStandsWithin, ConfinesGrowth}
 use Rattle.f11_files.specs.LayingOut.Take.{TakesWholeRun}
 use Rattle.f11_files.specs.Structure.{bitmap_in, home_of, index_in, ConfinesTo, IsStructureFor, StandsAlike, WritesParts}
 use Rattle.f11_files.specs.declared.structure.Structure.{Structure}
@@ -80,7 +80,7 @@ module _ (s : Structure) (f : FileId) (end : FileEnd) (was last : List ℕ) (old
   ]
 
   module _ (tail : Tail) (of : IsTailOf f was end.number last tail) {laid : Disk}
-      (two : WritesGrowth t tail (range_with_len lbn n) mid laid) where
+      (two : ConfinesGrowth t tail (range_with_len lbn n) mid laid) where
     -- its blocks came, or not all of them
     pub laying-confined : ConfinesTo s all free old laid
     laying-confined =

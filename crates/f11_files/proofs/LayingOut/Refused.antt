@@ -25,7 +25,7 @@ use Rattle.f11_store.proofs.StoreLemmas.{same_number}
 use Rattle.f11_image_store.specs.StoreOf.{store_of}
 use Rattle.f11_files.specs.Answers.{faults_of, is_clean, is_fatal, Breaks, IsRight, IsUnderWay, Meanwhile, WritesAtMost}
 use Rattle.f11_files.specs.Changing.Fields.{FailsToAlter}
-use Rattle.f11_files.specs.Extending.Growing.{Taking}
+use Rattle.f11_files.specs.Extending.Growing.{WhileTaking}
 use Rattle.f11_files.specs.Extending.Runs.{IsTailOf}
 use Rattle.f11_files.specs.LayingOut.Lay.{laying_cost, LayingRun, LaysRun}
 use Rattle.f11_files.specs.LayingOut.Take.{FailsToTakeWholeRun, HasNoRun, TakesWholeRun}
@@ -155,7 +155,7 @@ module _ (s : Structure) (f : FileId) (n : ℕ) (end : FileEnd) (was last : List
   breaks-take mid went =
       breaks-fault (record {
         transfers = 3 * length (bitmap_in s).places;
-        went = went_weaker (Taking home n 0 st old) P (take-moment s f n end was last old for own room is_image) went;
+        went = went_weaker (WhileTaking home n 0 st old) P (take-moment s f n end was last old for own room is_image) went;
         few = λ honest. let places = places-are honest in let many = enough st.index_bitmap_blocks (run_need named.room n) in
             omega (arith, places, many, some);
       })

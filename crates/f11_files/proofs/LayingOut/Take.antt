@@ -23,7 +23,7 @@ use Rattle.f11_volume.specs.Sound.{HasSoundVolume}
 use Rattle.f11_volume.specs.Space.{storage_bitmap}
 use Rattle.f11_volume.specs.Volume.{volume_of}
 use Rattle.f11_writes.specs.Kept.{KeepsButFree}
-use Rattle.f11_files.specs.Extending.Growing.{Taking}
+use Rattle.f11_files.specs.Extending.Growing.{WhileTaking}
 use Rattle.f11_files.specs.LayingOut.Take.{FailsToTakeWholeRun, HasNoRun, TakesWholeRun, UsesRun}
 use Rattle.f11_files.specs.Structure.{index_in, bitmap_in, home_of, store_on, IsStructureFor, StaysFor}
 use Rattle.f11_files.specs.declared.structure.Structure.{Structure}
@@ -43,12 +43,12 @@ module _ (s : Structure) (n : ℕ) (old : Disk) (for : IsStructureFor s old) whe
 
   moment : (lbn : ℕ) → (IsTrue old.honest → IsFirstRunOf (is_free old.image (bitmap_in s)) n lbn) → (image : Image)
       → Changing old.honest false (bitmap_in s) lbn n old.image image
-      → Taking home n 0 st old image
+      → WhileTaking home n 0 st old image
   moment lbn first = run-moment s 0 n old for lbn n (omega arith) (λ honest. (first honest).each)
 
   pub fails-run : (new : Disk) → FailsToTakeBits (bitmap_in s) n old new → FailsToTakeWholeRun s n old new
   fails-run new fails =
-      went_weaker (TakingRun old.honest (bitmap_in s) n old.image) (Taking home n 0 st old)
+      went_weaker (TakingRun old.honest (bitmap_in s) n old.image) (WhileTaking home n 0 st old)
       (λ image is. moment is.lbn is.run image is.changing) fails
 
   -- nowhere are so many
@@ -80,9 +80,9 @@ module _ (s : Structure) (n : ℕ) (old : Disk) (for : IsStructureFor s old) whe
       }
 
   module _ (lbn : ℕ) (new : Disk) (some : 0 < n) (takes : TakesBits (bitmap_in s) n lbn old new) where
-    went : Went (Taking home n 0 st old) old new (run_transfers lbn n) 0
+    went : Went (WhileTaking home n 0 st old) old new (run_transfers lbn n) 0
     went =
-        went_weaker (Changing old.honest false (bitmap_in s) lbn n old.image) (Taking home n 0 st old) (moment lbn takes.first)
+        went_weaker (Changing old.honest false (bitmap_in s) lbn n old.image) (WhileTaking home n 0 st old) (moment lbn takes.first)
         takes.marked.went
 
     module _ (honest : IsTrue old.honest) where

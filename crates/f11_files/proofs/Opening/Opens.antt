@@ -2,7 +2,7 @@
 use Rattle.std.proofs.Common.{◌≡◌, ◌≤◌, ◌+◌, ◌/◌, ℕ, IsTrue, length, refl, sym, ap, subst, ◌∙◌, arith}
 use Rattle.std.proofs.lemmas.Bool.Decides.{nat_tests}
 use Rattle.f11_bits.specs.Bitmap.{Bitmap, IsBitmap, LiesWithin as BitmapLiesWithin}
-use Rattle.f11_bits.specs.Storage.{Loads}
+use Rattle.f11_bits.specs.Storage.{LoadsBitmap}
 use Rattle.f11_dev.specs.Disk.{Disk}
 use Rattle.f11_dev.specs.Image.{Image, IsImage}
 use Rattle.f11_dev.specs.Looked.{Looked}
@@ -98,7 +98,7 @@ module _ (old : Disk) (image_is : IsImage old.image) (accepted : IsTrue old.hone
       lies-still = subst (λ (i : Image). BitmapLiesWithin bitmap (length i)) (sym reads.looked.image) reads.lie.bitmap_lies
 
       -- what is kept was read
-      pub opens : (s : Structure) (new : Disk) → home_of s ≡ home → index_in s ≡ index → Loads bitmap s.storage now new
+      pub opens : (s : Structure) (new : Disk) → home_of s ≡ home → index_in s ≡ index → LoadsBitmap bitmap s.storage now new
           → OpensStructure s old new
       opens s new home_is index_is loads = record {
         is_for = record {

@@ -18,8 +18,8 @@ pub record IsTaking (home : HomeFields) (blocks headers : ℕ) (s : Store) (imag
   pub takes : TakesSome blocks headers s (store_of image home)
 
 -- that of an honest disk
-abbrev pub Taking : HomeFields → ℕ → ℕ → Store → Disk → Image → Type 0
-Taking home blocks headers s old image = IsTrue old.honest → IsTaking home blocks headers s image
+abbrev pub WhileTaking : HomeFields → ℕ → ℕ → Store → Disk → Image → Type 0
+WhileTaking home blocks headers s old image = IsTrue old.honest → IsTaking home blocks headers s image
 
 -- One that stands meanwhile, or at the end: the file may have what was taken.
 pub record IsGrowing (home : HomeFields) (blocks headers : ℕ) (End : Store → Type 0) (s : Store) (image : Image) : Type 0 where

@@ -20,7 +20,7 @@ use Rattle.f11_files.specs.Answers.{WritesAtMost}
 use Rattle.f11_image_store.specs.Confines.{new_header}
 use Rattle.f11_store.specs.Pieces.{with_more_free}
 use Rattle.f11_image_store.specs.FileLaws.{pointers_in, room_in}
-use Rattle.f11_files.specs.Extending.Growing.{Taking, GrowingInto, Grew, SameFree}
+use Rattle.f11_files.specs.Extending.Growing.{WhileTaking, GrowingInto, Grew, SameFree}
 use Rattle.f11_files.specs.Extending.Link.{MayFollow}
 use Rattle.f11_image_store.specs.StoreOf.{store_of}
 use Rattle.f11_files.specs.Structure.{index_in, bitmap_in, home_of, store_on}
@@ -68,7 +68,7 @@ pub record EntersHeader (s after : Structure) (tail : Tail) (lbn count : ℕ) (i
   pub slots : IsTrue old.honest → AddsZeroSlots (table_of old.image (home_of s)) (table_of new.image (home_of s))
   pub slot : IsTrue old.honest → id.number ≡ least_free (store_on s old)
   pub store : IsTrue old.honest → store_of new.image (home_of s) ≡ with_slots (store_on s old) (id.number ∷ [])
-  pub writes : WritesAtMost (Taking (home_of s) 0 1 (store_on s old) old) 3 old new 0
+  pub writes : WritesAtMost (WhileTaking (home_of s) 0 1 (store_on s old) old) 3 old new 0
 
 -- what stands while a file is given so many blocks that were marked used before
 abbrev pub AppendingRun : Structure → Tail → ℕ → Disk → Image → Type 0

@@ -44,8 +44,8 @@ abbrev pub growth_headers : Structure → Tail → ℕ → Bool
 growth_headers s tail = either (only_header tail.number) (new_header (index_in s))
 
 -- No block was changed but those headers, the bitmaps, and these.
-abbrev pub WritesGrowth : Structure → Tail → List ℕ → Disk → Disk → Type 0
-WritesGrowth s tail others old new = ConfinesTo s (growth_headers s tail) others old new
+abbrev pub ConfinesGrowth : Structure → Tail → List ℕ → Disk → Disk → Type 0
+ConfinesGrowth s tail others old new = ConfinesTo s (growth_headers s tail) others old new
 
 -- A block that is neither of those headers, of the bitmaps nor one of these is none of those headers, nor of the bitmaps, afterwards; and
 -- each header is where it was, or is one of these.

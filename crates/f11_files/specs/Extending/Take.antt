@@ -14,7 +14,7 @@ use Rattle.f11_writes.specs.Kept.{KeepsButFree}
 use Rattle.f11_writes.specs.NameLaws.{AreUnreferenced}
 use Rattle.f11_image_store.specs.Allocation.{free_list}
 use Rattle.f11_files.specs.Answers.{WritesAtMost}
-use Rattle.f11_files.specs.Extending.Growing.{Taking}
+use Rattle.f11_files.specs.Extending.Growing.{WhileTaking}
 use Rattle.f11_image_store.specs.StoreOf.{store_of}
 use Rattle.f11_files.specs.Structure.{index_in, bitmap_in, home_of, store_on}
 use Rattle.f11_files.specs.declared.structure.Structure.{Structure}
@@ -40,5 +40,5 @@ pub record TakesNextRun (s after : Structure) (from most lbn count : ℕ) (old n
       free_list (volume_of old.image (home_of s)) ≡ range_with_len lbn count ++ free_list (volume_of new.image (home_of s))
   pub store : IsTrue old.honest → store_of new.image (home_of s) ≡ with_fewer_free (store_on s old) count
   pub writes :
-      WritesAtMost (Taking (home_of s) most 0 (store_on s old) old)
+      WritesAtMost (WhileTaking (home_of s) most 0 (store_on s old) old)
       (blocks_to (bitmap_in s) from (lbn + count) + blocks_touched lbn count) old new 0

@@ -13,7 +13,7 @@ use Rattle.f11_store.specs.declared.refusals.Refusal.{Refusal}
 use Rattle.f11_store.specs.declared.refusals.Refusal.TheVariants.{NoSuchFile, Damaged}
 
 -- A block is the first header of the file with this identification, whatever the relative volume.
-pub record IsFirstOf (f : FileId) (block : List ℕ) : Type 0 where
+pub record IsFirstHeaderOf (f : FileId) (block : List ℕ) : Type 0 where
   pub valid : IsHeader block f.number
   pub first : segment_number block ≡ 0
   pub sequence : file_sequence block ≡ f.sequence
@@ -21,12 +21,12 @@ pub record IsFirstOf (f : FileId) (block : List ℕ) : Type 0 where
 -- It is another header, or a dead one, and there is no such file; or it is damaged, neither dead nor valid.
 abbrev pub IsOther : FileId → List ℕ → Refusal → Type 0
 IsOther f block refusal =
-    ((refusal ≡ NoSuchFile) × (¬ IsFirstOf f block)) ⊎ ((refusal ≡ Damaged) × (¬ IsDead block) × (¬ IsHeader block f.number))
+    ((refusal ≡ NoSuchFile) × (¬ IsFirstHeaderOf f block)) ⊎ ((refusal ≡ Damaged) × (¬ IsDead block) × (¬ IsHeader block f.number))
 
 -- That header is in hand; it is the disk's where that is honest.
 pub record HoldsFile (index : Index) (f : FileId) (block : List ℕ) (disk : Disk) : Type 0 where
   pub header : HoldsHeader index f.number block disk
-  pub is_first : IsFirstOf f block
+  pub is_first : IsFirstHeaderOf f block
 
 -- It was read.
 pub record FindsFile (index : Index) (f : FileId) (block : List ℕ) (old new : Disk) : Type 0 where

@@ -13,7 +13,7 @@ use Rattle.f11_volume.specs.Volume.{Volume, volume_of}
 use Rattle.f11_writes.specs.Kept.{KeepsButFree}
 use Rattle.f11_writes.specs.NameLaws.{AreUnreferenced}
 use Rattle.f11_files.specs.Answers.{WritesAtMost}
-use Rattle.f11_files.specs.Extending.Growing.{Taking}
+use Rattle.f11_files.specs.Extending.Growing.{WhileTaking}
 use Rattle.f11_files.specs.Extending.Take.{with_fewer_free}
 use Rattle.f11_image_store.specs.StoreOf.{store_of}
 use Rattle.f11_files.specs.Structure.{index_in, bitmap_in, home_of, store_on}
@@ -35,7 +35,7 @@ pub record TakesWholeRun (s after : Structure) (n lbn : ℕ) (old new : Disk) : 
   pub keeps : IsTrue old.honest → KeepsButFree (home_of s) old.image new.image
   pub unreferenced : IsTrue old.honest → AreUnreferenced (volume_of new.image (home_of s)) lbn n
   pub store : IsTrue old.honest → store_of new.image (home_of s) ≡ with_fewer_free (store_on s old) n
-  pub writes : WritesAtMost (Taking (home_of s) n 0 (store_on s old) old) (run_transfers lbn n) old new 0
+  pub writes : WritesAtMost (WhileTaking (home_of s) n 0 (store_on s old) old) (run_transfers lbn n) old new 0
 
 -- Nowhere are so many free in a row, and nothing was written.
 pub record HasNoRun (s : Structure) (n : ℕ) (old new : Disk) : Type 0 where
@@ -44,4 +44,4 @@ pub record HasNoRun (s : Structure) (n : ℕ) (old new : Disk) : Type 0 where
 
 -- A transfer failed.
 abbrev pub FailsToTakeWholeRun : Structure → ℕ → Disk → Disk → Type 0
-FailsToTakeWholeRun s n old new = Went (Taking (home_of s) n 0 (store_on s old) old) old new (3 * length (bitmap_in s).places) 1
+FailsToTakeWholeRun s n old new = Went (WhileTaking (home_of s) n 0 (store_on s old) old) old new (3 * length (bitmap_in s).places) 1

@@ -4,7 +4,7 @@ ghost use Rattle.f11_files.specs.Answers.{FailsToRead, is_fatal, is_refused, Wri
 ghost use Rattle.f11_files.specs.Calls.{ReadsAttr};
 ghost use Rattle.f11_image_store.specs.Confines.{only_header};
 ghost use Rattle.f11_files.specs.Changing.Fields.{Alters, FailsToAlter};
-ghost use Rattle.f11_files.specs.Finding.First.{IsFirstOf};
+ghost use Rattle.f11_files.specs.Finding.First.{IsFirstHeaderOf};
 ghost use Rattle.f11_files.specs.Operations.{attr_in, file_causes};
 ghost use Rattle.f11_files.specs.Structure.{home_of, store_on, IsStructureFor, StaysFor, WritesParts};
 ghost use Rattle.f11_store.specs.Changes.{with_replacement, with_delete_mark};
@@ -20,7 +20,7 @@ use f11_store::{Attr, Change, FileId, Refusal};
 
 /// What a first header says of its file.
 fn attr_of(block: &Block, f: FileId) -> Attr
-    requires { IsFirstOf f block.now }
+    requires { IsFirstHeaderOf f block.now }
     ensures { result ≡ attr_in block.now }
 {
     let header = Header::new(block);

@@ -2,7 +2,7 @@
 ghost use Rattle.std.specs.Prelude.{◌≡◌, false, IsTrue};
 ghost use Rattle.f11_bytes.specs.Words.{word_sum};
 ghost use Rattle.f11_image_store.specs.FieldLaws.{SaysBut};
-ghost use Rattle.f11_files.specs.Finding.First.{IsFirstOf};
+ghost use Rattle.f11_files.specs.Finding.First.{IsFirstHeaderOf};
 ghost use Rattle.f11_header.specs.Fields.{characteristics, check_word, map_area};
 ghost use Rattle.f11_header.specs.Header.{header_in, header_with, holds_header};
 ghost use Rattle.f11_header.specs.MapFields.{segment};
@@ -95,7 +95,7 @@ fn not_contiguous(block: &Block) -> u16
 
 /// Makes a change of a file's attributes in its first header.
 pub(crate) fn replace(block: &mut Block, f: FileId, change: &Change)
-    requires { IsFirstOf f block.old }
+    requires { IsFirstHeaderOf f block.old }
     ensures { SaysBut (with_replacement change.now) block.old block.new }
 {
     match change {
@@ -107,7 +107,7 @@ pub(crate) fn replace(block: &mut Block, f: FileId, change: &Change)
 
 /// Marks a file for delete in its first header.
 pub(crate) fn set_mark(block: &mut Block, f: FileId)
-    requires { IsFirstOf f block.old }
+    requires { IsFirstHeaderOf f block.old }
     ensures { SaysBut with_delete_mark block.old block.new }
 {
     let characteristics = marked(block);
@@ -116,7 +116,7 @@ pub(crate) fn set_mark(block: &mut Block, f: FileId)
 
 /// Sets the contiguous mark in a file's first header.
 pub(crate) fn set_contiguous(block: &mut Block, f: FileId)
-    requires { IsFirstOf f block.old }
+    requires { IsFirstHeaderOf f block.old }
     ensures { SaysBut with_contiguous_mark block.old block.new }
 {
     let characteristics = contiguous(block);
@@ -125,7 +125,7 @@ pub(crate) fn set_contiguous(block: &mut Block, f: FileId)
 
 /// Clears the contiguous mark in a file's first header, and says whether it was set.
 pub(crate) fn clear_contiguous(block: &mut Block, f: FileId) -> bool
-    requires { IsFirstOf f block.old }
+    requires { IsFirstHeaderOf f block.old }
     ensures cleared { IsTrue result → SaysBut with_no_mark block.old block.new }
     ensures none { result ≡ false
         → without_contiguous (characteristics block.old) ≡ characteristics block.old }

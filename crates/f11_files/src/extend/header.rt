@@ -6,11 +6,11 @@ ghost use Rattle.f11_image_store.specs.Confines.{new_header};
 ghost use Rattle.f11_store.specs.Pieces.{with_more_free, MayGrowAs};
 ghost use Rattle.f11_files.specs.Extending.Header.{AppendingRun, AppendsRun, EntersHeader, IsExtension, TakesSlot};
 ghost use Rattle.f11_image_store.specs.FileLaws.{room_in};
-ghost use Rattle.f11_files.specs.Extending.Growing.{Taking};
+ghost use Rattle.f11_files.specs.Extending.Growing.{WhileTaking};
 ghost use Rattle.f11_files.specs.Extending.Slots.{GetsBlocks};
 ghost use Rattle.f11_index.specs.Kept.{room};
 ghost use Rattle.f11_files.specs.Structure.{bitmap_in, home_of, index_in, store_on, IsStructureFor, StaysFor, WritesParts};
-ghost use Rattle.f11_files.specs.Extending.Tail.{GrowthStandsWithin, HoldsLast, MayBeGiven, WritesGrowth};
+ghost use Rattle.f11_files.specs.Extending.Tail.{GrowthStandsWithin, HoldsLast, MayBeGiven, ConfinesGrowth};
 ghost use Rattle.f11_header.specs.Header.{holds_header};
 ghost use Rattle.f11_map.specs.HeaderBlock.{segment_number};
 ghost use Rattle.f11_store.specs.File.{run_pointers};
@@ -71,7 +71,7 @@ impl Structure {
         ensures entered { IfOk result (λ id. EntersHeader self.old self.new tail.now lbn count id
             block.new (D.disk device.old) (D.disk device.new)) }
         ensures refused { IfErr result (λ refusal. Breaks
-            (Taking (home_of self.old) 0 1 (store_on self.old (D.disk device.old))
+            (WhileTaking (home_of self.old) 0 1 (store_on self.old (D.disk device.old))
             (D.disk device.old))
             3 refusal (D.disk device.old) (D.disk device.new)) }
         ensures stays { StaysFor (is_refused is_fatal result) self.old self.new
@@ -136,7 +136,7 @@ impl Structure {
             (D.disk device.old) (D.disk device.new)) }
         ensures stays { StaysFor (is_refused is_fatal result) self.old self.new
             (D.disk device.new) }
-        ensures confined { WritesGrowth self.old tail.old [] (D.disk device.old)
+        ensures confined { ConfinesGrowth self.old tail.old [] (D.disk device.old)
             (D.disk device.new) }
         ensures places { OnOk result
             (GrowthStandsWithin self.old tail.old (range_with_len lbn count) self.new tail.new) }

@@ -14,7 +14,7 @@ ghost use Rattle.f11_files.specs.Extending.Growing.{GrowingBy};
 ghost use Rattle.f11_files.specs.Extending.Slots.{GetsBlocks};
 ghost use Rattle.f11_index.specs.Kept.{room};
 ghost use Rattle.f11_files.specs.Structure.{counts_of, bitmap_in, home_of, store_on, index_in, IsStructureFor, StaysFor, ConfinesTo};
-ghost use Rattle.f11_files.specs.Extending.Tail.{GrowthStandsWithin, HoldsLast, WritesGrowth, ownership_of, places_next};
+ghost use Rattle.f11_files.specs.Extending.Tail.{GrowthStandsWithin, HoldsLast, ConfinesGrowth, ownership_of, places_next};
 ghost use Rattle.f11_files.specs.Extending.Take.{NoneFreeBelow};
 ghost use Rattle.f11_files.specs.GrowingIndex.Headroom.{WritesAfterSlots};
 ghost use Rattle.f11_header.specs.Header.{holds_header};
@@ -86,7 +86,7 @@ impl Structure {
             (D.disk device.old) (D.disk device.new)) }
         ensures stays { StaysFor (is_refused is_fatal result) self.old self.new
             (D.disk device.new) }
-        ensures confined { WritesGrowth self.old tail.old (range_with_len lbn count)
+        ensures confined { ConfinesGrowth self.old tail.old (range_with_len lbn count)
             (D.disk device.old) (D.disk device.new) }
         ensures places { OnOk result
             (GrowthStandsWithin self.old tail.old (range_with_len lbn count) self.new tail.new) }
@@ -136,7 +136,7 @@ impl Structure {
             (D.disk device.old) (D.disk device.new)) }
         ensures stays { StaysFor (is_refused is_fatal result) self.old self.new
             (D.disk device.new) }
-        ensures confined { IsTrue (D.disk device.old).honest → WritesGrowth self.old tail.old
+        ensures confined { IsTrue (D.disk device.old).honest → ConfinesGrowth self.old tail.old
             (free_list (volume_of (D.disk device.old).image (home_of self.old)))
             (D.disk device.old) (D.disk device.new) }
         ensures places { let free = free_list (volume_of (D.disk device.old).image
@@ -177,7 +177,7 @@ impl Structure {
             (D.disk device.old) (D.disk device.new)) }
         ensures stays { StaysFor (is_refused is_fatal result) self.old self.new
             (D.disk device.new) }
-        ensures confined { IsTrue (D.disk device.old).honest → WritesGrowth self.old tail.old
+        ensures confined { IsTrue (D.disk device.old).honest → ConfinesGrowth self.old tail.old
             (free_list (volume_of (D.disk device.old).image (home_of self.old)))
             (D.disk device.old) (D.disk device.new) }
     {

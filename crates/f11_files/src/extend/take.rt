@@ -3,7 +3,7 @@ ghost use Rattle.std.specs.Prelude.{◌≡◌, ◌+◌, ◌<◌, ◌≤◌, IfEr
 ghost use Rattle.f11_bits.specs.Transfers.{blocks_from};
 ghost use Rattle.f11_files.specs.Answers.{is_fatal, is_refused, Breaks};
 ghost use Rattle.f11_image_store.specs.Confines.{no_header};
-ghost use Rattle.f11_files.specs.Extending.Growing.{Taking};
+ghost use Rattle.f11_files.specs.Extending.Growing.{WhileTaking};
 ghost use Rattle.f11_files.specs.Structure.{bitmap_in, home_of, store_on, IsStructureFor, StaysFor, StandsAlike, WritesParts};
 ghost use Rattle.f11_files.specs.Extending.Take.{NoneFreeBelow, TakesNextRun};
 
@@ -34,7 +34,7 @@ impl Structure {
         ensures taken { IfOk result (λ run. TakesNextRun self.old self.new from most run.0 run.1
             (D.disk device.old) (D.disk device.new)) }
         ensures refused { IfErr result (λ refusal. Breaks
-            (Taking (home_of self.old) most 0 (store_on self.old (D.disk device.old))
+            (WhileTaking (home_of self.old) most 0 (store_on self.old (D.disk device.old))
             (D.disk device.old))
             (blocks_from (bitmap_in self.old) from + 2) refusal (D.disk device.old)
             (D.disk device.new)) }

@@ -1,7 +1,7 @@
 //! A file's first header.
 ghost use Rattle.std.specs.Prelude.{false, OnOk, IfErr};
 ghost use Rattle.f11_files.specs.Answers.{FailsToRead};
-ghost use Rattle.f11_files.specs.Finding.First.{FindsFile, IsFirstOf, IsOther};
+ghost use Rattle.f11_files.specs.Finding.First.{FindsFile, IsFirstHeaderOf, IsOther};
 ghost use Rattle.f11_files.specs.Operations.{file_causes};
 ghost use Rattle.f11_files.specs.Structure.{index_in, store_on, IsStructureFor};
 
@@ -18,7 +18,7 @@ use f11_store::{FileId, Refusal};
 ///
 /// `Damaged` where it is no header, nor a dead one; `NoSuchFile` where it is any other.
 fn judge_first(block: &Block, f: FileId) -> Result<(), Refusal>
-    ensures first { OnOk result (IsFirstOf f block.now) }
+    ensures first { OnOk result (IsFirstHeaderOf f block.now) }
     ensures refused { IfErr result (λ refusal. IsOther f block.now refusal) }
 {
     match check(block, f.number) {

@@ -10,7 +10,7 @@ use Rattle.f11_index.specs.Headers.{is_live}
 use Rattle.f11_vfy.specs.Surveying.Count.{Shows, times_among, times_by, times_named}
 use Rattle.f11_findings.specs.Found.{Finds}
 use Rattle.f11_vfy.specs.Surveying.Slot.{HasState, KeepsValidHeader, KeepsSlot, KeepsSlots}
-use Rattle.f11_vfy.specs.Surveying.Headers.{IsOutside, OutsideOf, OutsideUpTo, TakesSlot, IsSurvey, Surveys, IsNewSurvey}
+use Rattle.f11_vfy.specs.Surveying.Headers.{IsOutside, OutsideOf, OutsideUpTo, SurveysSlot, IsSurvey, Surveys, IsNewSurvey}
 use Rattle.f11_volume.specs.Volume.{HasPointer}
 use Rattle.f11_vfy.specs.declared.survey.slot.Slot.{Slot}
 use Rattle.f11_vfy.specs.declared.survey.slot.State.{State}
@@ -58,7 +58,7 @@ live-or-not Dead = inr (λ e. cc)
 live-or-not Bad = inr (λ e. cc)
 
 -- one more
-module _ (k : ℕ) (state : State) (block : List ℕ) (size : ℕ) (old new : Survey) (takes : TakesSlot (k + 1) state block size old new) where
+module _ (k : ℕ) (state : State) (block : List ℕ) (size : ℕ) (old new : Survey) (takes : SurveysSlot (k + 1) state block size old new) where
   pub survey-more : IsSurvey size k old → IsSurvey size (k + 1) new
   survey-more is = record {
     room = omega (arith, takes.room, is.room);

@@ -58,7 +58,7 @@ pub record ReadsSlot (index : Index) (n : ℕ) (state : State) (block : List ℕ
   pub looked : Looked old new (reads_of index n) 0
 
 -- A slot in this state was taken into a survey, and its header where that is valid.
-pub record TakesSlot (n : ℕ) (state : State) (block : List ℕ) (size : ℕ) (old new : Survey) : Type 0 where
+pub record SurveysSlot (n : ℕ) (state : State) (block : List ℕ) (size : ℕ) (old new : Survey) : Type 0 where
   pub room : limit_of old.tally.once ≤ limit_of new.tally.once
   pub slot : Slot
   pub slots : new.slots.items ≡ old.slots.items ++ slot ∷ []

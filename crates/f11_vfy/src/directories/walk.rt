@@ -69,7 +69,7 @@ impl Later {
     /// # Errors
     ///
     /// `DeviceFault` where a transfer failed; `NoMemory` where there was no memory for a name or for a finding.
-    fn take_run<D: Device>(
+    fn take_pointer<D: Device>(
         &mut self,
         device: &mut D,
         slots: &[Slot],
@@ -132,7 +132,7 @@ impl Later {
         let mut behind = at;
         for i in 0..map.runs() {
             let run = map.run(i);
-            self.take_run(device, slots, dir, behind, run, &mut into)?;
+            self.take_pointer(device, slots, dir, behind, run, &mut into)?;
             behind += run.1;
         }
         Ok(behind - at)

@@ -92,12 +92,12 @@ fn put_header(named: &mut Bits, block: &Block)
     let map = map(block);
     for i in 0..map.runs() {
         let (lbn, count) = map.run(i);
-        put_run(named, lbn, lbn + count);
+        put_range(named, lbn, lbn + count);
     }
 }
 
 /// Puts the numbers of the candidates from LBN `lbn` on, before `end`, into the set.
-fn put_run(named: &mut Bits, lbn: u32, end: u32)
+fn put_range(named: &mut Bits, lbn: u32, end: u32)
     ensures puts { Puts (λ k. (lbn ≤ candidate k) × (candidate k < end)) named.old named.new }
 {
     for k in candidate_count(lbn)..candidate_count(end).min(named.limit()) {

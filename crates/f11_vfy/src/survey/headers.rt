@@ -32,7 +32,7 @@ pub struct Survey {
 impl Survey {
     ghost use Rattle.f11_vfy.specs.Surveying.Bits.{limit_of};
     ghost use Rattle.f11_vfy.specs.declared.survey.slot.State.TheVariants.{Live};
-    ghost use Rattle.f11_vfy.specs.Surveying.Headers.{IsNewSurvey, TakesSlot};
+    ghost use Rattle.f11_vfy.specs.Surveying.Headers.{IsNewSurvey, SurveysSlot};
 
     /// Nothing was read yet. There is room for so many slots and blocks.
     fn new(alloc: Global, slots: u32, blocks: u32) -> Result<Survey, NoMemory>
@@ -51,7 +51,7 @@ impl Survey {
     fn take(&mut self, n: u16, state: State, block: &Block, size: u32) -> Result<(), NoMemory>
         requires valid { state ≡ Live → IsHeader block.now n }
         requires room { size ≤ limit_of self.old.tally.once }
-        ensures { OnOk result (TakesSlot n state block.now size self.old self.new) }
+        ensures { OnOk result (SurveysSlot n state block.now size self.old self.new) }
     {
         self.slots.push(keep(state, block))?;
         if state == State::Live {

@@ -6,7 +6,7 @@ use Rattle.f11_image_store.specs.StoreOf.{store_of}
 use Rattle.f11_fcp.specs.Handles.{state_of}
 use Rattle.f11_fcp.specs.Places.{access_table_of}
 use Rattle.std.proofs.lemmas.Option.{same_Some}
-use Rattle.f11_fcp.specs.Accesses.{Entry, with_entry}
+use Rattle.f11_fcp.specs.Accesses.{Entry, with_table_entry}
 use Rattle.f11_files.specs.Answers.{is_fatal}
 use Rattle.f11_chain.specs.declared.windows.Window.{Window}
 use Rattle.f11_fcp.proofs.LengthLemmas.{measured-open}
@@ -116,5 +116,5 @@ returns-clause-open g c = λ _. record {
 pub returns-clause-windows : goal.returns-clause-windows
 returns-clause-windows g c =
     c.set.ensures.value
-    ∙ ap (λ (w : Window). with_entry (access_table_of c.args.self.now) c.args.task c.args.lun
+    ∙ ap (λ (w : Window). with_table_entry (access_table_of c.args.self.now) c.args.task c.args.lun
     (Some (record { file = c.args.file; mode = c.args.mode; marked = false; window = w }))) c.empty.ensures.value

@@ -8,23 +8,23 @@ use Rattle.f11_map.proofs.MapLemmas.{length-blocks_in-more}
 use Rattle.f11_vfy.proofs.Directory.Walk.{pointers-more, pointers-all, pointers-looked, pointers-taken}
 use Rattle.f11_vfy.proofs.directories.later.Later.take_pointers.Goals as goal
 
-pub returns-in_err-take_run-clause-failed : goal.returns-in_err-take_run-clause-failed
-returns-in_err-take_run-clause-failed g c = λ is.
+pub returns-in_err-take_pointer-clause-failed : goal.returns-in_err-take_pointer-clause-failed
+returns-in_err-take_pointer-clause-failed g c = λ is.
     pointers-looked c.args.slots.now c.args.dir c.args.at c.args.block.now _ c.args.self.now c.loop-i.i c.loop-i.behind c.run-run.result _ _
     1 (rw c.map-map.ensures at c.run-run.ensures.run) c.loop-i.invariant.place
-    c.loop-i.invariant.looked (c.in_err-take_run.ensures.failed (handed-on _ _ _ c.from_residual.ensures.1 is))
+    c.loop-i.invariant.looked (c.in_err-take_pointer.ensures.failed (handed-on _ _ _ c.from_residual.ensures.1 is))
 
-pub returns-in_err-take_run-clause-no_memory : goal.returns-in_err-take_run-clause-no_memory
-returns-in_err-take_run-clause-no_memory g c = λ is.
+pub returns-in_err-take_pointer-clause-no_memory : goal.returns-in_err-take_pointer-clause-no_memory
+returns-in_err-take_pointer-clause-no_memory g c = λ is.
     pointers-looked c.args.slots.now c.args.dir c.args.at c.args.block.now _ c.args.self.now c.loop-i.i c.loop-i.behind c.run-run.result _ _
     0 (rw c.map-map.ensures at c.run-run.ensures.run) c.loop-i.invariant.place
-    c.loop-i.invariant.looked (c.in_err-take_run.ensures.no_memory (handed-on _ _ _ c.from_residual.ensures.1 is))
+    c.loop-i.invariant.looked (c.in_err-take_pointer.ensures.no_memory (handed-on _ _ _ c.from_residual.ensures.1 is))
 
 pub loop-i-preserved : goal.loop-i-preserved
 loop-i-preserved g c =
     let here = rw c.map-map.ensures at c.run-run.ensures.run in
     let runs = runs_of (map_area c.args.block.now) in
-    let takes = c.in_ok-take_run.ensures.takes in
+    let takes = c.in_ok-take_pointer.ensures.takes in
     record {
       place = omega (
         arith,

@@ -5,7 +5,7 @@ ghost use Rattle.f11_image_store.specs.Allocation.{free_list};
 ghost use Rattle.f11_files.specs.Answers.{is_clean, is_fatal, is_refused, Breaks, WritesMoreOf};
 ghost use Rattle.f11_image_store.specs.Confines.{either, new_header};
 ghost use Rattle.f11_files.specs.LayingOut.Lay.{laying_cost, run_free, LayingRun, LaysRun};
-ghost use Rattle.f11_files.specs.Extending.Tail.{GrowthStandsWithin, HoldsLast, WritesGrowth};
+ghost use Rattle.f11_files.specs.Extending.Tail.{GrowthStandsWithin, HoldsLast, ConfinesGrowth};
 ghost use Rattle.f11_files.specs.LayingOut.Whole.{lost, FailsToLayOut, FailsToLayOutHeld, HoldsRunRoom, LaysOutFile, LaysOutHeld};
 ghost use Rattle.f11_files.specs.Structure.{bitmap_in, counts_of, home_of, index_in, store_on, ConfinesTo, IsStructureFor, StaysFor};
 ghost use Rattle.f11_header.specs.Header.{holds_header};
@@ -20,11 +20,11 @@ ghost use Rattle.f11_volume.specs.Volume.{volume_of};
 ghost use Rattle.f11_writes.specs.NameLaws.{AreUnreferenced};
 
 use crate::answer::{is_fatal, is_no_file};
-use crate::contiguous::room::judge_run;
 use crate::extend::room::{PLACES, need, room_of};
 use crate::extend::runs::tail_of;
 use crate::extend::tail::Tail;
 use crate::files::Files;
+use crate::lay_out::room::judge_run;
 use crate::structure::Structure;
 use f11_bytes::{BLOCK_SIZE, Block};
 use f11_chain::FileEnd;
@@ -86,7 +86,7 @@ impl Structure {
             (D.disk device.old) (D.disk device.new)) }
         ensures stays { StaysFor (is_refused is_fatal result) self.old self.new
             (D.disk device.new) }
-        ensures confined { WritesGrowth self.old tail.old (range_with_len lbn n)
+        ensures confined { ConfinesGrowth self.old tail.old (range_with_len lbn n)
             (D.disk device.old) (D.disk device.new) }
         ensures places { OnOk result
             (GrowthStandsWithin self.old tail.old (range_with_len lbn n) self.new tail.new) }
