@@ -1,6 +1,6 @@
 //! Volumes, and the names of RT-11 files.
 use f11_bytes::NoMemory;
-use f11_commands::{Answer, Failure, print_rt_list, print_rt_vfy, print_vfy};
+use f11_commands::{Answer, Failure, Served, print_ls, print_rt_list, print_rt_vfy, print_vfy};
 use f11_dev::{DeviceFault, Memory};
 use f11_fixtures::{
     Lines, are_found, file, has_words, keep, lines, linked, memory, put_words, rt_volumes, text_of,
@@ -65,14 +65,25 @@ fn reclaimed(alloc: Global, volume: Accepted<Memory>) -> Result<Memory, DeviceFa
     }
 }
 
+/// A volume with a header that no file has, extension header 6, which names block 22; block 23 is lost.
+fn with_orphan(alloc: Global) -> Result<Memory, Fail> {
+    let mut device = volumes::fresh(alloc, volumes::BLOCKS)?;
+    let orphan = linked(file(6, 1), 1, file(0, 0), &[(22, 0)]);
+    keep(&mut device, 8, &orphan)?;
+    put_words(&mut device, 2, &[(0, 63)])?;
+    put_words(&mut device, 20, &[(2, 0)])?;
+    Ok(device)
+}
+
 #[test]
 fn a_volume_is_reclaimed(rt: HostRuntime) -> Result<(), Fail> {
-    let mut device = volumes::fresh(rt.alloc(), volumes::BLOCKS)?;
-    put_words(&mut device, 20, &[(2, 0x80)])?;
+    let device = with_orphan(rt.alloc())?;
     let Ok(Report::Accepted(volume, _)) = verified(rt.alloc(), device) else {
         return Err(DeviceFault)?;
     };
     let mut device = reclaimed(rt.alloc(), volume)?;
+    assert!(rt; has_words(&mut device, 2, &[(0, 31)])?);
+    assert!(rt; has_words(&mut device, 8, &[(2, 0), (510, 0)])?);
     assert!(rt; has_words(&mut device, 20, &[(2, 0xc0)])?);
     Ok(())
 }
@@ -80,6 +91,7 @@ fn a_volume_is_reclaimed(rt: HostRuntime) -> Result<(), Fail> {
 /// The commands whose lines take memory.
 #[derive(Clone, Copy, Debug)]
 enum Command {
+    Ls,
     Vfy,
     RtVfy,
     RtList,
@@ -90,6 +102,19 @@ type Given = (Memory, Result<Answer, Failure>);
 
 fn print_one(alloc: Global, device: Memory, lines: &mut Lines) -> Given {
     print_vfy(alloc, device, lines)
+}
+
+/// The answer of a command that serves any volume.
+fn answer_in(served: Result<Served, Failure>) -> Result<Answer, Failure> {
+    match served {
+        Ok(served) => Ok(served.answer),
+        Err(failure) => Err(failure),
+    }
+}
+
+fn print_names(alloc: Global, device: Memory, lines: &mut Lines) -> Given {
+    let (device, served) = print_ls(alloc, device, lines, None);
+    (device, answer_in(served))
 }
 
 fn print_rt(alloc: Global, device: Memory, lines: &mut Lines) -> Given {
@@ -104,6 +129,7 @@ impl Command {
     /// Runs the command on a device.
     fn run(self, alloc: Global, device: Memory, lines: &mut Lines) -> Given {
         match self {
+            Command::Ls => print_names(alloc, device, lines),
             Command::Vfy => print_one(alloc, device, lines),
             Command::RtVfy => print_rt(alloc, device, lines),
             Command::RtList => print_areas(alloc, device, lines),
@@ -128,6 +154,17 @@ const REPORT: &[u8] =
 fn a_report_is_written(rt: HostRuntime) -> Result<(), Fail> {
     let device = faulty(rt.alloc())?;
     assert!(rt; Command::Vfy.writes(rt.alloc(), device, Answer::Fault, REPORT));
+    Ok(())
+}
+
+const LISTING: &[u8] =
+    b"[0,0]\nfile 000000.DIR;1 4,4 blocks 1 bytes 80 owner [1,1] prot 160000\nfile CORIMG.SYS;1 5,5 blocks 0 bytes 0 owner [1,1] prot 160000\n";
+
+#[test]
+fn directories_are_listed(rt: HostRuntime) -> Result<(), Fail> {
+    let mut device = volumes::fresh(rt.alloc(), volumes::BLOCKS)?;
+    put_words(&mut device, 21, &[(0, 0), (16, 0), (32, 0)])?;
+    assert!(rt; Command::Ls.writes(rt.alloc(), device, Answer::Done, LISTING));
     Ok(())
 }
 
