@@ -1,5 +1,6 @@
 pub mod Opening
 pub mod AnswerLemmas
+pub mod Bounded
 pub mod Finding
 pub mod WriteLemmas
 pub mod Changing

@@ -1,5 +1,5 @@
 -- What the answer of a call on files tells, whatever the call (profile).
-use Rattle.std.specs.Prelude.{◌≡◌, ◌≢◌, ℕ, ◌≤◌, ◌==◌, ◌&&◌, ◌||◌, Bool, true, false, not, nat_lt, IsTrue}
+use Rattle.std.specs.Prelude.{◌≡◌, ◌≢◌, ℕ, ◌+◌, ◌≤◌, ◌==◌, ◌&&◌, ◌||◌, Bool, true, false, not, nat_lt, IsTrue}
 use Rattle.std.specs.Prelude.{if◌then◌else◌, List, [], Some, None, Result, Ok, Err}
 use Rattle.std.specs.List.{list_any}
 use Rattle.f11_chain.specs.FileHeaders.{file_blocks}
@@ -63,6 +63,10 @@ pub record ReadsAtMost (most : ℕ) (old new : Disk) (faults : ℕ) : Type 0 whe
   pub reads : ℕ
   pub looked : Looked old new reads faults
   pub few : IsTrue old.honest → reads ≤ most
+
+-- At most so many transfers were made, whatever the disk answers.
+abbrev pub MakesAtMost : ℕ → Disk → Disk → Type 0
+MakesAtMost most old new = new.transfers ≤ old.transfers + most
 
 -- Blocks were read and written: no more than so many where the disk is honest. So many transfers failed.
 pub record WritesAtMost (P : Image → Type 0) (most : ℕ) (old new : Disk) (faults : ℕ) : Type 0 where

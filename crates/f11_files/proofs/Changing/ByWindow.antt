@@ -1,5 +1,5 @@
 -- A block of a file that is written by a window.
-use Rattle.std.proofs.Common.{◌≡◌, ◌⊎◌, ◌+◌, ◌-◌, ◌<◌, ◌≤◌, ℕ, Bool, true, false, IsTrue, List, length, inl, inr, refl, ap, subst, arith}
+use Rattle.std.proofs.Common.{◌≡◌, ◌⊎◌, ◌-◌, ◌<◌, ℕ, Bool, true, false, IsTrue, List, length, inl, inr, refl, subst, arith}
 use Rattle.f11_bits.specs.Bitmap.{Bitmap}
 use Rattle.f11_chain.specs.FileHeaders.{file_blocks}
 use Rattle.f11_chain.specs.Windows.{HoldsAt}
@@ -19,17 +19,12 @@ use Rattle.f11_files.specs.Finding.Blocks.{FindsBlock}
 use Rattle.f11_files.specs.Finding.Windows.{FailsToStoreBy, IsOfFile, IsWindowOn, StoresBy}
 use Rattle.f11_files.specs.Structure.{bitmap_in, home_of, ConfinesTo, IsStructureFor, StaysFor}
 use Rattle.f11_files.specs.declared.structure.Structure.{Structure}
+use Rattle.f11_files.proofs.Bounded.{one-failed}
 use Rattle.f11_files.proofs.Changing.Block.{fails-stays, fails-store, stored-order, stored-stays, stores-block, unstored-order}
 use Rattle.f11_files.proofs.Confining.Confines.{confines-none}
 use Rattle.f11_files.proofs.Confining.Parts.{at-in, other-failed, other-wrote}
 use Rattle.f11_files.proofs.Finding.Windows.{finds-in-window, in-place}
 use Rattle.f11_files.proofs.WriteLemmas.{had-failed}
-
--- a transfer that failed is one more
-one-more : (lbn : ℕ) (block : List ℕ) (old new : Disk)
-    → (new ≡ with_transfer false old) ⊎ (new ≡ with_transfer false (with_block_at lbn block old)) → new.transfers ≤ old.transfers + 1
-one-more lbn block old new (inl is) = let same = ap (λ (d : Disk). d.transfers) is in omega (arith, same)
-one-more lbn block old new (inr is) = let same = ap (λ (d : Disk). d.transfers) is in omega (arith, same)
 
 module _ (s : Structure) (w : Window) (vbn lbn : ℕ) (block : List ℕ) (old new : Disk) (for : IsStructureFor s old) (some : 0 < w.first)
     (held : HoldsAt w vbn lbn) (within : lbn < length old.image) where
@@ -70,7 +65,7 @@ module _ (s : Structure) (w : Window) (vbn lbn : ℕ) (block : List ℕ) (old ne
     pub fails-by : FailsToStoreBy false (home_of s) w vbn block DeviceFault old new
     fails-by = record {
       why = record { only = inr refl; volume = λ no. absurd cc };
-      few = one-more lbn block old new is;
+      few = one-failed lbn block old new is;
       of_file = λ f on. fails-store s f vbn lbn block old old for on.id.number (finds f on) new is;
       confined = λ f on. confined f (λ honest.
           other-failed s no_header (blocks f) lbn block old new

@@ -1,5 +1,5 @@
 -- What the calls on windows over a file's blocks do (profile).
-use Rattle.std.specs.Prelude.{◌≡◌, ◌⊎◌, ℕ, ◌+◌, ◌≤◌, Bool, true, false, IsTrue, List, length, None}
+use Rattle.std.specs.Prelude.{◌≡◌, ◌⊎◌, ℕ, Bool, true, false, IsTrue, List, length, None}
 use Rattle.f11_chain.specs.Windows.{HoldsAt, HoldsBlock, IsWindowAt, IsWindowOf, LiesOn}
 use Rattle.f11_chain.specs.declared.windows.Window.{Window}
 use Rattle.f11_dev.specs.Disk.{Disk, with_block_at, with_transfer}
@@ -14,7 +14,7 @@ use Rattle.f11_store.specs.declared.files.FileId.{FileId}
 use Rattle.f11_store.specs.declared.refusals.Refusal.{Refusal}
 use Rattle.f11_store.specs.declared.refusals.Refusal.TheVariants.{DeviceFault, VolumeFailed}
 use Rattle.f11_image_store.specs.StoreOf.{store_of}
-use Rattle.f11_files.specs.Answers.{ReadsAtMost, WritesBlocksOf, faults_of}
+use Rattle.f11_files.specs.Answers.{MakesAtMost, ReadsAtMost, WritesBlocksOf, faults_of}
 use Rattle.f11_files.specs.Finding.Blocks.{FailsToStore, ReadsBlock, StoresBlock}
 use Rattle.f11_files.specs.Open.{IsIdFrom}
 use Rattle.f11_files.specs.Operations.{length_causes}
@@ -70,6 +70,6 @@ pub record StoresBy (home : HomeFields) (w : Window) (vbn : ℕ) (block : List �
 pub record FailsToStoreBy (failed : Bool) (home : HomeFields) (w : Window) (vbn : ℕ) (block : List ℕ) (refusal : Refusal)
     (old new : Disk) : Type 0 where
   pub why : IsOfFailure failed refusal
-  pub few : new.transfers ≤ old.transfers + 1
+  pub few : MakesAtMost 1 old new
   pub of_file : (f : FileId) → IsWindowOn home f w old → FailsToStore failed home f vbn block refusal old new
   pub confined : (f : FileId) → IsWindowOn home f w old → WritesBlocksOf f home old new

@@ -1,6 +1,6 @@
 //! What a file's first header says of it.
 ghost use Rattle.std.specs.Prelude.{◌≡◌, ◌≤◌, false, IfOk, IfErr, OnOk};
-ghost use Rattle.f11_files.specs.Answers.{FailsToRead, is_fatal, is_refused, WritesFirstOf};
+ghost use Rattle.f11_files.specs.Answers.{FailsToRead, is_fatal, is_refused, MakesAtMost, WritesFirstOf};
 ghost use Rattle.f11_files.specs.Calls.{ReadsAttr};
 ghost use Rattle.f11_image_store.specs.Confines.{only_header};
 ghost use Rattle.f11_files.specs.Changing.Fields.{Alters, FailsToAlter};
@@ -48,6 +48,7 @@ impl Structure {
         ensures refused { IfErr result (λ refusal. FailsToRead false
             (file_causes (store_on self.now (D.disk device.old)) f) 1 refusal
             (D.disk device.old) (D.disk device.new)) }
+        ensures bounded { MakesAtMost 1 (D.disk device.old) (D.disk device.new) }
     {
         let mut block = [0; BLOCK_SIZE];
         self.read_first(device, f, &mut block)?;
@@ -75,6 +76,7 @@ impl Structure {
             (D.disk device.new) }
         ensures confined { WritesParts self.now (only_header f.number) (D.disk device.old)
             (D.disk device.new) }
+        ensures bounded { MakesAtMost 2 (D.disk device.old) (D.disk device.new) }
     {
         let mut block = [0; BLOCK_SIZE];
         self.read_first(device, f, &mut block)?;
@@ -101,6 +103,7 @@ impl Structure {
             (D.disk device.new) }
         ensures confined { WritesParts self.now (only_header f.number) (D.disk device.old)
             (D.disk device.new) }
+        ensures bounded { MakesAtMost 2 (D.disk device.old) (D.disk device.new) }
     {
         let mut block = [0; BLOCK_SIZE];
         self.read_first(device, f, &mut block)?;
@@ -130,6 +133,7 @@ impl<D: Device> Files<D> {
             ReadsAttr (home_in self.old) f attr (disk_in self.old) (disk_in self.new)) }
         ensures refused { IfErr result (λ refusal. FailsToRead (has_failed self.old)
             (file_causes (store_in self.old) f) 1 refusal (disk_in self.old) (disk_in self.new)) }
+        ensures bounded { MakesAtMost 1 (disk_in self.old) (disk_in self.new) }
     {
         if self.failed {
             return Err(Refusal::VolumeFailed);
@@ -155,6 +159,7 @@ impl<D: Device> Files<D> {
             (disk_in self.old) (disk_in self.new)) }
         ensures confined { WritesFirstOf f (home_in self.old) (disk_in self.old) (disk_in self.new) }
         ensures ordered { WritesInOrder (disk_in self.old) (disk_in self.new) }
+        ensures bounded { MakesAtMost 2 (disk_in self.old) (disk_in self.new) }
     {
         if self.failed {
             return Err(Refusal::VolumeFailed);
@@ -179,6 +184,7 @@ impl<D: Device> Files<D> {
             with_delete_mark (home_in self.old) f refusal (disk_in self.old) (disk_in self.new)) }
         ensures confined { WritesFirstOf f (home_in self.old) (disk_in self.old) (disk_in self.new) }
         ensures ordered { WritesInOrder (disk_in self.old) (disk_in self.new) }
+        ensures bounded { MakesAtMost 2 (disk_in self.old) (disk_in self.new) }
     {
         if self.failed {
             return Err(Refusal::VolumeFailed);

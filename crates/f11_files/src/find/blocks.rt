@@ -1,6 +1,6 @@
 //! The blocks of a file.
 ghost use Rattle.std.specs.Prelude.{◌≡◌, ◌+◌, ◌<◌, ◌≤◌, false, IfErr, OnOk, OnErr, IsTrue};
-ghost use Rattle.f11_files.specs.Answers.{FailsToRead, is_fatal, is_refused, WritesBlocksOf};
+ghost use Rattle.f11_files.specs.Answers.{FailsToRead, is_fatal, is_refused, MakesAtMost, WritesBlocksOf};
 ghost use Rattle.f11_files.specs.Finding.Blocks.{ReadsBlock, StoresBlock, FailsToStore};
 ghost use Rattle.f11_image_store.specs.Confines.{no_header};
 ghost use Rattle.f11_files.specs.Operations.{length_causes};
@@ -40,6 +40,7 @@ impl Structure {
             (header_count (file_named (store_on self.now (D.disk device.old)) f) + 1) refusal
             (D.disk device.old) (D.disk device.new)) }
         ensures kept { is_refused is_fatal result ≡ false → OnErr result (block.new ≡ block.old) }
+        ensures bounded { MakesAtMost 257 (D.disk device.old) (D.disk device.new) }
     {
         let lbn = self.locate(device, f, vbn)?;
         match device.read(lbn, block) {
@@ -72,6 +73,7 @@ impl Structure {
         ensures confined { IsTrue (D.disk device.old).honest → ConfinesTo self.now no_header
             (file_blocks (table_of (D.disk device.old).image (home_of self.now)) f.number)
             (D.disk device.old) (D.disk device.new) }
+        ensures bounded { MakesAtMost 257 (D.disk device.old) (D.disk device.new) }
     {
         let lbn = self.locate(device, f, vbn)?;
         match device.write(lbn, block) {
@@ -105,6 +107,7 @@ impl<D: Device> Files<D> {
             (header_count (file_named (store_in self.old) f) + 1) refusal
             (disk_in self.old) (disk_in self.new)) }
         ensures kept { is_refused is_fatal result ≡ false → OnErr result (block.new ≡ block.old) }
+        ensures bounded { MakesAtMost 257 (disk_in self.old) (disk_in self.new) }
     {
         if self.failed {
             return Err(Refusal::VolumeFailed);
@@ -130,6 +133,7 @@ impl<D: Device> Files<D> {
             (home_in self.old) f vbn block.now refusal (disk_in self.old) (disk_in self.new)) }
         ensures confined { WritesBlocksOf f (home_in self.old) (disk_in self.old) (disk_in self.new) }
         ensures ordered { WritesInOrder (disk_in self.old) (disk_in self.new) }
+        ensures bounded { MakesAtMost 257 (disk_in self.old) (disk_in self.new) }
     {
         if self.failed {
             return Err(Refusal::VolumeFailed);

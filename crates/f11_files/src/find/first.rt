@@ -1,6 +1,6 @@
 //! A file's first header.
 ghost use Rattle.std.specs.Prelude.{false, OnOk, IfErr};
-ghost use Rattle.f11_files.specs.Answers.{FailsToRead};
+ghost use Rattle.f11_files.specs.Answers.{FailsToRead, MakesAtMost};
 ghost use Rattle.f11_files.specs.Finding.First.{FindsFile, IsFirstHeaderOf, IsOther};
 ghost use Rattle.f11_files.specs.Operations.{file_causes};
 ghost use Rattle.f11_files.specs.Structure.{index_in, store_on, IsStructureFor};
@@ -52,6 +52,7 @@ impl Structure {
         ensures refused { IfErr result (λ refusal. FailsToRead false
             (file_causes (store_on self.now (D.disk device.old)) f) 1 refusal
             (D.disk device.old) (D.disk device.new)) }
+        ensures bounded { MakesAtMost 1 (D.disk device.old) (D.disk device.new) }
     {
         if !self.index.in_use(f.number) {
             return Err(Refusal::NoSuchFile);

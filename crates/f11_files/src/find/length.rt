@@ -1,6 +1,6 @@
 //! How many blocks a file has.
 ghost use Rattle.std.specs.Prelude.{◌≡◌, ◌≤◌, false, IfErr, IfOk};
-ghost use Rattle.f11_files.specs.Answers.{FailsToRead};
+ghost use Rattle.f11_files.specs.Answers.{FailsToRead, MakesAtMost};
 ghost use Rattle.f11_files.specs.Finding.Length.{CountsBlocks};
 ghost use Rattle.f11_files.specs.Operations.{file_causes};
 ghost use Rattle.f11_files.specs.Structure.{home_of, store_on, IsStructureFor};
@@ -31,6 +31,7 @@ impl Structure {
             (file_causes (store_on self.now (D.disk device.old)) f)
             (header_count (file_named (store_on self.now (D.disk device.old)) f)) refusal
             (D.disk device.old) (D.disk device.new)) }
+        ensures bounded { MakesAtMost 256 (D.disk device.old) (D.disk device.new) }
     {
         let mut block = [0; BLOCK_SIZE];
         self.read_first(device, f, &mut block)?;
@@ -60,6 +61,7 @@ impl<D: Device> Files<D> {
             (file_causes (store_in self.old) f)
             (header_count (file_named (store_in self.old) f)) refusal
             (disk_in self.old) (disk_in self.new)) }
+        ensures bounded { MakesAtMost 256 (disk_in self.old) (disk_in self.new) }
     {
         if self.failed {
             return Err(Refusal::VolumeFailed);

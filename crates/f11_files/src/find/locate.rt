@@ -1,6 +1,6 @@
 //! Where a block of a file is.
 ghost use Rattle.std.specs.Prelude.{◌<◌, ◌≤◌, false, IfOk, IfErr};
-ghost use Rattle.f11_files.specs.Answers.{FailsToRead};
+ghost use Rattle.f11_files.specs.Answers.{FailsToRead, MakesAtMost};
 ghost use Rattle.f11_files.specs.Finding.Blocks.{FindsBlock};
 ghost use Rattle.f11_files.specs.Operations.{length_causes};
 ghost use Rattle.f11_files.specs.Structure.{home_of, store_on, IsStructureFor};
@@ -36,6 +36,7 @@ impl Structure {
             (length_causes (store_on self.now (D.disk device.old)) f vbn)
             (header_count (file_named (store_on self.now (D.disk device.old)) f)) refusal
             (D.disk device.old) (D.disk device.new)) }
+        ensures bounded { MakesAtMost 256 (D.disk device.old) (D.disk device.new) }
     {
         let mut block = [0; BLOCK_SIZE];
         self.read_first(device, f, &mut block)?;

@@ -2,7 +2,7 @@
 ghost use Rattle.std.specs.Prelude.{◌≡◌, ◌<◌, ◌≤◌, false, length, IfErr, IfOk, OnOk};
 ghost use Rattle.f11_chain.specs.Windows.{HoldsBlock, LiesOn, ReadsIn};
 ghost use Rattle.f11_writes.specs.Order.{WritesInOrder};
-ghost use Rattle.f11_files.specs.Answers.{FailsToRead, is_fatal, is_refused};
+ghost use Rattle.f11_files.specs.Answers.{FailsToRead, is_fatal, is_refused, MakesAtMost};
 ghost use Rattle.f11_files.specs.Finding.Windows.{FailsToReadBy, FailsToStoreBy, FindsFileWindow, IsOfFile, ReadsBy, StoresBy};
 ghost use Rattle.f11_files.specs.Open.{IsIdFrom};
 ghost use Rattle.f11_files.specs.Operations.{length_causes};
@@ -40,6 +40,7 @@ impl Structure {
             (length_causes (store_on self.now (D.disk device.old)) f vbn)
             (header_count (file_named (store_on self.now (D.disk device.old)) f)) refusal
             (D.disk device.old) (D.disk device.new)) }
+        ensures bounded { MakesAtMost 256 (D.disk device.old) (D.disk device.new) }
     {
         let mut block = [0; BLOCK_SIZE];
         self.read_first(device, f, &mut block)?;
@@ -130,6 +131,7 @@ impl<D: Device> Files<D> {
             (length_causes (store_in self.old) f vbn)
             (header_count (file_named (store_in self.old) f)) refusal
             (disk_in self.old) (disk_in self.new)) }
+        ensures bounded { MakesAtMost 256 (disk_in self.old) (disk_in self.new) }
     {
         if self.failed {
             return Err(Refusal::VolumeFailed);

@@ -1,4 +1,4 @@
-use Rattle.std.proofs.Common.{length, ap}
+use Rattle.std.proofs.Common.{length, ap, arith}
 use Rattle.f11_dev.specs.Image.{Image}
 use Rattle.f11_index.proofs.InUseLemmas.{in_use-slot}
 use Rattle.f11_store.specs.Changes.{with_delete_mark}
@@ -6,6 +6,8 @@ use Rattle.f11_files.specs.Structure.{index_in}
 use Rattle.f11_files.proofs.Changing.Alter.{alters, altered-order, altered-stays, fails-alter, fails-altered, unaltered-order}
 use Rattle.f11_files.proofs.Finding.First.{place-within}
 use Rattle.f11_files.proofs.Confining.Parts.{first-failed, first-wrote}
+use Rattle.f11_dev.specs.Disk.{Disk}
+use Rattle.f11_files.proofs.Bounded.{one-failed}
 use Rattle.f11_files.proofs.structure.Structure.mark.Goals as goal
 
 pub lbn_of_header-requires-clause-slot : goal.lbn_of_header-requires-clause-slot
@@ -53,3 +55,15 @@ returns-in-Err-clause-confined g c =
     first-failed c.args.self.now c.args.f _ _ _ _ _ _ c.in_ok-read_first.ensures.found c.lbn_of_header.ensures c.in-Err.ensures.writes.err
     (unaltered-order c.args.self.now c.args.f with_delete_mark _ _ _ _ _ c.requires.is_for c.requires.own c.in_ok-read_first.ensures.found
     c.set_mark.ensures c.lbn_of_header.ensures _ c.in-Err.ensures.writes.err)
+
+pub returns-in-Ok-clause-bounded : goal.returns-in-Ok-clause-bounded
+returns-in-Ok-clause-bounded g c =
+    let first = c.in_ok-read_first.ensures.bounded in
+    let then = ap (λ (d : Disk). d.transfers) c.in-Ok.ensures.writes.ok in
+    omega (arith, first, then)
+
+pub returns-in-Err-clause-bounded : goal.returns-in-Err-clause-bounded
+returns-in-Err-clause-bounded g c =
+    let first = c.in_ok-read_first.ensures.bounded in
+    let then = one-failed _ _ (g.D.Device.disk c.read_first.new.device) _ c.in-Err.ensures.writes.err in
+    omega (arith, first, then)

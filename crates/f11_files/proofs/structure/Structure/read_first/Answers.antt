@@ -1,5 +1,6 @@
-use Rattle.std.proofs.Common.{refl, sym, ◌∙◌, arith}
+use Rattle.std.proofs.Common.{refl, sym, ap, ◌∙◌, arith}
 use Rattle.std.proofs.lemmas.Result.{on_ok_weaker, IfErr-weaker}
+use Rattle.f11_dev.specs.Disk.{Disk}
 use Rattle.f11_dev.proofs.LookedLemmas.{looked_none, looked_failed_read, looked_within}
 use Rattle.f11_index.proofs.InUseLemmas.{in_use-some, in_use-slot, header-within}
 use Rattle.f11_files.specs.Structure.{index_in}
@@ -51,3 +52,11 @@ returns-in-Ok-clause-refused g c =
 pub returns-in-Err-clause-refused : goal.returns-in-Err-clause-refused
 returns-in-Err-clause-refused g c =
     record { right = right-fault _ _; reads = reads-looked (looked_failed_read _ _ c.in-Err.ensures.reads.counts) }
+
+pub returns-in-Ok-clause-bounded : goal.returns-in-Ok-clause-bounded
+returns-in-Ok-clause-bounded g c =
+    let once = ap (λ (d : Disk). d.transfers) c.in-Ok.ensures.reads.counts in omega (arith, once)
+
+pub returns-in-Err-clause-bounded : goal.returns-in-Err-clause-bounded
+returns-in-Err-clause-bounded g c =
+    let once = ap (λ (d : Disk). d.transfers) c.in-Err.ensures.reads.counts in omega (arith, once)

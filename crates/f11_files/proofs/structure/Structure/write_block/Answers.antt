@@ -1,10 +1,14 @@
+use Rattle.f11_files.proofs.AnswerLemmas.{handed}
+use Rattle.f11_files.proofs.WriteLemmas.{fails-unread}
 use Rattle.f11_files.proofs.Changing.Block.{stores-block, stored-order, stored-stays, fails-store, fails-stays, unstored-order}
-use Rattle.std.proofs.Common.{◌-◌}
+use Rattle.std.proofs.Common.{◌-◌, ap, arith}
 use Rattle.f11_chain.specs.FileHeaders.{file_blocks}
 use Rattle.f11_index.specs.Table.{table_of}
 use Rattle.f11_files.specs.Structure.{home_of}
 use Rattle.f11_files.proofs.Confining.Parts.{at-in, other-failed, other-wrote, parts-looked, stands-same, stands-within, to-parts, to-then}
 use Rattle.f11_image_store.specs.Confines.{no_header}
+use Rattle.f11_dev.specs.Disk.{Disk}
+use Rattle.f11_files.proofs.Bounded.{one-failed}
 use Rattle.f11_files.proofs.structure.Structure.write_block.Goals as goal
 
 pub returns-in-Ok-clause-stored : goal.returns-in-Ok-clause-stored
@@ -48,3 +52,19 @@ returns-in-Err-clause-confined g c = λ honest.
     (other-failed s no_header blocks c.in_ok-lbn.lbn _ _ _ (at-in blocks (c.args.vbn - 1) c.in_ok-lbn.lbn (found.block_is honest))
     c.in-Err.ensures.writes.err
     (unstored-order s c.args.f c.args.vbn _ _ _ _ c.requires.is_for c.requires.own found _ c.in-Err.ensures.writes.err))
+
+pub returns-in-Ok-clause-bounded : goal.returns-in-Ok-clause-bounded
+returns-in-Ok-clause-bounded g c =
+    let first = c.in_ok-lbn.ensures.bounded in
+    let then = ap (λ (d : Disk). d.transfers) c.in-Ok.ensures.writes.ok in
+    omega (arith, first, then)
+
+pub returns-in-Err-clause-bounded : goal.returns-in-Err-clause-bounded
+returns-in-Err-clause-bounded g c =
+    let first = c.in_ok-lbn.ensures.bounded in
+    let then = one-failed _ _ (g.D.Device.disk c.locate.new.device) _ c.in-Err.ensures.writes.err in
+    omega (arith, first, then)
+
+pub returns-in_err-lbn-clause-refused : goal.returns-in_err-lbn-clause-refused
+returns-in_err-lbn-clause-refused g c =
+    handed _ c.from_residual.result _ c.from_residual.ensures.1 (fails-unread (omega arith) c.in_err-lbn.ensures.refused)
