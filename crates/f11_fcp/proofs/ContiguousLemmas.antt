@@ -218,7 +218,7 @@ module _ (task lun : ℕ) (caller : Uic) (old : State) (e : Entry) (held : old.t
       laid-in-run answer does =
           lies-in-run task caller lun n old new mid reads.looked.image home answer e.file.number
           (ap (λ (id : FileId). id.number) (sym (held-id task lun caller old e held)))
-          (λ honest. does.allots (reads.looked.honest ∙ honest))
+          (λ honest. (does.allots (reads.looked.honest ∙ honest)).allots)
 
       -- or there was none, or it was refused otherwise
       pub not-in-run : {failed : Bool} (er res : Refusal) → FailsToLayOut failed mid.home e.file n er mid.disk new.disk

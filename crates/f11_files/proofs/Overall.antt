@@ -17,7 +17,7 @@ use Rattle.f11_store.proofs.SlotsFirst.{free-stays, named-stays, new-file-stays}
 use Rattle.f11_volume.specs.Volume.{Volume}
 use Rattle.f11_image_store.specs.Allocation.{GainsBlocks}
 use Rattle.f11_image_store.specs.StoreOf.{store_of}
-use Rattle.f11_files.specs.Answers.{Does}
+use Rattle.f11_files.specs.Answers.{Does, KeepsUnused}
 use Rattle.f11_files.specs.Extending.Runs.{headers_for}
 use Rattle.f11_files.specs.Operations.{extend_causes}
 use Rattle.f11_files.specs.Overall.{AllotsAfter, CreatesIs, ExtendsIs}
@@ -71,7 +71,7 @@ extends-is home f n old new other extends =
     (subst (λ (i : Image). Does (extend_causes s f n) (with_headers_first (store_of i home) headers work)
     (slots_cost (store_of i home) headers + few)
     (λ t. AfterSlots (store_of i home) headers (λ (x : Store). Extends x f.number n t))
-    (AllotsAfter (slots_first (store_of i home) headers) (GainsBlocks f.number n)) home extends.read new) same
+    (KeepsUnused (AllotsAfter (slots_first (store_of i home) headers) (GainsBlocks f.number n))) home extends.read new) same
     (does-ready extends.readies work (extend_work f.number (file_named ready f).room n)
     (λ honest. ap (λ (g : File). extend_work f.number g.room n) (named honest))
     (extend_respectful f.number n) (extend_causes s f n) few {Rel = λ x t. Extends x f.number n t}

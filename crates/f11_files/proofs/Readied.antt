@@ -21,7 +21,7 @@ use Rattle.f11_store.proofs.ProgressLaws.{more_work_lags}
 use Rattle.f11_store.proofs.SlotsFirst.{gained-is-ready, ready-lags}
 use Rattle.f11_volume.specs.Volume.{volume_of, Volume}
 use Rattle.f11_image_store.specs.StoreOf.{store_of}
-use Rattle.f11_files.specs.Answers.{faults_of, is_fatal, Does, FailsOrWants, IsUnderWay, Meanwhile, WritesAtMost}
+use Rattle.f11_files.specs.Answers.{faults_of, is_fatal, Does, FailsOrWants, IsUnderWay, KeepsUnused, Meanwhile, WritesAtMost}
 use Rattle.f11_files.specs.GrowingIndex.Headroom.{ready_work, ConfinesSlots, ReadiesHeaders, WritesAfterSlots}
 use Rattle.f11_files.specs.Overall.{AllotsAfter}
 use Rattle.f11_files.proofs.AnswerLemmas.{reads-within}
@@ -29,6 +29,7 @@ use Rattle.f11_writes.specs.Order.{WritesInOrder}
 use Rattle.f11_writes.proofs.InOrderLemmas.{order-then}
 use Rattle.f11_files.proofs.Confining.Confines.{confines-none, in-order-if}
 use Rattle.f11_files.proofs.Extending.Cleared.{fatal-right}
+use Rattle.f11_files.proofs.GrowingIndex.ZeroSlots.{unused-after}
 use Rattle.f11_files.proofs.WriteLemmas.{as-wanting, breaks-off, writes-within}
 
 -- while the slots that come first are added, the whole is under way
@@ -124,10 +125,11 @@ module _ {home : HomeFields} {headers n : ℕ} {a b : Disk} (readies : ReadiesHe
     pub does-ready :
         (causes : List Cause) {others : List Cause} {k : ℕ} (few : ℕ) {Rel : Store → Store → Type 0} {Allots : Volume → Volume → Type 0}
         {c : Disk} →
-        (IsTrue a.honest → first_of causes ≡ None) → (IsTrue a.honest → k ≤ few) → Does others rest k (Rel ready) Allots home b c →
+        (IsTrue a.honest → first_of causes ≡ None) → (IsTrue a.honest → k ≤ few)
+        → Does others rest k (Rel ready) (KeepsUnused Allots) home b c →
         Does causes (with_headers_first s headers work) (slots_cost s headers + few) (λ t. AfterSlots s headers (λ (x : Store). Rel x t))
-        (AllotsAfter (slots_first s headers) Allots) home a c
-    does-ready causes few none within does = record {
+        (KeepsUnused (AllotsAfter (slots_first s headers) Allots)) home a c
+    does-ready causes few {Allots = Allots} {c = c} none within does = record {
       no_cause = none;
       makes = λ honest. record {
         ready = ready;
@@ -135,11 +137,9 @@ module _ {home : HomeFields} {headers n : ℕ} {a b : Disk} (readies : ReadiesHe
         enough = readies.enough honest;
         makes = does.makes (honest-ready ∙ honest);
       };
-      allots = λ honest. record {
-        ready = volume_of b.image home;
-        slots = readies.does.allots honest;
-        rest = does.allots (honest-ready ∙ honest);
-      };
+      allots = λ honest.
+          unused-after (slots_first s headers) Allots (volume_of a.image home) (volume_of b.image home) (volume_of c.image home)
+          (readies.does.allots honest) (does.allots (honest-ready ∙ honest));
       writes = writes-ready few moment-then within does.writes;
     }
 

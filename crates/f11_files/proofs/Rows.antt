@@ -248,7 +248,7 @@ created-rows home owner protection ident attr f old new sound sound' honest crea
     (λ g file. ap (λ (x : Store). held_of (x.file g)) (does.makes honest')
     ∙ held-other s (least_free s) g _
     (not-least (free_slots s) g (none_first _ _ _ (does.no_cause honest')) (used-none s 1 g file.live.in_use)))
-    (does.allots honest'))
+    (does.allots honest').allots)
 
 pub extended-rows : ExtendedKeepsRows
 extended-rows home f n old new sound sound' honest extends =
@@ -261,7 +261,8 @@ extended-rows home f n old new sound sound' honest extends =
     (readied-rows home (headers_for home f n old) n extends.read extends.ready
     (subst (λ (i : Image). HasSoundVolume i home) (sym read) sound) honest' extends.readies))
     (rows-gain home extends.ready.image new.image (extends.readies.sound honest') sound' f.number n _
-    (held-grown (store_of extends.ready.image home) (store_of new.image home) f.number n _ (does.makes honest'')) (does.allots honest''))
+    (held-grown (store_of extends.ready.image home) (store_of new.image home) f.number n _ (does.makes honest''))
+    (does.allots honest'').allots)
 
 pub laid-rows : LaidOutKeepsRows
 unfolding volume_of
@@ -269,7 +270,7 @@ laid-rows home f n old new sound sound' honest does =
     let made = does.makes honest in
     rows-more home old.image new.image sound sound' f.number _ _
     (λ g away. ap (λ (s : Store). held_of (s.file g)) made.store_is ∙ held-other (store_of old.image home) f.number g _ away)
-    (does.allots honest).names
+    (does.allots honest).allots.names
 
 pub grown-rows : GrownKeepsRows
 grown-rows home n old new sound sound' honest does =

@@ -24,7 +24,7 @@ use Rattle.f11_store.specs.declared.refusals.Refusal.TheVariants.{VolumeFailed, 
 use Rattle.f11_volume.specs.Sound.{HasSoundVolume}
 use Rattle.f11_volume.specs.Space.{storage_bitmap}
 use Rattle.f11_volume.specs.Volume.{Volume, volume_of}
-use Rattle.f11_image_store.specs.Allocation.{free_list}
+use Rattle.f11_image_store.specs.Allocation.{free_list, AddsZeroSlots}
 use Rattle.f11_image_store.specs.Confines.{no_header, only_header, new_header, either}
 use Rattle.f11_image_store.specs.StoreOf.{store_of}
 use Rattle.f11_files.specs.Confined.{ConfinesInOrder}
@@ -102,6 +102,11 @@ pub record IsUnderWay (work : Work) (home : HomeFields) (old image : Image) : Ty
 -- that of an honest disk
 abbrev pub Meanwhile : Work → HomeFields → Disk → Image → Type 0
 Meanwhile work home old image = IsTrue old.honest → IsUnderWay work home old.image image
+
+-- Which blocks are named and free is as `Allots` says; a slot that isn't in use holds what it held, or zeros where it came.
+pub record KeepsUnused (Allots : Volume → Volume → Type 0) (old new : Volume) : Type 0 where
+  pub allots : Allots old new
+  pub slots : AddsZeroSlots old.table new.table
 
 -- A call that writes was served: there was no cause against it; the store after it is as `Makes` says, and which blocks are named
 -- and free is as `Allots` says.

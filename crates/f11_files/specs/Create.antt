@@ -12,7 +12,7 @@ use Rattle.f11_store.specs.declared.callers.Uic.{Uic}
 use Rattle.f11_store.specs.declared.files.FileId.{FileId}
 use Rattle.f11_store.specs.declared.refusals.Refusal.{Refusal}
 use Rattle.f11_image_store.specs.Allocation.{KeepsBlocks}
-use Rattle.f11_files.specs.Answers.{Does, FailsOrWants, FailsToWrite}
+use Rattle.f11_files.specs.Answers.{Does, FailsOrWants, FailsToWrite, KeepsUnused}
 use Rattle.f11_files.specs.GrowingIndex.Headroom.{ReadiesHeaders}
 use Rattle.f11_files.specs.Operations.{slot_causes}
 use Rattle.f11_image_store.specs.StoreOf.{store_of}
@@ -21,8 +21,7 @@ use Rattle.f11_image_store.specs.StoreOf.{store_of}
 pub record EntersFile (home : HomeFields) (owner : Uic) (protection : ℕ) (ident attr : List ℕ) (f : FileId) (old new : Disk) : Type 0 where
   pub does : let s = store_of old.image home in
       Does (slot_causes s) (new_file_work s owner protection ident attr) 3 (λ t. t ≡ after_create s owner protection ident attr)
-      KeepsBlocks home
-      old new
+      (KeepsUnused KeepsBlocks) home old new
   pub id : IsTrue old.honest → f ≡ next_id (store_of old.image home)
 
 -- It was not.

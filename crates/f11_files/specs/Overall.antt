@@ -14,7 +14,7 @@ use Rattle.f11_store.specs.declared.files.FileId.{FileId}
 use Rattle.f11_volume.specs.Volume.{Volume}
 use Rattle.f11_image_store.specs.Allocation.{GainsBlocks, KeepsBlocks}
 use Rattle.f11_image_store.specs.StoreOf.{store_of}
-use Rattle.f11_files.specs.Answers.{Does}
+use Rattle.f11_files.specs.Answers.{Does, KeepsUnused}
 use Rattle.f11_files.specs.Create.{Creates}
 use Rattle.f11_files.specs.Extending.Runs.{headers_for, ExtendsFile}
 use Rattle.f11_files.specs.GrowingIndex.Headroom.{AllotsSlots}
@@ -31,7 +31,7 @@ pub record CreatesOverall (home : HomeFields) (owner : Uic) (protection : ℕ) (
     (old new : Disk) : Type 0 where
   pub does : let s = store_of old.image home in
       Does (create_causes s) (make_work s owner protection ident attr) (slots_cost s 1 + 3) (MakesFile s owner protection ident attr)
-      (AllotsAfter (slots_first s 1) KeepsBlocks) home old new
+      (KeepsUnused (AllotsAfter (slots_first s 1) KeepsBlocks)) home old new
   pub id : IsTrue old.honest → f ≡ next_id (with_slots_first (store_of old.image home) 1)
 
 abbrev pub CreatesIs : Type 0
@@ -44,7 +44,7 @@ abbrev pub ExtendsOverall : HomeFields → FileId → ℕ → Disk → Disk → 
 ExtendsOverall home f n old new =
     let s = store_of old.image home in
     Does (extend_causes s f n) (lengthen_work s f n) (lengthen_cost s (file_named s f) n - 1) (Lengthens s f n)
-    (AllotsAfter (slots_first s (headers_for home f n old)) (GainsBlocks f.number n)) home old new
+    (KeepsUnused (AllotsAfter (slots_first s (headers_for home f n old)) (GainsBlocks f.number n))) home old new
 
 abbrev pub ExtendsIs : Type 0
 ExtendsIs =

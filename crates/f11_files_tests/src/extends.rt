@@ -1,6 +1,6 @@
 //! Files of a Files-11 volume that are extended.
 ghost use Rattle.std.specs.Prelude.{◌≡◌, ◌<◌, ◌+◌, OnOk};
-ghost use Rattle.f11_image_store.specs.Allocation.{GainsBlocks};
+ghost use Rattle.f11_image_store.specs.Allocation.{AddsZeroSlots, GainsBlocks};
 ghost use Rattle.f11_files.specs.Open.{disk_in, home_in, is_honest, store_in, IsIdFrom};
 ghost use Rattle.f11_volume.specs.Volume.{volume_of};
 
@@ -22,7 +22,7 @@ const B: Id = (7, 1);
 const AFTER: Id = (6, 2);
 
 /// Extends a file, and then once more. Where the index file gets no slot first, it has the lowest free blocks then, as if it had been
-/// extended at once.
+/// extended at once; in any case each slot that isn't in use then holds what it held, or zeros where it came.
 fn extended_twice<D: Device>(
     files: &mut Files<D>,
     f: FileId,
@@ -35,6 +35,9 @@ fn extended_twice<D: Device>(
         → OnOk result (GainsBlocks f.number (n + more)
         (volume_of (disk_in files.old).image (home_in files.old))
         (volume_of (disk_in files.new).image (home_in files.new))) }
+    ensures unused { is_honest files.old → OnOk result (AddsZeroSlots
+        (volume_of (disk_in files.old).image (home_in files.old)).table
+        (volume_of (disk_in files.new).image (home_in files.new)).table) }
 {
     files.extend(f, n)?;
     files.extend(f, more)

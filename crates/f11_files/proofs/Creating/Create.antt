@@ -19,6 +19,8 @@ use Rattle.f11_home.specs.Home.{HomeFields}
 use Rattle.f11_index.specs.Calls.{SetsBit, HasBitWritten, WritesBit, FailsToWriteBit, bitmap_place, bitmap_block, with_bitmap_block}
 use Rattle.f11_index.specs.IndexFile.{Index, index_of, header_lbn, free_slots_in as free_in_index}
 use Rattle.f11_index.specs.Slots.{IsLeastFree}
+use Rattle.f11_index.specs.Table.{table_of}
+use Rattle.f11_index.proofs.BitLemmas.{SetsBit-in_use}
 use Rattle.f11_store.specs.Causes.{first_of}
 use Rattle.f11_store.specs.Changes.{next_sequence}
 use Rattle.f11_store.specs.Lags.{Work, LagsBy, new_file_work}
@@ -31,13 +33,13 @@ use Rattle.f11_store.proofs.LagLaws.{taken_lags, created_lags}
 use Rattle.f11_volume.specs.Sound.{HasSoundVolume}
 use Rattle.f11_volume.specs.Space.{storage_bitmap}
 use Rattle.f11_volume.specs.Volume.{volume_of}
-use Rattle.f11_image_store.specs.Allocation.{KeepsBlocks}
+use Rattle.f11_image_store.specs.Allocation.{AddsZeroSlots, KeepsBlocks}
 use Rattle.f11_bytes.specs.Block.{zero_block}
 use Rattle.f11_map.specs.HeaderBlock.{blocks_named}
 use Rattle.f11_image_store.proofs.NewFileLemmas.{names-none, valid, free-stored, least-stored, writes-first, enters-file, entered-keeps}
 use Rattle.f11_writes.specs.Order.{WritesInOrder}
 use Rattle.f11_files.proofs.Confining.InOrder.{entered-order, unwritten-order, written-order}
-use Rattle.f11_files.specs.Answers.{Meanwhile, IsUnderWay}
+use Rattle.f11_files.specs.Answers.{Meanwhile, IsUnderWay, KeepsUnused}
 use Rattle.f11_files.specs.Create.{EntersFile, FailsToEnter}
 use Rattle.f11_image_store.specs.NewFileLaws.{IsNewFirst, WritesNewFirst, EntersNewFile}
 use Rattle.f11_files.specs.Operations.{slot_causes}
@@ -48,6 +50,7 @@ use Rattle.f11_files.specs.declared.structure.Structure.{Structure}
 use Rattle.f11_files.proofs.Changing.Alter.{keeps-header}
 use Rattle.f11_files.proofs.AnswerLemmas.{right-fault, reads-looked}
 use Rattle.f11_files.proofs.Creating.FreeSlot.{IsReadAt, read-at}
+use Rattle.f11_files.proofs.GrowingIndex.ZeroSlots.{with-unused, zero-entered}
 use Rattle.f11_files.proofs.WriteLemmas.{keeps-storage, breaks-off, failed-stays, sound-went, writes-behind, writes-within}
 
 -- a slot that was given its next sequence number
@@ -163,6 +166,17 @@ module _ (s : Structure) (owner : Uic) (protection : ℕ) (ident attr : List ℕ
         (entered-keeps id owner protection ident attr empty block new old.image home (for.sound honest)
         (slot honest).least.high (slot honest).least.unused after at-home)
 
+    -- no other slot changed
+    slots-kept : (after : Index) → IsTrue old.honest → SetsBit true n (index_in s) after
+        → AddsZeroSlots (table_of old.image home) (table_of (with_bitmap_block first after n) home)
+    slots-kept after honest bit =
+        let at-home : SetsBit true n (index_of old.image home) after = subst (λ (x : Index). SetsBit true n x after)
+        (for.keeps honest).index_is bit in
+        let made = (entered after honest bit).bit in
+        zero-entered n block after home old.image first (with_bitmap_block first after n) (wrote honest).header made
+        ((λ i. (made.index_file.table i).in_use n)
+        ∙ SetsBit-in_use true n (index_of old.image home) after (omega (arith, least.low)) (slot honest).least.high at-home)
+
     pub second-moment : (image : Image) → HasBitWritten true n (index_in s) first image → P image
     second-moment image has honest =
         let here = entered has.written honest has.bit in
@@ -242,8 +256,10 @@ module _ (s : Structure) (owner : Uic) (protection : ℕ) (ident attr : List ℕ
             makes = λ honest. ap (λ (i : Image). store_of i home) (image-two after new wrote_bit)
                 ∙ (entered after honest wrote_bit.bit).store;
             allots = λ honest.
-                subst (λ (i : Image). KeepsBlocks (volume_of old.image home) (volume_of i home)) (sym (image-two after new wrote_bit))
-                (kept after honest wrote_bit.bit);
+                subst (λ (i : Image). KeepsUnused KeepsBlocks (volume_of old.image home) (volume_of i home))
+                (sym (image-two after new wrote_bit))
+                (with-unused KeepsBlocks home old.image (with_bitmap_block first after n) (kept after honest wrote_bit.bit)
+                (slots-kept after honest wrote_bit.bit));
             writes = writes-behind (reads-looked (looked_read old mid counts)) (behind new 0 wrote_bit.went);
           };
           id = λ honest.

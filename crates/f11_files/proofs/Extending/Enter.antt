@@ -416,7 +416,9 @@ module _ (s : Structure) (tail : Tail) (lbn count : ℕ) (old : Disk) (for : IsS
                   adds-fileless tail.file.number tail.number n (ownership_of tail) block (index_kept after) home old.image first done.image
                   (last.is_last honest)
                   (slot honest).unused says-only (made honest);
-              slots = λ honest. zero-entered n block (index_kept after) home old.image first done.image (made honest);
+              slots =
+                  λ honest. zero-entered n block (index_kept after) home old.image first done.image (made honest).header (made honest).bit
+                  (made honest).live.in_use;
               slot = λ honest. sym (least-stored old.image home n (slot honest).least);
               store = λ honest. ap (λ (i : Image). store_of i home) image-two ∙ store-second (index_kept after) honest bit.bit;
               writes = writes;

@@ -31,7 +31,9 @@ use Rattle.std.proofs.lemmas.Bool.{false≢true}
 use Rattle.f11_store.proofs.GrowsLemmas.{grows-as-extends}
 use Rattle.f11_files.proofs.Extending.Written.{are-none}
 use Rattle.f11_files.proofs.Extending.ClearAndGrow.{HasRoomFor, breaks-clearing, breaks-growing, gains-all, has-grown, may-grow}
-use Rattle.f11_files.proofs.Extending.ClearAndGrow.{writes-grown}
+use Rattle.f11_files.proofs.Extending.ClearAndGrow.{writes-grown, zeros-all}
+use Rattle.f11_files.proofs.GrowingIndex.ZeroSlots.{with-unused}
+use Rattle.f11_image_store.specs.Allocation.{GainsBlocks}
 use Rattle.f11_files.specs.declared.extend.tail.Tail.{Tail}
 
 module _ (s : Structure) (f : FileId) (n : ℕ) (end : FileEnd) (was last : List ℕ) (old : Disk) (for : IsStructureFor s old)
@@ -102,6 +104,9 @@ module _ (s : Structure) (f : FileId) (n : ℕ) (end : FileEnd) (was last : List
       makes = λ honest.
           (grows-as-extends st (store_of new.image home) k n (λ is. omega (arith, own, is))
           (has-grown s f n end was last old for room.ends named has block cleared clears tail of new grows honest)).0;
-      allots = gains-all s f n end was last old for room.ends named has block cleared clears tail of new grows;
+      allots = λ honest.
+          with-unused (GainsBlocks k n) home old.image new.image
+          (gains-all s f n end was last old for room.ends named has block cleared clears tail of new grows honest)
+          (zeros-all s f n end was last old for room.ends named has block cleared clears tail of new grows honest);
       writes = as-extend (writes-grown s f n end was last old for room.ends named has block cleared clears tail of new grows);
     }

@@ -42,7 +42,7 @@ use Rattle.f11_volume.proofs.FileLemmas.{image-files}
 use Rattle.f11_image_store.specs.FileLaws.{room_in}
 use Rattle.f11_image_store.specs.StoreOf.{store_of}
 use Rattle.f11_image_store.proofs.KeptBlocksLemmas.{held-stored, is-stored}
-use Rattle.f11_files.specs.Answers.{Does, FailsOrWants, FailsToRead, FailsToWrite, IsRight, IsUnderWay, Meanwhile, ReadsAtMost}
+use Rattle.f11_files.specs.Answers.{Does, FailsOrWants, FailsToRead, FailsToWrite, IsRight, IsUnderWay, KeepsUnused, Meanwhile, ReadsAtMost}
 use Rattle.f11_files.specs.Answers.{WritesAtMost, faults_of, is_among, is_fatal}
 use Rattle.f11_files.specs.Extending.Again.{IsEndOf}
 use Rattle.f11_files.specs.Extending.Room.{FindsFileEnd, HoldsEnd, HoldsRoom}
@@ -382,8 +382,8 @@ module _ (s : Structure) (f : FileId) (n : ℕ) (end : FileEnd) (was last : List
           readies = readies;
           extends = does-within two-more (does-read again home
               (subst (λ (x : Store). Does (held_causes x f n) (extend_work f.number (file_named x f).room n)
-              (growth_cost x (file_named x f) n - 1 - header_count (file_named x f) - 2) (Extends x f.number n) (GainsBlocks f.number n)
-              home d new) store-again extends));
+              (growth_cost x (file_named x f) n - 1 - header_count (file_named x f) - 2) (Extends x f.number n)
+              (KeepsUnused (GainsBlocks f.number n)) home d new) store-again extends));
         }
           where
             two-more : 2 + (growth_cost now (file_named now f) n - 1 - header_count (file_named now f) - 2) ≤ growth_cost now

@@ -1,14 +1,17 @@
 -- Slots that come as blocks of zeros, and slots that aren't in use, which keep what they hold.
-use Rattle.std.proofs.Common.{◌≡◌, ◌≢◌, ◌+◌, ◌<◌, ◌≤◌, ℕ, true, false, List, inl, inr, refl, sym, ap, ◌∙◌, arith}
+use Rattle.std.proofs.Common.{◌≡◌, ◌≢◌, ◌+◌, ◌<◌, ◌≤◌, ℕ, zero, suc, true, false, List, inl, inr, refl, sym, ap, subst, ◌∙◌, arith}
 use Rattle.std.proofs.lemmas.Bool.{both_ways, cases_lt}
 use Rattle.f11_bytes.specs.Block.{zero_block}
 use Rattle.f11_dev.specs.Image.{Image}
 use Rattle.f11_home.specs.Home.{HomeFields}
 use Rattle.f11_index.specs.IndexFile.{Index, slots}
 use Rattle.f11_index.specs.Table.{Table, table_in, table_of}
-use Rattle.f11_writes.specs.Kept.{WritesHeader, WritesGrowth}
+use Rattle.f11_writes.specs.Kept.{WritesHeader, WritesGrowth, WritesSlotBit}
 use Rattle.f11_image_store.specs.Allocation.{AddsZeroSlots}
-use Rattle.f11_image_store.specs.ExtensionLaws.{EntersExtension}
+use Rattle.f11_volume.specs.Volume.{Volume, volume_of}
+use Rattle.f11_files.specs.Answers.{KeepsUnused}
+use Rattle.f11_files.specs.GrowingIndex.Headroom.{AllotsSlots}
+use Rattle.f11_files.specs.Overall.{AllotsAfter}
 
 pub zero-same : (t : Table) → AddsZeroSlots t t
 zero-same t = record {
@@ -52,21 +55,21 @@ zero-header old new home n block wrote used =
 
 -- a header was written and entered
 pub zero-entered : (n : ℕ) (block : List ℕ) (after : Index) (home : HomeFields) (old first second : Image)
-    → EntersExtension n block after home old first second
+    → WritesHeader n block home old first → WritesSlotBit n after home first second → (table_of second home).in_use n ≡ true
     → AddsZeroSlots (table_of old home) (table_of second home)
 unfolding table_in
-zero-entered n block after home old first second enters =
+zero-entered n block after home old first second header bit used =
     let t : Table = table_of old home in
     let u : Table = table_of second home in
-    let same : u.slots ≡ t.slots = ap (λ (x : Table). x.slots) enters.bit.index_file.table ∙ ap slots enters.header.index_file.index in
-    let away : (m : ℕ) → u.in_use m ≡ false → m ≢ n = λ m unused here. both_ways _ unused (ap u.in_use here ∙ enters.live.in_use) in
+    let same : u.slots ≡ t.slots = ap (λ (x : Table). x.slots) bit.index_file.table ∙ ap slots header.index_file.index in
+    let away : (m : ℕ) → u.in_use m ≡ false → m ≢ n = λ m unused here. both_ways _ unused (ap u.in_use here ∙ used) in
     record {
       no_fewer = omega (arith, same);
       zeros = λ m past within. absurd (omega (arith, past, within, same));
       unused = λ m some within unused.
-          sym (enters.header.slot.others.in_use m (away m unused)) ∙ sym (enters.bit.slot.others.in_use m (away m unused)) ∙ unused;
+          sym (header.slot.others.in_use m (away m unused)) ∙ sym (bit.slot.others.in_use m (away m unused)) ∙ unused;
       held = λ m some within unused.
-          ap (λ (x : Table). x.header m) enters.bit.index_file.table ∙ enters.header.index_file.others m some within (away m unused);
+          ap (λ (x : Table). x.header m) bit.index_file.table ∙ header.index_file.others m some within (away m unused);
     }
 
 -- blocks of zeros became slots
@@ -83,4 +86,23 @@ zero-grown old new home n block lbn count wrote used more zeros = record {
   held = λ m some within unused.
       wrote.index_file.others m some within
       (λ here. both_ways _ unused (wrote.index_file.in_use m within ∙ ap (table_of old home).in_use here ∙ used));
+}
+
+-- beside which blocks are named and free
+pub with-unused : (Allots : Volume → Volume → Type 0) (home : HomeFields) (old new : Image)
+    → Allots (volume_of old home) (volume_of new home)
+    → AddsZeroSlots (table_of old home) (table_of new home) → KeepsUnused Allots (volume_of old home) (volume_of new home)
+unfolding volume_of
+with-unused Allots home old new allots keeps = record { allots = allots; slots = keeps }
+
+-- where slots come first
+first-slots : (n : ℕ) (old new : Volume) → AllotsSlots n old new → AddsZeroSlots old.table new.table
+first-slots zero old new same = subst (λ (v : Volume). AddsZeroSlots old.table v.table) (sym same) (zero-same old.table)
+first-slots (suc n) old new gains = gains.slots
+
+pub unused-after : (n : ℕ) (Rest : Volume → Volume → Type 0) (old ready new : Volume) → AllotsSlots n old ready → KeepsUnused Rest ready new
+    → KeepsUnused (AllotsAfter n Rest) old new
+unused-after n Rest old ready new slots rest = record {
+  allots = record { ready = ready; slots = slots; rest = rest.allots };
+  slots = zero-then old.table ready.table new.table (first-slots n old ready slots) rest.slots;
 }

@@ -36,7 +36,7 @@ use Rattle.f11_volume.specs.Space.{storage_bitmap}
 use Rattle.f11_volume.specs.Volume.{volume_of}
 use Rattle.f11_writes.specs.NameLaws.{AreUnreferenced}
 use Rattle.f11_writes.proofs.NameLemmas.{part-unreferenced}
-use Rattle.f11_image_store.specs.Allocation.{NamesMore}
+use Rattle.f11_image_store.specs.Allocation.{AddsZeroSlots, NamesMore}
 use Rattle.f11_image_store.specs.FileLaws.{room_in}
 use Rattle.f11_image_store.specs.StoreOf.{as_seen, store_of}
 use Rattle.f11_image_store.proofs.AllocationLemmas.{gains-nothing, names-twice}
@@ -53,6 +53,7 @@ use Rattle.f11_files.specs.declared.structure.Structure.{Structure}
 use Rattle.f11_files.specs.declared.extend.tail.Tail.{Tail}
 use Rattle.f11_files.proofs.Extending.Growing.{room-here}
 use Rattle.f11_files.proofs.Finding.Named.{file-stored}
+use Rattle.f11_files.proofs.GrowingIndex.ZeroSlots.{zero-same, zero-then}
 use Rattle.f11_files.proofs.LayingOut.Unnamed.{rest-unreferenced}
 use Rattle.f11_files.proofs.Removing.Freeing.{breaks-behind, breaks-within, stays-for, stays-then}
 use Rattle.f11_files.proofs.Removing.Loss.{in-run, out-run}
@@ -69,6 +70,7 @@ pub record LaidUpTo (s t : Structure) (tail later : Tail) (lbn n come left : ℕ
       IsTrue old.honest →
       NamesMore tail.file.number (ownership_of tail) (range_with_len lbn come) (table_of old.image (home_of s))
       (table_of now.image (home_of s))
+  pub slots : IsTrue old.honest → AddsZeroSlots (table_of old.image (home_of s)) (table_of now.image (home_of s))
   pub rest : IsTrue old.honest → AreUnreferenced (volume_of now.image (home_of s)) (lbn + come) left
   pub has : IsTrue old.honest → HaveCome (run_free s n old) tail.file.number come left (store_of now.image (home_of s))
   pub transfers : ℕ
@@ -195,6 +197,7 @@ module _ (s : Structure) (tail : Tail) (lbn n : ℕ) (old : Disk) (for : IsStruc
     bitmap = refl;
     free = λ _. refl;
     names = none-named;
+    slots = λ _. zero-same (table_of old.image home);
     rest = λ honest. subst (λ (l : ℕ). AreUnreferenced (volume_of old.image home) l n) (omega arith) (unreferenced honest);
     has = none-come;
     transfers = 0;
@@ -452,6 +455,10 @@ module _ (s : Structure) (tail : Tail) (lbn n : ℕ) (old : Disk) (for : IsStruc
             (sym (range_with_len-append lbn come count))
             (names-twice k (ownership_of tail) (range_with_len lbn come) (range_with_len (lbn + come) count) (table_of old.image home)
             (table_of now.image home) (table_of new.image home) (so_far.names honest) (names-here honest));
+        slots = λ honest.
+            zero-then (table_of old.image home) (table_of now.image home) (table_of new.image home) (so_far.slots honest)
+            (subst (λ (h : HomeFields). AddsZeroSlots (table_of now.image h) (table_of new.image h)) so_far.stays.home
+            (appends.slots (now-honest honest)));
         rest = rest-now;
         has = λ honest. (more honest).next;
         transfers = so_far.transfers + appends.grew.transfers;
@@ -492,6 +499,7 @@ module _ (s : Structure) (tail : Tail) (lbn n : ℕ) (old : Disk) (for : IsStruc
       free = so_far.free;
       names = λ honest. subst (λ (m : ℕ). NamesMore k (ownership_of tail) (range_with_len lbn m) (table_of old.image home)
           (table_of now.image home)) all-come (so_far.names honest);
+      slots = so_far.slots;
       adds = adds-all;
       writes = record {
         transfers = so_far.transfers;

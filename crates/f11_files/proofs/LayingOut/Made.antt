@@ -23,10 +23,10 @@ use Rattle.f11_store.proofs.PieceLagLemmas.{taken-lags}
 use Rattle.f11_store.proofs.PieceLemmas.{none-zeros}
 use Rattle.f11_volume.specs.Space.{storage_bitmap}
 use Rattle.f11_volume.specs.Volume.{volume_of}
-use Rattle.f11_image_store.specs.Allocation.{ownership_in, GainsBlocks, NamesMore}
+use Rattle.f11_image_store.specs.Allocation.{ownership_in, AddsZeroSlots, GainsBlocks, NamesMore}
 use Rattle.f11_image_store.specs.StoreOf.{store_of}
 use Rattle.f11_image_store.proofs.AllocationLemmas.{names-twice}
-use Rattle.f11_files.specs.Answers.{IsUnderWay, Meanwhile}
+use Rattle.f11_files.specs.Answers.{IsUnderWay, KeepsUnused, Meanwhile}
 use Rattle.f11_files.specs.Changing.Fields.{Alters}
 use Rattle.f11_files.specs.Extending.Growing.{WhileTaking}
 use Rattle.f11_files.specs.Extending.Runs.{IsTailOf}
@@ -42,6 +42,7 @@ use Rattle.f11_files.proofs.Extending.Growing.{takes-within}
 use Rattle.f11_files.proofs.Finding.First.{table-of}
 use Rattle.f11_files.proofs.Finding.Locate.{length-named}
 use Rattle.f11_files.proofs.Finding.Named.{block-is}
+use Rattle.f11_files.proofs.GrowingIndex.ZeroSlots.{with-unused, zero-then}
 use Rattle.f11_files.proofs.LayingOut.Held.{few-blocks, may-lay, no-pointers, numbered, taken-free}
 use Rattle.f11_files.proofs.LayingOut.Lay.{adds-blocks, file-bounds}
 use Rattle.f11_files.proofs.Removing.Freeing.{writes-none, writes-then, writes-within}
@@ -169,7 +170,8 @@ module _ (s : Structure) (f : FileId) (n : ℕ) (end : FileEnd) (was last : List
           (table_of laid.image (home_of t))) number (lays.names (mid-honest honest)))))
 
       module _ (new : Disk) (marks : Alters with_contiguous_mark (home_of u) f laid new)
-          (gains : IsTrue laid.honest → GainsBlocks k 0 (volume_of laid.image (home_of u)) (volume_of new.image (home_of u))) where
+          (gains : IsTrue laid.honest
+          → KeepsUnused (GainsBlocks k 0) (volume_of laid.image (home_of u)) (volume_of new.image (home_of u))) where
         makes : IsTrue old.honest → LaysOut st k n (store_of new.image home)
         makes honest =
             let store : store_of new.image home ≡ with_change sl k with_contiguous_mark =
@@ -194,7 +196,7 @@ module _ (s : Structure) (f : FileId) (n : ℕ) (end : FileEnd) (was last : List
             let laid_names = names-laid honest in
             let marked : GainsBlocks k 0 (volume_of laid.image home) (volume_of new.image home) =
             subst (λ (h : HomeFields). GainsBlocks k 0 (volume_of laid.image h) (volume_of new.image h)) home-now
-            (gains (laid-honest honest)) in
+            (gains (laid-honest honest)).allots in
             subst (λ (l : List ℕ). NamesMore k o l (table_of old.image home) (table_of new.image home)) (append-nil (range_with_len lbn n))
             (names-twice k o (range_with_len lbn n) [] (table_of old.image home) (table_of laid.image home) (table_of new.image home)
             laid_names
@@ -244,11 +246,23 @@ module _ (s : Structure) (f : FileId) (n : ℕ) (end : FileEnd) (was last : List
               uses = uses honest;
             }
 
+        -- slots that aren't in use keep what they hold
+        slots-kept : IsTrue old.honest → AddsZeroSlots (table_of old.image home) (table_of new.image home)
+        unfolding volume_of
+        slots-kept honest =
+            let laid_slots : AddsZeroSlots (table_of old.image home) (table_of laid.image home) =
+            subst (λ (x : Table). AddsZeroSlots x (table_of laid.image home)) (takes.keeps honest).index_file.table
+            (subst (λ (h : HomeFields). AddsZeroSlots (table_of mid.image h) (table_of laid.image h)) stays.home
+            (lays.slots (mid-honest honest))) in
+            zero-then (table_of old.image home) (table_of laid.image home) (table_of new.image home) laid_slots
+            (subst (λ (h : HomeFields). AddsZeroSlots (table_of laid.image h) (table_of new.image h)) home-now
+            (gains (laid-honest honest)).slots)
+
         pub lays-out-held : LaysOutHeld home f n old new
         lays-out-held = record {
           no_cause = room.no_cause;
           makes = makes;
-          allots = gains-run;
+          allots = λ honest. with-unused (GainsRun k n) home old.image new.image (gains-run honest) (slots-kept honest);
           writes =
               writes-within (λ honest.
               let same = room-mid honest in

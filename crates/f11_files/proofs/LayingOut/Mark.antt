@@ -18,12 +18,14 @@ use Rattle.f11_writes.specs.Kept.{WritesHeader}
 use Rattle.f11_image_store.specs.Allocation.{ownership_in, GainsBlocks}
 use Rattle.f11_image_store.specs.FieldLaws.{SaysBut}
 use Rattle.f11_image_store.proofs.FieldLemmas.{field-gains, link-same, segment-same}
+use Rattle.f11_files.specs.Answers.{KeepsUnused}
 use Rattle.f11_files.specs.Finding.First.{FindsFile}
 use Rattle.f11_files.specs.Structure.{index_in, home_of, IsStructureFor}
 use Rattle.f11_files.specs.declared.structure.Structure.{Structure}
 use Rattle.f11_files.proofs.Changing.Alter.{changes, file-here, is-written, says-here}
 use Rattle.f11_files.proofs.Extending.Clear.{headers-stay}
 use Rattle.f11_files.proofs.Finding.Named.{block-is}
+use Rattle.f11_files.proofs.GrowingIndex.ZeroSlots.{with-unused, zero-header}
 
 module _ (s : Structure) (f : FileId) (was block : List ℕ) (old now : Disk) (lbn : ℕ) (for : IsStructureFor s old) (own : 4 ≤ f.number)
     (finds : FindsFile (index_in s) f was old now)
@@ -81,8 +83,10 @@ module _ (s : Structure) (f : FileId) (was block : List ℕ) (old now : Disk) (l
         (ownership_in (t.header f.number)) headers (ap (λ (g : File). (g.owner, g.protection)) (says_now.file no_file))
 
   pub altered-gains : (new : Disk) → new ≡ with_transfer true (with_block_at lbn block now) → IsTrue old.honest
-      → GainsBlocks f.number 0 (volume_of old.image home) (volume_of new.image home)
+      → KeepsUnused (GainsBlocks f.number 0) (volume_of old.image home) (volume_of new.image home)
   altered-gains new is honest =
-      subst (λ (i : Image). GainsBlocks f.number 0 (volume_of old.image home) (volume_of i home))
+      subst (λ (i : Image). KeepsUnused (GainsBlocks f.number 0) (volume_of old.image home) (volume_of i home))
       (sym (ap (λ (d : Disk). d.image) is ∙ is-written s f with_contiguous_mark was block old now lbn for own finds says at honest))
-      (gains-next honest)
+      (with-unused (GainsBlocks f.number 0) home old.image next (gains-next honest)
+      (zero-header old.image next home f.number block (wrote honest)
+      (file-here s f with_contiguous_mark was block old now lbn for own finds says at honest).live.in_use))

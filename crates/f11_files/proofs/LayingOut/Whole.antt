@@ -24,7 +24,7 @@ use Rattle.f11_volume.specs.Volume.{volume_of}
 use Rattle.f11_image_store.specs.FileLaws.{room_in}
 use Rattle.f11_image_store.specs.StoreOf.{store_of}
 use Rattle.f11_files.specs.Answers.{faults_of, is_among, is_clean, is_refused, Does, FailsToRead, FailsToWrite, Meanwhile, ReadsAtMost}
-use Rattle.f11_files.specs.Answers.{WritesAtMost}
+use Rattle.f11_files.specs.Answers.{KeepsUnused, WritesAtMost}
 use Rattle.f11_files.specs.Extending.Room.{FindsFileEnd}
 use Rattle.f11_files.specs.LayingOut.Room.{run_causes}
 use Rattle.f11_files.specs.LayingOut.Whole.{FailsToLayOut, FailsToLayOutHeld, GainsRun, HoldsRunRoom, LaysOutFile, LaysOutHeld}
@@ -250,8 +250,8 @@ module _ (s : Structure) (f : FileId) (n : ℕ) (end : FileEnd) (was last : List
     lays-whole new lays =
         let does = does-read file-read home
         (subst (λ (x : Store). Does (contiguous_causes x f n) (contiguous_work f.number (file_named x f).room n)
-        (contiguous_cost x (file_named x f) n - 1 - header_count (file_named x f)) (LaysOut x f.number n) (GainsRun f.number n) home
-        read new) still lays) in
+        (contiguous_cost x (file_named x f) n - 1 - header_count (file_named x f)) (LaysOut x f.number n)
+        (KeepsUnused (GainsRun f.number n)) home read new) still lays) in
         record { no_cause = does.no_cause; makes = does.makes; allots = does.allots; writes = writes-within within does.writes }
 
 -- the volume had failed, and nothing is done

@@ -20,7 +20,7 @@ use Rattle.f11_store.specs.declared.files.FileId.{FileId}
 use Rattle.f11_store.specs.declared.refusals.Refusal.{Refusal}
 use Rattle.f11_volume.specs.Volume.{volume_of}
 use Rattle.f11_image_store.specs.Allocation.{AddsZeroSlots, GainsBlocks, GainsBlocksAs}
-use Rattle.f11_files.specs.Answers.{Meanwhile, Does, FailsOrWants, FailsToWrite, ReadsAtMost}
+use Rattle.f11_files.specs.Answers.{Meanwhile, Does, FailsOrWants, FailsToWrite, KeepsUnused, ReadsAtMost}
 use Rattle.f11_files.specs.GrowingIndex.Headroom.{ReadiesHeaders}
 use Rattle.f11_files.specs.Extending.Growing.{Grew, GrowingBy}
 use Rattle.f11_files.specs.Operations.{extend_causes, held_causes}
@@ -75,14 +75,16 @@ abbrev pub ExtendsHeld : HomeFields → FileId → ℕ → Disk → Disk → Typ
 ExtendsHeld home f n old new =
     let s = store_of old.image home in
     Does (held_causes s f n) (extend_work f.number (file_named s f).room n)
-    (growth_cost s (file_named s f) n - 1 - header_count (file_named s f)) (Extends s f.number n) (GainsBlocks f.number n) home old new
+    (growth_cost s (file_named s f) n - 1 - header_count (file_named s f)) (Extends s f.number n) (KeepsUnused (GainsBlocks f.number n))
+    home old new
 
 -- the same where its first and last header are in hand: two transfers are left, in which they may have been read again
 abbrev pub ExtendsInHand : HomeFields → FileId → ℕ → Disk → Disk → Type 0
 ExtendsInHand home f n old new =
     let s = store_of old.image home in
     Does (held_causes s f n) (extend_work f.number (file_named s f).room n)
-    (growth_cost s (file_named s f) n - 1 - header_count (file_named s f) - 2) (Extends s f.number n) (GainsBlocks f.number n) home old new
+    (growth_cost s (file_named s f) n - 1 - header_count (file_named s f) - 2) (Extends s f.number n) (KeepsUnused (GainsBlocks f.number n))
+    home old new
 
 -- It was not, or not by all of them: no cause stands against it.
 abbrev pub FailsToExtendHeld : HomeFields → FileId → ℕ → Refusal → Disk → Disk → Type 0

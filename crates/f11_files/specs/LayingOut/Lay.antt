@@ -10,7 +10,7 @@ use Rattle.f11_store.specs.Lags.{blocks_work, LagsBy}
 use Rattle.f11_store.specs.Pieces.{file_numbered, with_more_free, AddsBlocks}
 use Rattle.f11_store.specs.Store.{Store}
 use Rattle.f11_volume.specs.Sound.{HasSoundVolume}
-use Rattle.f11_image_store.specs.Allocation.{NamesMore}
+use Rattle.f11_image_store.specs.Allocation.{AddsZeroSlots, NamesMore}
 use Rattle.f11_image_store.specs.StoreOf.{store_of}
 use Rattle.f11_files.specs.Answers.{WritesAtMost}
 use Rattle.f11_files.specs.Extending.Growing.{SameFree}
@@ -44,6 +44,7 @@ pub record LaysRun (s after : Structure) (tail : Tail) (lbn n : ℕ) (old new : 
       IsTrue old.honest →
       NamesMore tail.file.number (ownership_of tail) (range_with_len lbn n) (table_of old.image (home_of s))
       (table_of new.image (home_of s))
+  pub slots : IsTrue old.honest → AddsZeroSlots (table_of old.image (home_of s)) (table_of new.image (home_of s))
   pub adds :
       IsTrue old.honest →
       AddsBlocks (run_free s n old) tail.file.number n (run_pointers n) (zero_blocks n) (store_of new.image (home_of s))

@@ -19,7 +19,7 @@ use Rattle.f11_store.specs.declared.refusals.Refusal.{Refusal}
 use Rattle.f11_store.specs.declared.refusals.Refusal.TheVariants.{Damaged, NoRun}
 use Rattle.f11_volume.specs.Volume.{Volume, volume_of}
 use Rattle.f11_image_store.specs.Allocation.{ownership_in, NamesMore}
-use Rattle.f11_files.specs.Answers.{is_fatal, faults_of, Does, IsRight, Meanwhile, ReadsAtMost, WritesAtMost}
+use Rattle.f11_files.specs.Answers.{is_fatal, faults_of, Does, IsRight, KeepsUnused, Meanwhile, ReadsAtMost, WritesAtMost}
 use Rattle.f11_files.specs.Extending.Room.{HoldsEnd}
 use Rattle.f11_files.specs.LayingOut.Take.{UsesRun}
 use Rattle.f11_files.specs.Operations.{contiguous_causes}
@@ -46,7 +46,7 @@ abbrev pub LaysOutFile : HomeFields → FileId → ℕ → Disk → Disk → Typ
 LaysOutFile home f n old new =
     let s = store_of old.image home in
     Does (contiguous_causes s f n) (contiguous_work f.number (file_named s f).room n) (contiguous_cost s (file_named s f) n - 1)
-    (LaysOut s f.number n) (GainsRun f.number n) home old new
+    (LaysOut s f.number n) (KeepsUnused (GainsRun f.number n)) home old new
 
 -- It was not, or not all of it: NoRun where no cause stands against it, and nowhere are so many free blocks in a row. Unless it failed the
 -- volume, no block was written.
@@ -72,7 +72,8 @@ abbrev pub LaysOutHeld : HomeFields → FileId → ℕ → Disk → Disk → Typ
 LaysOutHeld home f n old new =
     let s = store_of old.image home in
     Does (contiguous_causes s f n) (contiguous_work f.number (file_named s f).room n)
-    (contiguous_cost s (file_named s f) n - 1 - header_count (file_named s f)) (LaysOut s f.number n) (GainsRun f.number n) home old new
+    (contiguous_cost s (file_named s f) n - 1 - header_count (file_named s f)) (LaysOut s f.number n) (KeepsUnused (GainsRun f.number n))
+    home old new
 
 -- It was not, or not all of it: no cause stands against it.
 pub record FailsToLayOutHeld (s : Structure) (f : FileId) (n : ℕ) (refusal : Refusal) (old new : Disk) : Type 0 where

@@ -1,6 +1,6 @@
 //! The contiguous mark of a file that was laid out.
 ghost use Rattle.std.specs.Prelude.{◌≡◌, ◌≤◌, false, IfErr, IsTrue, OnOk};
-ghost use Rattle.f11_files.specs.Answers.{is_fatal, is_refused};
+ghost use Rattle.f11_files.specs.Answers.{is_fatal, is_refused, KeepsUnused};
 ghost use Rattle.f11_files.specs.Changing.Fields.{Alters, FailsToAlter};
 ghost use Rattle.f11_image_store.specs.Allocation.{GainsBlocks};
 ghost use Rattle.f11_image_store.specs.Confines.{only_header};
@@ -30,7 +30,7 @@ impl Structure {
         ensures altered { OnOk result (Alters with_contiguous_mark (home_of self.now) f
             (D.disk device.old) (D.disk device.new)) }
         ensures gains { let home = home_of self.now in OnOk result
-            (IsTrue (D.disk device.old).honest → GainsBlocks f.number 0
+            (IsTrue (D.disk device.old).honest → KeepsUnused (GainsBlocks f.number 0)
             (volume_of (D.disk device.old).image home) (volume_of (D.disk device.new).image home)) }
         ensures refused { IfErr result (λ refusal. FailsToAlter false with_contiguous_mark
             (home_of self.now) f refusal (D.disk device.old) (D.disk device.new)) }

@@ -11,11 +11,12 @@ use Rattle.f11_store.specs.Store.{Store, file_named}
 use Rattle.f11_store.specs.declared.files.FileId.{FileId}
 use Rattle.f11_store.proofs.SlotsFirst.{gained-is-ready}
 use Rattle.f11_volume.specs.Volume.{Volume, volume_of}
-use Rattle.f11_image_store.specs.Allocation.{GainsBlocks}
+use Rattle.f11_image_store.specs.Allocation.{AddsZeroSlots, GainsBlocks}
 use Rattle.f11_image_store.specs.StoreOf.{store_of}
 use Rattle.f11_image_store.proofs.AllocationLawLemmas.{gains-both}
 use Rattle.f11_files.specs.Extending.Runs.{ExtendsFile}
 use Rattle.f11_files.specs.Overall.{AllotsAfter}
+use Rattle.f11_files.proofs.GrowingIndex.ZeroSlots.{zero-then}
 use Rattle.f11_files.proofs.Overall.{extends-is}
 use Rattle.f11_files_tests.proofs.extends.extended_twice.Goals as goal
 
@@ -56,7 +57,7 @@ module _ (f : FileId) (h : HomeFields) (own : 4 ≤ f.number) where
       → GainsBlocks f.number n (volume_of old.image h) (volume_of new.image h)
   gains n old new honest extends none =
       alone f.number n (added n old) (volume_of old.image h) (volume_of new.image h)
-      ((extends-is h f n old new other extends).allots honest) none
+      ((extends-is h f n old new other extends).allots honest).allots none
 
   twice : (n more : ℕ) (old mid new : Disk) → IsTrue old.honest → ExtendsFile h f n old mid → ExtendsFile h f more mid new
       → (store_of new.image h).slots ≡ (store_of old.image h).slots
@@ -67,6 +68,17 @@ module _ (f : FileId) (h : HomeFields) (own : 4 ≤ f.number) where
       let second = slots-then more mid new then two in
       gains-both f.number n more (volume_of old.image h) (volume_of mid.image h) (volume_of new.image h)
       (gains n old mid honest one (omega (arith, first, second, same))) (gains more mid new then two (omega (arith, first, second, same)))
+
+  -- slots that aren't in use
+  keeps : (n : ℕ) (old new : Disk) → IsTrue old.honest → ExtendsFile h f n old new
+      → AddsZeroSlots (volume_of old.image h).table (volume_of new.image h).table
+  keeps n old new honest extends = ((extends-is h f n old new other extends).allots honest).slots
+
+  keeps-twice : (n more : ℕ) (old mid new : Disk) → IsTrue old.honest → ExtendsFile h f n old mid → ExtendsFile h f more mid new
+      → AddsZeroSlots (volume_of old.image h).table (volume_of new.image h).table
+  keeps-twice n more old mid new honest one two =
+      zero-then (volume_of old.image h).table (volume_of mid.image h).table (volume_of new.image h).table (keeps n old mid honest one)
+      (keeps more mid new ((extends-is h f n old mid other one).writes.went.honest ∙ honest) two)
 
 on-ok : {T E P : Type 0} {Q : T → Type 0} (r : Result T E) → IfOk r Q → ((x : T) → Q x → P) → OnOk r P
 on-ok (Ok x) is next = next x is
@@ -81,6 +93,13 @@ same-homes f n more h0 h1 h2 old mid new own first second honest one two same =
     (twice f h0 own n more old mid new honest one (subst (λ (h : HomeFields). ExtendsFile h f more mid new) first two)
     (subst (λ (h : HomeFields). (store_of new.image h).slots ≡ (store_of old.image h0).slots) (second ∙ first) same))
 
+unused-homes : (f : FileId) (n more : ℕ) (h0 h1 h2 : HomeFields) (old mid new : Disk) → 4 ≤ f.number → h1 ≡ h0 → h2 ≡ h1
+    → IsTrue old.honest → ExtendsFile h0 f n old mid → ExtendsFile h1 f more mid new
+    → AddsZeroSlots (volume_of old.image h0).table (volume_of new.image h2).table
+unused-homes f n more h0 h1 h2 old mid new own first second honest one two =
+    subst (λ (h : HomeFields). AddsZeroSlots (volume_of old.image h0).table (volume_of new.image h).table) (sym (second ∙ first))
+    (keeps-twice f h0 own n more old mid new honest one (subst (λ (h : HomeFields). ExtendsFile h f more mid new) first two))
+
 pub returns : goal.returns
 returns g c =
     record {
@@ -89,4 +108,8 @@ returns g c =
           (λ blocks two. same-homes c.args.f c.args.n c.args.more _ _ _ _ _ _ c.requires.id.number c.extend.ensures.answers.home
           c.extend-2.ensures.answers.home
           honest c.in_ok-extend.ensures.extended.1 two.1 same);
+      unused = λ honest.
+          on-ok c.extend-2.result c.extend-2.ensures.extended
+          (λ blocks two. unused-homes c.args.f c.args.n c.args.more _ _ _ _ _ _ c.requires.id.number c.extend.ensures.answers.home
+          c.extend-2.ensures.answers.home honest c.in_ok-extend.ensures.extended.1 two.1);
     }
