@@ -7,12 +7,14 @@ use Rattle.f11_dev.specs.Image.{Image}
 use Rattle.f11_dev.proofs.WentLemmas.{went_looked, went_more, went_weaker}
 use Rattle.f11_home.specs.Home.{HomeFields}
 use Rattle.f11_index.specs.Headers.{headers_of}
-use Rattle.f11_index.specs.Table.{table_of}
+use Rattle.f11_index.specs.Table.{table_of, IsFile}
 use Rattle.f11_store.specs.Causes.{Cause, first_of}
 use Rattle.f11_store.specs.Changes.{is_in}
 use Rattle.f11_store.specs.Lags.{Work, work_if}
+use Rattle.f11_store.specs.Pieces.{file_numbered}
 use Rattle.f11_store.specs.Store.{Store}
 use Rattle.f11_store.specs.declared.refusals.Refusal.{Refusal}
+use Rattle.f11_volume.specs.Sound.{HasSoundVolume}
 use Rattle.f11_volume.specs.Volume.{Volume, volume_of}
 use Rattle.f11_image_store.specs.StoreOf.{store_of}
 use Rattle.f11_files.specs.Answers.{Does, FailsOrWants, FailsToRead, FailsToWrite, IsRight, IsUnderWay, Meanwhile, ReadsAtMost}
@@ -20,7 +22,7 @@ use Rattle.f11_files.specs.Answers.{WritesAtMost, WritesMoreOf, is_among, is_fat
 use Rattle.f11_image_store.specs.Allocation.{free_list}
 use Rattle.f11_image_store.specs.Confines.{either, new_header, no_header}
 use Rattle.f11_files.specs.Confined.{ConfinesInOrder}
-use Rattle.f11_files.specs.Structure.{bitmap_in, home_of, index_in, ConfinesTo, IsStructureOf, StaysFor}
+use Rattle.f11_files.specs.Structure.{bitmap_in, home_of, index_in, ConfinesTo, IsStructureFor, StaysFor}
 use Rattle.f11_files.specs.GrowingIndex.Headroom.{ConfinesSlots}
 use Rattle.f11_bits.specs.Bitmap.{Bitmap}
 use Rattle.f11_dev.specs.Looked.{Looked}
@@ -30,6 +32,7 @@ use Rattle.f11_files.proofs.Confining.Confines.{confines-looked, confines-then}
 use Rattle.f11_files.specs.declared.structure.Structure.{Structure}
 use Rattle.f11_files.proofs.AnswerLemmas.{reads-more, reads-within}
 use Rattle.f11_files.proofs.Confining.Parts.{parts-looked, stands-same, stands-within, to-parts, to-then}
+use Rattle.f11_files.proofs.Finding.Named.{numbered-holds}
 use Rattle.f11_files.proofs.WriteLemmas.{as-wanting, fails-unread, writes-within}
 
 -- a fault is right whatever the causes
@@ -209,27 +212,32 @@ slots-behind zero home a b c looked two = λ honest.
     (subst (λ (i : Image). ConfinesInOrder no_header (index_of i home) (storage_bitmap i home) [] b c) looked.image
     (two (looked.honest ∙ honest)))
 slots-behind (suc n) home a b c looked two = λ honest.
-    confines-behind (either (is_in (headers_of (table_of a.image home) 1)) (new_header (index_of a.image home))) (index_of a.image home)
+    confines-behind (either (is_in (file_numbered (store_of a.image home) 1).held) (new_header (index_of a.image home)))
+    (index_of a.image home)
     (storage_bitmap a.image home) (free_list (volume_of a.image home)) looked
-    (subst (λ (i : Image). ConfinesInOrder (either (is_in (headers_of (table_of i home) 1)) (new_header (index_of i home)))
+    (subst (λ (i : Image). ConfinesInOrder (either (is_in (file_numbered (store_of i home) 1).held) (new_header (index_of i home)))
     (index_of i home)
     (storage_bitmap i home) (free_list (volume_of i home)) b c) looked.image (two (looked.honest ∙ honest)))
 
 -- what is kept of an image tells which blocks are changed
-pub more-of : (t : Structure) (home : HomeFields) (f : ℕ) (a b : Disk) → home_of t ≡ home → (IsTrue a.honest → IsStructureOf t a.image)
+pub more-of : (t : Structure) (home : HomeFields) (f : ℕ) (a b : Disk) → home_of t ≡ home → IsStructureFor t a
+    → (IsTrue a.honest → IsFile (table_of a.image home) f)
     → (IsTrue a.honest → ConfinesTo t (either (is_in (headers_of (table_of a.image home) f)) (new_header (index_in t)))
     (free_list (volume_of a.image home)) a b) → WritesMoreOf f home a b
-more-of t home f a b at keeps one honest =
-    let index : index_in t ≡ index_of a.image home = (keeps honest).index_is ∙ ap (index_of a.image) at in
-    let bitmap : bitmap_in t ≡ storage_bitmap a.image home = (keeps honest).bitmap_is ∙ ap (storage_bitmap a.image) at in
-    subst (λ (x : Index). ConfinesInOrder (either (is_in (headers_of (table_of a.image home) f)) (new_header x)) x
+more-of t home f a b at for file one honest =
+    let index : index_in t ≡ index_of a.image home = (for.keeps honest).index_is ∙ ap (index_of a.image) at in
+    let bitmap : bitmap_in t ≡ storage_bitmap a.image home = (for.keeps honest).bitmap_is ∙ ap (storage_bitmap a.image) at in
+    subst (λ (hs : List ℕ). ConfinesInOrder (either (is_in hs) (new_header (index_of a.image home))) (index_of a.image home)
+    (storage_bitmap a.image home) (free_list (volume_of a.image home)) a b)
+    (sym (numbered-holds a.image home f (subst (HasSoundVolume a.image) at (for.sound honest)) (file honest)))
+    (subst (λ (x : Index). ConfinesInOrder (either (is_in (headers_of (table_of a.image home) f)) (new_header x)) x
     (storage_bitmap a.image home)
     (free_list (volume_of a.image home)) a b) index
     (subst (λ (x : Bitmap). ConfinesInOrder (either (is_in (headers_of (table_of a.image home) f)) (new_header (index_in t))) (index_in t) x
-    (free_list (volume_of a.image home)) a b) bitmap (one honest))
+    (free_list (volume_of a.image home)) a b) bitmap (one honest)))
 
 -- or none is
 pub more-looked : (home : HomeFields) (f : ℕ) {a b : Disk} {most faults : ℕ} → Looked a b most faults → WritesMoreOf f home a b
 more-looked home f {a = a} looked = λ honest.
-    confines-looked (either (is_in (headers_of (table_of a.image home) f)) (new_header (index_of a.image home))) (index_of a.image home)
-    (storage_bitmap a.image home) (free_list (volume_of a.image home)) looked
+    confines-looked (either (is_in (file_numbered (store_of a.image home) f).held) (new_header (index_of a.image home)))
+    (index_of a.image home) (storage_bitmap a.image home) (free_list (volume_of a.image home)) looked

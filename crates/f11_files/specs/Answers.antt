@@ -10,14 +10,14 @@ use Rattle.f11_dev.specs.Image.{Image}
 use Rattle.f11_dev.specs.Looked.{Looked}
 use Rattle.f11_dev.specs.Went.{Went}
 use Rattle.f11_home.specs.Home.{HomeFields}
-use Rattle.f11_index.specs.Headers.{headers_of}
 use Rattle.f11_index.specs.IndexFile.{index_of}
 use Rattle.f11_index.specs.Table.{table_of}
 use Rattle.f11_store.specs.Causes.{Cause, first_of}
 use Rattle.f11_store.specs.Changes.{is_in}
 use Rattle.f11_store.specs.Lags.{Work, LagsBy, work_if}
 use Rattle.f11_store.specs.Refusal.{refusal_number}
-use Rattle.f11_store.specs.Store.{Store}
+use Rattle.f11_store.specs.Pieces.{file_numbered}
+use Rattle.f11_store.specs.Store.{file_named, Store}
 use Rattle.f11_store.specs.declared.files.FileId.{FileId}
 use Rattle.f11_store.specs.declared.refusals.Refusal.{Refusal}
 use Rattle.f11_store.specs.declared.refusals.Refusal.TheVariants.{VolumeFailed, EndOfFile, NoMemory, DeviceFault, Damaged}
@@ -145,9 +145,9 @@ WritesOnly headers others home old new =
 abbrev pub WritesFirstOf : FileId → HomeFields → Disk → Disk → Type 0
 WritesFirstOf f home old new = WritesOnly (only_header f.number) [] home old new
 
--- of headers, those of file f, where there is one
+-- of headers, those that file f holds, and none where there is no such file
 abbrev pub WritesHeadersOf : FileId → HomeFields → Disk → Disk → Type 0
-WritesHeadersOf f home old new = WritesOnly (is_in (headers_of (table_of old.image home) f.number)) [] home old new
+WritesHeadersOf f home old new = WritesOnly (is_in (file_named (store_of old.image home) f).held) [] home old new
 
 -- of headers, those whose slots weren't in use
 abbrev pub WritesNewHeaders : HomeFields → Disk → Disk → Type 0
@@ -157,10 +157,10 @@ WritesNewHeaders home old new = WritesOnly (new_header (index_of old.image home)
 abbrev pub WritesBlocksOf : FileId → HomeFields → Disk → Disk → Type 0
 WritesBlocksOf f home old new = WritesOnly no_header (file_blocks (table_of old.image home) f.number) home old new
 
--- of headers, those of file f and those whose slots weren't in use; and blocks that were free
+-- of headers, those that file f holds and those whose slots weren't in use; and blocks that were free
 abbrev pub WritesMoreOf : ℕ → HomeFields → Disk → Disk → Type 0
 WritesMoreOf f home old new =
-    WritesOnly (either (is_in (headers_of (table_of old.image home) f)) (new_header (index_of old.image home)))
+    WritesOnly (either (is_in (file_numbered (store_of old.image home) f).held) (new_header (index_of old.image home)))
     (free_list (volume_of old.image home)) home
     old new
 

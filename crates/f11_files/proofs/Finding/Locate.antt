@@ -35,7 +35,7 @@ use Rattle.f11_files.specs.Structure.{index_in, home_of, store_on, IsStructureFo
 use Rattle.f11_files.specs.declared.structure.Structure.{Structure}
 use Rattle.f11_files.proofs.AnswerLemmas.{right-cause, right-fault, right-damaged}
 use Rattle.f11_files.proofs.Finding.First.{table-of}
-use Rattle.f11_files.proofs.Finding.Named.{held-named, is-file, found-named, no-file-cause, seen-same}
+use Rattle.f11_files.proofs.Finding.Named.{held-named, is-file, found-named, no-file-cause, seen-same, there}
 use Rattle.f11_image_store.proofs.StoreLemmas.{seen-own}
 
 -- the first header was read
@@ -144,7 +144,7 @@ module _ (s : Structure) (f : FileId) (block : List ℕ) (old new : Disk) (for :
         length-first s f block old for holds honest own vbn
         ∙ ap (λ (b : Bool). cond b (Some EndOfFile) None) (le-ltb _ _ (omega (arith, within, some)));
     named = λ honest. held-named s f block old for holds honest ∙ seen-own f.number (file_in (home_of s) f.number old.image) own;
-    file = λ honest. subst (λ (u : Table). IsFile u f.number) (table-of s old for honest) (is-file s f block old for holds honest).file;
+    file = there s f block old for holds;
     block_is = λ honest. subst (λ (u : Table). block_by_vbn u f.number vbn ≡ Some lbn) (table-of s old for honest)
         (locates.block_is honest);
     within = locates.within;

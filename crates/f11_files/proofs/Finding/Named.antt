@@ -10,15 +10,19 @@ use Rattle.f11_dev.specs.Image.{Image}
 use Rattle.f11_header.specs.Fields.{file_sequence}
 use Rattle.f11_home.specs.Home.{HomeFields}
 use Rattle.f11_map.specs.HeaderBlock.{segment_number}
+use Rattle.f11_index.specs.Headers.{headers_of}
 use Rattle.f11_index.specs.IndexFile.{is_in_use, header_lbn}
 use Rattle.f11_index.specs.Table.{Table, table_of, IsFile, last_sequence}
 use Rattle.f11_chain.specs.Calls.{table}
 use Rattle.f11_chain.proofs.AlongLemmas.{HoldsHeader-live}
 use Rattle.f11_store.specs.Causes.{first_of, is_missing}
 use Rattle.f11_store.specs.File.{File, no_file}
+use Rattle.f11_store.specs.Pieces.{file_numbered}
 use Rattle.f11_store.specs.Store.{Store, of_sequence, file_of, file_named}
 use Rattle.f11_store.specs.declared.files.FileId.{FileId}
 use Rattle.f11_volume.specs.Contents.{file_of as said_file}
+use Rattle.f11_volume.specs.Sound.{HasSoundVolume}
+use Rattle.f11_volume.proofs.FileLemmas.{file-headers-are, image-files}
 use Rattle.f11_writes.specs.Kept.{file_in}
 use Rattle.f11_files.specs.Finding.First.{IsFileOf, IsOther, HoldsFile}
 use Rattle.f11_image_store.specs.StoreOf.{is_first, as_seen, file_at, store_of}
@@ -57,6 +61,20 @@ of-sequence f sequence is = ap (λ (b : Bool). cond b (Some f) None) (eq-eqb f.s
 
 not-sequence : (f : File) (sequence : ℕ) → f.sequence ≢ sequence → of_sequence sequence f ≡ None
 not-sequence f sequence other = ap (λ (b : Bool). cond b (Some f) None) (ne_eqb f.sequence sequence other)
+
+-- a file that is there holds its headers, and so does the store's file of its number
+pub holds-headers : (image : Image) (home : HomeFields) (n : ℕ) → HasSoundVolume image home → IsFile (table_of image home) n
+    → (file_in home n image).held ≡ headers_of (table_of image home) n
+holds-headers image home n sound file =
+    file-headers-are image (table_of image home) n ((image-files image home sound).each n file).whole
+
+pub numbered-holds : (image : Image) (home : HomeFields) (n : ℕ) → HasSoundVolume image home → IsFile (table_of image home) n
+    → (file_numbered (store_of image home) n).held ≡ headers_of (table_of image home) n
+numbered-holds image home n sound file =
+    ap (λ (o : Option File). (unwrap_or o no_file).held)
+    (file-stored image home n
+    ∙ file-at image (table_of image home) n (Some (as_seen n (file_in home n image))) (λ _. refl) (λ none. absurd (none file)))
+    ∙ seen-same (λ (g : File). g.held) (λ g. refl) n (file_in home n image) ∙ holds-headers image home n sound file
 
 module _ (image : Image) (home : HomeFields) (f : FileId) where
   abbrev t : Table
@@ -171,3 +189,9 @@ module _ (s : Structure) (f : FileId) (block : List ℕ) (disk : Disk) (for : Is
   attr-is =
       ap attr_in block-is ∙ attr-said disk.image (table_of disk.image (home_of s)) f.number
       ∙ sym (seen-same attr_of (λ g. refl) f.number (file_in (home_of s) f.number disk.image)) ∙ ap attr_of (sym held-named)
+
+-- a file whose first header is in hand is there
+pub there : (s : Structure) (f : FileId) (block : List ℕ) (disk : Disk) → IsStructureFor s disk → HoldsFile (index_in s) f block disk
+    → IsTrue disk.honest → IsFile (table_of disk.image (home_of s)) f.number
+there s f block disk for holds honest =
+    subst (λ (t : Table). IsFile t f.number) (table-of s disk for honest) (is-file s f block disk for holds honest).file

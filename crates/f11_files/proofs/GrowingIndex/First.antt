@@ -37,7 +37,7 @@ use Rattle.f11_files.proofs.Behind.{confined-read, more-looked, more-of}
 use Rattle.f11_files.proofs.Confining.Confines.{confines-looked}
 use Rattle.f11_files.proofs.Extending.Room.{ends-then, has-room, room-named}
 use Rattle.f11_files.proofs.GrowingIndex.Grow.{fails-then, grows-then}
-use Rattle.f11_files.proofs.GrowingIndex.IndexFile.{index-is}
+use Rattle.f11_files.proofs.GrowingIndex.IndexFile.{index-is, index-named}
 use Rattle.f11_files.proofs.GrowingIndex.Room.{finds-reads, has-slots, limit-of, slots-are}
 use Rattle.f11_files.proofs.WriteLemmas.{as-wanting, fails-unread}
 
@@ -182,7 +182,8 @@ module _ (s : Structure) (n slots_more : ℕ) (old : Disk) (for : IsStructureFor
         → ConfinesSlots (if_fit (may_get_slots st slots_more) slots_more) (home_of s) old new
     confined-first {new = new} honest one =
         subst (λ (k : ℕ). ConfinesSlots k (home_of s) old new) (sym (ap (λ (b : Bool). if_fit b slots_more) (may-is honest ∙ has.fits)))
-        (of-some slots_more some (more-of s (home_of s) 1 old new refl for.keeps (confined-read reads (home_of s) s 1 refl one)))
+        (of-some slots_more some (more-of s (home_of s) 1 old new refl for (λ sure. (index-named old.image (home_of s) (for.sound sure)).0)
+        (confined-read reads (home_of s) s 1 refl one)))
       where
         of-some : (k : ℕ) → 0 < k → WritesMoreOf 1 (home_of s) old new → ConfinesSlots k (home_of s) old new
         of-some zero more writes = absurd (omega (arith, more))

@@ -149,11 +149,8 @@ impl Structure {
             (D.disk device.new) }
         ensures counts { is_refused is_clean result ≡ true → counts_of self.new ≡ counts_of
             self.old }
-        ensures confined { let t = table_of (D.disk device.old).image (home_of self.old) in
-            IsTrue (D.disk device.old).honest → ConfinesTo self.old
-            (either (is_in (headers_of t 1)) (new_header (index_in self.old)))
-            (free_list (volume_of (D.disk device.old).image (home_of self.old)))
-            (D.disk device.old) (D.disk device.new) }
+        ensures confined { WritesMoreOf 1 (home_of self.old) (D.disk device.old)
+            (D.disk device.new) }
     {
         if n > self.slots_left() {
             return Err(Refusal::IndexLimit);

@@ -2,10 +2,9 @@
 ghost use Rattle.std.specs.Prelude.{◌≡◌, ◌≤◌, false, IfErr, IsTrue, OnOk, true};
 ghost use Rattle.f11_files.specs.Answers.{is_fatal, is_clean, is_refused, WritesHeadersOf};
 ghost use Rattle.f11_files.specs.Removing.Delete.{Deletes, FailsToDelete};
-ghost use Rattle.f11_files.specs.Structure.{counts_of, home_of, IsStructureFor, StaysFor, WritesParts};
-ghost use Rattle.f11_index.specs.Headers.{headers_of};
-ghost use Rattle.f11_index.specs.Table.{table_of};
+ghost use Rattle.f11_files.specs.Structure.{counts_of, home_of, store_on, IsStructureFor, StaysFor, WritesParts};
 ghost use Rattle.f11_store.specs.Changes.{is_in};
+ghost use Rattle.f11_store.specs.Store.{file_named};
 
 use crate::answer::is_fatal;
 use crate::files::Files;
@@ -32,7 +31,7 @@ impl Structure {
         ensures counts { is_refused is_clean result ≡ true → counts_of self.new ≡ counts_of
             self.old }
         ensures confined { IsTrue (D.disk device.old).honest → WritesParts self.old
-            (is_in (headers_of (table_of (D.disk device.old).image (home_of self.old)) f.number))
+            (is_in (file_named (store_on self.old (D.disk device.old)) f).held)
             (D.disk device.old) (D.disk device.new) }
     {
         let mut block = [0; BLOCK_SIZE];

@@ -5,8 +5,6 @@ ghost use Rattle.f11_files.specs.Removing.Truncate.{Cuts, CutsOff, FailsToCut, F
 ghost use Rattle.f11_files.specs.Operations.{length_causes};
 ghost use Rattle.f11_files.specs.Structure.{counts_of, home_of, index_in, store_on, IsStructureFor, StaysFor, WritesParts};
 ghost use Rattle.f11_header.specs.Header.{holds_header};
-ghost use Rattle.f11_index.specs.Headers.{headers_of};
-ghost use Rattle.f11_index.specs.Table.{table_of};
 ghost use Rattle.f11_store.specs.Changes.{is_in};
 ghost use Rattle.f11_store.specs.Cost.{header_count};
 ghost use Rattle.f11_store.specs.Store.{file_named};
@@ -94,7 +92,7 @@ impl Structure {
         ensures counts { is_refused is_clean result ≡ true → counts_of self.new ≡ counts_of
             self.old }
         ensures confined { IsTrue (D.disk device.old).honest → WritesParts self.old
-            (is_in (headers_of (table_of (D.disk device.old).image (home_of self.old)) f.number))
+            (is_in (file_named (store_on self.old (D.disk device.old)) f).held)
             (D.disk device.old) (D.disk device.new) }
     {
         let mut block = [0; BLOCK_SIZE];

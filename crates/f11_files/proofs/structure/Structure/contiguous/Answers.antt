@@ -6,6 +6,7 @@ use Rattle.f11_files.specs.Structure.{home_of, index_in}
 use Rattle.f11_files.proofs.AnswerLemmas.{handed, reads-looked}
 use Rattle.f11_files.proofs.Behind.{confined-read, more-looked, more-of, stays-handed}
 use Rattle.f11_files.proofs.Extending.Room.{lacks-alike}
+use Rattle.f11_files.proofs.Finding.Named.{there}
 use Rattle.f11_files.proofs.LayingOut.Whole.{clean-handed, fails-whole, has-run-room, lays-whole, no-end, no-run-room}
 use Rattle.f11_files.proofs.Opening.Kept.{looked-for}
 use Rattle.f11_files.proofs.Opening.Space.{space-is}
@@ -86,7 +87,8 @@ returns-in_err-lay_out_held-clause-counts g c =
 
 pub returns-in_err-lay_out_held-clause-confined : goal.returns-in_err-lay_out_held-clause-confined
 returns-in_err-lay_out_held-clause-confined g c =
-    more-of c.args.self.now (home_of c.args.self.now) c.args.f.number _ _ refl c.requires.is_for.keeps
+    more-of c.args.self.now (home_of c.args.self.now) c.args.f.number _ _ refl c.requires.is_for
+    (there c.args.self.now c.args.f _ _ c.requires.is_for c.in_ok-end.ensures.end.holds)
     (confined-read (reads-looked c.in_ok-end.ensures.end.ends.looked.looked) (home_of c.args.self.now) c.args.self.now c.args.f.number refl
     c.lay_out_held.ensures.confined)
 
@@ -106,6 +108,7 @@ returns-clause-laid g c = (
 
 pub returns-clause-confined : goal.returns-clause-confined
 returns-clause-confined g c =
-    more-of c.args.self.now (home_of c.args.self.now) c.args.f.number _ _ refl c.requires.is_for.keeps
+    more-of c.args.self.now (home_of c.args.self.now) c.args.f.number _ _ refl c.requires.is_for
+    (there c.args.self.now c.args.f _ _ c.requires.is_for c.in_ok-end.ensures.end.holds)
     (confined-read (reads-looked c.in_ok-end.ensures.end.ends.looked.looked) (home_of c.args.self.now) c.args.self.now c.args.f.number refl
     c.lay_out_held.ensures.confined)

@@ -2,11 +2,11 @@ use Rattle.std.proofs.lemmas.Result.{on_ok_weaker, IfErr-weaker}
 use Rattle.f11_files.proofs.AnswerLemmas.{handed}
 use Rattle.f11_files.proofs.Removing.Gone.{behind-listed, gone-first, behind-hangs, deletes-file, gone-behind}
 use Rattle.f11_files.proofs.Confining.Parts.{parts-then, to-parts}
-use Rattle.std.proofs.Common.{◌∙◌, []}
-use Rattle.f11_index.specs.Headers.{headers_of}
-use Rattle.f11_index.specs.Table.{table_of}
+use Rattle.std.proofs.Common.{◌∙◌, ℕ, List, [], ap}
 use Rattle.f11_store.specs.Changes.{is_in}
-use Rattle.f11_files.specs.Structure.{home_of}
+use Rattle.f11_store.specs.Store.{file_named}
+use Rattle.f11_files.specs.Structure.{store_on}
+use Rattle.f11_files.proofs.Finding.Locate.{held-are}
 use Rattle.f11_files.proofs.Removing.Parts.{first-parts}
 use Rattle.f11_files.proofs.structure.Structure.delete.Goals as goal
 
@@ -52,9 +52,11 @@ returns-clause-confined g c = λ honest.
     let t = c.drop_header.new.self in
     let found = c.in_ok-read_first.ensures.found in
     let dropped = c.in_ok-drop_header.ensures.dropped in
-    let all = is_in (headers_of (table_of (g.D.Device.disk c.args.device.now).image (home_of s)) c.args.f.number) in
+    let held = (file_named (store_on s (g.D.Device.disk c.args.device.now)) c.args.f).held in
     let more = behind-listed s c.args.f _ _ _ c.requires.is_for c.requires.late found (g.met.D.Device.is_image c.args.device.now) t _
     dropped c.in_ok-drop_header.ensures.stays.home (g.met.D.Device.is_image c.drop_header.new.device) honest in
-    parts-then s t all c.in_ok-drop_header.ensures.places
+    parts-then s t (is_in held) c.in_ok-drop_header.ensures.places
     (first-parts s c.args.f _ _ _ c.requires.is_for c.in_ok-read_first.ensures.found honest c.drop_header.ensures.confined)
-    (to-parts t all _ [] more (c.drop_behind.ensures.confined (dropped.writes.went.honest ∙ found.looked.honest ∙ honest)))
+    (to-parts t (is_in held) _ []
+    (λ m is. ap (λ (ns : List ℕ). is_in ns m) (held-are s c.args.f _ _ c.requires.is_for found.holds honest) ∙ more m is)
+    (c.drop_behind.ensures.confined (dropped.writes.went.honest ∙ found.looked.honest ∙ honest)))

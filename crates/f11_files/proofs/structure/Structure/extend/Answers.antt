@@ -1,4 +1,4 @@
-use Rattle.std.proofs.Common.{false, refl, sym, subst}
+use Rattle.std.proofs.Common.{false, sym, subst}
 use Rattle.f11_dev.specs.Disk.{Disk}
 use Rattle.f11_dev.proofs.LookedLemmas.{looked_none}
 use Rattle.f11_home.specs.Home.{HomeFields}
@@ -9,6 +9,7 @@ use Rattle.f11_files.specs.Extending.Runs.{headers_for, FailsToExtend}
 use Rattle.f11_files.specs.Structure.{home_of}
 use Rattle.f11_files.specs.declared.structure.Structure.{Structure}
 use Rattle.f11_files.proofs.AnswerLemmas.{handed, not-clean}
+use Rattle.f11_index.proofs.ChainLemmas.{file_of-header}
 use Rattle.f11_files.proofs.Behind.{confined-read, more-looked, more-of, stays-handed}
 use Rattle.f11_files.proofs.Extending.Room.{ends-then}
 use Rattle.f11_files.proofs.Extending.Whole.{end-again, extends-then, fails-again, fatal-held, few-enough, fails-in-hand, length-then}
@@ -255,7 +256,12 @@ returns-in_err-extend_held-clause-confined g c =
     c.in_ok-end.ensures.end c.room_of-room.result c.room_of-room.ensures)
     (rw c.need.ensures.need at c.ready_headers.ensures.confined)
     (more-of t (home_of s) f.number ready (g.D.Device.disk c.extend_held.new.device) c.in_ok-ready_headers.ensures.stays.home
-    (c.in_ok-ready_headers.ensures.stays.keeps refl)
+    (stays-for c.in_ok-ready_headers.ensures.stays)
+    (λ honest. file_of-header (end-again s f n c.in_ok-end.end c.find_end.new.first c.find_end.new.last old read c.requires.is_for
+    c.requires.own c.in_ok-end.ensures.end c.room_of-room.result c.room_of-room.ensures (sym c.if-is_too_long.ensures) ready
+    (readies-file s f n c.in_ok-end.end c.find_end.new.first c.find_end.new.last old read c.requires.is_for c.requires.own
+    c.in_ok-end.ensures.end c.room_of-room.result c.room_of-room.ensures (sym c.if-is_too_long.ensures) ready
+    (rw c.need.ensures.need at c.in_ok-ready_headers.ensures.ready)) (g.met.D.Device.is_image c.ready_headers.new.device) honest).last.of)
     (confined-read again (home_of s) t f.number c.in_ok-ready_headers.ensures.stays.home
     (rw c.in_ok-ready_headers.ensures.stays.home at c.extend_held.ensures.confined)))
 
@@ -316,6 +322,11 @@ returns-clause-confined g c =
     c.in_ok-end.ensures.end c.room_of-room.result c.room_of-room.ensures)
     (rw c.need.ensures.need at c.ready_headers.ensures.confined)
     (more-of t (home_of s) f.number ready (g.D.Device.disk c.extend_held.new.device) c.in_ok-ready_headers.ensures.stays.home
-    (c.in_ok-ready_headers.ensures.stays.keeps refl)
+    (stays-for c.in_ok-ready_headers.ensures.stays)
+    (λ honest. file_of-header (end-again s f n c.in_ok-end.end c.find_end.new.first c.find_end.new.last old read c.requires.is_for
+    c.requires.own c.in_ok-end.ensures.end c.room_of-room.result c.room_of-room.ensures (sym c.if-is_too_long.ensures) ready
+    (readies-file s f n c.in_ok-end.end c.find_end.new.first c.find_end.new.last old read c.requires.is_for c.requires.own
+    c.in_ok-end.ensures.end c.room_of-room.result c.room_of-room.ensures (sym c.if-is_too_long.ensures) ready
+    (rw c.need.ensures.need at c.in_ok-ready_headers.ensures.ready)) (g.met.D.Device.is_image c.ready_headers.new.device) honest).last.of)
     (confined-read again (home_of s) t f.number c.in_ok-ready_headers.ensures.stays.home
     (rw c.in_ok-ready_headers.ensures.stays.home at c.extend_held.ensures.confined)))

@@ -6,10 +6,12 @@ use Rattle.f11_files.specs.GrowingIndex.Runs.{index_id, FailsToGrow}
 use Rattle.f11_files.specs.Operations.{grow_causes, held_causes, IsSpaceOf}
 use Rattle.f11_files.specs.Structure.{home_of, index_in, store_on}
 use Rattle.f11_files.proofs.AnswerLemmas.{handed}
-use Rattle.f11_files.proofs.Behind.{confined-read, stays-handed, unread-wants}
+use Rattle.f11_dev.proofs.LookedLemmas.{looked_none}
+use Rattle.f11_files.proofs.Behind.{confined-read, more-looked, more-of, stays-handed, unread-wants}
 use Rattle.f11_files.proofs.Extending.Room.{causes-alike, has-room, lacks-alike, lacks-cause, lacks-room, lacks-want}
 use Rattle.f11_files.proofs.GrowingIndex.Grow.{fails-then, grows-then}
 use Rattle.f11_files.proofs.GrowingIndex.GrowIndex.{slots-after}
+use Rattle.f11_files.proofs.GrowingIndex.IndexFile.{index-named}
 use Rattle.f11_files.proofs.GrowingIndex.Room.{at-limit, finds-reads, grow-are, has-slots, lacks-slots}
 use Rattle.f11_files.proofs.Opening.Space.{space-is}
 use Rattle.f11_files.proofs.WriteLemmas.{as-wanting, fails-unread}
@@ -88,7 +90,8 @@ returns-in_err-grow_held-clause-stays g c =
 pub returns-in_err-grow_held-clause-confined : goal.returns-in_err-grow_held-clause-confined
 returns-in_err-grow_held-clause-confined g c =
     let s = c.args.self.now in
-    confined-read (finds-reads s _ c.requires.is_for _ _ _ _ c.in_ok-end.ensures.end) (home_of s) s 1 refl c.grow_held.ensures.confined
+    more-of s (home_of s) 1 _ _ refl c.requires.is_for (λ sure. (index-named _ (home_of s) (c.requires.is_for.sound sure)).0)
+    (confined-read (finds-reads s _ c.requires.is_for _ _ _ _ c.in_ok-end.ensures.end) (home_of s) s 1 refl c.grow_held.ensures.confined)
 
 pub returns-clause-grown : goal.returns-clause-grown
 returns-clause-grown g c =
@@ -105,4 +108,14 @@ returns-clause-stays g c = c.in_ok-grow_held.ensures.stays
 pub returns-clause-confined : goal.returns-clause-confined
 returns-clause-confined g c =
     let s = c.args.self.now in
-    confined-read (finds-reads s _ c.requires.is_for _ _ _ _ c.in_ok-end.ensures.end) (home_of s) s 1 refl c.grow_held.ensures.confined
+    more-of s (home_of s) 1 _ _ refl c.requires.is_for (λ sure. (index-named _ (home_of s) (c.requires.is_for.sound sure)).0)
+    (confined-read (finds-reads s _ c.requires.is_for _ _ _ _ c.in_ok-end.ensures.end) (home_of s) s 1 refl c.grow_held.ensures.confined)
+
+pub returns-then-n-slots_left-clause-confined : goal.returns-then-n-slots_left-clause-confined
+returns-then-n-slots_left-clause-confined g c = more-looked (home_of c.args.self.now) 1 (looked_none _)
+
+pub returns-in_err-end-clause-confined : goal.returns-in_err-end-clause-confined
+returns-in_err-end-clause-confined g c = more-looked (home_of c.args.self.now) 1 c.in_err-end.ensures.refused.reads.looked
+
+pub returns-in_err-judge-clause-confined : goal.returns-in_err-judge-clause-confined
+returns-in_err-judge-clause-confined g c = more-looked (home_of c.args.self.now) 1 c.in_ok-end.ensures.end.ends.looked.looked
