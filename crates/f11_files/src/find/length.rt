@@ -45,7 +45,7 @@ impl Structure {
 impl<D: Device> Files<D> {
     ghost use Rattle.f11_files.specs.Open.{counts_in, disk_in, has_failed, home_in, store_in, AnswersCall, IsIdFrom};
 
-    /// How many blocks a file has. It reads each of the file's headers once.
+    /// How many blocks a file has. It reads each of the file's headers once, on any device 256 at most.
     ///
     /// # Errors
     ///

@@ -113,7 +113,7 @@ impl<D: Device> Files<D> {
     ghost use Rattle.std.specs.Prelude.{OnErr};
 
     /// The window of block `vbn` of a file, from 1: the retrieval pointer that names the block, and those that follow it in its header,
-    /// seven at most. It reads the file's headers up to that one, each once.
+    /// seven at most. It reads the file's headers up to that one, each once and on any device 256 at most.
     ///
     /// # Errors
     ///
