@@ -37,7 +37,7 @@ unfolding file_of
 header-facts image t n blocks count =
     ap (facts_in (t.header n)) (count ∙ sym (length-map (blocks_reached t n) (block_or_zeros image)))
 
-attr-is : (image : Image) (t : Table) (n : ℕ) → (file_of image t n).attr ≡ attributes (t.header n)
+pub attr-is : (image : Image) (t : Table) (n : ℕ) → (file_of image t n).attr ≡ attributes (t.header n)
 unfolding file_of
 attr-is image t n = refl
 

@@ -8,7 +8,7 @@ use Rattle.f11_store.specs.Directory.{has_name, record_id}
 use Rattle.f11_store.specs.declared.files.FileId.{FileId}
 use Rattle.f11_store.specs.declared.refusals.Refusal.{Refusal}
 use Rattle.f11_store.specs.declared.refusals.Refusal.TheVariants.{NoSuchEntry}
-use Rattle.f11_catalog.specs.Listing.{FindsId, FindsNoId, id_under, look_refusal}
+use Rattle.f11_catalog.specs.Listing.{FindsId, FindsNoId, id_entered, id_or, id_under}
 use Rattle.f11_catalog.specs.Records.{FindsNoDirectory, HasNoRecord, OpensDirectory, Reads, ReadsRecord}
 use Rattle.f11_catalog.specs.Records.{records_of, records_to_come}
 use Rattle.f11_catalog.specs.declared.directory.DirectoryReader.{DirectoryReader}
@@ -55,15 +55,19 @@ module _ (name : List ℕ) (index : Index) (first here : DirectoryReader) (old n
           (sym (opens.records honest) ∙ sym (coming-later index before old first opens.looked.image))
           ∙ ap (option_map record_id) (so.rest (opens.looked.honest ∙ honest) ∙ is)
 
+      answered : IsTrue before.honest → id_entered before.image (table index before) id name
+          ≡ id_or None (id_under name (records_of before.image (table index before) id))
+      answered honest = ap (λ r. id_or r (id_under name (records_of before.image (table index before) id))) (opens.readable honest)
+
       pub looked-found : {later : DirectoryReader} {r : Record} {next : Disk} (read : ReadsRecord index here later r now next)
           → has_name name read.bytes ≡ true → FindsId index id name r.id before next
       looked-found {later} {r} {next} read is = record {
-        readable = opens.readable;
         found = λ honest.
-            is-under honest (Some read.bytes)
+            answered honest
+            ∙ ap (id_or None) (is-under honest (Some read.bytes)
             (ap (find (has_name name)) (came later read.next (opens.looked.honest ∙ honest))
             ∙ find-here (has_name name) read.bytes (records_to_come index old later) is)
-            ∙ ap (λ (x : Record). Some x.id) (sym read.record_is);
+            ∙ ap (λ (x : Record). Some x.id) (sym read.record_is));
         reads = reads-then (_, opens.looked) (reads-then so.reads read.reads);
       }
 
@@ -72,8 +76,7 @@ module _ (name : List ℕ) (index : Index) (first here : DirectoryReader) (old n
         refused = λ honest.
             let left : records_to_come index old here ≡ [] =
             sym (coming-later index old now here so.reads.1.image) ∙ none.none (so.reads.1.honest ∙ opens.looked.honest ∙ honest) in
-            ap (λ r. look_refusal r (id_under name (records_of before.image (table index before) id))) (opens.readable honest)
-            ∙ ap (look_refusal None) (is-under honest None (ap (find (has_name name)) left));
+            answered honest ∙ ap (id_or None) (is-under honest None (ap (find (has_name name)) left));
         reads = reads-then (_, opens.looked) (reads-then so.reads none.reads);
       }
 
@@ -81,6 +84,6 @@ pub not-looked : (name : List ℕ) (index : Index) (id : FileId) (refusal : Refu
     → FindsNoDirectory index id refusal old new → FindsNoId index id name refusal old new
 not-looked name index id refusal old new none = record {
   refused = λ honest.
-      ap (λ r. look_refusal r (id_under name (records_of old.image (table index old) id))) (none.refused honest);
+      ap (λ r. id_or r (id_under name (records_of old.image (table index old) id))) (none.refused honest);
   reads = (_, none.looked);
 }

@@ -1,5 +1,5 @@
 -- What a listing does, and a look for a name (profile).
-use Rattle.std.specs.Prelude.{◌≡◌, ℕ, IsTrue, List, length, Option, Some, None, option_map, find}
+use Rattle.std.specs.Prelude.{◌≡◌, ℕ, IsTrue, List, length, Option, Some, None, option_map, find, Result, Ok, Err}
 use Rattle.std.specs.Io.KnownBytes.{Appends}
 use Rattle.f11_chain.specs.Calls.{table}
 use Rattle.f11_dev.specs.Disk.{Disk}
@@ -61,22 +61,23 @@ pub record IsRefused (index : Index) (id : FileId) (refusal : Refusal) (old new 
 abbrev pub id_under : List ℕ → List (List ℕ) → Option FileId
 id_under name records = option_map record_id (find (has_name name) records)
 
+-- the identification under a name, where its directory can be read, or why there is none: none of its records has the name
+abbrev pub id_or : Option Refusal → Option FileId → Result FileId Refusal
+id_or (Some refusal) found = Err refusal
+id_or None (Some id) = Ok id
+id_or None None = Err NoSuchEntry
+
+-- the identification that a directory has under a name, or why it has none
+abbrev pub id_entered : Image → Table → FileId → List ℕ → Result FileId Refusal
+id_entered image t directory name =
+    id_or (directory_refusal (file_named image t directory)) (id_under name (records_of image t directory))
+
 -- A directory's first record with the name has this identification.
 pub record FindsId (index : Index) (directory : FileId) (name : List ℕ) (id : FileId) (old new : Disk) : Type 0 where
-  pub readable : IsTrue old.honest → directory_refusal (file_named old.image (table index old) directory) ≡ None
-  pub found : IsTrue old.honest → id_under name (records_of old.image (table index old) directory) ≡ Some id
+  pub found : IsTrue old.honest → id_entered old.image (table index old) directory name ≡ Ok id
   pub reads : Reads old new 0
-
--- why a name isn't found in a directory: that can't be read, or none of its records has the name
-abbrev pub look_refusal : Option Refusal → Option FileId → Option Refusal
-look_refusal (Some refusal) found = Some refusal
-look_refusal None None = Some NoSuchEntry
-look_refusal None (Some id) = None
 
 -- It isn't found.
 pub record FindsNoId (index : Index) (directory : FileId) (name : List ℕ) (refusal : Refusal) (old new : Disk) : Type 0 where
-  pub refused :
-      IsTrue old.honest →
-      look_refusal (directory_refusal (file_named old.image (table index old) directory))
-      (id_under name (records_of old.image (table index old) directory)) ≡ Some refusal
+  pub refused : IsTrue old.honest → id_entered old.image (table index old) directory name ≡ Err refusal
   pub reads : Reads old new 0

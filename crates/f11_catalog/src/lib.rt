@@ -18,5 +18,6 @@ mod users;
 pub use directory::DirectoryReader;
 pub use fault::ListFault;
 pub use list::{list_directory, list_users};
+pub use records::stated_end;
 pub use search::find;
 pub use users::user_of;

@@ -21,7 +21,7 @@ use f11_store::{FileId, Refusal};
 
 /// The end in bytes that a file's attributes state (Files-11 On-Disk Structure Level 1, "File Attributes"), below 2^42.
 #[tactic(auto, unfolding(f11_store::specs::File::stated_end))]
-pub(crate) fn stated_end(attributes: &[u8; 32]) -> u64
+pub fn stated_end(attributes: &[u8; 32]) -> u64
     ensures value { result ≡ end_stated attributes.now }
     ensures few { result < 2 ^ 42 }
 {

@@ -1,6 +1,8 @@
 pub mod LineLemmas
 pub mod VolumeLemmas
+mod AnyVolumeLemmas
 mod LsLemmas
+mod GetLemmas
 mod RunLemmas
 mod UpdateLemmas
 mod AskedLemmas

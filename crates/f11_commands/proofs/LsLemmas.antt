@@ -1,33 +1,30 @@
 -- What is listed of a volume.
-use Rattle.std.proofs.Common.{◌≡◌, ◌≢◌, ◌⊎◌, ℕ, Bool, true, false, IsTrue, List, [], ◌∷◌, Option, Some, None, Result, Ok, Err, refl, sym}
+use Rattle.std.proofs.Common.{◌≡◌, ℕ, Bool, IsTrue, List, Option, Ok, Err, sym}
 use Rattle.std.proofs.Common.{ap, subst, ◌∙◌}
-use Rattle.std.proofs.Common.{not, inl, inr}
-use Rattle.std.specs.Io.KnownBytes.{Keeps}
+use Rattle.std.proofs.Common.{not}
 use Rattle.f11_catalog.proofs.ListingLemmas.{reads-then, said-later}
 use Rattle.f11_catalog.specs.Lines.{all_user_lines, record_lines}
-use Rattle.f11_catalog.specs.Listing.{FindsId, FindsNoId, IsRefused, Lists, id_under, look_refusal}
-use Rattle.f11_catalog.specs.Records.{Reads, directory_refusal, file_named, records_of}
+use Rattle.f11_catalog.specs.Listing.{FindsId, FindsNoId, IsRefused, Lists}
+use Rattle.f11_catalog.specs.Records.{Reads, records_of}
 use Rattle.f11_chain.specs.Calls.{table}
 use Rattle.f11_dev.specs.Disk.{Disk}
 use Rattle.f11_dev.specs.Image.{Image}
-use Rattle.f11_dev.specs.Looked.{Looked}
-use Rattle.f11_dev.proofs.LookedLemmas.{looked_more, looked_within}
 use Rattle.f11_findings.specs.declared.finding.Finding.{Finding}
 use Rattle.f11_home.specs.Home.{HomeFields}
 use Rattle.f11_index.specs.IndexFile.{Index}
-use Rattle.f11_index.specs.Table.{Table, table_in, table_of}
+use Rattle.f11_index.specs.Table.{Table, table_of}
 use Rattle.f11_store.specs.declared.callers.Uic.{Uic}
 use Rattle.f11_store.specs.declared.files.FileId.{FileId}
 use Rattle.f11_store.specs.declared.refusals.Refusal.{Refusal}
-use Rattle.f11_vfy.specs.Verify.{Examines, LooksOver}
+use Rattle.f11_vfy.specs.Verify.{Examines}
 use Rattle.f11_commands.specs.Copying.{directory_name, master_directory}
-use Rattle.f11_commands.specs.DumpCommand.{HasFault}
-use Rattle.f11_commands.specs.LsCommand.{FailsToList, FailsToListIndex, FindsVolume, IsNotListed, IsReadable, ListsFiles, ListsIndex}
-use Rattle.f11_commands.specs.LsCommand.{ListsVolume, lists, tells}
-use Rattle.f11_commands.specs.LsCommand.{PrintsListing, TellsFault, WritesListing, directory_listed, found_listed, lines_or, listed}
+use Rattle.f11_commands.specs.AnyVolume.{FailsToServe, FindsVolume, IsReadable, unless_refused}
+use Rattle.f11_commands.specs.LsCommand.{FailsToListIndex, IsNotListed, ListsIndex, ListsVolume, lists, tells}
+use Rattle.f11_commands.specs.LsCommand.{PrintsListing, WritesListing, directory_listed, lines_or, listed}
 use Rattle.f11_commands.specs.LsCommand.{listing_answer, listing_text, user_listed, users_listed}
 use Rattle.f11_commands.specs.Output.{WriterTakes}
 use Rattle.f11_commands.specs.VfyCommand.{IsVerdict}
+use Rattle.f11_commands.proofs.AnyVolumeLemmas.{directory-of-user, fault-behind, none-of-user, said-of-volume, verified-first}
 use Rattle.f11_commands.specs.declared.ls.Served.{Served}
 use Rattle.f11_commands.specs.declared.outcome.Answer.{Answer}
 use Rattle.f11_commands.specs.declared.outcome.Answer.TheVariants.{Done, Fault}
@@ -61,24 +58,15 @@ module _ {W : Type 0} (index : Index) (contents : W → Option (List ℕ)) where
     pub user-absent : (refusal : Refusal) → FindsNoId index master_directory name refusal old mid
         → IsNotListed (λ image t. user_listed image t user) index refusal old mid
     user-absent refusal none = record {
-      refused = λ honest.
-          let t = table index old in
-          let records = records_of old.image t master_directory in
-          let readable = directory_refusal (file_named old.image t master_directory) in
-          ap (λ r. found_listed old.image t r (id_under (directory_name user) records))
-          (ap (λ n. look_refusal readable (id_under n records)) (sym is) ∙ none.refused honest);
+      refused = λ honest. ap (unless_refused (directory_listed old.image (table index old)))
+          (none-of-user index user name is old mid none honest);
       reads = none.reads;
     }
 
     module _ (id : FileId) (found : FindsId index master_directory name id old mid) where
       is-listed : IsTrue old.honest → user_listed old.image (table index old) user ≡ directory_listed old.image (table index old) id
       is-listed honest =
-          let t = table index old in
-          let records = records_of old.image t master_directory in
-          let readable = directory_refusal (file_named old.image t master_directory) in
-          let under : id_under (directory_name user) records ≡ Some id = ap (λ n. id_under n records) (sym is) ∙ found.found honest in
-          ap (λ o. found_listed old.image t (look_refusal readable o) o) under
-          ∙ ap (λ r. found_listed old.image t (look_refusal r (Some id)) (Some id)) (found.readable honest)
+          ap (unless_refused (directory_listed old.image (table index old))) (directory-of-user index user name is old mid found honest)
 
       later : {X : Type 0} (text : Image → Table → X) → text mid.image (table index mid) ≡ text old.image (table index old)
       later text = said-later text index found.reads.1
@@ -144,15 +132,14 @@ volume-lists home index user answer old mid new contents before after found all 
   text_is = λ honest. all.text_is (same honest) ∙ ap listing_text (tables honest);
   answer_is = λ honest. all.answer_is (same honest) ∙ ap listing_answer (tables honest);
   takes = all.takes;
-  reads = reads-then found.reads all.reads;
+  reads = reads-then (_, found.looked) all.reads;
 })
   where
     same : IsTrue old.honest → IsTrue mid.honest
-    same honest = found.reads.1.honest ∙ honest
+    same honest = found.looked.honest ∙ honest
 
     tables : IsTrue old.honest → listed mid.image (table index mid) user ≡ listed old.image (table_of old.image home) user
-    tables honest = ap (λ (x : Index). listed mid.image (table_in mid.image x) user) (found.is_for.keeps (same honest))
-        ∙ ap (λ (i : Image). listed i (table_of i home) user) found.reads.1.image
+    tables honest = said-of-volume home index old mid found (λ image t. listed image t user) honest
 
 -- what is said of a volume behind a look at it
 pub volume-behind : {W : Type 0} (user : Option Uic) (answer : Answer) (old mid new : Disk) (contents : W → Option (List ℕ))
@@ -171,24 +158,11 @@ volume-behind user answer old mid new contents before after reads (lists all) = 
   takes = all.takes;
   reads = reads-then reads all.reads;
 })
-volume-behind user answer old mid new contents before after reads (tells fault) = tells (record {
-  is_fault = fault.is_fault;
-  fault = fault.fault;
-  hinders = fault.hinders;
-  has = λ honest. subst (λ (i : Image). HasFault i fault.fault) reads.1.image (fault.has (reads.1.honest ∙ honest));
-  takes = fault.takes;
-  reads = reads-then reads fault.reads;
-})
-
--- and of what broke off
-pub fails-behind-look : {W : Type 0} (failure : Failure) (old mid new : Disk) (contents : W → Option (List ℕ)) (before after : W)
-    → Reads old mid 0 → FailsToList failure mid new contents before after → FailsToList failure old new contents before after
-fails-behind-look DeviceFault old mid new contents before after reads fails = reads-then reads fails
-fails-behind-look NoMemory old mid new contents before after reads fails = (reads-then reads fails.0, fails.1)
-fails-behind-look CannotWrite old mid new contents before after reads fails = reads-then reads fails
+volume-behind user answer old mid new contents before after reads (tells fault) =
+    tells (fault-behind answer old mid new contents before after reads fault)
 
 pub fails-to-list : {W : Type 0} (failure : Failure) (old mid new : Disk) (contents : W → Option (List ℕ)) (before after : W)
-    → Reads old mid 0 → FailsToListIndex failure mid new → FailsToList failure old new contents before after
+    → Reads old mid 0 → FailsToListIndex failure mid new → FailsToServe failure old new contents before after
 fails-to-list DeviceFault old mid new contents before after reads fails = reads-then reads fails
 fails-to-list NoMemory old mid new contents before after reads fails = absurd fails
 fails-to-list CannotWrite old mid new contents before after reads fails = reads-then reads fails
@@ -199,9 +173,6 @@ pub judged-listing : {W : Type 0} (user : Option Uic) (served : Served) (faulty 
     → (served.faulty ≡ faulty) × ListsVolume user served.answer mid new contents before after
     → PrintsListing user served old new contents before after
 judged-listing user served faulty faults notes old mid new contents before after examines verdict all = record {
-  faults = faults;
-  notes = notes;
-  verifies = examines.verifies;
-  verdict = subst (λ (b : Bool). IsVerdict (not b) faults) (sym all.0) verdict;
+  verified = verified-first served.faulty faulty faults notes old mid examines verdict all.0;
   lists = volume-behind user served.answer old mid new contents before after (_, examines.looked.looked) all.1;
 }

@@ -128,9 +128,10 @@ module _ (index : Index) (file later : FileReader) (end left k : ℕ) (text : Li
     looked = looked_within taken.looked (omega (arith, taken.near));
   }
 
-  pub content-all : left ≡ 0 → IsContent index file end old text
+  pub content-all : left ≡ 0 → IsContent index file end end old text
   content-all none = record {
-    few = omega (arith, taken.sum);
+    counted = omega (arith, taken.sum, none);
+    few = omega arith;
     is = λ honest. sym (taken.text_is honest
         ∙ ap (λ (n : ℕ). text ++ take n (concat (contents_to_come index old later))) none ∙ append-nil text);
   }
@@ -145,9 +146,10 @@ module _ (index : Index) (file later : FileReader) (end left k : ℕ) (text : Li
       looked = looked_within (looked_more taken.looked ends.looked) (omega (arith, taken.forward, taken.near));
     }
 
-    pub content-ended : IsContent index file end old text
+    pub content-ended : IsContent index file end (end - left) old text
     content-ended = record {
-      few = omega (arith, taken.sum);
+      counted = omega (arith, taken.sum);
+      few = omega arith;
       is = λ honest.
           let none : contents_to_come index old later ≡ [] =
           sym (to-come later) ∙ ap (map (block_or_zeros now.image)) (ends.none (taken.looked.honest ∙ honest)) in

@@ -1,4 +1,4 @@
--- The index file of a volume is found in two steps: the home block, and then the index file.
+-- The index file of a volume is read in two steps: the home block, and then the index file.
 use Rattle.std.proofs.Common.{◌≡◌, ◌⊎◌, ℕ, ◌+◌, ◌/◌, ◌<◌, ◌≤◌, IsTrue, List, Some, length, refl, sym, ap, subst, ◌∙◌, inl, inr, arith}
 use Rattle.std.specs.List.{slice_get}
 use Rattle.std.proofs.lemmas.Bool.Decides.{nat_tests}
@@ -7,12 +7,12 @@ use Rattle.f11_dev.specs.Image.{Image, image_block}
 use Rattle.f11_dev.proofs.ImageLemmas.{image_block-read}
 use Rattle.f11_dev.proofs.LookedLemmas.{looked_more, looked_within}
 use Rattle.f11_home.specs.Home.{HomeFields, FindsHome, candidates, IsSound}
-use Rattle.f11_index.specs.Calls.{LoadsIndex, ReadsIndex}
-use Rattle.f11_index.specs.IndexFile.{Index, index_of, slots, header_lbn, HasNonePast}
+use Rattle.f11_index.specs.Calls.{ReadsIndex}
+use Rattle.f11_index.specs.IndexFile.{Index, slots, header_lbn}
 use Rattle.f11_index.specs.Table.{table_in}
 use Rattle.f11_index.specs.Sound.{IsIndexFile}
-use Rattle.f11_commands.specs.LsCommand.{FindsVolume}
-use Rattle.f11_commands.specs.DumpCommand.{FindsIndex, IsHeaderDump, no_header_line}
+use Rattle.f11_commands.specs.AnyVolume.{FindsVolume}
+use Rattle.f11_commands.specs.DumpCommand.{IsHeaderDump, no_header_line}
 use Rattle.f11_commands.specs.Dump.{IsDump}
 
 candidates-counted : (blocks : ℕ) → 1 < blocks → candidates blocks ≡ (blocks + 255) / 256
@@ -28,27 +28,18 @@ reads-few home blocks headers sound at_most =
     let count = candidates-counted blocks (omega (arith, many)) in
     omega (arith, few, is, many, count, sound.within, at_most)
 
-module _ (home : HomeFields) (index : Index) (old mid new : Disk) (finds : FindsHome old mid home) (loads : LoadsIndex home index mid new)
-  where
-    image-is : new.image ≡ old.image
-    image-is = loads.looked.looked.image ∙ finds.looked.image
-
-    mid-honest : IsTrue old.honest → IsTrue mid.honest
-    mid-honest honest = finds.looked.honest ∙ honest
-
-    pub FindsIndex-loaded : FindsIndex home index old new
-    FindsIndex-loaded = record {
-      indexed = λ honest. record {
-        is_home = finds.is_home honest;
-        index_file = subst (λ (i : Image). IsIndexFile i home) finds.looked.image (loads.sound (mid-honest honest));
-        none_past = subst HasNonePast
-            (loads.is_for.keeps (loads.looked.looked.honest ∙ mid-honest honest) ∙ ap (λ (i : Image). index_of i home) image-is)
-            loads.none_past;
-      };
-      is_for = loads.is_for;
-      looked = looked_within (looked_more finds.looked loads.looked.looked)
-          (reads-few home (length old.image) loads.looked.headers finds.sound loads.looked.few);
-    }
+-- the index file was read, whatever its bits past the slots are
+pub FindsVolume-read : (home : HomeFields) (index : Index) (old mid new : Disk) → FindsHome old mid home → ReadsIndex home index mid new
+    → FindsVolume home index old new
+FindsVolume-read home index old mid new finds reads = record {
+  readable = λ honest. record {
+    is_home = finds.is_home honest;
+    index_file = subst (λ (i : Image). IsIndexFile i home) finds.looked.image (reads.sound (finds.looked.honest ∙ honest));
+  };
+  is_for = reads.is_for;
+  looked = looked_within (looked_more finds.looked reads.looked.looked)
+      (reads-few home (length old.image) reads.looked.headers finds.sound reads.looked.few);
+}
 
 -- what is said of a header whose slot isn't there, and of one that is
 pub no_slot-dump : (index : Index) (image : Image) (n : ℕ) → (n ≡ 0) ⊎ (slots index < n)
@@ -66,16 +57,4 @@ unfolding table_in
 slot-dump index image n lbn block text some within at reads dump = record {
   slot = λ _ _. subst (λ (b : List ℕ). IsDump b n text) (sym (image_block-read image lbn block reads) ∙ ap (image_block image) at) dump;
   no_slot = λ none. elim none [ inl is ↦ absurd (omega (arith, is, some)) | inr past ↦ absurd (omega (arith, past, within)) ];
-}
-
--- the index file was read, whatever its bits past the slots are
-pub FindsVolume-read : (home : HomeFields) (index : Index) (old mid new : Disk) → FindsHome old mid home → ReadsIndex home index mid new
-    → FindsVolume home index old new
-FindsVolume-read home index old mid new finds reads = record {
-  readable = λ honest. record {
-    is_home = finds.is_home honest;
-    index_file = subst (λ (i : Image). IsIndexFile i home) finds.looked.image (reads.sound (finds.looked.honest ∙ honest));
-  };
-  is_for = reads.is_for;
-  reads = (_, looked_more finds.looked reads.looked.looked);
 }

@@ -3,11 +3,14 @@ pub mod Copying
 pub mod Dump
 pub mod DumpCommand
 pub mod Finding
+pub mod FoundFile
+pub mod GetCommand
 pub mod Home
 pub mod InitCommand
 pub mod Label
 pub mod Name
 pub mod Output
+pub mod AnyVolume
 pub mod LsCommand
 pub mod Report
 pub mod RtReport

@@ -1,35 +1,24 @@
 -- What `ls` lists of a volume, faulty or not (profile).
-use Rattle.std.specs.Prelude.{◌≡◌, ◌≢◌, ℕ, IsTrue, List, [], ◌∷◌, ◌++◌, codes, Bool, not, Option, Some, None, Result, Ok, Err, unwrap_or}
-use Rattle.std.specs.Io.KnownBytes.{Keeps}
+use Rattle.std.specs.Prelude.{◌≡◌, ℕ, IsTrue, List, Option, Some, None, Result, Ok, Err}
 use Rattle.f11_catalog.specs.Lines.{all_user_lines, record_lines}
-use Rattle.f11_catalog.specs.Listing.{id_under, look_refusal}
 use Rattle.f11_catalog.specs.Records.{Reads, directory_refusal, file_named, records_of}
 use Rattle.f11_chain.specs.Calls.{table}
 use Rattle.f11_dev.specs.Disk.{Disk}
 use Rattle.f11_dev.specs.Image.{Image}
-use Rattle.f11_findings.specs.declared.finding.Finding.{Finding}
-use Rattle.f11_home.specs.Home.{HomeFields, IsHomeOf}
+use Rattle.f11_home.specs.Home.{HomeFields}
 use Rattle.f11_index.specs.IndexFile.{Index}
-use Rattle.f11_index.specs.Kept.{IsIndexFor}
-use Rattle.f11_index.specs.Sound.{IsIndexFile}
 use Rattle.f11_index.specs.Table.{Table, table_of}
-use Rattle.f11_store.specs.Refusal.{refusal_name}
-use Rattle.f11_store.specs.Store.{no_id}
 use Rattle.f11_store.specs.declared.files.FileId.{FileId}
 use Rattle.f11_store.specs.declared.callers.Uic.{Uic}
 use Rattle.f11_store.specs.declared.refusals.Refusal.{Refusal}
-use Rattle.f11_vfy.specs.Verify.{Verifies}
-use Rattle.f11_commands.specs.Copying.{directory_name, master_directory}
-use Rattle.f11_commands.specs.DumpCommand.{HasFault, fault_line}
+use Rattle.f11_commands.specs.AnyVolume.{IsVerified, IsReadable, TellsFault, no_line, unless_refused, user_directory}
+use Rattle.f11_commands.specs.Copying.{master_directory}
 use Rattle.f11_commands.specs.Output.{WriterTakes}
-use Rattle.f11_commands.specs.VfyCommand.{IsVerdict}
 use Rattle.f11_commands.specs.declared.ls.Served.{Served}
 use Rattle.f11_commands.specs.declared.outcome.Answer.{Answer}
 use Rattle.f11_commands.specs.declared.outcome.Answer.TheVariants.{Done, Fault}
 use Rattle.f11_commands.specs.declared.outcome.Failure.{Failure}
 use Rattle.f11_commands.specs.declared.outcome.Failure.TheVariants.{DeviceFault, NoMemory, CannotWrite}
-use Rattle.f11_commands.specs.declared.volume.VolumeFault.{VolumeFault}
-use Rattle.f11_commands.specs.declared.volume.VolumeFault.TheVariants.{NoHome, IndexMisplaced, PastSlots}
 
 -- these lines, where nothing stands against them
 abbrev pub lines_or : Option Refusal → List ℕ → Result (List ℕ) Refusal
@@ -45,16 +34,9 @@ abbrev pub users_listed : Image → Table → Result (List ℕ) Refusal
 users_listed image t = lines_or (directory_refusal (file_named image t master_directory))
     (all_user_lines image t (records_of image t master_directory))
 
--- of the directory that was found under a name, or wasn't
-abbrev pub found_listed : Image → Table → Option Refusal → Option FileId → Result (List ℕ) Refusal
-found_listed image t (Some refusal) found = Err refusal
-found_listed image t None found = directory_listed image t (unwrap_or found no_id)
-
--- of a user's directory, which the master file directory names
+-- of a user's directory
 abbrev pub user_listed : Image → Table → Uic → Result (List ℕ) Refusal
-user_listed image t user =
-    let found = id_under (directory_name user) (records_of image t master_directory) in
-    found_listed image t (look_refusal (directory_refusal (file_named image t master_directory)) found) found
+user_listed image t user = unless_refused (directory_listed image t) (user_directory image t user)
 
 -- of what is asked for: one user's directory, or all
 abbrev pub listed : Image → Table → Option Uic → Result (List ℕ) Refusal
@@ -64,7 +46,7 @@ listed image t None = users_listed image t
 -- what is written: the lines, or why there are none
 abbrev pub listing_text : Result (List ℕ) Refusal → List ℕ
 listing_text (Ok lines) = lines
-listing_text (Err refusal) = codes "no " ++ (refusal_name refusal ++ 10 ∷ [])
+listing_text (Err refusal) = no_line refusal
 
 -- and what is answered
 abbrev pub listing_answer : Result (List ℕ) Refusal → Answer
@@ -93,17 +75,6 @@ pub record ListsIndex {W : Type 0} (index : Index) (user : Option Uic) (answer :
   pub takes : WriterTakes contents before after text
   pub reads : Reads old new 0
 
--- The home block and the index file of a volume are as they should be, whatever else is.
-pub record IsReadable (image : Image) (home : HomeFields) : Type 0 where
-  pub is_home : IsHomeOf image home
-  pub index_file : IsIndexFile image home
-
--- The index file of a volume was read.
-pub record FindsVolume (home : HomeFields) (index : Index) (old new : Disk) : Type 0 where
-  pub readable : IsTrue old.honest → IsReadable old.image home
-  pub is_for : IsIndexFor index home new
-  pub reads : Reads old new 0
-
 -- What is asked for was listed, of a volume that can be read.
 pub record ListsFiles {W : Type 0} (user : Option Uic) (answer : Answer) (old new : Disk) (contents : W → Option (List ℕ))
     (before after : W) : Type 0 where
@@ -115,21 +86,6 @@ pub record ListsFiles {W : Type 0} (user : Option Uic) (answer : Answer) (old ne
   pub takes : WriterTakes contents before after text
   pub reads : Reads old new 0
 
--- a fault hinders reading: there is no home block, or the index file isn't as it should be; that of a bit past the slots doesn't
-abbrev pub Hinders : VolumeFault → Type 0
-Hinders NoHome = Unit {0}
-Hinders IndexMisplaced = Unit {0}
-Hinders (PastSlots n) = ⊥
-
--- The line of a fault was written, by which a volume can't be read.
-pub record TellsFault {W : Type 0} (answer : Answer) (old new : Disk) (contents : W → Option (List ℕ)) (before after : W) : Type 0 where
-  pub is_fault : answer ≡ Fault
-  pub fault : VolumeFault
-  pub hinders : Hinders fault
-  pub has : IsTrue old.honest → HasFault old.image fault
-  pub reads : Reads old new 0
-  pub takes : WriterTakes contents before after (fault_line fault)
-
 -- What `ls` does to a volume: it can be read, or can't.
 pub data ListsVolume {W : Type 0} (user : Option Uic) (answer : Answer) (old new : Disk) (contents : W → Option (List ℕ))
     (before after : W) : Type 0 where
@@ -139,10 +95,7 @@ pub data ListsVolume {W : Type 0} (user : Option Uic) (answer : Answer) (old new
 -- The volume was verified and what is asked for listed: it is said whether it has faults.
 pub record PrintsListing {W : Type 0} (user : Option Uic) (served : Served) (old new : Disk) (contents : W → Option (List ℕ))
     (before after : W) : Type 0 where
-  pub faults : List Finding
-  pub notes : List Finding
-  pub verifies : IsTrue old.honest → Verifies old.image faults notes
-  pub verdict : IsVerdict (not served.faulty) faults
+  pub verified : IsVerified served.faulty old
   pub lists : ListsVolume user served.answer old new contents before after
 
 -- The files that an index file has couldn't be listed: a transfer failed, or the writer takes no more.
@@ -150,10 +103,3 @@ abbrev pub FailsToListIndex : Failure → Disk → Disk → Type 0
 FailsToListIndex DeviceFault old new = Reads old new 1
 FailsToListIndex NoMemory old new = ⊥
 FailsToListIndex CannotWrite old new = Reads old new 0
-
--- It couldn't be: a transfer failed, or the writer takes no more, and then a part of the lines may be written; or there was no memory, and
--- nothing was.
-abbrev pub FailsToList : {W : Type 0} → Failure → Disk → Disk → (W → Option (List ℕ)) → W → W → Type 0
-FailsToList DeviceFault old new contents before after = Reads old new 1
-FailsToList NoMemory old new contents before after = Reads old new 0 × Keeps (contents before) (contents after)
-FailsToList CannotWrite old new contents before after = Reads old new 0

@@ -26,9 +26,10 @@ pub record ReadsBefore (index : Index) (file : FileReader) (end : ℕ) (old new 
   pub each_once : IsTrue old.honest → blocks ≤ length (contents_to_come index old file)
   pub looked : Looked old new (headers_left file + blocks + faults) faults
 
--- a text is the file's before an end
-pub record IsContent (index : Index) (file : FileReader) (end : ℕ) (disk : Disk) (text : List ℕ) : Type 0 where
-  pub few : length text ≤ end
+-- a text of so many bytes is the file's before an end
+pub record IsContent (index : Index) (file : FileReader) (end count : ℕ) (disk : Disk) (text : List ℕ) : Type 0 where
+  pub counted : length text ≡ count
+  pub few : count ≤ end
   pub is : IsTrue disk.honest → text ≡ bytes_to_come index disk file end
 
 -- or a beginning of it
@@ -36,10 +37,10 @@ pub record IsBeginning (index : Index) (file : FileReader) (end : ℕ) (disk : D
   pub few : length text ≤ end
   pub begins : IsTrue disk.honest → BeginsWith text (bytes_to_come index disk file end)
 
--- The file's content before an end was written.
-pub record WritesContent {W : Type 0} (index : Index) (file : FileReader) (end : ℕ) (old new : Disk)
+-- The file's content before an end was written: so many bytes.
+pub record WritesContent {W : Type 0} (index : Index) (file : FileReader) (end count : ℕ) (old new : Disk)
     (contents : W → Option (List ℕ)) (before after : W) : Type 0 where
-  pub takes : TakesText contents (IsContent index file end old) before after
+  pub takes : TakesText contents (IsContent index file end count old) before after
   pub reads : ReadsBefore index file end old new 0
 
 -- A transfer failed: a beginning of it was written.

@@ -1,5 +1,5 @@
 //! A file's content, taken out.
-ghost use Rattle.std.specs.Prelude.{◌≡◌, length, IfErr, OnOk};
+ghost use Rattle.std.specs.Prelude.{◌≡◌, length, IfErr, IfOk};
 ghost use Rattle.f11_commands.specs.TakingOut.{WritesContent, FailsToWriteContent};
 ghost use Rattle.f11_index.specs.Kept.{index_kept, IndexLiesWithin};
 ghost use Rattle.f11_reader.specs.Reading.{IsReading};
@@ -12,22 +12,22 @@ use f11_reader::FileReader;
 use std::io::Write;
 
 /// Writes the bytes of a file that are still to come, before `end` bytes: each block whole, and the last one cut there. Where the file
-/// ends earlier, so does the text. No block behind the end is read, and no memory is taken.
+/// ends earlier, so does the text. It says how many bytes were written. No block behind the end is read, and no memory is taken.
 ///
 /// # Errors
 ///
 /// [`Failure::DeviceFault`] where a transfer failed: then the writer holds what was read before. [`Failure::CannotWrite`] where the
 /// writer takes no more: then it may hold a part of the bytes.
-pub fn write_contents<D: Device, W: Write>(
+pub(crate) fn write_contents<D: Device, W: Write>(
     device: &mut D,
     index: &IndexFile,
     file: FileReader,
     end: u64,
     writer: &mut W,
-) -> Result<(), Failure>
+) -> Result<u64, Failure>
     requires within { IndexLiesWithin (index_kept index.now) (length (D.disk device.old).image) }
     requires reading { IsReading (index_kept index.now) file (D.disk device.old) }
-    ensures writes { OnOk result (WritesContent (index_kept index.now) file end
+    ensures writes { IfOk result (λ count. WritesContent (index_kept index.now) file end count
         (D.disk device.old) (D.disk device.new) W.contents writer.old writer.new) }
     ensures failed { IfErr result (λ failure. FailsToWriteContent failure (index_kept index.now)
         file end (D.disk device.old) (D.disk device.new) W.contents writer.old writer.new) }
@@ -36,11 +36,11 @@ pub fn write_contents<D: Device, W: Write>(
     let mut block = [0; BLOCK_SIZE];
     while left > 0 {
         if !reader.read(device, index, &mut block)? {
-            return Ok(());
+            return Ok(end - left);
         }
         let count = left.min(512);
         writer.write_all(&block[..count as usize])?;
         left -= count;
     }
-    Ok(())
+    Ok(end)
 }

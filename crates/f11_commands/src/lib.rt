@@ -9,6 +9,7 @@
 mod contents;
 mod copy;
 mod dump;
+mod get;
 mod home;
 mod init;
 mod label;
@@ -26,10 +27,13 @@ mod vfy;
 mod volume;
 mod volume_dump;
 
-pub use contents::write_contents;
 pub use copy::names::{read_names, refuse_names};
 pub use copy::{CopyAnswer, Copying, Direction, print_copy};
 pub use dump::dump_header;
+pub use get::found::FoundFile;
+pub use get::name::read_name;
+pub use get::seek::seek_file;
+pub use get::write::write_file;
 pub use home::print_home;
 pub use init::{print_init, refuse_init};
 pub use label::Label;

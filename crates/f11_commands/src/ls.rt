@@ -2,7 +2,8 @@
 ghost use Rattle.std.specs.Prelude.{◌≡◌, IfErr, IfOk, OnOk, length};
 ghost use Rattle.f11_catalog.specs.Listing.{BreaksOff};
 ghost use Rattle.f11_index.specs.Kept.{index_kept, IndexLiesWithin};
-ghost use Rattle.f11_commands.specs.LsCommand.{FailsToList, FailsToListIndex, IsNotListed, ListsIndex, ListsVolume, PrintsListing, WritesListing, listed, user_listed};
+ghost use Rattle.f11_commands.specs.AnyVolume.{FailsToServe};
+ghost use Rattle.f11_commands.specs.LsCommand.{FailsToListIndex, IsNotListed, ListsIndex, ListsVolume, PrintsListing, WritesListing, listed, user_listed};
 
 use crate::copy::finding::{MASTER_DIRECTORY, directory_name};
 use crate::outcome::{Answer, Failure};
@@ -44,7 +45,7 @@ pub fn print_ls<D: Device, W: Write>(
 ) -> (D, Result<Served, Failure>)
     ensures lists { IfOk result.1 (λ served. PrintsListing user served
         (D.disk device) (D.disk result.0) W.contents writer.old writer.new) }
-    ensures failed { IfErr result.1 (λ failure. FailsToList failure
+    ensures failed { IfErr result.1 (λ failure. FailsToServe failure
         (D.disk device) (D.disk result.0) W.contents writer.old writer.new) }
 {
     match verify(alloc, device) {
@@ -65,7 +66,7 @@ fn list<D: Device, W: Write>(
 ) -> (D, Result<Served, Failure>)
     ensures served { IfOk result.1 (λ served. (served.faulty ≡ faulty)
         × ListsVolume user served.answer (D.disk device) (D.disk result.0) W.contents writer.old writer.new) }
-    ensures failed { IfErr result.1 (λ failure. FailsToList failure
+    ensures failed { IfErr result.1 (λ failure. FailsToServe failure
         (D.disk device) (D.disk result.0) W.contents writer.old writer.new) }
 {
     let mut device = device;
@@ -84,7 +85,7 @@ fn list_volume<D: Device, W: Write>(
 ) -> Result<Answer, Failure>
     ensures lists { IfOk result (λ answer. ListsVolume user answer
         (D.disk device.old) (D.disk device.new) W.contents writer.old writer.new) }
-    ensures failed { IfErr result (λ failure. FailsToList failure
+    ensures failed { IfErr result (λ failure. FailsToServe failure
         (D.disk device.old) (D.disk device.new) W.contents writer.old writer.new) }
 {
     match read_index(alloc, device) {

@@ -3,7 +3,7 @@ ghost use Rattle.std.specs.Prelude.{◌≡◌, ◌⊎◌, IfOk, IfErr, IsErrOf};
 ghost use Rattle.f11_dev.specs.Looked.{Looked};
 ghost use Rattle.f11_index.specs.Kept.{index_kept};
 ghost use Rattle.f11_commands.specs.DumpCommand.{FindsIndex, FindsFault, index_reads};
-ghost use Rattle.f11_commands.specs.LsCommand.{FindsVolume, Hinders};
+ghost use Rattle.f11_commands.specs.AnyVolume.{FindsVolume, Hinders};
 
 use crate::outcome::Failure;
 use crate::report::files11::FaultText;
@@ -83,17 +83,13 @@ pub(crate) fn find_index<D: Device>(
     ensures failures { IfErr result (λ failure. (failure ≡ Failure.DeviceFault)
         ⊎ (failure ≡ Failure.NoMemory)) }
 {
-    let home = match find(device) {
-        Ok(home) => home,
-        Err(HomeFault::DeviceFault) => return Err(Failure::DeviceFault),
-        Err(HomeFault::NoHome) => return Ok(Err(VolumeFault::NoHome)),
-    };
-    match IndexFile::load(alloc, device, &home) {
-        Ok(index) => Ok(Ok((home, index))),
-        Err(IndexFault::Misplaced) => Ok(Err(VolumeFault::IndexMisplaced)),
-        Err(IndexFault::PastSlots(n)) => Ok(Err(VolumeFault::PastSlots(n))),
-        Err(IndexFault::DeviceFault) => Err(Failure::DeviceFault),
-        Err(IndexFault::NoMemory) => Err(Failure::NoMemory),
+    match read_index(alloc, device) {
+        Ok(Ok((home, index))) => match index.first_past() {
+            Some(n) => Ok(Err(VolumeFault::PastSlots(n))),
+            None => Ok(Ok((home, index))),
+        },
+        Ok(Err(fault)) => Ok(Err(fault)),
+        Err(failure) => Err(failure),
     }
 }
 

@@ -8,4 +8,4 @@ returns-in-Ok-clause-lists g c =
 pub returns-in-Ok-Ok-clause-failed : goal.returns-in-Ok-Ok-clause-failed
 returns-in-Ok-Ok-clause-failed g c =
     let found = rw c.in-Ok-Ok.field-0-is at c.in-Ok-Ok.ensures.found in
-    fails-to-list _ _ _ _ _ _ _ found.reads c.in-Err-list_index.ensures.failed
+    fails-to-list _ _ _ _ _ _ _ (_, found.looked) c.in-Err-list_index.ensures.failed

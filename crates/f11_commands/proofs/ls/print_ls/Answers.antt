@@ -1,6 +1,7 @@
 use Rattle.std.proofs.Common.{refl, sym, true, false}
 use Rattle.std.proofs.lemmas.Result.{IfErr-weaker, IfOk-weaker}
-use Rattle.f11_commands.proofs.LsLemmas.{fails-behind-look, judged-listing}
+use Rattle.f11_commands.proofs.AnyVolumeLemmas.{fails-behind-look}
+use Rattle.f11_commands.proofs.LsLemmas.{judged-listing}
 use Rattle.f11_commands.proofs.ls.print_ls.Goals as goal
 
 pub returns-in-Ok-Accepted-clause-lists : goal.returns-in-Ok-Accepted-clause-lists

@@ -1,0 +1,65 @@
+-- What holds of commands that serve any volume: what was read or verified before, and whose directory a name is.
+use Rattle.std.proofs.Common.{◌≡◌, ℕ, Bool, IsTrue, List, Option, Ok, Err, not, ap, subst, sym, ◌∙◌}
+use Rattle.f11_catalog.proofs.ListingLemmas.{reads-then}
+use Rattle.f11_catalog.specs.Listing.{FindsId, FindsNoId, id_entered}
+use Rattle.f11_catalog.specs.Records.{Reads}
+use Rattle.f11_chain.specs.Calls.{table}
+use Rattle.f11_dev.specs.Disk.{Disk}
+use Rattle.f11_dev.specs.Image.{Image}
+use Rattle.f11_findings.specs.declared.finding.Finding.{Finding}
+use Rattle.f11_home.specs.Home.{HomeFields}
+use Rattle.f11_index.specs.IndexFile.{Index}
+use Rattle.f11_index.specs.Table.{Table, table_in, table_of}
+use Rattle.f11_store.specs.declared.callers.Uic.{Uic}
+use Rattle.f11_store.specs.declared.files.FileId.{FileId}
+use Rattle.f11_store.specs.declared.refusals.Refusal.{Refusal}
+use Rattle.f11_vfy.specs.Verify.{Examines}
+use Rattle.f11_commands.specs.AnyVolume.{FailsToServe, FindsVolume, IsVerified, TellsFault, user_directory}
+use Rattle.f11_commands.specs.Copying.{directory_name, master_directory}
+use Rattle.f11_commands.specs.DumpCommand.{HasFault}
+use Rattle.f11_commands.specs.VfyCommand.{IsVerdict}
+use Rattle.f11_commands.specs.declared.outcome.Answer.{Answer}
+use Rattle.f11_commands.specs.declared.outcome.Failure.{Failure}
+use Rattle.f11_commands.specs.declared.outcome.Failure.TheVariants.{DeviceFault, NoMemory, CannotWrite}
+
+-- a user's directory was looked for in the master file directory
+module _ (index : Index) (user : Uic) (name : List ℕ) (is : name ≡ directory_name user) (old new : Disk) where
+  pub directory-of-user : {id : FileId} → FindsId index master_directory name id old new → IsTrue old.honest
+      → user_directory old.image (table index old) user ≡ Ok id
+  directory-of-user found honest = ap (id_entered old.image (table index old) master_directory) (sym is) ∙ found.found honest
+
+  pub none-of-user : {refusal : Refusal} → FindsNoId index master_directory name refusal old new → IsTrue old.honest
+      → user_directory old.image (table index old) user ≡ Err refusal
+  none-of-user none honest = ap (id_entered old.image (table index old) master_directory) (sym is) ∙ none.refused honest
+
+-- the index file was read: what is said of the files that it has is said of the volume's
+pub said-of-volume : (home : HomeFields) (index : Index) (old new : Disk) → FindsVolume home index old new → {X : Type 0}
+    (text : Image → Table → X) → IsTrue old.honest → text new.image (table index new) ≡ text old.image (table_of old.image home)
+said-of-volume home index old new found text honest =
+    ap (λ (x : Index). text new.image (table_in new.image x)) (found.is_for.keeps (found.looked.honest ∙ honest))
+    ∙ ap (λ (i : Image). text i (table_of i home)) found.looked.image
+
+-- the volume was verified
+pub verified-first : (told faulty : Bool) (faults notes : List Finding) (old new : Disk) → Examines faults notes old new
+    → IsVerdict (not faulty) faults → told ≡ faulty → IsVerified told old
+verified-first told faulty faults notes old new examines verdict same = subst (λ (b : Bool). IsVerified b old) (sym same)
+    (record { faults = faults; notes = notes; verifies = examines.verifies; verdict = verdict })
+
+-- what is told of a volume behind a look at it
+pub fault-behind : {W : Type 0} (answer : Answer) (old mid new : Disk) (contents : W → Option (List ℕ)) (before after : W)
+    → Reads old mid 0 → TellsFault answer mid new contents before after → TellsFault answer old new contents before after
+fault-behind answer old mid new contents before after reads fault = record {
+  is_fault = fault.is_fault;
+  fault = fault.fault;
+  hinders = fault.hinders;
+  has = λ honest. subst (λ (i : Image). HasFault i fault.fault) reads.1.image (fault.has (reads.1.honest ∙ honest));
+  takes = fault.takes;
+  reads = reads-then reads fault.reads;
+}
+
+-- and of what broke off
+pub fails-behind-look : {W : Type 0} (failure : Failure) (old mid new : Disk) (contents : W → Option (List ℕ)) (before after : W)
+    → Reads old mid 0 → FailsToServe failure mid new contents before after → FailsToServe failure old new contents before after
+fails-behind-look DeviceFault old mid new contents before after reads fails = reads-then reads fails
+fails-behind-look NoMemory old mid new contents before after reads fails = (reads-then reads fails.0, fails.1)
+fails-behind-look CannotWrite old mid new contents before after reads fails = reads-then reads fails

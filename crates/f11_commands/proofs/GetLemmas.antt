@@ -1,0 +1,176 @@
+-- What finding a file by its name tells, step by step.
+use Rattle.std.proofs.Common.{◌≡◌, ℕ, IsTrue, List, Option, Result, length, ap, refl, subst, sym, take, ◌∙◌}
+use Rattle.std.specs.List.{concat}
+use Rattle.f11_catalog.proofs.ComingLemmas.{named-none, named-some}
+use Rattle.f11_catalog.proofs.ListingLemmas.{reads-then, said-later}
+use Rattle.f11_catalog.proofs.OpenLemmas.{attr-is}
+use Rattle.f11_catalog.specs.Listing.{FindsId, FindsNoId}
+use Rattle.f11_catalog.specs.Records.{Reads, file_named}
+use Rattle.f11_chain.specs.Calls.{table}
+use Rattle.f11_dev.specs.Disk.{Disk}
+use Rattle.f11_dev.specs.Image.{Image}
+use Rattle.f11_header.specs.Fields.{attributes}
+use Rattle.f11_home.specs.Home.{HomeFields}
+use Rattle.f11_index.specs.IndexFile.{Index}
+use Rattle.f11_index.specs.Kept.{IndexLiesWithin}
+use Rattle.f11_index.specs.Table.{Table, table_of}
+use Rattle.f11_reader.proofs.LawLemmas.{opened-has}
+use Rattle.f11_reader.specs.Reading.{FindsNone, OpensFile}
+use Rattle.f11_reader.specs.declared.file.FileReader.{FileReader}
+use Rattle.f11_store.specs.File.{File, stated_end}
+use Rattle.f11_store.specs.declared.callers.Uic.{Uic}
+use Rattle.f11_store.specs.declared.files.FileId.{FileId}
+use Rattle.f11_store.specs.declared.refusals.Refusal.{Refusal}
+use Rattle.f11_store.specs.declared.refusals.Refusal.TheVariants.{NoSuchFile}
+use Rattle.f11_volume.specs.Contents.{file_of}
+use Rattle.f11_commands.specs.AnyVolume.{FindsVolume, IsReadable, no_line, unless_refused}
+use Rattle.f11_commands.specs.Copying.{directory_name, master_directory}
+use Rattle.f11_commands.specs.GetCommand.{FindsSought, IsToRead, LacksSought, OpensSought, TellsWhyNot, tells_fault, tells_none}
+use Rattle.f11_commands.specs.GetCommand.{file_entered, file_or_none, file_sought}
+use Rattle.f11_commands.specs.Output.{WriterTakes}
+use Rattle.f11_commands.specs.TakingOut.{bytes_to_come}
+use Rattle.f11_commands.specs.declared.outcome.Answer.{Answer}
+use Rattle.f11_commands.specs.declared.outcome.Answer.TheVariants.{Fault}
+use Rattle.f11_commands.proofs.AnyVolumeLemmas.{directory-of-user, fault-behind, none-of-user, said-of-volume}
+use Rattle.f11_commands.proofs.TakingOutLemmas.{contents-stay}
+
+-- the file with an identification was opened
+module _ (index : Index) (id : FileId) (old new : Disk) where
+  pub opened-finds : (file : FileReader) (end : ℕ) → OpensFile index id file old new → end ≡ stated_end (attributes file.header)
+      → OpensSought (λ image t. file_or_none (file_named image t id)) index file end old new
+  opened-finds file end opens end-is =
+      let t = table index old in
+      let f = file_of old.image t file.number in
+      record {
+        found = f;
+        is = λ honest. ap file_or_none (named-some old.image t id file.number (opens.is_id honest));
+        to_come = λ honest.
+            ap (λ (bs : List (List ℕ)). take end (concat bs))
+            (contents-stay index file old new _ _ opens.looked ∙ opened-has index id file old new opens honest)
+            ∙ ap (λ (n : ℕ). take n (concat f.blocks))
+            (end-is ∙ ap (λ b. stated_end (attributes b)) (opens.header_is honest)
+            ∙ ap stated_end (sym (attr-is old.image t file.number)));
+        reading = opens.reading;
+        reads = (_, opens.looked);
+      }
+
+  pub opened-none : FindsNone index id old new → LacksSought (λ image t. file_or_none (file_named image t id)) index NoSuchFile old new
+  opened-none none = record {
+    refused = λ honest. ap file_or_none (named-none old.image (table index old) id (none.none honest));
+    reads = (_, none.looked);
+  }
+
+-- what is found behind a look is what is sought
+module _ (sought next : Image → Table → Result File Refusal) (index : Index) (old mid new : Disk) (reads : Reads old mid 0)
+    (same : IsTrue old.honest → sought old.image (table index old) ≡ next old.image (table index old)) where
+  later : IsTrue old.honest → sought old.image (table index old) ≡ next mid.image (table index mid)
+  later honest = same honest ∙ sym (said-later next index reads.1)
+
+  pub finds-behind : (file : FileReader) (end : ℕ) → OpensSought next index file end mid new → OpensSought sought index file end old new
+  finds-behind file end finds = record {
+    found = finds.found;
+    is = λ honest. later honest ∙ finds.is (reads.1.honest ∙ honest);
+    to_come = λ honest. finds.to_come (reads.1.honest ∙ honest);
+    reading = finds.reading;
+    reads = reads-then reads finds.reads;
+  }
+
+  pub none-behind : (refusal : Refusal) → LacksSought next index refusal mid new → LacksSought sought index refusal old new
+  none-behind refusal none = record {
+    refused = λ honest. later honest ∙ none.refused (reads.1.honest ∙ honest);
+    reads = reads-then reads none.reads;
+  }
+
+-- a directory has the name, or hasn't
+module _ (index : Index) (directory : FileId) (name : List ℕ) (old new : Disk) where
+  pub entered-is : (id : FileId) → FindsId index directory name id old new → IsTrue old.honest
+      → file_entered old.image (table index old) name directory ≡ file_or_none (file_named old.image (table index old) id)
+  entered-is id found honest = ap (unless_refused (λ i. file_or_none (file_named old.image (table index old) i))) (found.found honest)
+
+  pub none-entered : (refusal : Refusal) → FindsNoId index directory name refusal old new
+      → LacksSought (λ image t. file_entered image t name directory) index refusal old new
+  none-entered refusal none = record {
+    refused = λ honest. ap (unless_refused (λ i. file_or_none (file_named old.image (table index old) i))) (none.refused honest);
+    reads = none.reads;
+  }
+
+-- and the master file directory that of the user
+module _ (index : Index) (user : Uic) (text : List ℕ) (is : text ≡ directory_name user) (name : List ℕ) (old new : Disk) where
+  pub sought-is : (id : FileId) → FindsId index master_directory text id old new → IsTrue old.honest
+      → file_sought old.image (table index old) user name ≡ file_entered old.image (table index old) name id
+  sought-is id found honest =
+      ap (unless_refused (file_entered old.image (table index old) name)) (directory-of-user index user text is old new found honest)
+
+  pub none-sought : (refusal : Refusal) → FindsNoId index master_directory text refusal old new
+      → LacksSought (λ image t. file_sought image t user name) index refusal old new
+  none-sought refusal none = record {
+    refused = λ honest.
+        ap (unless_refused (file_entered old.image (table index old) name)) (none-of-user index user text is old new none honest);
+    reads = none.reads;
+  }
+
+-- the index file was read before
+module _ (home : HomeFields) (index : Index) (old mid : Disk) (found : FindsVolume home index old mid) (user : Uic) (name : List ℕ)
+    (new : Disk) where
+  of-volume : IsTrue old.honest
+      → file_sought mid.image (table index mid) user name ≡ file_sought old.image (table_of old.image home) user name
+  of-volume honest = said-of-volume home index old mid found (λ image t. file_sought image t user name) honest
+
+  pub volume-has : (file : FileReader) (end : ℕ) → OpensSought (λ image t. file_sought image t user name) index file end mid new
+      → FindsSought user name (bytes_to_come index new file end) old new
+  volume-has file end finds = record {
+    home = home;
+    readable = found.readable;
+    found = finds.found;
+    is = λ honest. sym (of-volume honest) ∙ finds.is (found.looked.honest ∙ honest);
+    bytes_are = λ honest. finds.to_come (found.looked.honest ∙ honest);
+    reads = reads-then (_, found.looked) finds.reads;
+  }
+
+  pub is-to-read : (file : FileReader) (end : ℕ) → OpensSought (λ image t. file_sought image t user name) index file end mid new
+      → IsToRead index file new
+  is-to-read file end finds = record {
+    within = subst (λ (i : Image). IndexLiesWithin index (length i)) (sym finds.reads.1.image) found.is_for.within;
+    reading = finds.reading;
+  }
+
+  pub volume-hasnt : {W : Type 0} (refusal : Refusal) (contents : W → Option (List ℕ)) (before after : W)
+      → LacksSought (λ image t. file_sought image t user name) index refusal mid new
+      → WriterTakes contents before after (no_line refusal) → TellsWhyNot user name Fault old new contents before after
+  volume-hasnt refusal contents before after none takes = tells_none (record {
+    home = home;
+    readable = found.readable;
+    refusal = refusal;
+    refused = λ honest. sym (of-volume honest) ∙ none.refused (found.looked.honest ∙ honest);
+    is_fault = refl;
+    takes = takes;
+    reads = reads-then (_, found.looked) none.reads;
+  })
+
+-- the volume was verified before
+module _ (user : Uic) (name : List ℕ) (old mid new : Disk) (reads : Reads old mid 0) where
+  pub sought-behind : (bytes : List ℕ) → FindsSought user name bytes mid new → FindsSought user name bytes old new
+  sought-behind bytes finds = record {
+    home = finds.home;
+    readable = λ honest. subst (λ (i : Image). IsReadable i finds.home) reads.1.image (finds.readable (reads.1.honest ∙ honest));
+    found = finds.found;
+    is = λ honest.
+        sym (ap (λ (i : Image). file_sought i (table_of i finds.home) user name) reads.1.image) ∙ finds.is (reads.1.honest ∙ honest);
+    bytes_are = λ honest. finds.bytes_are (reads.1.honest ∙ honest);
+    reads = reads-then reads finds.reads;
+  }
+
+  pub why-not-behind : {W : Type 0} (answer : Answer) (contents : W → Option (List ℕ)) (before after : W)
+      → TellsWhyNot user name answer mid new contents before after → TellsWhyNot user name answer old new contents before after
+  why-not-behind answer contents before after (tells_none none) = tells_none (record {
+    home = none.home;
+    readable = λ honest. subst (λ (i : Image). IsReadable i none.home) reads.1.image (none.readable (reads.1.honest ∙ honest));
+    refusal = none.refusal;
+    refused = λ honest.
+        sym (ap (λ (i : Image). file_sought i (table_of i none.home) user name) reads.1.image) ∙ none.refused (reads.1.honest ∙ honest);
+    is_fault = none.is_fault;
+    takes = none.takes;
+    reads = reads-then reads none.reads;
+  })
+  why-not-behind answer contents before after (tells_fault fault) =
+      tells_fault (fault-behind answer old mid new contents before after reads fault)

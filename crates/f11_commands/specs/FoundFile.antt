@@ -1,0 +1,25 @@
+-- A file that was found, on its device (profile).
+use Rattle.std.specs.Prelude.{ℕ, Bool}
+use Rattle.f11_dev.specs.declared.device.Device.{Ghosts}
+use Rattle.f11_index.specs.IndexFile.{Index}
+use Rattle.f11_index.specs.Kept.{index_kept}
+use Rattle.f11_reader.specs.declared.file.FileReader.{FileReader}
+use Rattle.f11_commands.specs.declared.get.found.FoundFile.{FoundFile}
+
+-- its device
+abbrev pub device_with : {D : Type 0} {G : Ghosts D} → FoundFile D G → D
+device_with found = found.device
+
+-- whether its volume has faults
+abbrev pub has_faults : {D : Type 0} {G : Ghosts D} → FoundFile D G → Bool
+has_faults found = found.faulty
+
+-- its volume's index file, the file as it is read, and its end
+abbrev pub index_with : {D : Type 0} {G : Ghosts D} → FoundFile D G → Index
+index_with found = index_kept found.index
+
+abbrev pub reader_of : {D : Type 0} {G : Ghosts D} → FoundFile D G → FileReader
+reader_of found = found.file
+
+abbrev pub end_found : {D : Type 0} {G : Ghosts D} → FoundFile D G → ℕ
+end_found found = found.end

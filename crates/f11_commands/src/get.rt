@@ -1,0 +1,6 @@
+//! The command `get`.
+
+pub mod found;
+pub mod name;
+pub mod seek;
+pub mod write;

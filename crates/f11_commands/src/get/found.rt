@@ -1,0 +1,27 @@
+//! A file that was found, on its device.
+ghost use Rattle.std.specs.Prelude.{◌≡◌, length};
+ghost use Rattle.f11_index.specs.Kept.{index_kept, IndexLiesWithin};
+ghost use Rattle.f11_reader.specs.Reading.{IsReading};
+
+use f11_dev::Device;
+use f11_index::IndexFile;
+use f11_reader::FileReader;
+
+/// A file that was found, none of whose bytes was read, on its device.
+#[derive(Drop)]
+pub struct FoundFile<D: Device> {
+    /// The device that has the volume.
+    pub(crate) device: D,
+    /// The volume's index file.
+    pub(crate) index: IndexFile,
+    /// The file, whose first header is in hand.
+    pub(crate) file: FileReader,
+    /// Where it ends, in bytes, if it has blocks for so many.
+    pub(crate) end: u64,
+    /// Whether the volume has faults.
+    pub(crate) faulty: bool,
+    /// The index file lies on the device.
+    pub ghost within: { IndexLiesWithin (index_kept index) (length (D.disk device).image) },
+    /// The header in hand is one of the device's.
+    pub ghost reading: { IsReading (index_kept index) file (D.disk device) },
+}
