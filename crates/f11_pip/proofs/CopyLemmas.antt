@@ -22,14 +22,14 @@ use Rattle.f11_pip.proofs.PlainLemmas.{
 use Rattle.f11_pip.proofs.WordsLemmas.{is_simple-program}
 
 -- no word is an option
-abbrev ArePlain : List Text → Type 0
+abbrev pub ArePlain : List Text → Type 0
 ArePlain words = All (λ text. is_option text ≡ false) words
 
 -- the option `--mode` waits for its value
 abbrev mode_met : Held
 mode_met = record { rows = []; pending = Some (codes "mode", []); skip = 0 }
 
-passes-none : (s : Shape) (w : Walk) → walk_passes s [] w [] ≡ true
+pub passes-none : (s : Shape) (w : Walk) → walk_passes s [] w [] ≡ true
 unfolding walk_passes
 passes-none s w = refl
 

@@ -1,4 +1,5 @@
 mod CopyLemmas
+mod GetLemmas
 mod LineLemmas
 mod PlainLemmas
 pub mod WordsLemmas

@@ -34,6 +34,11 @@ word_rule name = record (new_rule name) { action = Some Set }
 abbrev pub ls_app : App
 ls_app = with_rule (with_rule (new_app (codes "ls")) (needed_rule (codes "image"))) (word_rule (codes "uic"))
 
+-- `get IMAGE UIC NAME HOST`
+abbrev pub get_app : App
+get_app = with_rule (with_rule (with_rule (with_rule (new_app (codes "get")) (needed_rule (codes "image")))
+    (needed_rule (codes "uic"))) (needed_rule (codes "name"))) (needed_rule (codes "host"))
+
 -- `name TEXT`
 abbrev pub name_app : App
 name_app = with_rule (new_app (codes "name")) (needed_rule (codes "text"))
@@ -107,9 +112,9 @@ rt_vfy_app = with_rule (new_app (codes "rt-vfy")) (needed_rule (codes "image"))
 
 -- the commands on Files-11 volumes
 abbrev pub files_app : App
-files_app = with_subcommand (with_subcommand (with_subcommand (with_subcommand
+files_app = with_subcommand (with_subcommand (with_subcommand (with_subcommand (with_subcommand
     (with_subcommand (with_subcommand (with_subcommand (with_subcommand (new_app (codes "f11_pip")) home_app.top)
-    name_app.top) rights_app.top) dump_app.top) vfy_app.top) init_app.top) ls_app.top) run_app.top
+    name_app.top) rights_app.top) dump_app.top) vfy_app.top) init_app.top) ls_app.top) get_app.top) run_app.top
 
 -- those on RT-11 volumes, and the copies between the two
 abbrev pub program_app : App
@@ -159,9 +164,12 @@ words_in ids rows = map (λ id. first_of id rows) ids
 abbrev pub command_and_words : List Text → Option (Text × List Row) → Option (Text × List (Option Text))
 command_and_words ids = option_map (λ p. (p.0, words_in ids p.1))
 
--- the names of the words of a copy, of those of `init`, `ls`, and `rt-init`
+-- the names of the words of a copy, of those of `get`, `init`, `ls`, and `rt-init`
 abbrev pub copy_names : List Text
 copy_names = codes "mode" ∷ codes "image" ∷ codes "uic" ∷ codes "name" ∷ codes "rt" ∷ codes "rt-name" ∷ []
+
+abbrev pub get_names : List Text
+get_names = codes "image" ∷ codes "uic" ∷ codes "name" ∷ codes "host" ∷ []
 
 abbrev pub init_names : List Text
 init_names = codes "blocks" ∷ codes "slots" ∷ codes "label" ∷ codes "max" ∷ codes "image" ∷ []
@@ -176,6 +184,11 @@ rt_init_names = codes "blocks" ∷ codes "segments" ∷ codes "image" ∷ []
 abbrev pub MeetsCopy : Text → Text → Text → Text → Text → Text → Text → Option (Text × List Row) → Type 0
 MeetsCopy command mode image uic name rt rt_name met = command_and_words copy_names met ≡
     Some (command, Some mode ∷ Some image ∷ Some uic ∷ Some name ∷ Some rt ∷ Some rt_name ∷ [])
+
+-- `get` was met, with these words
+abbrev pub MeetsGet : Text → Text → Text → Text → Option (Text × List Row) → Type 0
+MeetsGet image uic name host met =
+    command_and_words get_names met ≡ Some (codes "get", Some image ∷ Some uic ∷ Some name ∷ Some host ∷ [])
 
 -- `init` was met, with these words, the greatest number of files among them or not
 abbrev pub MeetsInit : Text → Text → Text → Option Text → Text → Option (Text × List Row) → Type 0
@@ -221,6 +234,13 @@ pub record HasCopyWords (mode image uic name rt rt_name : Text) (given : ArgMatc
   pub name_is : HasWord (codes "name") name given
   pub rt_is : HasWord (codes "rt") rt given
   pub rt_name_is : HasWord (codes "rt-name") rt_name given
+
+-- `get` has these words
+pub record HasGetWords (image uic name host : Text) (given : ArgMatches) : Type 0 where
+  pub image_is : HasWord (codes "image") image given
+  pub uic_is : HasWord (codes "uic") uic given
+  pub name_is : HasWord (codes "name") name given
+  pub host_is : HasWord (codes "host") host given
 
 -- `init` has these words, the greatest number of files among them or not
 pub record HasInitWords (blocks slots label : Text) (max : Option Text) (image : Text) (given : ArgMatches) : Type 0 where

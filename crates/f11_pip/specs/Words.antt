@@ -12,6 +12,7 @@ use Rattle.f11_pip.specs.declared.words.Words.TheVariants.{
   Dump,
   FlxFromRt,
   FlxToRt,
+  Get,
   Home,
   Init,
   Ls,
@@ -34,6 +35,7 @@ pub data CommandLine : Type 0 where
   dump_line : (image number : List ℕ) → CommandLine
   from_rt_line : (mode rt rt_name image uic name : List ℕ) → CommandLine
   to_rt_line : (mode image uic name rt rt_name : List ℕ) → CommandLine
+  get_line : (image uic name host : List ℕ) → CommandLine
   home_line : (image : List ℕ) → CommandLine
   ls_line : (image : List ℕ) → CommandLine
   user_line : (image uic : List ℕ) → CommandLine
@@ -53,6 +55,7 @@ words_given (from_rt_line mode rt rt_name image uic name) =
     codes "flx-from-rt" ∷ codes "--mode" ∷ mode ∷ rt ∷ rt_name ∷ image ∷ uic ∷ name ∷ []
 words_given (to_rt_line mode image uic name rt rt_name) =
     codes "flx-to-rt" ∷ codes "--mode" ∷ mode ∷ image ∷ uic ∷ name ∷ rt ∷ rt_name ∷ []
+words_given (get_line image uic name host) = codes "get" ∷ image ∷ uic ∷ name ∷ host ∷ []
 words_given (home_line image) = codes "home" ∷ image ∷ []
 words_given (ls_line image) = codes "ls" ∷ image ∷ []
 words_given (user_line image uic) = codes "ls" ∷ image ∷ uic ∷ []
@@ -70,6 +73,7 @@ abbrev pub texts_of : CommandLine → List (List ℕ)
 texts_of (dump_line image number) = image ∷ number ∷ []
 texts_of (from_rt_line mode rt rt_name image uic name) = mode ∷ rt ∷ rt_name ∷ image ∷ uic ∷ name ∷ []
 texts_of (to_rt_line mode image uic name rt rt_name) = mode ∷ image ∷ uic ∷ name ∷ rt ∷ rt_name ∷ []
+texts_of (get_line image uic name host) = image ∷ uic ∷ name ∷ host ∷ []
 texts_of (home_line image) = image ∷ []
 texts_of (ls_line image) = image ∷ []
 texts_of (user_line image uic) = image ∷ uic ∷ []
@@ -113,6 +117,12 @@ abbrev pub AsksToRt : List ℕ → List ℕ → List ℕ → List ℕ → List �
 AsksToRt mode image uic name rt rt_name (FlxToRt in_mode from directory file to to_file) = SpellsMode mode in_mode ×
     (from.now ≡ image) × SpellsUic uic directory × (file.now ≡ name) × (to.now ≡ rt) × (to_file.now ≡ rt_name)
 AsksToRt mode image uic name rt rt_name _ = ⊥
+
+-- the words ask that the file of this name in this directory of this image become a file of the host under this name
+abbrev pub AsksGet : List ℕ → List ℕ → List ℕ → List ℕ → Words → Type 0
+AsksGet image uic name host (Get from directory file to) =
+    (from.now ≡ image) × SpellsUic uic directory × (file.now ≡ name) × (to.now ≡ host)
+AsksGet image uic name host _ = ⊥
 
 -- the words ask for the home block of this image
 abbrev pub AsksHome : List ℕ → Words → Type 0
@@ -182,6 +192,7 @@ abbrev pub Asks : CommandLine → Words → Type 0
 Asks (dump_line image number) words = AsksDump image number words
 Asks (from_rt_line mode rt rt_name image uic name) words = AsksFromRt mode rt rt_name image uic name words
 Asks (to_rt_line mode image uic name rt rt_name) words = AsksToRt mode image uic name rt rt_name words
+Asks (get_line image uic name host) words = AsksGet image uic name host words
 Asks (home_line image) words = AsksHome image words
 Asks (ls_line image) words = AsksLs image None words
 Asks (user_line image uic) words = AsksLs image (Some uic) words
@@ -221,6 +232,7 @@ abbrev pub IsUnreadable : CommandLine → Type 0
 IsUnreadable (dump_line image number) = ¬ IsNumber number
 IsUnreadable (from_rt_line mode rt rt_name image uic name) = IsNoCopy mode uic
 IsUnreadable (to_rt_line mode image uic name rt rt_name) = IsNoCopy mode uic
+IsUnreadable (get_line image uic name host) = IsNoUic uic
 IsUnreadable (home_line image) = ⊥
 IsUnreadable (ls_line image) = ⊥
 IsUnreadable (user_line image uic) = IsNoUic uic

@@ -11,7 +11,7 @@ struct Synopsis {
 /// The program's name and version, and what it was built with.
 const VERSION: &str = "f11_pip 0.1, built with Rattle, logic dac8208d650f15bf";
 
-const COMMANDS: [Synopsis; 13] = [
+const COMMANDS: [Synopsis; 14] = [
     Synopsis {
         name: "dump",
         words: "f11_pip dump IMAGE NUMBER",
@@ -26,6 +26,11 @@ const COMMANDS: [Synopsis; 13] = [
         name: "flx-to-rt",
         words: "f11_pip flx-to-rt --mode M IMAGE UIC NAME RT RTNAME",
         does: "copies a file of a Files-11 volume to an RT-11 one, as it is or as text: M is image or text, UIC names the directory",
+    },
+    Synopsis {
+        name: "get",
+        words: "f11_pip get IMAGE UIC NAME HOST",
+        does: "copies a file of a Files-11 volume to a new file HOST, also of a volume that has faults: UIC names the directory",
     },
     Synopsis {
         name: "home",

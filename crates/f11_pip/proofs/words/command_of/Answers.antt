@@ -1,6 +1,6 @@
 use Rattle.std.proofs.Common.{◌∙◌, ap, codes, List, Option, None, slice_index_or}
 use Rattle.clap.specs.Words.{Text, found_of}
-use Rattle.f11_pip.specs.Commands.{init_names, ls_names, rt_init_names}
+use Rattle.f11_pip.specs.Commands.{get_names, init_names, ls_names, rt_init_names}
 use Rattle.clap.proofs.WalkLemmas.{first_value-rows, one_text-rows}
 use Rattle.f11_pip.proofs.WordsLemmas.{first_of-met, one_of-met, words_met}
 use Rattle.f11_pip.proofs.words.command_of.Goals as goal
@@ -73,6 +73,17 @@ returns-in-Some-init-default-clause-init c blocks slots label image max met =
       label_is = first_value-rows (found_of given) (codes "label") ∙ ap (λ (l : List (Option Text)). slice_index_or l 2 None) words;
       max_is = first_value-rows (found_of given) (codes "max") ∙ ap (λ (l : List (Option Text)). slice_index_or l 3 None) words;
       image_is = first_value-rows (found_of given) (codes "image") ∙ ap (λ (l : List (Option Text)). slice_index_or l 4 None) words;
+    })
+
+pub returns-in-Some-get-default-clause-get : goal.returns-in-Some-get-default-clause-get
+returns-in-Some-get-default-clause-get c image uic name host met =
+    let given = c.in-Some-get-default.given.now in
+    let words = words_met _ _ _ get_names _ c.in-Some-get-default.ensures.rows met in
+    c.get_of.ensures.get image uic name host (record {
+      image_is = first_value-rows (found_of given) (codes "image") ∙ ap (λ (l : List (Option Text)). slice_index_or l 0 None) words;
+      uic_is = first_value-rows (found_of given) (codes "uic") ∙ ap (λ (l : List (Option Text)). slice_index_or l 1 None) words;
+      name_is = first_value-rows (found_of given) (codes "name") ∙ ap (λ (l : List (Option Text)). slice_index_or l 2 None) words;
+      host_is = first_value-rows (found_of given) (codes "host") ∙ ap (λ (l : List (Option Text)). slice_index_or l 3 None) words;
     })
 
 pub returns-in-Some-ls-default-clause-ls : goal.returns-in-Some-ls-default-clause-ls

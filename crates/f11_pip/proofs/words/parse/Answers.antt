@@ -1,11 +1,12 @@
 use Rattle.std.proofs.Common.{[], arith, ◌∙◌, None, Some, ap, ap₂, codes, false, map, true}
 use Rattle.clap.specs.Words.{is_simple, subcommand_of, takes}
-use Rattle.f11_pip.specs.Commands.{command_and_flag, command_and_word, command_and_words, copy_names, ls_names, rt_init_names}
+use Rattle.f11_pip.specs.Commands.{command_and_flag, command_and_word, command_and_words, copy_names, get_names, ls_names, rt_init_names}
 use Rattle.f11_pip.specs.Words.{
   Asks,
   IsUnreadable,
   dump_line,
   from_rt_line,
+  get_line,
   home_line,
   ls_line,
   name_line,
@@ -20,6 +21,7 @@ use Rattle.f11_pip.specs.Words.{
   vfy_line,
 }
 use Rattle.f11_pip.proofs.CopyLemmas.{subcommand_of-from_rt, subcommand_of-to_rt}
+use Rattle.f11_pip.proofs.GetLemmas.{subcommand_of-get}
 use Rattle.f11_pip.proofs.LineLemmas.{takes-line, subcommand_of-rt_init}
 use Rattle.f11_pip.proofs.WordsLemmas.{failure_out_of_memory, match_ok, no_memory_or_none, none_or_no_memory, subcommand_of-rt_list}
 use Rattle.f11_pip.proofs.WordsLemmas.{subcommand_of-rt_vfy, subcommand_of-run, subcommand_of-update, subcommand_of-vfy, subcommand_of-dump}
@@ -41,6 +43,12 @@ returns-clause-asks g c (home_line word) line =
     (match_ok _ _ c.command_of.result
     (c.command_of.ensures.home word
     (ap (command_and_word (codes "image")) met ∙ subcommand_of-home line.program word (line.plain 0 [] (omega arith)))))
+returns-clause-asks g c (get_line image uic name host) line =
+    let simple = ap is_simple c.in_ok-program.ensures ∙ is_simple-program in
+    let met = (c.in_ok-matches.ensures.matches simple).1 ∙ ap₂ subcommand_of c.in_ok-program.ensures line.is_line in
+    none_or_no_memory (Asks (get_line image uic name host)) (IsUnreadable (get_line image uic name host)) c.command_of.result
+    (c.command_of.ensures.get image uic name host
+    (ap (command_and_words get_names) met ∙ subcommand_of-get line.program image uic name host line.plain))
 returns-clause-asks g c (name_line word) line =
     let simple = ap is_simple c.in_ok-program.ensures ∙ is_simple-program in
     let met = (c.in_ok-matches.ensures.matches simple).1 ∙ ap₂ subcommand_of c.in_ok-program.ensures line.is_line in

@@ -3,7 +3,7 @@ use Rattle.clap.specs.Words.{Text, found_of}
 use Rattle.f11_pip.specs.Commands.{copy_names}
 use Rattle.clap.proofs.WalkLemmas.{first_value-rows}
 use Rattle.f11_pip.proofs.WordsLemmas.{words_met}
-use Rattle.f11_pip.proofs.words.copy_of.Goals as goal
+use Rattle.f11_pip.proofs.words.copies.copy_of.Goals as goal
 
 pub returns-in-Some-text-default-clause-from_rt : goal.returns-in-Some-text-default-clause-from_rt
 returns-in-Some-text-default-clause-from_rt c mode rt rt_name image uic name met =

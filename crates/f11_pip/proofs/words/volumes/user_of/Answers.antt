@@ -1,7 +1,7 @@
-use Rattle.std.proofs.Common.{◌≡◌, ◌∙◌, Option, Some, List, ℕ, ap, option_map, subst, sym}
+use Rattle.std.proofs.Common.{◌≡◌, ◌∙◌, Some, ap, option_map, subst, sym}
 use Rattle.f11_pip.specs.Words.{IsNoUser}
 use Rattle.f11_pip.proofs.WordsLemmas.{user-or-none}
-use Rattle.f11_pip.proofs.words.user_of.Goals as goal
+use Rattle.f11_pip.proofs.words.volumes.user_of.Goals as goal
 
 pub returns-in-None-read_uic-clause-user : goal.returns-in-None-read_uic-clause-user
 returns-in-None-read_uic-clause-user c uic is =

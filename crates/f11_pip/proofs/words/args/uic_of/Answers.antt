@@ -1,7 +1,7 @@
 use Rattle.std.proofs.Common.{◌≡◌, ◌∙◌, IfSome, Some, subst, sym}
 use Rattle.f11_numbers.specs.Octal.{SpellsUic}
 use Rattle.f11_pip.proofs.WordsLemmas.{uic_or_none}
-use Rattle.f11_pip.proofs.words.uic_of.Goals as goal
+use Rattle.f11_pip.proofs.words.args.uic_of.Goals as goal
 
 pub returns-clause-uic : goal.returns-clause-uic
 returns-clause-uic c text given =

@@ -1,6 +1,6 @@
 use Rattle.std.proofs.Common.{inl, inr}
 use Rattle.f11_pip.proofs.WordsLemmas.{at_err}
-use Rattle.f11_pip.proofs.words.rights_of.Goals as goal
+use Rattle.f11_pip.proofs.words.spelled.rights_of.Goals as goal
 
 pub returns-in_err-uic_of-clause-rights : goal.returns-in_err-uic_of-clause-rights
 returns-in_err-uic_of-clause-rights c caller owner word given =

@@ -1,1 +1,0 @@
-use Rattle.f11_pip.proofs.words.vfy_of.Goals as goal

@@ -1,0 +1,120 @@
+//! The words of the commands that copy between two volumes.
+ghost use Rattle.std.specs.Prelude.{◌≡◌, ℕ, List, codes, None, IfOk, IfErr, IsErr, MatchResult};
+ghost use Rattle.clap.specs.Words.{app_of, subcommand_rows_of};
+ghost use Rattle.f11_pip.specs.Words.{AsksFromRt, AsksToRt, IsMode, IsNoCopy, SpellsMode};
+ghost use Rattle.f11_pip.specs.Commands.{HasCopyWords, HasWord, MeetsCopy, copy_app, from_rt_app, to_rt_app, with_file_words, with_rt_words};
+
+use crate::outcome::Failure;
+use crate::words::Words;
+use crate::words::args::{needed, option, uic_of, word_of};
+use clap::{ArgMatches, Command};
+use f11_flx::CopyMode;
+use std::alloc::{AllocError, Global};
+
+/// The copy that the words named.
+pub fn copy_of<'a>(matches: &ArgMatches<'a>) -> Result<Words<'a>, Failure>
+    ensures from_rt { (mode rt rt_name image uic name : List ℕ)
+        → MeetsCopy (codes "flx-from-rt") mode image uic name rt rt_name
+        (subcommand_rows_of matches.now)
+        → MatchResult result (AsksFromRt mode rt rt_name image uic name)
+        (λ _. IsNoCopy mode uic) }
+    ensures to_rt { (mode image uic name rt rt_name : List ℕ)
+        → MeetsCopy (codes "flx-to-rt") mode image uic name rt rt_name
+        (subcommand_rows_of matches.now)
+        → MatchResult result (AsksToRt mode image uic name rt rt_name)
+        (λ _. IsNoCopy mode uic) }
+    ensures none { subcommand_rows_of matches.now ≡ None → IsErr result }
+    ensures usage { IfErr result (λ failure. failure ≡ Failure.Usage) }
+{
+    match matches.subcommand() {
+        Some(("flx-from-rt", given)) => from_rt_of(given),
+        Some(("flx-to-rt", given)) => to_rt_of(given),
+        _ => Err(Failure::Usage),
+    }
+}
+
+pub fn from_rt<'a>(alloc: Global) -> Result<Command<'a>, AllocError>
+    ensures { IfOk result (λ command. app_of command ≡ from_rt_app) }
+{
+    with_file(alloc, with_rt_file(alloc, copy(alloc, "flx-from-rt")?)?)
+}
+
+fn from_rt_of<'a>(given: &ArgMatches<'a>) -> Result<Words<'a>, Failure>
+    ensures from_rt { (mode rt rt_name image uic name : List ℕ)
+        → HasCopyWords mode image uic name rt rt_name given.now
+        → MatchResult result (AsksFromRt mode rt rt_name image uic name)
+        (λ _. IsNoCopy mode uic) }
+    ensures usage { IfErr result (λ failure. failure ≡ Failure.Usage) }
+{
+    Ok(Words::FlxFromRt {
+        mode: mode_of(given)?,
+        rt: word_of(given, "rt")?,
+        rt_name: word_of(given, "rt-name")?,
+        image: word_of(given, "image")?,
+        directory: uic_of(given, "uic")?,
+        name: word_of(given, "name")?,
+    })
+}
+
+pub fn to_rt<'a>(alloc: Global) -> Result<Command<'a>, AllocError>
+    ensures { IfOk result (λ command. app_of command ≡ to_rt_app) }
+{
+    with_rt_file(alloc, with_file(alloc, copy(alloc, "flx-to-rt")?)?)
+}
+
+fn to_rt_of<'a>(given: &ArgMatches<'a>) -> Result<Words<'a>, Failure>
+    ensures to_rt { (mode image uic name rt rt_name : List ℕ)
+        → HasCopyWords mode image uic name rt rt_name given.now
+        → MatchResult result (AsksToRt mode image uic name rt rt_name)
+        (λ _. IsNoCopy mode uic) }
+    ensures usage { IfErr result (λ failure. failure ≡ Failure.Usage) }
+{
+    Ok(Words::FlxToRt {
+        mode: mode_of(given)?,
+        image: word_of(given, "image")?,
+        directory: uic_of(given, "uic")?,
+        name: word_of(given, "name")?,
+        rt: word_of(given, "rt")?,
+        rt_name: word_of(given, "rt-name")?,
+    })
+}
+
+/// A copy's command, with its mode.
+fn copy<'a>(alloc: Global, name: &'a str) -> Result<Command<'a>, AllocError>
+    ensures { IfOk result (λ command. app_of command ≡ copy_app name.entry.now) }
+{
+    Command::new(alloc, name).arg(option(alloc, "mode", true))
+}
+
+/// The command with the words of a file of a Files-11 volume: the image, the directory and the name.
+fn with_file<'a>(alloc: Global, command: Command<'a>) -> Result<Command<'a>, AllocError>
+    ensures { IfOk result (λ made. app_of made ≡ with_file_words (app_of command.entry)) }
+{
+    command
+        .arg(needed(alloc, "image"))?
+        .arg(needed(alloc, "uic"))?
+        .arg(needed(alloc, "name"))
+}
+
+/// The command with the words of a file of an RT-11 volume: the image and the name.
+fn with_rt_file<'a>(alloc: Global, command: Command<'a>) -> Result<Command<'a>, AllocError>
+    ensures { IfOk result (λ made. app_of made ≡ with_rt_words (app_of command.entry)) }
+{
+    command
+        .arg(needed(alloc, "rt"))?
+        .arg(needed(alloc, "rt-name"))
+}
+
+/// The mode of a copy among the words.
+fn mode_of(given: &ArgMatches<'_>) -> Result<CopyMode, Failure>
+    ensures mode { (text : List ℕ) → HasWord (codes "mode") text given.now
+        → MatchResult result (SpellsMode text) (λ _. ¬ IsMode text) }
+    ensures usage { IfErr result (λ failure. failure ≡ Failure.Usage) }
+{
+    let mode = match word_of(given, "mode")? {
+        "image" => CopyMode::Image,
+        "text" => CopyMode::Text,
+        _ => return Err(Failure::Usage),
+    };
+    Ok(mode)
+}
