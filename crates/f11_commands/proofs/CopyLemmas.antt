@@ -18,7 +18,7 @@ use Rattle.rt11_volume.specs.declared.volume.RtAccepted.{RtAccepted}
 use Rattle.f11_commands.specs.CopyCommand.{AnswersCopy, CopiesImages, EndsBetween, TellsCopy}
 use Rattle.f11_commands.specs.Copying.{OutcomeIs, StandsAsIs}
 use Rattle.f11_commands.specs.Finding.{FaresAsAnswered}
-use Rattle.f11_commands.specs.declared.copy.CopyAnswer.{CopyAnswer}
+use Rattle.f11_commands.specs.declared.copy.FileAnswer.{FileAnswer}
 use Rattle.f11_commands.specs.declared.copy.Copying.{Copying}
 use Rattle.f11_commands.specs.declared.outcome.Failure.{Failure}
 
@@ -83,7 +83,7 @@ module _ {D E : Type 0} {met : Ghosts D} {met' : Ghosts E} (rt-disk : E → Disk
       rt_accepted = λ is none. (answers.sound_rt (sound-rt is) none).accepted;
     }
 
-    pub ends-between : {W : Type 0} (told : Result CopyAnswer Failure) (contents : W → Option (List ℕ)) (before after : W)
+    pub ends-between : {W : Type 0} (told : Result FileAnswer Failure) (contents : W → Option (List ℕ)) (before after : W)
         (new rt-new : Disk)
         → new ≡ (state_in last).disk → rt-new ≡ d' → TellsCopy result told contents before after
         → EndsBetween c told old new d rt-new contents before after

@@ -11,3 +11,7 @@ mod CopyLemmas
 mod NamedLemmas
 mod DirectoryLemmas
 mod TakingOutLemmas
+mod RtFileLemmas
+mod RtGetLemmas
+mod RtFillLemmas
+mod RtPutLemmas

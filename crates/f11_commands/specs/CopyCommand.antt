@@ -28,8 +28,8 @@ use Rattle.f11_commands.specs.Output.{WriterTakes}
 use Rattle.f11_commands.specs.RtVolume.{FailsToPrintRt, PrintsFaulty}
 use Rattle.f11_commands.specs.RunCommand.{HasFaults, WritesNothing}
 use Rattle.f11_commands.specs.VfyCommand.{FailsToPrintReport, PrintsReport}
-use Rattle.f11_commands.specs.declared.copy.CopyAnswer.{CopyAnswer}
-use Rattle.f11_commands.specs.declared.copy.CopyAnswer.TheVariants.{Copied, Refused, Faulty}
+use Rattle.f11_commands.specs.declared.copy.FileAnswer.{FileAnswer}
+use Rattle.f11_commands.specs.declared.copy.FileAnswer.TheVariants.{Done, Refused, Faulty}
 use Rattle.f11_commands.specs.declared.copy.Copying.{Copying}
 use Rattle.f11_commands.specs.declared.copy.Direction.{Direction}
 use Rattle.f11_commands.specs.declared.copy.Direction.TheVariants.{ToRt, FromRt}
@@ -62,15 +62,15 @@ failure_of_refusal BadRecord = None
 failure_of_refusal LineTooLong = None
 
 -- a refusal is told as this failure, and nothing is written; or, where it is none, by its line, which the writer takes or doesn't
-abbrev pub TellsRefusal : {W : Type 0} → FlxRefusal → Option Failure → Result CopyAnswer Failure → (W → Option (List ℕ)) → W → W → Type 0
+abbrev pub TellsRefusal : {W : Type 0} → FlxRefusal → Option Failure → Result FileAnswer Failure → (W → Option (List ℕ)) → W → W → Type 0
 TellsRefusal e (Some failure) told contents before after = (told ≡ Err failure) × Keeps (contents before) (contents after)
 TellsRefusal e None told contents before after =
     ((told ≡ Ok Refused) × WriterTakes contents before after (refused_line e)) ⊎ (told ≡ Err CannotWrite)
 
 -- how the answer of a copy is told
-abbrev pub TellsCopy : {W : Type 0} → Result ℕ FlxRefusal → Result CopyAnswer Failure → (W → Option (List ℕ)) → W → W → Type 0
+abbrev pub TellsCopy : {W : Type 0} → Result ℕ FlxRefusal → Result FileAnswer Failure → (W → Option (List ℕ)) → W → W → Type 0
 TellsCopy (Ok blocks) told contents before after =
-    ((told ≡ Ok Copied) × WriterTakes contents before after (copied_line blocks)) ⊎ (told ≡ Err CannotWrite)
+    ((told ≡ Ok Done) × WriterTakes contents before after (copied_line blocks)) ⊎ (told ≡ Err CannotWrite)
 TellsCopy (Err e) told contents before after = TellsRefusal e (failure_of_refusal e) told contents before after
 
 -- What an answer tells of both disks: a transfer of one failed exactly where that is the answer, and no other of it followed. Neither
@@ -103,7 +103,7 @@ pub record CopiesImages (c : Copying) (result : Result ℕ FlxRefusal) (files fi
   pub rt_accepted : IsTrue rt.honest → of_rt is_rt_fault result ≡ false → IsRtAccepted rt'.image
 
 -- The copy was asked for, and its answer told.
-pub record AnswersCopy {W : Type 0} (c : Copying) (told : Result CopyAnswer Failure) (files files' rt rt' : Disk)
+pub record AnswersCopy {W : Type 0} (c : Copying) (told : Result FileAnswer Failure) (files files' rt rt' : Disk)
     (contents : W → Option (List ℕ)) (before after : W) : Type 0 where
   pub result : Result ℕ FlxRefusal
   pub copies : CopiesImages c result files files' rt rt'
@@ -117,27 +117,27 @@ abbrev pub VerifiesRt : Disk → Disk → Type 0
 VerifiesRt old new = (notes : List Finding) × Accepts notes old new
 
 -- how a command ends whose Files-11 volume isn't accepted: its report was written, or that it has none, or the report couldn't be written
-abbrev pub EndsFiles : {W : Type 0} → Result CopyAnswer Failure → Disk → Disk → (W → Option (List ℕ)) → W → W → Type 0
+abbrev pub EndsFiles : {W : Type 0} → Result FileAnswer Failure → Disk → Disk → (W → Option (List ℕ)) → W → W → Type 0
 EndsFiles (Ok (Faulty Files11)) old new contents before after = PrintsReport false old new contents before after
 EndsFiles (Ok (Faulty Rt11)) old new contents before after = ⊥
-EndsFiles (Ok Copied) old new contents before after = ⊥
+EndsFiles (Ok Done) old new contents before after = ⊥
 EndsFiles (Ok Refused) old new contents before after = ⊥
 EndsFiles (Err CannotWrite) old new contents before after = HasFaults old new
 EndsFiles (Err DeviceFault) old new contents before after = FailsToPrintReport DeviceFault old new contents before after
 EndsFiles (Err NoMemory) old new contents before after = FailsToPrintReport NoMemory old new contents before after
 
 -- and one whose RT-11 volume isn't
-abbrev pub EndsRt : {W : Type 0} → Result CopyAnswer Failure → Disk → Disk → (W → Option (List ℕ)) → W → W → Type 0
+abbrev pub EndsRt : {W : Type 0} → Result FileAnswer Failure → Disk → Disk → (W → Option (List ℕ)) → W → W → Type 0
 EndsRt (Ok (Faulty Files11)) old new contents before after = ⊥
 EndsRt (Ok (Faulty Rt11)) old new contents before after = PrintsFaulty old new contents before after
-EndsRt (Ok Copied) old new contents before after = ⊥
+EndsRt (Ok Done) old new contents before after = ⊥
 EndsRt (Ok Refused) old new contents before after = ⊥
 EndsRt (Err CannotWrite) old new contents before after = (faults : List Finding) × (notes : List Finding) × Rejects faults notes old new
 EndsRt (Err DeviceFault) old new contents before after = FailsToPrintRt most_transfers DeviceFault old new contents before after
 EndsRt (Err NoMemory) old new contents before after = FailsToPrintRt most_transfers NoMemory old new contents before after
 
 -- The Files-11 volume couldn't be mounted: a transfer failed, or there was no memory. Nothing was written.
-abbrev pub FailsToMount : {W : Type 0} → Result CopyAnswer Failure → Disk → Disk → (W → Option (List ℕ)) → W → W → Type 0
+abbrev pub FailsToMount : {W : Type 0} → Result FileAnswer Failure → Disk → Disk → (W → Option (List ℕ)) → W → W → Type 0
 FailsToMount (Ok answer) old new contents before after = ⊥
 FailsToMount (Err CannotWrite) old new contents before after = ⊥
 FailsToMount (Err DeviceFault) old new contents before after =
@@ -146,13 +146,13 @@ FailsToMount (Err NoMemory) old new contents before after =
     WritesNothing old new contents before after × (new.failures ≡ old.failures)
 
 -- how a command ends between two accepted volumes: the copy was asked for, or the Files-11 volume couldn't be mounted
-abbrev pub EndsBetween : {W : Type 0} → Copying → Result CopyAnswer Failure → Disk → Disk → Disk → Disk →
+abbrev pub EndsBetween : {W : Type 0} → Copying → Result FileAnswer Failure → Disk → Disk → Disk → Disk →
     (W → Option (List ℕ)) → W → W → Type 0
 EndsBetween c told files files' rt rt' contents before after =
     (AnswersCopy c told files files' rt rt' contents before after) ⊎ ((FailsToMount told files files' contents before after) × (rt' ≡ rt))
 
 -- Both images were verified, none has a fault, and then it ended so.
-pub record EndsVerified {W : Type 0} (c : Copying) (told : Result CopyAnswer Failure) (files files' rt rt' : Disk)
+pub record EndsVerified {W : Type 0} (c : Copying) (told : Result FileAnswer Failure) (files files' rt rt' : Disk)
     (contents : W → Option (List ℕ)) (before after : W) : Type 0 where
   pub files_read : Disk
   pub rt_read : Disk
@@ -161,7 +161,7 @@ pub record EndsVerified {W : Type 0} (c : Copying) (told : Result CopyAnswer Fai
   pub ends : EndsBetween c told files_read files' rt_read rt' contents before after
 
 -- the volume that is copied from is verified first
-abbrev pub EndsVerifying : {W : Type 0} → Direction → Result CopyAnswer Failure → Disk → Disk → Disk → Disk →
+abbrev pub EndsVerifying : {W : Type 0} → Direction → Result FileAnswer Failure → Disk → Disk → Disk → Disk →
     (W → Option (List ℕ)) → W → W → Type 0
 EndsVerifying ToRt told files files' rt rt' contents before after =
     (EndsFiles told files files' contents before after × (rt' ≡ rt))
@@ -171,7 +171,7 @@ EndsVerifying FromRt told files files' rt rt' contents before after =
     ⊎ (VerifiesRt rt rt' × EndsFiles told files files' contents before after)
 
 -- how a command that copies ends: with the first volume that isn't accepted, or behind both
-abbrev pub EndsCopy : {W : Type 0} → Direction → Copying → Result CopyAnswer Failure → Disk → Disk → Disk → Disk →
+abbrev pub EndsCopy : {W : Type 0} → Direction → Copying → Result FileAnswer Failure → Disk → Disk → Disk → Disk →
     (W → Option (List ℕ)) → W → W → Type 0
 EndsCopy direction c told files files' rt rt' contents before after =
     (EndsVerifying direction told files files' rt rt' contents before after)

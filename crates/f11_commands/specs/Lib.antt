@@ -16,7 +16,13 @@ pub mod Report
 pub mod RtReport
 pub mod Lines
 pub mod Rights
+pub mod RtDelete
+pub mod RtFile
+pub mod RtFilling
+pub mod RtFound
+pub mod RtGet
 pub mod RtList
+pub mod RtPut
 pub mod RunCommand
 pub mod RtVolume
 pub mod TakingOut

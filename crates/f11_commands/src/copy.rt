@@ -45,11 +45,11 @@ pub struct Copying {
     pub rt_name: RtName,
 }
 
-/// How a copy ended. Its lines are on the writer.
+/// How a command on a file ended. Its lines are on the writer.
 #[derive(Clone, Copy, Debug, PartialEq, Eq)]
-pub enum CopyAnswer {
-    /// The file was copied.
-    Copied,
+pub enum FileAnswer {
+    /// All is well.
+    Done,
     /// It was refused, and that was written.
     Refused,
     /// The volume of this file system has a fault, and its report was written.
@@ -74,7 +74,7 @@ pub fn print_copy<D: Device, E: Device, W: Write>(
     rt: E,
     copy: &Copying,
     writer: &mut W,
-) -> (D, E, Result<CopyAnswer, Failure>)
+) -> (D, E, Result<FileAnswer, Failure>)
     ensures ends { EndsCopy copy.now.direction copy.now result.2 (D.disk files) (D.disk result.0)
         (E.disk rt) (E.disk result.1) W.contents writer.old writer.new }
 {
@@ -91,7 +91,7 @@ fn copy_to_rt<D: Device, E: Device, W: Write>(
     rt: E,
     copy: &Copying,
     writer: &mut W,
-) -> (D, E, Result<CopyAnswer, Failure>)
+) -> (D, E, Result<FileAnswer, Failure>)
     ensures ends { EndsCopy direction.ToRt copy.now result.2 (D.disk files) (D.disk result.0)
         (E.disk rt) (E.disk result.1) W.contents writer.old writer.new }
 {
@@ -112,7 +112,7 @@ fn copy_from_rt<D: Device, E: Device, W: Write>(
     rt: E,
     copy: &Copying,
     writer: &mut W,
-) -> (D, E, Result<CopyAnswer, Failure>)
+) -> (D, E, Result<FileAnswer, Failure>)
     ensures ends { EndsCopy direction.FromRt copy.now result.2 (D.disk files) (D.disk result.0)
         (E.disk rt) (E.disk result.1) W.contents writer.old writer.new }
 {

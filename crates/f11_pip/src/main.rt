@@ -11,7 +11,7 @@ mod remarks;
 mod words;
 
 use f11_commands::{
-    Answer, CopyAnswer, Copying, Direction, FoundFile, Served, System, print_copy, print_header,
+    Answer, Copying, Direction, FileAnswer, FoundFile, Served, System, print_copy, print_header,
     print_home, print_init, print_ls, print_name, print_rights, print_rt_init, print_rt_list,
     print_rt_vfy, print_run, print_vfy, print_vfy_update, read_name, read_names, refuse_init,
     refuse_names, seek_file, write_file,
@@ -385,13 +385,13 @@ fn opened_both<'a>(
 fn copied<'a>(
     rt: &HostRuntime,
     asked: &Asked<'a>,
-    answer: CopyAnswer,
+    answer: FileAnswer,
     remark: &mut Option<Remark<'a>>,
 ) -> Answer {
     *remark = match answer {
-        CopyAnswer::Faulty(System::Files11) => remarks::of_image(rt, asked.image, true),
-        CopyAnswer::Faulty(System::Rt11) => remarks::of_image(rt, asked.rt_image, true),
-        CopyAnswer::Copied | CopyAnswer::Refused => {
+        FileAnswer::Faulty(System::Files11) => remarks::of_image(rt, asked.image, true),
+        FileAnswer::Faulty(System::Rt11) => remarks::of_image(rt, asked.rt_image, true),
+        FileAnswer::Done | FileAnswer::Refused => {
             remarks::of_image(rt, asked.image, false).or(remarks::of_image(
                 rt,
                 asked.rt_image,
@@ -400,8 +400,8 @@ fn copied<'a>(
         }
     };
     match answer {
-        CopyAnswer::Copied => Answer::Done,
-        CopyAnswer::Refused | CopyAnswer::Faulty(_) => Answer::Fault,
+        FileAnswer::Done => Answer::Done,
+        FileAnswer::Refused | FileAnswer::Faulty(_) => Answer::Fault,
     }
 }
 

@@ -13,7 +13,7 @@ use crate::copy::finding::{
     MASTER_DIRECTORY, OPERATOR, directory_name, find, first_lun, first_task,
 };
 use crate::copy::telling::tell;
-use crate::copy::{CopyAnswer, Copying, Direction};
+use crate::copy::{Copying, Direction, FileAnswer};
 use crate::outcome::Failure;
 use f11_dev::Device;
 use f11_fcp::{Failed, Volume};
@@ -32,7 +32,7 @@ pub fn serve<D: Device, E: Device, W: Write>(
     rt: RtAccepted<E>,
     copy: &Copying,
     writer: &mut W,
-) -> (D, E, Result<CopyAnswer, Failure>)
+) -> (D, E, Result<FileAnswer, Failure>)
     requires accepted { IsTrue (E.disk (volume_device rt)).honest
         → IsRtAccepted (E.disk (volume_device rt)).image }
     requires fresh { has_failed rt ≡ false }

@@ -2,7 +2,7 @@
 ghost use Rattle.std.specs.Prelude.{◌≡◌};
 ghost use Rattle.f11_commands.specs.CopyCommand.{TellsCopy, TellsRefusal, failure_of_refusal};
 
-use crate::copy::CopyAnswer;
+use crate::copy::FileAnswer;
 use crate::outcome::Failure;
 use f11_flx::FlxRefusal;
 use f11_store::Refusal;
@@ -13,20 +13,20 @@ use std::io::Write;
 pub fn tell<W: Write>(
     copied: Result<u32, FlxRefusal>,
     writer: &mut W,
-) -> Result<CopyAnswer, Failure>
+) -> Result<FileAnswer, Failure>
     ensures tells { TellsCopy copied result W.contents writer.old writer.new }
 {
     match copied {
         Ok(blocks) => {
             writeln!(writer, "copied {blocks}")?;
-            Ok(CopyAnswer::Copied)
+            Ok(FileAnswer::Done)
         }
         Err(refusal) => tell_refusal(refusal, writer),
     }
 }
 
 /// Writes the line of a refusal, if it has one.
-fn tell_refusal<W: Write>(refusal: FlxRefusal, writer: &mut W) -> Result<CopyAnswer, Failure>
+fn tell_refusal<W: Write>(refusal: FlxRefusal, writer: &mut W) -> Result<FileAnswer, Failure>
     ensures tells { TellsRefusal refusal (failure_of_refusal refusal) result
         W.contents writer.old writer.new }
 {
@@ -34,7 +34,7 @@ fn tell_refusal<W: Write>(refusal: FlxRefusal, writer: &mut W) -> Result<CopyAns
         return Err(failure);
     }
     writeln!(writer, "no {refusal}")?;
-    Ok(CopyAnswer::Refused)
+    Ok(FileAnswer::Refused)
 }
 
 /// As which failure a refusal is told that has no line.

@@ -3,11 +3,11 @@ ghost use Rattle.std.specs.Prelude.{◌≡◌, ◌*◌, false, IfOk, IfErr, OnOk
 ghost use Rattle.f11_commands.specs.CopyCommand.{EndsFiles, EndsRt, VerifiesFiles, VerifiesRt};
 ghost use Rattle.f11_commands.specs.Lines.{report_lines};
 ghost use Rattle.f11_commands.specs.Output.{WriterTakes};
-ghost use Rattle.f11_commands.specs.declared.copy.CopyAnswer.TheVariants as answers;
+ghost use Rattle.f11_commands.specs.declared.copy.FileAnswer.TheVariants as answers;
 ghost use Rattle.f11_vfy.specs.Accepted.{device_of};
 ghost use Rattle.rt11_volume.specs.Calls.{has_failed, volume_device};
 
-use crate::copy::CopyAnswer;
+use crate::copy::FileAnswer;
 use crate::outcome::Failure;
 use crate::report::{System, write_faulty};
 use f11_dev::Device;
@@ -18,7 +18,7 @@ use std::alloc::Global;
 use std::io::Write;
 
 /// The device of a volume that isn't accepted, and how the command ends.
-pub type Ended<D> = (D, Result<CopyAnswer, Failure>);
+pub type Ended<D> = (D, Result<FileAnswer, Failure>);
 
 /// The accepted volume of a device. Where it has faults its report is written.
 pub fn accept_files<D: Device, W: Write>(
@@ -71,12 +71,12 @@ fn write_report<W: Write>(
     system: System,
     faults: &Findings,
     notes: &Findings,
-) -> Result<CopyAnswer, Failure>
+) -> Result<FileAnswer, Failure>
     ensures lines { OnOk result (WriterTakes W.contents writer.old writer.new
         (report_lines system false faults.now notes.now)) }
     ensures answer { IfOk result (λ answer. answer ≡ answers.Faulty system) }
     ensures failed { IfErr result (λ failure. failure ≡ Failure.CannotWrite) }
 {
     write_faulty(writer, system, faults, notes)?;
-    Ok(CopyAnswer::Faulty(system))
+    Ok(FileAnswer::Faulty(system))
 }

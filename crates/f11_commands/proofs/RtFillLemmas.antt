@@ -1,0 +1,176 @@
+-- A file of an RT-11 volume that is filled block by block with bytes that are read.
+use Rattle.std.proofs.Common.{◌≡◌, ℕ, ◌+◌, ◌-◌, ◌*◌, ◌<◌, ◌≤◌, Bool, true, false, List, [], ◌∷◌, ◌++◌, length}
+use Rattle.std.proofs.Common.{drop}
+use Rattle.std.proofs.Common.{replicate, min, Option, Result, Ok, Err, OnOk, refl, sym, ap, ◌∙◌, subst, arith, append_assoc}
+use Rattle.std.specs.List.{concat}
+use Rattle.std.specs.Prelude.{⊤}
+use Rattle.std.specs.Io.KnownBytes.{Consumes}
+use Rattle.std.proofs.KnownBytes.{Consumes-nil, Consumes-trans}
+use Rattle.std.proofs.lemmas.List.{append-nil, length-append, drop-replicate}
+use Rattle.std.proofs.lemmas.List.Folds.{concat-append}
+use Rattle.f11_dev.specs.Disk.{Disk}
+use Rattle.f11_dev.specs.Image.{Image}
+use Rattle.f11_dev.specs.Looked.{Looked}
+use Rattle.f11_dev.specs.Went.{Went}
+use Rattle.f11_dev.specs.declared.device.Device.{Ghosts}
+use Rattle.f11_dev.proofs.LookedLemmas.{looked_none}
+use Rattle.f11_dev.proofs.WentLemmas.{went_looked, went_more, went_weaker, went_within}
+use Rattle.f11_flx.specs.Filling.{Took}
+use Rattle.f11_flx.specs.Target.{FailsPutting, HasRtBlocks, Puts, rt_disk, rt_store}
+use Rattle.f11_flx.specs.ToRt.{rt_takes}
+use Rattle.f11_flx.proofs.PourLemmas.{took-one}
+use Rattle.f11_flx.proofs.RtCopyLemmas.{has-written, took-puts}
+use Rattle.f11_flx.proofs.SmallLemmas.{or-false}
+use Rattle.rt11_volume.specs.Calls.{has_failed}
+use Rattle.rt11_volume.specs.Files.{is_fault}
+use Rattle.rt11_volume.specs.Verifying.Verdict.{IsSoundDisk}
+use Rattle.rt11_volume.specs.declared.refusal.RtRefusal.{RtRefusal}
+use Rattle.rt11_volume.specs.declared.volume.RtAccepted.{RtAccepted}
+use Rattle.f11_commands.specs.RtFile.{block_transfers, rt_faults}
+use Rattle.f11_commands.specs.RtFilling.{FillsNamed, LacksBytes, ReadsPiece, StopsFilling}
+use Rattle.f11_commands.specs.RtPut.{MakesTransfers, blocks_for, filled_up}
+
+-- what is said of each image is left out
+pub transfers : (P : Image → Type 0) {old new : Disk} {most faults : ℕ} → Went P old new most faults → MakesTransfers old new most faults
+transfers P went = went_weaker P (λ image. ⊤) (λ image holds. tt) went
+
+pub transfers-looked : {old new : Disk} {most faults : ℕ} → Looked old new most faults → MakesTransfers old new most faults
+transfers-looked looked = went_looked (λ image. ⊤) looked
+
+pub transfers-more : {a b c : Disk} {m n faults : ℕ} → MakesTransfers a b m 0 → MakesTransfers b c n faults
+    → MakesTransfers a c (m + n) faults
+transfers-more first then = went_more (λ image. ⊤) first then
+
+pub transfers-within : {a b : Disk} {m n faults : ℕ} → MakesTransfers a b m faults → m ≤ n → MakesTransfers a b n faults
+transfers-within went fewer = went_within (λ image. ⊤) went fewer
+
+-- a block that was zeros, with bytes in its front
+pub reads-piece : {E : Type 0} (count : ℕ) (unread unread' : Option (List ℕ)) (piece zeros : List ℕ) (result : Result Unit E) → count ≤ 512
+    → length piece ≡ count → zeros ≡ replicate 512 0 → OnOk result (Consumes unread unread' piece)
+    → OnOk result (ReadsPiece count unread unread' (piece ++ drop (0 + length piece) zeros))
+reads-piece count unread unread' piece zeros (Ok x) few size is takes = record {
+  piece = piece;
+  size = size;
+  takes = takes;
+  is =
+      let all : 0 + length piece ≡ count = omega (arith, size) in
+      ap (λ (l : List ℕ). piece ++ drop (0 + length piece) l) is ∙ ap (λ (n : ℕ). piece ++ drop n (replicate 512 0)) all
+      ∙ ap (λ (l : List ℕ). piece ++ l) (drop-replicate count 512 0);
+}
+reads-piece count unread unread' piece zeros (Err e) few size is takes = tt
+
+-- So many blocks were written, with the bytes that were read.
+pub record Filled {E : Type 0} {met : Ghosts E} (disk : E → Disk) (name : List ℕ) (bytes place left : ℕ) (taken : List ℕ)
+    (pieces : List (List ℕ)) (unread unread' : Option (List ℕ)) (old now : RtAccepted E met) : Type 0 where
+  pub count : length pieces ≡ place
+  pub left_is : left ≡ bytes - 512 * place
+  pub size : length taken ≡ bytes - left
+  pub content : concat pieces ≡ filled_up taken place
+  pub takes : Consumes unread unread' taken
+  pub took : Took (rt_takes disk) name 0 pieces old now
+  pub went : MakesTransfers (rt_disk disk old) (rt_disk disk now) (block_transfers * place) 0
+
+module _ {E : Type 0} {met : Ghosts E} (disk : E → Disk) (name : List ℕ) (bytes : ℕ) (unread : Option (List ℕ)) (old : RtAccepted E met)
+  where
+    pub filled-none : Filled disk name bytes 0 bytes [] [] unread unread old old
+    filled-none = record {
+      count = refl;
+      left_is = omega arith;
+      size = omega arith;
+      content = refl;
+      takes = Consumes-nil unread;
+      took = refl;
+      went = transfers-within (transfers-looked (looked_none (rt_disk disk old))) (omega arith);
+    }
+
+    module _ (place left : ℕ) (taken : List ℕ) (pieces : List (List ℕ)) (now' : Option (List ℕ)) (now : RtAccepted E met)
+        (filled : Filled disk name bytes place left taken pieces unread now' old now) where
+      puts-so-far : Puts disk name 0 pieces old now
+      puts-so-far = took-puts disk name 0 pieces old now filled.took
+
+      pub still-fresh : has_failed old ≡ false → has_failed now ≡ false
+      still-fresh fresh = puts-so-far.fares.next ∙ or-false (has_failed old) ∙ fresh
+
+      -- one block more
+      pub filled-more : (count : ℕ) (block : List ℕ) (new' : Option (List ℕ)) (new : RtAccepted E met) → place < blocks_for bytes
+          → count ≡ min left 512 → (r : ReadsPiece count now' new' block) → Puts disk name place (block ∷ []) now new
+          → MakesTransfers (rt_disk disk now) (rt_disk disk new) 63 0
+          → Filled disk name bytes (place + 1) (left - count) (taken ++ r.piece) (pieces ++ block ∷ []) unread new' old new
+      filled-more count block new' new inside is r put went = record {
+        count = length-append pieces (block ∷ []) ∙ ap (λ n. n + 1) filled.count;
+        left_is = omega (arith, filled.left_is, inside, is);
+        size =
+            let both = length-append taken r.piece in
+            omega (arith, both, r.size, filled.size, filled.left_is, is);
+        content =
+            concat-append pieces (block ∷ [])
+            ∙ ap (λ (l : List ℕ). concat pieces ++ l) (append-nil block)
+            ∙ ap (λ (l : List ℕ). l ++ block) (filled.content ∙ no-zeros)
+            ∙ ap (λ (l : List ℕ). taken ++ l) r.is
+            ∙ sym (append_assoc taken r.piece (replicate (512 - count) 0))
+            ∙ ap (λ n. (taken ++ r.piece) ++ replicate n 0) rest;
+        takes = Consumes-trans unread now' new' taken r.piece filled.takes r.takes;
+        took = took-one (rt_takes disk) name 0 pieces block old now new filled.took
+            (subst (λ n. Puts disk name n (block ∷ []) now new) (omega (arith, filled.count)) put);
+        went = transfers-within (transfers-more filled.went went) (omega arith);
+      }
+        where
+          whole : length taken ≡ 512 * place
+          whole = omega (arith, filled.size, filled.left_is, inside)
+
+          no-zeros : filled_up taken place ≡ taken
+          no-zeros =
+              let none : 512 * place - length taken ≡ 0 = omega (arith, whole) in
+              ap (λ n. taken ++ replicate n 0) none ∙ append-nil taken
+
+          rest : 512 - count ≡ 512 * (place + 1) - length (taken ++ r.piece)
+          rest = let both = length-append taken r.piece in omega (arith, both, r.size, whole, is, filled.left_is, inside)
+
+      -- the host's file gives no more
+      pub lacks-bytes : (blocks : ℕ) → place < blocks → LacksBytes disk name blocks old now
+      lacks-bytes blocks inside = record {
+        pieces = pieces;
+        puts = puts-so-far;
+        went = transfers-within filled.went (omega (arith, inside));
+      }
+
+      -- a block was refused
+      pub stops-filling : (blocks : ℕ) (e : RtRefusal) (new : RtAccepted E met) → has_failed old ≡ false
+          → (IsSoundDisk (rt_disk disk old) → HasRtBlocks name blocks (rt_store disk old)) → place < blocks
+          → FailsPutting disk name place e now new → MakesTransfers (rt_disk disk now) (rt_disk disk new) 63 (rt_faults e)
+          → StopsFilling disk blocks e old new
+      stops-filling blocks e new fresh file inside fails went = record {
+        fresh = fails.refused.alive (still-fresh fresh);
+        fault = λ s. by s (is_fault e) refl;
+        went = transfers-within (transfers-more filled.went went) (omega (arith, inside));
+      }
+        where
+          there : IsSoundDisk (rt_disk disk old) → HasRtBlocks name blocks (rt_store disk now)
+          there s =
+              let has = file s in
+              let w = has-written name 0 pieces has.file has.more (rt_store disk old) (rt_store disk now) has.named
+              (puts-so-far.replaced s) in
+              record {
+                file = record has.file { contents = w.contents };
+                more = has.more;
+                named = w.is;
+                blocks_are = w.size ∙ has.blocks_are;
+              }
+
+          by : IsSoundDisk (rt_disk disk old) → (b : Bool) → is_fault e ≡ b → is_fault e ≡ true
+          by s true is = is
+          by s false is =
+              let past = fails.past (puts-so-far.sound s) (still-fresh fresh) is blocks (there s) in absurd (omega (arith, past, inside))
+
+      -- all blocks were written
+      pub fills : (blocks : ℕ) → place ≡ blocks → blocks ≡ blocks_for bytes → FillsNamed disk name bytes blocks unread now' old now
+      fills blocks all count = record {
+        pieces = pieces;
+        taken = taken;
+        count = filled.count ∙ all;
+        size = omega (arith, filled.size, filled.left_is, all, count);
+        content = filled.content ∙ ap (filled_up taken) all;
+        takes = filled.takes;
+        puts = puts-so-far;
+        went = subst (λ n. MakesTransfers (rt_disk disk old) (rt_disk disk now) (block_transfers * n) 0) all filled.went;
+      }

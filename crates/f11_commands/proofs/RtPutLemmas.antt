@@ -1,0 +1,134 @@
+-- A file of an RT-11 volume that is made, filled, and undone.
+use Rattle.std.proofs.Common.{◌≡◌, inl, inr, ℕ, Bool, true, false, List, Option, Err}
+use Rattle.std.proofs.Common.{[], if◌then◌else◌, refl, sym, ap, ◌∙◌, subst, arith}
+use Rattle.f11_dev.specs.Disk.{Disk}
+use Rattle.f11_dev.specs.declared.device.Device.{Ghosts}
+use Rattle.f11_flx.specs.CopyToRt.{HasCopy}
+use Rattle.f11_flx.specs.Target.{DeletesRtFile, FailsDeleting, FailsMaking, Makes, rt_disk, rt_store}
+use Rattle.f11_flx.proofs.RtCopyLemmas.{has-copy, has-gone, has-written, still-lies}
+use Rattle.f11_flx.proofs.SmallLemmas.{or-false}
+use Rattle.rt11_volume.specs.Calls.{has_failed}
+use Rattle.rt11_volume.specs.Files.{is_fault}
+use Rattle.rt11_volume.specs.Verifying.Verdict.{IsSoundDisk}
+use Rattle.rt11_volume.specs.declared.refusal.RtRefusal.{RtRefusal}
+use Rattle.rt11_volume.specs.declared.volume.RtAccepted.{RtAccepted}
+use Rattle.f11_commands.specs.RtDelete.{delete_transfers}
+use Rattle.f11_commands.specs.RtFile.{rt_faults}
+use Rattle.f11_commands.specs.RtFilling.{FillsNamed, LacksBytes, StopsFilling, UndoesStoring, stop_of}
+use Rattle.f11_commands.specs.RtPut.{IsNotStored, IsStored, IsUnstored, PutsFile, MakesTransfers, blocks_for, create_transfers}
+use Rattle.f11_commands.specs.RtPut.{put_transfers}
+use Rattle.f11_commands.specs.declared.rt_file.Stop.{Stop}
+use Rattle.f11_commands.specs.declared.rt_file.Stop.TheVariants.{Volume, Host}
+use Rattle.f11_commands.proofs.RtFillLemmas.{transfers-more, transfers-within}
+
+never : true ≡ false → ⊥
+never h = absurd (cc)
+
+module _ {E : Type 0} {met : Ghosts E} (disk : E → Disk) (name : List ℕ) (bytes : ℕ) (unread : Option (List ℕ)) (old : RtAccepted E met)
+  where
+    -- no file was made
+    pub not-made : (e : RtRefusal) (new : RtAccepted E met) → has_failed old ≡ false → FailsMaking disk name (blocks_for bytes) e old new
+        → MakesTransfers (rt_disk disk old) (rt_disk disk new) create_transfers (rt_faults e)
+        → IsNotStored name bytes e (rt_disk disk old) (rt_disk disk new)
+    not-made e new fresh fails went = record {
+      fresh = fails.refused.alive fresh;
+      why = λ none s. fails.why;
+      stays = λ none s. fails.refused.stays none;
+      went = transfers-within went (omega arith);
+    }
+
+    module _ (made : RtAccepted E met) (makes : Makes disk name (blocks_for bytes) 0 old made)
+        (went : MakesTransfers (rt_disk disk old) (rt_disk disk made) create_transfers 0) where
+      made-fresh : has_failed made ≡ false
+      made-fresh = makes.fares.next ∙ or-false (has_failed old) ∙ makes.alive
+
+      pub stored : (blocks : ℕ) (unread' : Option (List ℕ)) (new : RtAccepted E met) → blocks ≡ blocks_for bytes
+          → FillsNamed disk name bytes blocks unread unread' made new
+          → IsStored name bytes blocks unread unread' (rt_disk disk old) (rt_disk disk new)
+      stored blocks unread' new count fills = record {
+        taken = fills.taken;
+        size = fills.size;
+        takes = fills.takes;
+        count = count;
+        sound = λ s. fills.puts.sound (makes.sound s);
+        stored = λ s.
+            let makes' : Makes disk name blocks 0 old made = subst (λ n. Makes disk name n 0 old made) (sym count) makes in
+            subst (λ (c : List ℕ). HasCopy name c blocks 0 (rt_store disk old) (rt_store disk new)) fills.content
+            (has-copy name blocks 0 fills.pieces (rt_store disk old) (rt_store disk made) (rt_store disk new) (makes'.made s)
+            (fills.puts.replaced (makes.sound s)) (makes'.lies s) (fills.puts.directory (makes.sound s)) fills.count);
+        went = transfers-within (transfers-more went fills.went) (omega arith);
+      }
+
+      pub stopped : (e : RtRefusal) (new : RtAccepted E met) → StopsFilling disk (blocks_for bytes) e made new
+          → IsNotStored name bytes e (rt_disk disk old) (rt_disk disk new)
+      stopped e new stops = record {
+        fresh = stops.fresh;
+        why = λ none s. absurd (never (sym (stops.fault (makes.sound s)) ∙ none));
+        stays = λ none s. absurd (never (sym (stops.fault (makes.sound s)) ∙ none));
+        went = transfers-within (transfers-more went stops.went) (omega arith);
+      }
+
+      module _ (left new : RtAccepted E met) (lacks : LacksBytes disk name (blocks_for bytes) made left) where
+        all : {faults : ℕ} → MakesTransfers (rt_disk disk left) (rt_disk disk new) delete_transfers faults
+            → MakesTransfers (rt_disk disk old) (rt_disk disk new) (put_transfers (blocks_for bytes)) faults
+        all last = transfers-within (transfers-more (transfers-more went lacks.went) last) (omega arith)
+
+        pub gone : DeletesRtFile disk name left new → MakesTransfers (rt_disk disk left) (rt_disk disk new) delete_transfers 0
+            → IsUnstored name bytes (rt_disk disk old) (rt_disk disk new)
+        gone deleted last = record {
+          sound = λ s. deleted.sound (lacks.puts.sound (makes.sound s));
+          same = λ s.
+              let g = has-gone name (blocks_for bytes) 0 lacks.pieces (rt_store disk old) (rt_store disk made) (rt_store disk left)
+              (makes.made s) (lacks.puts.replaced (makes.sound s)) (rt_store disk new)
+              (deleted.gone (lacks.puts.sound (makes.sound s))) in
+              record { named = g.0; others = g.1 };
+          directory = λ s. inr (record {
+            blocks = blocks_for bytes;
+            day = 0;
+            made = rt_store disk left;
+            lies = still-lies name (blocks_for bytes) 0 (rt_store disk old) (rt_store disk made) (rt_store disk left) (makes.lies s)
+                (lacks.puts.directory (makes.sound s));
+            emptied = deleted.emptied (lacks.puts.sound (makes.sound s));
+          });
+          went = all last;
+        }
+
+        -- on a sound disk it is deleted
+        kept-never : (e : RtRefusal) → FailsDeleting disk name e left new → is_fault e ≡ false → IsSoundDisk (rt_disk disk old) → ⊥
+        kept-never e refused none s =
+            let m = makes.made s in
+            let w = has-written name 0 lacks.pieces m.file [] (rt_store disk made) (rt_store disk left) m.one
+            (lacks.puts.replaced (makes.sound s)) in
+            let alive : has_failed left ≡ false = lacks.puts.fares.next ∙ or-false (has_failed made) ∙ made-fresh in
+            never (sym (refused.protected (lacks.puts.sound (makes.sound s)) alive none (record m.file { contents = w.contents }) [] w.is)
+            ∙ m.unprotected)
+
+        pub undone : (unread' : Option (List ℕ)) (stop : Stop) → UndoesStoring disk name stop left new
+            → PutsFile name bytes (Err stop) unread unread' (rt_disk disk old) (rt_disk disk new)
+        undone unread' stop (inl g) =
+            subst (λ (x : Stop). PutsFile name bytes (Err x) unread unread' (rt_disk disk old) (rt_disk disk new)) (sym g.stop_is)
+            (gone g.deleted g.went)
+        undone unread' stop (inr g) =
+            subst (λ (x : Stop). PutsFile name bytes (Err x) unread unread' (rt_disk disk old) (rt_disk disk new)) (sym g.stop_is)
+            (by (is_fault g.e) refl)
+          where
+            by : (b : Bool) → is_fault g.e ≡ b
+                → PutsFile name bytes (Err (stop_of g.e)) unread unread' (rt_disk disk old) (rt_disk disk new)
+            by true is =
+                subst (λ (b : Bool). PutsFile name bytes (Err (if b then Volume g.e else Host)) unread unread' (rt_disk disk old)
+                (rt_disk disk new)) (sym is) (record {
+                  fresh = g.refused.refused.alive
+                      (lacks.puts.fares.next ∙ or-false (has_failed made) ∙ made-fresh);
+                  why = λ none s. absurd (never (sym is ∙ none));
+                  stays = λ none s. absurd (never (sym is ∙ none));
+                  went = all g.went;
+                })
+            by false is =
+                let no-faults : rt_faults g.e ≡ 0 = ap (λ (b : Bool). if b then 1 else 0) is in
+                subst (λ (b : Bool). PutsFile name bytes (Err (if b then Volume g.e else Host)) unread unread' (rt_disk disk old)
+                (rt_disk disk new)) (sym is) (record {
+                  sound = λ s. absurd (kept-never g.e g.refused is s);
+                  same = λ s. absurd (kept-never g.e g.refused is s);
+                  directory = λ s. absurd (kept-never g.e g.refused is s);
+                  went = all (subst (λ n. MakesTransfers (rt_disk disk left) (rt_disk disk new) delete_transfers n) no-faults g.went);
+                })

@@ -1,0 +1,105 @@
+//! The command `rt-put`.
+
+pub(crate) mod filling;
+pub(crate) mod making;
+
+ghost use Rattle.std.specs.Prelude.{◌≡◌, false};
+ghost use Rattle.f11_commands.specs.RtPut.{EndsPut, PutsFile, TellsPut, put_told};
+ghost use Rattle.rt11_volume.specs.Calls.{has_failed, volume_device};
+
+use crate::copy::FileAnswer;
+use crate::copy::telling::tell;
+use crate::copy::verifying::accept_rt;
+use crate::outcome::Failure;
+use crate::rt_file::Stop;
+use crate::rt_put::filling::{fill, undo};
+use crate::rt_put::making::make;
+use f11_dev::Device;
+use f11_flx::FlxRefusal;
+use rt11_volume::{RtAccepted, RtName};
+use std::alloc::Global;
+use std::io::{Read, Write};
+
+/// Why no file was put on a volume.
+#[derive(Clone, Copy, Debug, PartialEq, Eq)]
+pub enum PutFailure {
+    /// The command failed.
+    Command(Failure),
+    /// The host's file couldn't be read to its length.
+    Unread,
+}
+
+/// Verifies the RT-11 volume on a device, makes a file of the blocks that so many bytes take, with the date 0, and writes the bytes that
+/// `host` gives into it, the last block filled up with zeros. It writes the line `copied N`, N being how many blocks the file has; where
+/// none is made `no DuplicateName`, `no NoSpace`, also where no file has so many blocks, or `no DirectoryFull`; and where the volume has
+/// faults the lines of `rt-vfy`. The device comes back.
+///
+/// Where `host` gives fewer bytes, or fails, the file is deleted again. Where a transfer fails nothing is undone.
+///
+/// # Errors
+///
+/// [`PutFailure::Unread`] where `host` couldn't be read to that length; else of [`PutFailure::Command`] [`Failure::DeviceFault`] where a
+/// transfer failed, [`Failure::NoMemory`] where there was no memory, and [`Failure::CannotWrite`] where the writer takes no more: then the
+/// file may be made.
+pub fn print_rt_put<D: Device, R: Read, W: Write>(
+    alloc: Global,
+    device: D,
+    name: &RtName,
+    host: &mut R,
+    bytes: u64,
+    writer: &mut W,
+) -> (D, Result<FileAnswer, PutFailure>)
+    ensures ends { EndsPut name.now bytes result.1 (R.remaining host.old) (R.remaining host.new)
+        (D.disk device) (D.disk result.0) W.contents writer.old writer.new }
+{
+    let mut volume = match accept_rt(alloc, device, writer) {
+        Ok(volume) => volume,
+        Err((device, told)) => return (device, as_put(told)),
+    };
+    let put = put(&mut volume, name, bytes, host);
+    let told = tell_put(put, writer);
+    (volume.device(), told)
+}
+
+/// An answer of a command.
+fn as_put(told: Result<FileAnswer, Failure>) -> Result<FileAnswer, PutFailure>
+    ensures { result ≡ put_told told }
+{
+    match told {
+        Ok(answer) => Ok(answer),
+        Err(failure) => Err(PutFailure::Command(failure)),
+    }
+}
+
+/// Writes the line of what came of it, if it has one.
+fn tell_put<W: Write>(put: Result<u16, Stop>, writer: &mut W) -> Result<FileAnswer, PutFailure>
+    ensures tells { TellsPut put result W.contents writer.old writer.new }
+{
+    match put {
+        Ok(blocks) => as_put(tell(Ok(u32::from(blocks)), writer)),
+        Err(Stop::Volume(refusal)) => as_put(tell(Err(FlxRefusal::Rt(refusal)), writer)),
+        Err(Stop::Host) => Err(PutFailure::Unread),
+    }
+}
+
+/// Makes the file and fills it: how many blocks it has.
+fn put<D: Device, R: Read>(
+    volume: &mut RtAccepted<D>,
+    name: &RtName,
+    bytes: u64,
+    host: &mut R,
+) -> Result<u16, Stop>
+    requires fresh { has_failed volume.old ≡ false }
+    ensures puts { PutsFile name.now bytes result (R.remaining host.old) (R.remaining host.new)
+        (D.disk (volume_device volume.old)) (D.disk (volume_device volume.new)) }
+{
+    let blocks = match make(volume, name, bytes.div_ceil(512)) {
+        Ok(blocks) => blocks,
+        Err(refusal) => return Err(Stop::Volume(refusal)),
+    };
+    match fill(volume, name, blocks, bytes, host) {
+        Ok(()) => Ok(blocks),
+        Err(Stop::Volume(refusal)) => Err(Stop::Volume(refusal)),
+        Err(Stop::Host) => Err(undo(volume, name)),
+    }
+}
