@@ -17,7 +17,7 @@ use Rattle.rt11_volume.specs.Verifying.Verdict.{IsSoundDisk}
 use Rattle.rt11_volume.specs.declared.refusal.RtRefusal.{RtRefusal}
 use Rattle.rt11_volume.specs.declared.refusal.RtRefusal.TheVariants as rt
 use Rattle.f11_commands.specs.RtFile.{TellsRt, block_transfers, contents_named}
-use Rattle.f11_commands.specs.RtGet.{AreFirst, EndsGet, GetsFile, HasLength, StopsTakingOut, TakesOut}
+use Rattle.f11_commands.specs.RtGet.{AreFirst, EndsGet, GetsFile, HasLength, StopsTakingOut, TakesRtOut}
 use Rattle.f11_commands.specs.declared.copy.FileAnswer.{FileAnswer}
 use Rattle.f11_commands.specs.declared.outcome.Failure.{Failure}
 use Rattle.f11_commands.proofs.RtFileLemmas.{contents-of, has-length, length-is, reached-or-fault, sound-after, sound-before}
@@ -84,7 +84,7 @@ module _ (name : List ℕ) (place : ℕ) (given : List (List ℕ)) (old now : Di
     }
 
     -- all were read
-    pub takes-out : place ≡ blocks → TakesOut name blocks old now contents before after
+    pub takes-out : place ≡ blocks → TakesRtOut name blocks old now contents before after
     takes-out all = record {
       given = given;
       count = reads.count ∙ all;

@@ -47,7 +47,7 @@ EndsFinding name told old new contents before after =
     (EndsRt told old new contents before after) ⊎ (NotFoundInImage name told old new contents before after)
 
 -- The file's blocks were written to the host's file.
-pub record TakesOut {H : Type 0} (name : List ℕ) (blocks : ℕ) (old new : Disk) (contents : H → Option (List ℕ)) (before after : H)
+pub record TakesRtOut {H : Type 0} (name : List ℕ) (blocks : ℕ) (old new : Disk) (contents : H → Option (List ℕ)) (before after : H)
     : Type 0 where
   pub given : List (List ℕ)
   pub count : length given ≡ blocks
@@ -75,7 +75,7 @@ FailsToWriteBlocks name blocks Host old new contents before after = Looked old n
 
 -- what came of it
 abbrev pub GetsFile : {H : Type 0} → List ℕ → ℕ → Result ℕ RtRefusal → Disk → Disk → (H → Option (List ℕ)) → H → H → Type 0
-GetsFile name blocks (Ok n) old new contents before after = (n ≡ blocks) × TakesOut name blocks old new contents before after
+GetsFile name blocks (Ok n) old new contents before after = (n ≡ blocks) × TakesRtOut name blocks old new contents before after
 GetsFile name blocks (Err e) old new contents before after = StopsTakingOut name blocks e old new contents before after
 
 -- It was told.

@@ -48,7 +48,7 @@ pub use outcome::{Answer, Failure};
 pub use report::System;
 pub use rights::print_rights;
 pub use rt_delete::print_rt_delete;
-pub use rt_get::found::FoundFile;
+pub use rt_get::found::FoundRtFile;
 pub use rt_get::{find_rt_file, write_rt_file};
 pub use rt_init::print_rt_init;
 pub use rt_list::print_rt_list;

@@ -4,7 +4,7 @@ pub(crate) mod found;
 
 ghost use Rattle.std.specs.Prelude.{◌≡◌, ◌*◌, ◌+◌, ℕ, false, IfOk, IfErr, OnOk};
 ghost use Rattle.f11_commands.specs.RtFound.{found_blocks, found_device, found_name};
-ghost use Rattle.f11_commands.specs.RtGet.{EndsFinding, EndsGet, FoundInImage, FailsToWriteBlocks, HasLength, TakesOut};
+ghost use Rattle.f11_commands.specs.RtGet.{EndsFinding, EndsGet, FoundInImage, FailsToWriteBlocks, HasLength, TakesRtOut};
 ghost use Rattle.rt11_volume.specs.Calls.{has_failed, volume_device};
 ghost use Rattle.rt11_volume.specs.Store.{rt_store_of};
 ghost use Rattle.rt11_volume.specs.Verifying.Verdict.{IsSoundDisk};
@@ -14,7 +14,7 @@ use crate::copy::telling::tell;
 use crate::copy::verifying::accept_rt;
 use crate::outcome::Failure;
 use crate::rt_file::Stop;
-use crate::rt_get::found::FoundFile;
+use crate::rt_get::found::FoundRtFile;
 use f11_bytes::BLOCK_SIZE;
 use f11_dev::Device;
 use f11_flx::FlxRefusal;
@@ -35,7 +35,7 @@ pub fn find_rt_file<D: Device, W: Write>(
     device: D,
     name: &RtName,
     writer: &mut W,
-) -> Result<FoundFile<D>, (D, Result<FileAnswer, Failure>)>
+) -> Result<FoundRtFile<D>, (D, Result<FileAnswer, Failure>)>
     ensures found { IfOk result (λ file. FoundInImage name.now (found_blocks file)
         (D.disk device) (D.disk (found_device file))) }
     ensures name { IfOk result (λ file. found_name file ≡ name.now) }
@@ -57,7 +57,7 @@ pub fn find_rt_file<D: Device, W: Write>(
 }
 
 /// The file of a name, which was found in a volume.
-fn found_in<D: Device>(volume: RtAccepted<D>, name: &RtName, blocks: u16) -> FoundFile<D>
+fn found_in<D: Device>(volume: RtAccepted<D>, name: &RtName, blocks: u16) -> FoundRtFile<D>
     requires fresh { has_failed volume ≡ false }
     requires file { IsSoundDisk (D.disk (volume_device volume))
         → HasLength name.now blocks (rt_store_of (D.disk (volume_device volume)).image) }
@@ -65,7 +65,7 @@ fn found_in<D: Device>(volume: RtAccepted<D>, name: &RtName, blocks: u16) -> Fou
     ensures name { found_name result ≡ name.now }
     ensures blocks { found_blocks result ≡ blocks }
 {
-    FoundFile {
+    FoundRtFile {
         volume,
         name: *name,
         blocks,
@@ -80,7 +80,7 @@ fn found_in<D: Device>(volume: RtAccepted<D>, name: &RtName, blocks: u16) -> Fou
 /// [`Failure::DeviceFault`] where a transfer failed: then `host` holds the blocks before it. [`Failure::CannotWrite`] where `host` or
 /// `writer` takes no more: then it may hold a part.
 pub fn write_rt_file<D: Device, H: Write, W: Write>(
-    file: FoundFile<D>,
+    file: FoundRtFile<D>,
     host: &mut H,
     writer: &mut W,
 ) -> (D, Result<FileAnswer, Failure>)
@@ -88,7 +88,7 @@ pub fn write_rt_file<D: Device, H: Write, W: Write>(
         (D.disk (found_device file)) (D.disk result.0)
         H.contents host.old host.new W.contents writer.old writer.new }
 {
-    let FoundFile {
+    let FoundRtFile {
         mut volume,
         name,
         blocks,
@@ -116,7 +116,7 @@ fn write_blocks<D: Device, H: Write>(
     requires fresh { has_failed volume.old ≡ false }
     requires file { IsSoundDisk (D.disk (volume_device volume.old))
         → HasLength name.now blocks (rt_store_of (D.disk (volume_device volume.old)).image) }
-    ensures written { OnOk result (TakesOut name.now blocks (D.disk (volume_device volume.old))
+    ensures written { OnOk result (TakesRtOut name.now blocks (D.disk (volume_device volume.old))
         (D.disk (volume_device volume.new)) H.contents host.old host.new) }
     ensures failed { IfErr result (λ stop. FailsToWriteBlocks name.now blocks stop
         (D.disk (volume_device volume.old)) (D.disk (volume_device volume.new))

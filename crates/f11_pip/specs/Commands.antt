@@ -117,9 +117,33 @@ files_app = with_subcommand (with_subcommand (with_subcommand (with_subcommand (
     name_app.top) rights_app.top) dump_app.top) vfy_app.top) init_app.top) ls_app.top) get_app.top) run_app.top
 
 -- those on RT-11 volumes, and the copies between the two
-abbrev pub program_app : App
-program_app = with_subcommand (with_subcommand (with_subcommand (with_subcommand (with_subcommand files_app rt_init_app.top)
+abbrev pub volumes_app : App
+volumes_app = with_subcommand (with_subcommand (with_subcommand (with_subcommand (with_subcommand files_app rt_init_app.top)
     rt_list_app.top) rt_vfy_app.top) to_rt_app.top) from_rt_app.top
+
+-- a command with the words of a file of an RT-11 volume
+abbrev pub rt_file_app : Text → App
+rt_file_app name = with_rule (with_rule (new_app name) (needed_rule (codes "rt"))) (needed_rule (codes "name"))
+
+-- `rt-del RT NAME`
+abbrev pub rt_del_app : App
+rt_del_app = rt_file_app (codes "rt-del")
+
+-- `rt-get RT NAME HOST`
+abbrev pub rt_get_app : App
+rt_get_app = with_rule (rt_file_app (codes "rt-get")) (needed_rule (codes "host"))
+
+-- `rt-put RT NAME HOST`
+abbrev pub rt_put_app : App
+rt_put_app = with_rule (rt_file_app (codes "rt-put")) (needed_rule (codes "host"))
+
+-- the commands with those on one file of an RT-11 volume
+abbrev pub with_rt_files : App → App
+with_rt_files app = with_subcommand (with_subcommand (with_subcommand app rt_del_app.top) rt_get_app.top) rt_put_app.top
+
+-- all commands
+abbrev pub program_app : App
+program_app = with_rt_files volumes_app
 
 -- the name of the command that was met, and its word of this name
 abbrev pub command_and_word : Text → Option (Text × List Row) → Option (Text × Option Text)
@@ -164,7 +188,7 @@ words_in ids rows = map (λ id. first_of id rows) ids
 abbrev pub command_and_words : List Text → Option (Text × List Row) → Option (Text × List (Option Text))
 command_and_words ids = option_map (λ p. (p.0, words_in ids p.1))
 
--- the names of the words of a copy, of those of `get`, `init`, `ls`, and `rt-init`
+-- the names of the words of a copy, of those of `get`, `init`, `ls` and `rt-init`, and of a file of an RT-11 volume
 abbrev pub copy_names : List Text
 copy_names = codes "mode" ∷ codes "image" ∷ codes "uic" ∷ codes "name" ∷ codes "rt" ∷ codes "rt-name" ∷ []
 
@@ -179,6 +203,19 @@ ls_names = codes "image" ∷ codes "uic" ∷ []
 
 abbrev pub rt_init_names : List Text
 rt_init_names = codes "blocks" ∷ codes "segments" ∷ codes "image" ∷ []
+
+abbrev pub rt_file_names : List Text
+rt_file_names = codes "rt" ∷ codes "name" ∷ []
+
+abbrev pub rt_host_names : List Text
+rt_host_names = codes "rt" ∷ codes "name" ∷ codes "host" ∷ []
+
+-- this command was met, with the words of a file of an RT-11 volume; and of one of the host
+abbrev pub MeetsRtFile : Text → Text → Text → Option (Text × List Row) → Type 0
+MeetsRtFile command rt name met = command_and_words rt_file_names met ≡ Some (command, Some rt ∷ Some name ∷ [])
+
+abbrev pub MeetsRtHost : Text → Text → Text → Text → Option (Text × List Row) → Type 0
+MeetsRtHost command rt name host met = command_and_words rt_host_names met ≡ Some (command, Some rt ∷ Some name ∷ Some host ∷ [])
 
 -- this command of a copy was met, with these words
 abbrev pub MeetsCopy : Text → Text → Text → Text → Text → Text → Text → Option (Text × List Row) → Type 0
@@ -260,3 +297,14 @@ pub record HasRtInitWords (blocks segments image : Text) (given : ArgMatches) : 
   pub blocks_are : HasWord (codes "blocks") blocks given
   pub segments_are : HasWord (codes "segments") segments given
   pub image_is : HasWord (codes "image") image given
+
+-- a command has the words of a file of an RT-11 volume
+pub record HasRtFileWords (rt name : Text) (given : ArgMatches) : Type 0 where
+  pub rt_is : HasWord (codes "rt") rt given
+  pub name_is : HasWord (codes "name") name given
+
+-- and of one of the host
+pub record HasRtHostWords (rt name host : Text) (given : ArgMatches) : Type 0 where
+  pub rt_is : HasWord (codes "rt") rt given
+  pub name_is : HasWord (codes "name") name given
+  pub host_is : HasWord (codes "host") host given

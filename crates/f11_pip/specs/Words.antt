@@ -18,8 +18,11 @@ use Rattle.f11_pip.specs.declared.words.Words.TheVariants.{
   Ls,
   Name,
   Rights,
+  RtDel,
+  RtGet,
   RtInit,
   RtList,
+  RtPut,
   RtVfy,
   Run,
   Vfy,
@@ -41,8 +44,11 @@ pub data CommandLine : Type 0 where
   user_line : (image uic : List ℕ) → CommandLine
   name_line : (text : List ℕ) → CommandLine
   rights_line : (caller owner word : List ℕ) → CommandLine
+  rt_del_line : (rt name : List ℕ) → CommandLine
+  rt_get_line : (rt name host : List ℕ) → CommandLine
   rt_init_line : (blocks segments image : List ℕ) → CommandLine
   rt_list_line : (image : List ℕ) → CommandLine
+  rt_put_line : (rt name host : List ℕ) → CommandLine
   rt_vfy_line : (image : List ℕ) → CommandLine
   run_line : (image script : List ℕ) → CommandLine
   vfy_line : (image : List ℕ) → CommandLine
@@ -61,8 +67,11 @@ words_given (ls_line image) = codes "ls" ∷ image ∷ []
 words_given (user_line image uic) = codes "ls" ∷ image ∷ uic ∷ []
 words_given (name_line text) = codes "name" ∷ text ∷ []
 words_given (rights_line caller owner word) = codes "rights" ∷ caller ∷ owner ∷ word ∷ []
+words_given (rt_del_line rt name) = codes "rt-del" ∷ rt ∷ name ∷ []
+words_given (rt_get_line rt name host) = codes "rt-get" ∷ rt ∷ name ∷ host ∷ []
 words_given (rt_init_line blocks segments image) = codes "rt-init" ∷ codes "--blocks" ∷ blocks ∷ codes "--segments" ∷ segments ∷ image ∷ []
 words_given (rt_list_line image) = codes "rt-list" ∷ image ∷ []
+words_given (rt_put_line rt name host) = codes "rt-put" ∷ rt ∷ name ∷ host ∷ []
 words_given (rt_vfy_line image) = codes "rt-vfy" ∷ image ∷ []
 words_given (run_line image script) = codes "run" ∷ image ∷ script ∷ []
 words_given (vfy_line image) = codes "vfy" ∷ image ∷ []
@@ -79,8 +88,11 @@ texts_of (ls_line image) = image ∷ []
 texts_of (user_line image uic) = image ∷ uic ∷ []
 texts_of (name_line text) = text ∷ []
 texts_of (rights_line caller owner word) = caller ∷ owner ∷ word ∷ []
+texts_of (rt_del_line rt name) = rt ∷ name ∷ []
+texts_of (rt_get_line rt name host) = rt ∷ name ∷ host ∷ []
 texts_of (rt_init_line blocks segments image) = blocks ∷ segments ∷ image ∷ []
 texts_of (rt_list_line image) = image ∷ []
+texts_of (rt_put_line rt name host) = rt ∷ name ∷ host ∷ []
 texts_of (rt_vfy_line image) = image ∷ []
 texts_of (run_line image script) = image ∷ script ∷ []
 texts_of (vfy_line image) = image ∷ []
@@ -150,6 +162,20 @@ AsksInit blocks slots label max image (Init to count slots_are label_is files) =
     (to.now ≡ image) × SpellsCount blocks count × SpellsNumber slots slots_are × (label_is.now ≡ label) × SpellsMax max files
 AsksInit blocks slots label max image _ = ⊥
 
+-- the words ask that this file of the RT-11 volume in this image be deleted
+abbrev pub AsksRtDel : List ℕ → List ℕ → Words → Type 0
+AsksRtDel image text (RtDel rt name) = (rt.now ≡ image) × (name.now ≡ text)
+AsksRtDel image text _ = ⊥
+
+-- the words ask that it be copied to this file of the host, or that a file be made of that one
+abbrev pub AsksRtGet : List ℕ → List ℕ → List ℕ → Words → Type 0
+AsksRtGet image text path (RtGet rt name host) = (rt.now ≡ image) × (name.now ≡ text) × (host.now ≡ path)
+AsksRtGet image text path _ = ⊥
+
+abbrev pub AsksRtPut : List ℕ → List ℕ → List ℕ → Words → Type 0
+AsksRtPut image text path (RtPut rt name host) = (rt.now ≡ image) × (name.now ≡ text) × (host.now ≡ path)
+AsksRtPut image text path _ = ⊥
+
 -- the words ask that the areas of the RT-11 volume in this image be listed
 abbrev pub AsksRtList : List ℕ → Words → Type 0
 AsksRtList name (RtList image) = image.now ≡ name
@@ -198,8 +224,11 @@ Asks (ls_line image) words = AsksLs image None words
 Asks (user_line image uic) words = AsksLs image (Some uic) words
 Asks (name_line text) words = AsksName text words
 Asks (rights_line caller owner word) words = AsksRights caller owner word words
+Asks (rt_del_line rt name) words = AsksRtDel rt name words
+Asks (rt_get_line rt name host) words = AsksRtGet rt name host words
 Asks (rt_init_line blocks segments image) words = AsksRtInit blocks segments image words
 Asks (rt_list_line image) words = AsksRtList image words
+Asks (rt_put_line rt name host) words = AsksRtPut rt name host words
 Asks (rt_vfy_line image) words = AsksRtVfy image words
 Asks (run_line image script) words = AsksRun image script words
 Asks (vfy_line image) words = AsksVfy false image words
@@ -238,8 +267,11 @@ IsUnreadable (ls_line image) = ⊥
 IsUnreadable (user_line image uic) = IsNoUic uic
 IsUnreadable (name_line text) = ⊥
 IsUnreadable (rights_line caller owner word) = IsNoUic caller ⊎ (IsNoUic owner ⊎ ¬ IsProtection word)
+IsUnreadable (rt_del_line rt name) = ⊥
+IsUnreadable (rt_get_line rt name host) = ⊥
 IsUnreadable (rt_init_line blocks segments image) = ¬ IsNumber blocks ⊎ ¬ IsNumber segments
 IsUnreadable (rt_list_line image) = ⊥
+IsUnreadable (rt_put_line rt name host) = ⊥
 IsUnreadable (rt_vfy_line image) = ⊥
 IsUnreadable (run_line image script) = ⊥
 IsUnreadable (vfy_line image) = ⊥

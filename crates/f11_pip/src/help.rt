@@ -11,7 +11,7 @@ struct Synopsis {
 /// The program's name and version, and what it was built with.
 const VERSION: &str = "f11_pip 0.1, built with Rattle, logic dac8208d650f15bf";
 
-const COMMANDS: [Synopsis; 14] = [
+const COMMANDS: [Synopsis; 17] = [
     Synopsis {
         name: "dump",
         words: "f11_pip dump IMAGE NUMBER",
@@ -58,6 +58,16 @@ const COMMANDS: [Synopsis; 14] = [
         does: "shows the rights of a caller, as 200,1, to a file of an owner with a protection word",
     },
     Synopsis {
+        name: "rt-del",
+        words: "f11_pip rt-del RT NAME",
+        does: "deletes a file of an RT-11 volume",
+    },
+    Synopsis {
+        name: "rt-get",
+        words: "f11_pip rt-get RT NAME HOST",
+        does: "copies a file of an RT-11 volume to a new file of the host, HOST, as it is",
+    },
+    Synopsis {
         name: "rt-init",
         words: "f11_pip rt-init --blocks N --segments N IMAGE",
         does: "makes an image file with a fresh RT-11 volume",
@@ -66,6 +76,11 @@ const COMMANDS: [Synopsis; 14] = [
         name: "rt-list",
         words: "f11_pip rt-list IMAGE",
         does: "lists the areas of an RT-11 volume, which is verified first",
+    },
+    Synopsis {
+        name: "rt-put",
+        words: "f11_pip rt-put RT NAME HOST",
+        does: "makes a file on an RT-11 volume with the bytes of a file of the host, HOST, filled up with zeros to whole blocks",
     },
     Synopsis {
         name: "rt-vfy",

@@ -8,6 +8,7 @@
 mod help;
 mod outcome;
 mod remarks;
+mod rt_files;
 mod words;
 
 use f11_commands::{
@@ -213,6 +214,12 @@ fn run<'a, W: Write>(
             owner,
             protection,
         } => Ok(print_rights(caller, owner, protection, writer)?),
+        Words::RtDel { rt: image, name } => rt_files::delete(rt, image, name, writer, remark),
+        Words::RtGet {
+            rt: image,
+            name,
+            host,
+        } => rt_files::get(rt, image, name, host, writer, remark),
         Words::RtInit {
             image,
             blocks,
@@ -231,6 +238,11 @@ fn run<'a, W: Write>(
             let (_, answer) = print_rt_list(rt.alloc(), device, writer);
             Ok(looked(rt, image, answer?, remark))
         }
+        Words::RtPut {
+            rt: image,
+            name,
+            host,
+        } => rt_files::put(rt, image, name, host, writer, remark),
         Words::RtVfy { image } => {
             let device = opened(FileImage::open_to_read(rt, image), image, remark)?;
             let (_, answer) = print_rt_vfy(rt.alloc(), device, writer);

@@ -37,6 +37,9 @@ pub enum Why {
     /// No file can be opened, or made, under it.
     #[error("{0}")]
     CannotOpen(CannotOpen),
+    /// Its file couldn't be read to its length.
+    #[error("cannot be read to its end")]
+    Unread,
     /// It isn't text.
     #[error("not UTF-8")]
     NotText,

@@ -1,18 +1,20 @@
 //! The words of the command line.
 ghost use Rattle.std.specs.Prelude.{◌≡◌, ◌≤◌, ◌⊎◌, length, ℕ, Bool, List, codes, map, Option, None, IfOk, IfErr, IsErr, IsOkAnd, MatchResult};
 ghost use Rattle.clap.specs.Words.{app_of, subcommand_rows_of};
-ghost use Rattle.f11_pip.specs.Words.{Asks, AsksDump, AsksFromRt, AsksHome, AsksInit, AsksLs, AsksName, AsksRights, AsksRtInit, AsksRtList, AsksRtVfy, AsksRun, AsksToRt, AsksVfy, CommandLine, FailsToAsk, IsLineOf, IsNoCopy, IsNoInit, IsNoUic, IsNoUser, IsUnreadable, rights_line, rt_init_line, AsksGet};
-ghost use Rattle.f11_pip.specs.Commands.{MeetsCopy, MeetsDump, MeetsInit, MeetsLs, MeetsRights, MeetsRtInit, MeetsRun, MeetsVfy, MeetsWord, files_app, program_app, MeetsGet};
+ghost use Rattle.f11_pip.specs.Words.{Asks, AsksDump, AsksFromRt, AsksGet, AsksHome, AsksInit, AsksLs, AsksName, AsksRights, AsksRtDel, AsksRtGet, AsksRtInit, AsksRtList, AsksRtPut, AsksRtVfy, AsksRun, AsksToRt, AsksVfy, CommandLine, FailsToAsk, IsLineOf, IsNoCopy, IsNoInit, IsNoUic, IsNoUser, IsUnreadable, rights_line, rt_init_line};
+ghost use Rattle.f11_pip.specs.Commands.{MeetsCopy, MeetsDump, MeetsGet, MeetsInit, MeetsLs, MeetsRights, MeetsRtFile, MeetsRtHost, MeetsRtInit, MeetsRun, MeetsVfy, MeetsWord, files_app, program_app, volumes_app};
 ghost use Rattle.f11_numbers.specs.Decimal.{IsNumber};
 
 mod args;
 mod copies;
+mod rt_files;
 mod rt_volumes;
 mod spelled;
 mod volumes;
 
 use crate::outcome::Failure;
 use crate::words::copies::{copy_of, from_rt, to_rt};
+use crate::words::rt_files::{rt_del_of, rt_get_of, rt_put_of, with_rt_files};
 use crate::words::rt_volumes::{rt_init, rt_init_of, rt_list, rt_list_of, rt_vfy, rt_vfy_of};
 use crate::words::spelled::{name, name_of, rights, rights_of};
 use crate::words::volumes::{
@@ -84,6 +86,17 @@ pub enum Words<'a> {
         owner: Uic,
         protection: u16,
     },
+    /// `rt-del RT NAME`: a file of an RT-11 volume
+    RtDel {
+        rt: &'a str,
+        name: &'a str,
+    },
+    /// `rt-get RT NAME HOST`: a file of an RT-11 volume, and one of the host that is made
+    RtGet {
+        rt: &'a str,
+        name: &'a str,
+        host: &'a str,
+    },
     /// `rt-init --blocks N --segments N IMAGE`
     RtInit {
         image: &'a str,
@@ -93,6 +106,12 @@ pub enum Words<'a> {
     /// `rt-list IMAGE`
     RtList {
         image: &'a str,
+    },
+    /// `rt-put RT NAME HOST`: a file of an RT-11 volume that is made, and one of the host
+    RtPut {
+        rt: &'a str,
+        name: &'a str,
+        host: &'a str,
     },
     /// `rt-vfy IMAGE`
     RtVfy {
@@ -128,6 +147,13 @@ pub fn parse<'a, S: AsStr>(alloc: Global, words: &'a [S]) -> Result<Words<'a>, F
 /// The program's commands.
 fn program<'a>(alloc: Global) -> Result<Command<'a>, AllocError>
     ensures { IfOk result (λ command. app_of command ≡ program_app) }
+{
+    with_rt_files(alloc, volume_commands(alloc)?)
+}
+
+/// The commands but those on one file of an RT-11 volume.
+fn volume_commands<'a>(alloc: Global) -> Result<Command<'a>, AllocError>
+    ensures { IfOk result (λ command. app_of command ≡ volumes_app) }
 {
     files(alloc)?
         .subcommand(rt_init(alloc)?)?
@@ -198,6 +224,15 @@ fn command_of<'a>(matches: &ArgMatches<'a>) -> Result<Words<'a>, Failure>
     ensures rt_vfy { (image : List ℕ)
         → MeetsWord (codes "rt-vfy") (codes "image") image (subcommand_rows_of matches.now)
         → IsOkAnd result (AsksRtVfy image) }
+    ensures rt_del { (rt name : List ℕ)
+        → MeetsRtFile (codes "rt-del") rt name (subcommand_rows_of matches.now)
+        → IsOkAnd result (AsksRtDel rt name) }
+    ensures rt_get { (rt name host : List ℕ)
+        → MeetsRtHost (codes "rt-get") rt name host (subcommand_rows_of matches.now)
+        → IsOkAnd result (AsksRtGet rt name host) }
+    ensures rt_put { (rt name host : List ℕ)
+        → MeetsRtHost (codes "rt-put") rt name host (subcommand_rows_of matches.now)
+        → IsOkAnd result (AsksRtPut rt name host) }
     ensures run { (image script : List ℕ)
         → MeetsRun image script (subcommand_rows_of matches.now)
         → IsOkAnd result (AsksRun image script) }
@@ -220,6 +255,9 @@ fn command_of<'a>(matches: &ArgMatches<'a>) -> Result<Words<'a>, Failure>
         Some(("rt-vfy", given)) => rt_vfy_of(given),
         Some(("run", given)) => run_of(given),
         Some(("vfy", given)) => vfy_of(given),
+        Some(("rt-del", given)) => rt_del_of(given),
+        Some(("rt-get", given)) => rt_get_of(given),
+        Some(("rt-put", given)) => rt_put_of(given),
         _ => copy_of(matches),
     }
 }

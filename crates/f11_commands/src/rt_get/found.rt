@@ -10,7 +10,7 @@ use rt11_volume::{RtAccepted, RtName};
 
 /// A file of an RT-11 volume that was found, by its name, and the volume, which no call has failed.
 #[derive(Drop)]
-pub struct FoundFile<D: Device> {
+pub struct FoundRtFile<D: Device> {
     pub(crate) volume: RtAccepted<D>,
     pub(crate) name: RtName,
     /// How many blocks it has.

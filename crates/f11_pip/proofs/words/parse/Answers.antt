@@ -1,6 +1,7 @@
 use Rattle.std.proofs.Common.{[], arith, ◌∙◌, None, Some, ap, ap₂, codes, false, map, true}
 use Rattle.clap.specs.Words.{is_simple, subcommand_of, takes}
-use Rattle.f11_pip.specs.Commands.{command_and_flag, command_and_word, command_and_words, copy_names, get_names, ls_names, rt_init_names}
+use Rattle.f11_pip.specs.Commands.{command_and_flag, command_and_word, command_and_words, copy_names, get_names, ls_names}
+use Rattle.f11_pip.specs.Commands.{rt_file_names, rt_host_names, rt_init_names}
 use Rattle.f11_pip.specs.Words.{
   Asks,
   IsUnreadable,
@@ -11,8 +12,11 @@ use Rattle.f11_pip.specs.Words.{
   ls_line,
   name_line,
   rights_line,
+  rt_del_line,
+  rt_get_line,
   rt_init_line,
   rt_list_line,
+  rt_put_line,
   rt_vfy_line,
   run_line,
   to_rt_line,
@@ -23,6 +27,7 @@ use Rattle.f11_pip.specs.Words.{
 use Rattle.f11_pip.proofs.CopyLemmas.{subcommand_of-from_rt, subcommand_of-to_rt}
 use Rattle.f11_pip.proofs.GetLemmas.{subcommand_of-get}
 use Rattle.f11_pip.proofs.LineLemmas.{takes-line, subcommand_of-rt_init}
+use Rattle.f11_pip.proofs.RtFileLemmas.{subcommand_of-rt_del, subcommand_of-rt_get, subcommand_of-rt_put}
 use Rattle.f11_pip.proofs.WordsLemmas.{failure_out_of_memory, match_ok, no_memory_or_none, none_or_no_memory, subcommand_of-rt_list}
 use Rattle.f11_pip.proofs.WordsLemmas.{subcommand_of-rt_vfy, subcommand_of-run, subcommand_of-update, subcommand_of-vfy, subcommand_of-dump}
 use Rattle.f11_pip.proofs.WordsLemmas.{subcommand_of-home, subcommand_of-ls, subcommand_of-name, subcommand_of-rights, subcommand_of-none}
@@ -137,6 +142,29 @@ returns-clause-asks g c (rt_init_line blocks segments image) line =
     (c.command_of.ensures.rt_init blocks segments image (ap (command_and_words rt_init_names) met
     ∙ subcommand_of-rt_init line.program blocks segments image (line.plain 0 [] (omega arith)) (line.plain 1 [] (omega arith))
     (line.plain 2 [] (omega arith))))
+returns-clause-asks g c (rt_del_line rt name) line =
+    let simple = ap is_simple c.in_ok-program.ensures ∙ is_simple-program in
+    let met = (c.in_ok-matches.ensures.matches simple).1 ∙ ap₂ subcommand_of c.in_ok-program.ensures line.is_line in
+    none_or_no_memory (Asks (rt_del_line rt name)) (IsUnreadable (rt_del_line rt name)) c.command_of.result
+    (match_ok _ _ c.command_of.result
+    (c.command_of.ensures.rt_del rt name (ap (command_and_words rt_file_names) met
+    ∙ subcommand_of-rt_del line.program rt name (line.plain 0 [] (omega arith)) (line.plain 1 [] (omega arith)))))
+returns-clause-asks g c (rt_get_line rt name host) line =
+    let simple = ap is_simple c.in_ok-program.ensures ∙ is_simple-program in
+    let met = (c.in_ok-matches.ensures.matches simple).1 ∙ ap₂ subcommand_of c.in_ok-program.ensures line.is_line in
+    none_or_no_memory (Asks (rt_get_line rt name host)) (IsUnreadable (rt_get_line rt name host)) c.command_of.result
+    (match_ok _ _ c.command_of.result
+    (c.command_of.ensures.rt_get rt name host (ap (command_and_words rt_host_names) met
+    ∙ subcommand_of-rt_get line.program rt name host (line.plain 0 [] (omega arith)) (line.plain 1 [] (omega arith))
+    (line.plain 2 [] (omega arith)))))
+returns-clause-asks g c (rt_put_line rt name host) line =
+    let simple = ap is_simple c.in_ok-program.ensures ∙ is_simple-program in
+    let met = (c.in_ok-matches.ensures.matches simple).1 ∙ ap₂ subcommand_of c.in_ok-program.ensures line.is_line in
+    none_or_no_memory (Asks (rt_put_line rt name host)) (IsUnreadable (rt_put_line rt name host)) c.command_of.result
+    (match_ok _ _ c.command_of.result
+    (c.command_of.ensures.rt_put rt name host (ap (command_and_words rt_host_names) met
+    ∙ subcommand_of-rt_put line.program rt name host (line.plain 0 [] (omega arith)) (line.plain 1 [] (omega arith))
+    (line.plain 2 [] (omega arith)))))
 returns-clause-asks g c (from_rt_line mode rt rt_name image uic name) line =
     let simple = ap is_simple c.in_ok-program.ensures ∙ is_simple-program in
     let met = (c.in_ok-matches.ensures.matches simple).1 ∙ ap₂ subcommand_of c.in_ok-program.ensures line.is_line in

@@ -3,7 +3,7 @@ use Rattle.std.proofs.lemmas.Result.{IfOk-weaker}
 use Rattle.clap.specs.Words.{App, app_of, with_subcommand}
 use Rattle.f11_pip.specs.Commands.{from_rt_app, rt_init_app, rt_list_app, rt_vfy_app, to_rt_app}
 use Rattle.f11_pip.proofs.WordsLemmas.{third_not}
-use Rattle.f11_pip.proofs.words.program.Goals as goal
+use Rattle.f11_pip.proofs.words.volume_commands.Goals as goal
 
 pub returns : goal.returns
 returns c =

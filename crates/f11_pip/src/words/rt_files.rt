@@ -1,0 +1,86 @@
+//! The words of the commands on one file of an RT-11 volume.
+ghost use Rattle.std.specs.Prelude.{◌≡◌, List, ℕ, codes, IfErr, IfOk, IsOkAnd};
+ghost use Rattle.clap.specs.Words.{app_of};
+ghost use Rattle.f11_pip.specs.Commands.{HasRtFileWords, HasRtHostWords, rt_del_app, rt_get_app, rt_put_app, rt_file_app, with_rt_files};
+ghost use Rattle.f11_pip.specs.Words.{AsksRtDel, AsksRtGet, AsksRtPut};
+
+use crate::outcome::Failure;
+use crate::words::Words;
+use crate::words::args::{needed, word_of};
+use clap::{ArgMatches, Command};
+use std::alloc::{AllocError, Global};
+
+/// The command with these three behind its own.
+pub(crate) fn with_rt_files<'a>(
+    alloc: Global,
+    command: Command<'a>,
+) -> Result<Command<'a>, AllocError>
+    ensures { IfOk result (λ made. app_of made ≡ with_rt_files (app_of command.entry)) }
+{
+    command
+        .subcommand(rt_del(alloc)?)?
+        .subcommand(rt_get(alloc)?)?
+        .subcommand(rt_put(alloc)?)
+}
+
+fn rt_del<'a>(alloc: Global) -> Result<Command<'a>, AllocError>
+    ensures { IfOk result (λ command. app_of command ≡ rt_del_app) }
+{
+    rt_file(alloc, "rt-del")
+}
+
+fn rt_get<'a>(alloc: Global) -> Result<Command<'a>, AllocError>
+    ensures { IfOk result (λ command. app_of command ≡ rt_get_app) }
+{
+    rt_file(alloc, "rt-get")?.arg(needed(alloc, "host"))
+}
+
+fn rt_put<'a>(alloc: Global) -> Result<Command<'a>, AllocError>
+    ensures { IfOk result (λ command. app_of command ≡ rt_put_app) }
+{
+    rt_file(alloc, "rt-put")?.arg(needed(alloc, "host"))
+}
+
+/// A command with the words of a file of an RT-11 volume: the image and the name.
+fn rt_file<'a>(alloc: Global, name: &'a str) -> Result<Command<'a>, AllocError>
+    ensures { IfOk result (λ command. app_of command ≡ rt_file_app name.entry.now) }
+{
+    Command::new(alloc, name)
+        .arg(needed(alloc, "rt"))?
+        .arg(needed(alloc, "name"))
+}
+
+pub(crate) fn rt_del_of<'a>(given: &ArgMatches<'a>) -> Result<Words<'a>, Failure>
+    ensures rt_del { (rt name : List ℕ) → HasRtFileWords rt name given.now
+        → IsOkAnd result (AsksRtDel rt name) }
+    ensures usage { IfErr result (λ failure. failure ≡ Failure.Usage) }
+{
+    Ok(Words::RtDel {
+        rt: word_of(given, "rt")?,
+        name: word_of(given, "name")?,
+    })
+}
+
+pub(crate) fn rt_get_of<'a>(given: &ArgMatches<'a>) -> Result<Words<'a>, Failure>
+    ensures rt_get { (rt name host : List ℕ) → HasRtHostWords rt name host given.now
+        → IsOkAnd result (AsksRtGet rt name host) }
+    ensures usage { IfErr result (λ failure. failure ≡ Failure.Usage) }
+{
+    Ok(Words::RtGet {
+        rt: word_of(given, "rt")?,
+        name: word_of(given, "name")?,
+        host: word_of(given, "host")?,
+    })
+}
+
+pub(crate) fn rt_put_of<'a>(given: &ArgMatches<'a>) -> Result<Words<'a>, Failure>
+    ensures rt_put { (rt name host : List ℕ) → HasRtHostWords rt name host given.now
+        → IsOkAnd result (AsksRtPut rt name host) }
+    ensures usage { IfErr result (λ failure. failure ≡ Failure.Usage) }
+{
+    Ok(Words::RtPut {
+        rt: word_of(given, "rt")?,
+        name: word_of(given, "name")?,
+        host: word_of(given, "host")?,
+    })
+}
