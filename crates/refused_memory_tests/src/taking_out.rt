@@ -1,0 +1,61 @@
+//! A file taken out of a volume.
+use f11_commands::{Answer, Failure, FoundFile, Served, read_name, seek_file, write_file};
+use f11_dev::{DeviceFault, Memory};
+use f11_fixtures::{Lines, lines, text_of, volumes};
+use f11_rad50::Name;
+use f11_store::Uic;
+use std::alloc::Global;
+use std::test::Fail;
+
+/// The user whose directory is the master file directory.
+const NOBODY: Uic = Uic {
+    group: 0,
+    member: 0,
+};
+
+/// What seeking a file gives.
+type Sought = Result<Result<FoundFile<Memory>, (Memory, Served)>, (Memory, Failure)>;
+
+fn once(alloc: Global, device: Memory, lines: &mut Lines, name: &Name) -> Sought {
+    seek_file(alloc, device, lines, NOBODY, name)
+}
+
+/// Seeks a file, once more where there was no memory, and nothing was written.
+fn sought(alloc: Global, device: Memory, lines: &mut Lines, name: &Name) -> Sought {
+    match once(alloc, device, lines, name) {
+        Err((device, Failure::NoMemory)) if lines.position() == 0 => {
+            once(alloc, device, lines, name)
+        }
+        done => done,
+    }
+}
+
+/// The name that a text spells, read once more where there was no memory.
+fn named(alloc: Global, text: &str) -> Result<Option<Name>, Failure> {
+    match read_name(alloc, text) {
+        Err(Failure::NoMemory) => read_name(alloc, text),
+        done => done,
+    }
+}
+
+#[test]
+fn a_file_is_taken_out(rt: HostRuntime) -> Result<(), Fail> {
+    let device = volumes::fresh(rt.alloc(), volumes::BLOCKS)?;
+    let Ok(Some(name)) = named(rt.alloc(), "000000.dir;1") else {
+        return Err(DeviceFault)?;
+    };
+    let (mut told, mut host) = (lines(), lines());
+    let Ok(Ok(found)) = sought(rt.alloc(), device, &mut told, &name) else {
+        return Err(DeviceFault)?;
+    };
+    let (_, served) = write_file(found, &mut host, &mut told);
+    let wanted = Served {
+        answer: Answer::Done,
+        faulty: false,
+    };
+    assert_eq!(rt; served, Ok(wanted));
+    assert!(rt; text_of(&told) == b"copied 80 bytes\n".as_slice());
+    assert!(rt; text_of(&host).len() == 80);
+    assert!(rt; text_of(&host).starts_with(&[1, 0, 1, 0, 0, 0]));
+    Ok(())
+}
