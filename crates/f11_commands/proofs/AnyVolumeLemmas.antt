@@ -14,13 +14,14 @@ use Rattle.f11_store.specs.declared.callers.Uic.{Uic}
 use Rattle.f11_store.specs.declared.files.FileId.{FileId}
 use Rattle.f11_store.specs.declared.refusals.Refusal.{Refusal}
 use Rattle.f11_vfy.specs.Verify.{Examines}
-use Rattle.f11_commands.specs.AnyVolume.{FailsToServe, FindsVolume, IsVerified, TellsFault, user_directory}
+use Rattle.f11_commands.specs.AnyVolume.{CannotBeRead, FailsToServe, FindsVolume, IsVerified, TellsFault, user_directory}
 use Rattle.f11_commands.specs.Copying.{directory_name, master_directory}
 use Rattle.f11_commands.specs.DumpCommand.{HasFault}
 use Rattle.f11_commands.specs.VfyCommand.{IsVerdict}
 use Rattle.f11_commands.specs.declared.outcome.Answer.{Answer}
 use Rattle.f11_commands.specs.declared.outcome.Failure.{Failure}
 use Rattle.f11_commands.specs.declared.outcome.Failure.TheVariants.{DeviceFault, NoMemory, CannotWrite}
+use Rattle.f11_commands.specs.declared.volume.VolumeFault.{VolumeFault}
 
 -- a user's directory was looked for in the master file directory
 module _ (index : Index) (user : Uic) (name : List ℕ) (is : name ≡ directory_name user) (old new : Disk) where
@@ -45,16 +46,23 @@ pub verified-first : (told faulty : Bool) (faults notes : List Finding) (old new
 verified-first told faulty faults notes old new examines verdict same = subst (λ (b : Bool). IsVerified b old) (sym same)
     (record { faults = faults; notes = notes; verifies = examines.verifies; verdict = verdict })
 
--- what is told of a volume behind a look at it
+-- what hinders a look at a volume behind another
+pub hindered-behind : (fault : VolumeFault) (old mid new : Disk) → Reads old mid 0 → CannotBeRead fault mid new
+    → CannotBeRead fault old new
+hindered-behind fault old mid new reads hindered = record {
+  hinders = hindered.hinders;
+  has = λ honest. subst (λ (i : Image). HasFault i fault) reads.1.image (hindered.has (reads.1.honest ∙ honest));
+  reads = reads-then reads hindered.reads;
+}
+
+-- and what is told of it
 pub fault-behind : {W : Type 0} (answer : Answer) (old mid new : Disk) (contents : W → Option (List ℕ)) (before after : W)
     → Reads old mid 0 → TellsFault answer mid new contents before after → TellsFault answer old new contents before after
 fault-behind answer old mid new contents before after reads fault = record {
   is_fault = fault.is_fault;
   fault = fault.fault;
-  hinders = fault.hinders;
-  has = λ honest. subst (λ (i : Image). HasFault i fault.fault) reads.1.image (fault.has (reads.1.honest ∙ honest));
+  hindered = hindered-behind fault.fault old mid new reads fault.hindered;
   takes = fault.takes;
-  reads = reads-then reads fault.reads;
 }
 
 -- and of what broke off

@@ -1,11 +1,12 @@
 -- What finding a file by its name tells, step by step.
-use Rattle.std.proofs.Common.{◌≡◌, ℕ, IsTrue, List, Option, Result, length, ap, refl, subst, sym, take, ◌∙◌}
+use Rattle.std.proofs.Common.{◌≡◌, ℕ, IsTrue, List, Option, Result, length, ap, subst, sym, take, ◌∙◌}
 use Rattle.std.specs.List.{concat}
+use Rattle.std.specs.Option.{ok_or}
 use Rattle.f11_catalog.proofs.ComingLemmas.{named-none, named-some}
 use Rattle.f11_catalog.proofs.ListingLemmas.{reads-then, said-later}
 use Rattle.f11_catalog.proofs.OpenLemmas.{attr-is}
 use Rattle.f11_catalog.specs.Listing.{FindsId, FindsNoId}
-use Rattle.f11_catalog.specs.Records.{Reads, file_named}
+use Rattle.f11_catalog.specs.Records.{Reads}
 use Rattle.f11_chain.specs.Calls.{table}
 use Rattle.f11_dev.specs.Disk.{Disk}
 use Rattle.f11_dev.specs.Image.{Image}
@@ -23,27 +24,28 @@ use Rattle.f11_store.specs.declared.files.FileId.{FileId}
 use Rattle.f11_store.specs.declared.refusals.Refusal.{Refusal}
 use Rattle.f11_store.specs.declared.refusals.Refusal.TheVariants.{NoSuchFile}
 use Rattle.f11_volume.specs.Contents.{file_of}
-use Rattle.f11_commands.specs.AnyVolume.{FindsVolume, IsReadable, no_line, unless_refused}
+use Rattle.f11_commands.specs.AnyVolume.{FindsVolume, IsReadable, unless_refused}
 use Rattle.f11_commands.specs.Copying.{directory_name, master_directory}
-use Rattle.f11_commands.specs.GetCommand.{FindsSought, IsToRead, LacksSought, OpensSought, TellsWhyNot, tells_fault, tells_none}
-use Rattle.f11_commands.specs.GetCommand.{file_entered, file_or_none, file_sought}
-use Rattle.f11_commands.specs.Output.{WriterTakes}
+use Rattle.f11_commands.specs.GetCommand.{CannotBeFound, FailsToSeek, FindsSought, IsToRead, LacksFile, LacksSought, OpensSought}
+use Rattle.f11_commands.specs.GetCommand.{TellsWhyNot, cannot_be_read, lacks_file, tells_fault, tells_none}
+use Rattle.f11_commands.specs.GetCommand.{file_entered, file_identified, file_sought}
 use Rattle.f11_commands.specs.TakingOut.{bytes_to_come}
 use Rattle.f11_commands.specs.declared.outcome.Answer.{Answer}
-use Rattle.f11_commands.specs.declared.outcome.Answer.TheVariants.{Fault}
-use Rattle.f11_commands.proofs.AnyVolumeLemmas.{directory-of-user, fault-behind, none-of-user, said-of-volume}
+use Rattle.f11_commands.specs.declared.outcome.Failure.{Failure}
+use Rattle.f11_commands.specs.declared.outcome.Failure.TheVariants.{DeviceFault, NoMemory, CannotWrite}
+use Rattle.f11_commands.proofs.AnyVolumeLemmas.{directory-of-user, fault-behind, hindered-behind, none-of-user, said-of-volume}
 use Rattle.f11_commands.proofs.TakingOutLemmas.{contents-stay}
 
 -- the file with an identification was opened
 module _ (index : Index) (id : FileId) (old new : Disk) where
   pub opened-finds : (file : FileReader) (end : ℕ) → OpensFile index id file old new → end ≡ stated_end (attributes file.header)
-      → OpensSought (λ image t. file_or_none (file_named image t id)) index file end old new
+      → OpensSought (λ image t. file_identified image t id) index file end old new
   opened-finds file end opens end-is =
       let t = table index old in
       let f = file_of old.image t file.number in
       record {
         found = f;
-        is = λ honest. ap file_or_none (named-some old.image t id file.number (opens.is_id honest));
+        is = λ honest. ap (λ x. ok_or x NoSuchFile) (named-some old.image t id file.number (opens.is_id honest));
         to_come = λ honest.
             ap (λ (bs : List (List ℕ)). take end (concat bs))
             (contents-stay index file old new _ _ opens.looked ∙ opened-has index id file old new opens honest)
@@ -54,9 +56,9 @@ module _ (index : Index) (id : FileId) (old new : Disk) where
         reads = (_, opens.looked);
       }
 
-  pub opened-none : FindsNone index id old new → LacksSought (λ image t. file_or_none (file_named image t id)) index NoSuchFile old new
+  pub opened-none : FindsNone index id old new → LacksSought (λ image t. file_identified image t id) index NoSuchFile old new
   opened-none none = record {
-    refused = λ honest. ap file_or_none (named-none old.image (table index old) id (none.none honest));
+    refused = λ honest. ap (λ x. ok_or x NoSuchFile) (named-none old.image (table index old) id (none.none honest));
     reads = (_, none.looked);
   }
 
@@ -84,13 +86,13 @@ module _ (sought next : Image → Table → Result File Refusal) (index : Index)
 -- a directory has the name, or hasn't
 module _ (index : Index) (directory : FileId) (name : List ℕ) (old new : Disk) where
   pub entered-is : (id : FileId) → FindsId index directory name id old new → IsTrue old.honest
-      → file_entered old.image (table index old) name directory ≡ file_or_none (file_named old.image (table index old) id)
-  entered-is id found honest = ap (unless_refused (λ i. file_or_none (file_named old.image (table index old) i))) (found.found honest)
+      → file_entered old.image (table index old) name directory ≡ file_identified old.image (table index old) id
+  entered-is id found honest = ap (unless_refused (file_identified old.image (table index old))) (found.found honest)
 
   pub none-entered : (refusal : Refusal) → FindsNoId index directory name refusal old new
       → LacksSought (λ image t. file_entered image t name directory) index refusal old new
   none-entered refusal none = record {
-    refused = λ honest. ap (unless_refused (λ i. file_or_none (file_named old.image (table index old) i))) (none.refused honest);
+    refused = λ honest. ap (unless_refused (file_identified old.image (table index old))) (none.refused honest);
     reads = none.reads;
   }
 
@@ -134,18 +136,14 @@ module _ (home : HomeFields) (index : Index) (old mid : Disk) (found : FindsVolu
     reading = finds.reading;
   }
 
-  pub volume-hasnt : {W : Type 0} (refusal : Refusal) (contents : W → Option (List ℕ)) (before after : W)
-      → LacksSought (λ image t. file_sought image t user name) index refusal mid new
-      → WriterTakes contents before after (no_line refusal) → TellsWhyNot user name Fault old new contents before after
-  volume-hasnt refusal contents before after none takes = tells_none (record {
+  pub volume-lacks : (refusal : Refusal) → LacksSought (λ image t. file_sought image t user name) index refusal mid new
+      → LacksFile user name refusal old new
+  volume-lacks refusal none = record {
     home = home;
     readable = found.readable;
-    refusal = refusal;
     refused = λ honest. sym (of-volume honest) ∙ none.refused (found.looked.honest ∙ honest);
-    is_fault = refl;
-    takes = takes;
     reads = reads-then (_, found.looked) none.reads;
-  })
+  }
 
 -- the volume was verified before
 module _ (user : Uic) (name : List ℕ) (old mid new : Disk) (reads : Reads old mid 0) where
@@ -160,17 +158,32 @@ module _ (user : Uic) (name : List ℕ) (old mid new : Disk) (reads : Reads old 
     reads = reads-then reads finds.reads;
   }
 
+  lacks-behind : (refusal : Refusal) → LacksFile user name refusal mid new → LacksFile user name refusal old new
+  lacks-behind refusal lacks = record {
+    home = lacks.home;
+    readable = λ honest. subst (λ (i : Image). IsReadable i lacks.home) reads.1.image (lacks.readable (reads.1.honest ∙ honest));
+    refused = λ honest.
+        sym (ap (λ (i : Image). file_sought i (table_of i lacks.home) user name) reads.1.image) ∙ lacks.refused (reads.1.honest ∙ honest);
+    reads = reads-then reads lacks.reads;
+  }
+
   pub why-not-behind : {W : Type 0} (answer : Answer) (contents : W → Option (List ℕ)) (before after : W)
       → TellsWhyNot user name answer mid new contents before after → TellsWhyNot user name answer old new contents before after
   why-not-behind answer contents before after (tells_none none) = tells_none (record {
-    home = none.home;
-    readable = λ honest. subst (λ (i : Image). IsReadable i none.home) reads.1.image (none.readable (reads.1.honest ∙ honest));
-    refusal = none.refusal;
-    refused = λ honest.
-        sym (ap (λ (i : Image). file_sought i (table_of i none.home) user name) reads.1.image) ∙ none.refused (reads.1.honest ∙ honest);
     is_fault = none.is_fault;
+    refusal = none.refusal;
+    lacks = lacks-behind none.refusal none.lacks;
     takes = none.takes;
-    reads = reads-then reads none.reads;
   })
   why-not-behind answer contents before after (tells_fault fault) =
       tells_fault (fault-behind answer old mid new contents before after reads fault)
+
+  unfound-behind : CannotBeFound user name mid new → CannotBeFound user name old new
+  unfound-behind (lacks_file refusal lacks) = lacks_file refusal (lacks-behind refusal lacks)
+  unfound-behind (cannot_be_read fault hindered) = cannot_be_read fault (hindered-behind fault old mid new reads hindered)
+
+  pub unsought-behind : {W : Type 0} (failure : Failure) (before after : W) → FailsToSeek failure user name mid new before after
+      → FailsToSeek failure user name old new before after
+  unsought-behind DeviceFault before after fails = (reads-then reads fails.0, fails.1)
+  unsought-behind NoMemory before after fails = (reads-then reads fails.0, fails.1)
+  unsought-behind CannotWrite before after fails = unfound-behind fails

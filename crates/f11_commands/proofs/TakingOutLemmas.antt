@@ -114,7 +114,7 @@ module _ (index : Index) (file later : FileReader) (end left k : ℕ) (text : Li
     reads-one = record {
       blocks = k + 1;
       few = omega (arith, taken.left_is);
-      each_once = λ honest. let next = ap length (next-is honest) in omega (arith, next, taken.blocks honest);
+      come = λ honest. let next = ap length (next-is honest) in omega (arith, next, taken.blocks honest);
       looked = looked_within (looked_more taken.looked reads.looked)
           (omega (arith, taken.forward, taken.near, reads.forward, reads.few));
     }
@@ -124,7 +124,7 @@ module _ (index : Index) (file later : FileReader) (end left k : ℕ) (text : Li
   reads-all = record {
     blocks = k;
     few = taken.few;
-    each_once = λ honest. omega (arith, taken.blocks honest);
+    come = λ honest. omega (arith, taken.blocks honest);
     looked = looked_within taken.looked (omega (arith, taken.near));
   }
 
@@ -142,7 +142,7 @@ module _ (index : Index) (file later : FileReader) (end left k : ℕ) (text : Li
     reads-ended = record {
       blocks = k;
       few = taken.few;
-      each_once = λ honest. omega (arith, taken.blocks honest);
+      come = λ honest. omega (arith, taken.blocks honest);
       looked = looked_within (looked_more taken.looked ends.looked) (omega (arith, taken.forward, taken.near));
     }
 

@@ -1,5 +1,5 @@
 -- What commands do that serve any volume, faulty or not (profile).
-use Rattle.std.specs.Prelude.{◌≡◌, ℕ, IsTrue, List, [], ◌∷◌, ◌++◌, codes, Bool, not, Option, Result, Ok, Err}
+use Rattle.std.specs.Prelude.{◌≡◌, ℕ, IsTrue, List, Bool, not, Option, Result, Ok, Err}
 use Rattle.std.specs.Io.KnownBytes.{Keeps}
 use Rattle.f11_catalog.specs.Listing.{id_entered}
 use Rattle.f11_catalog.specs.Records.{Reads}
@@ -12,7 +12,6 @@ use Rattle.f11_index.specs.IndexFile.{Index}
 use Rattle.f11_index.specs.Kept.{IsIndexFor}
 use Rattle.f11_index.specs.Sound.{IsIndexFile}
 use Rattle.f11_index.specs.Table.{Table}
-use Rattle.f11_store.specs.Refusal.{refusal_name}
 use Rattle.f11_store.specs.declared.files.FileId.{FileId}
 use Rattle.f11_store.specs.declared.callers.Uic.{Uic}
 use Rattle.f11_store.specs.declared.refusals.Refusal.{Refusal}
@@ -36,10 +35,6 @@ unless_refused next (Err refusal) = Err refusal
 -- the identification of a user's directory, which the master file directory names, or why there is none
 abbrev pub user_directory : Image → Table → Uic → Result FileId Refusal
 user_directory image t user = id_entered image t master_directory (directory_name user)
-
--- the line of a refusal
-abbrev pub no_line : Refusal → List ℕ
-no_line refusal = codes "no " ++ (refusal_name refusal ++ 10 ∷ [])
 
 -- The volume was verified: it has faults, or has none.
 pub record IsVerified (faulty : Bool) (disk : Disk) : Type 0 where
@@ -65,13 +60,17 @@ Hinders NoHome = Unit {0}
 Hinders IndexMisplaced = Unit {0}
 Hinders (PastSlots n) = ⊥
 
--- The line of a fault was written, by which a volume can't be read.
-pub record TellsFault {W : Type 0} (answer : Answer) (old new : Disk) (contents : W → Option (List ℕ)) (before after : W) : Type 0 where
-  pub is_fault : answer ≡ Fault
-  pub fault : VolumeFault
+-- A volume can't be read, by a fault that it has.
+pub record CannotBeRead (fault : VolumeFault) (old new : Disk) : Type 0 where
   pub hinders : Hinders fault
   pub has : IsTrue old.honest → HasFault old.image fault
   pub reads : Reads old new 0
+
+-- The line of that fault was written.
+pub record TellsFault {W : Type 0} (answer : Answer) (old new : Disk) (contents : W → Option (List ℕ)) (before after : W) : Type 0 where
+  pub is_fault : answer ≡ Fault
+  pub fault : VolumeFault
+  pub hindered : CannotBeRead fault old new
   pub takes : WriterTakes contents before after (fault_line fault)
 
 -- The volume couldn't be served: a transfer failed, or the writer takes no more, and then a part of the lines may be written; or there was

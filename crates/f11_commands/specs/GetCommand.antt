@@ -1,12 +1,14 @@
 -- What `get` takes out of a volume, faulty or not (profile).
-use Rattle.std.specs.Prelude.{◌≡◌, ℕ, IsTrue, List, [], ◌∷◌, ◌++◌, codes, length, take, Option, Some, None, Result, Ok, Err}
+use Rattle.std.specs.Prelude.{◌≡◌, ℕ, IsTrue, List, [], ◌∷◌, ◌++◌, codes, length, take, Option, Result, Ok, Err}
 use Rattle.std.specs.Fmt.{decimal}
 use Rattle.std.specs.List.{concat}
+use Rattle.std.specs.Option.{ok_or}
 use Rattle.f11_catalog.specs.Listing.{id_entered}
 use Rattle.f11_catalog.specs.Records.{Reads, file_named}
 use Rattle.f11_chain.specs.Calls.{table}
 use Rattle.f11_dev.specs.Disk.{Disk}
 use Rattle.f11_dev.specs.Image.{Image}
+use Rattle.f11_flx.specs.declared.refusal.FlxRefusal.TheVariants.{Files}
 use Rattle.f11_home.specs.Home.{HomeFields}
 use Rattle.f11_index.specs.IndexFile.{Index}
 use Rattle.f11_index.specs.Kept.{IndexLiesWithin}
@@ -18,27 +20,28 @@ use Rattle.f11_store.specs.declared.callers.Uic.{Uic}
 use Rattle.f11_store.specs.declared.files.FileId.{FileId}
 use Rattle.f11_store.specs.declared.refusals.Refusal.{Refusal}
 use Rattle.f11_store.specs.declared.refusals.Refusal.TheVariants.{NoSuchFile}
-use Rattle.f11_commands.specs.AnyVolume.{IsReadable, TellsFault, no_line, unless_refused, user_directory}
+use Rattle.f11_commands.specs.AnyVolume.{CannotBeRead, IsReadable, TellsFault, unless_refused, user_directory}
+use Rattle.f11_commands.specs.CopyCommand.{refused_line}
 use Rattle.f11_commands.specs.Output.{WriterTakes}
 use Rattle.f11_commands.specs.TakingOut.{BreaksOff, ReadsBefore, WritesContent, bytes_to_come}
 use Rattle.f11_commands.specs.declared.outcome.Answer.{Answer}
 use Rattle.f11_commands.specs.declared.outcome.Answer.TheVariants.{Fault}
 use Rattle.f11_commands.specs.declared.outcome.Failure.{Failure}
 use Rattle.f11_commands.specs.declared.outcome.Failure.TheVariants.{DeviceFault, NoMemory, CannotWrite}
+use Rattle.f11_commands.specs.declared.volume.VolumeFault.{VolumeFault}
 
 -- the bytes of a file up to its end, or all where its blocks end before (Files-11 On-Disk Structure Level 1, "File Attributes")
 abbrev pub bytes_of : File → List ℕ
 bytes_of f = take (stated_end f.attr) (concat f.blocks)
 
--- the file, where there is one
-abbrev pub file_or_none : Option File → Result File Refusal
-file_or_none (Some f) = Ok f
-file_or_none None = Err NoSuchFile
+-- the file with an identification, if there is one
+abbrev pub file_identified : Image → Table → FileId → Result File Refusal
+file_identified image t id = ok_or (file_named image t id) NoSuchFile
 
 -- the file that a directory has under a name, or why there is none
 abbrev pub file_entered : Image → Table → List ℕ → FileId → Result File Refusal
 file_entered image t name directory =
-    unless_refused (λ id. file_or_none (file_named image t id)) (id_entered image t directory name)
+    unless_refused (file_identified image t) (id_entered image t directory name)
 
 -- the file that a user's directory has under a name, or why there is none
 abbrev pub file_sought : Image → Table → Uic → List ℕ → Result File Refusal
@@ -72,22 +75,38 @@ pub record FindsSought (user : Uic) (name bytes : List ℕ) (old new : Disk) : T
   pub bytes_are : IsTrue old.honest → bytes ≡ bytes_of found
   pub reads : Reads old new 0
 
--- There is none on it: the line that says why was written.
-pub record TellsNone {W : Type 0} (user : Uic) (name : List ℕ) (answer : Answer) (old new : Disk) (contents : W → Option (List ℕ))
-    (before after : W) : Type 0 where
+-- There is none on it, and this says why.
+pub record LacksFile (user : Uic) (name : List ℕ) (refusal : Refusal) (old new : Disk) : Type 0 where
   pub home : HomeFields
   pub readable : IsTrue old.honest → IsReadable old.image home
-  pub refusal : Refusal
   pub refused : IsTrue old.honest → file_sought old.image (table_of old.image home) user name ≡ Err refusal
-  pub is_fault : answer ≡ Fault
-  pub takes : WriterTakes contents before after (no_line refusal)
   pub reads : Reads old new 0
+
+-- No file can be found: it isn't on a volume that can be read, or the volume can't be read.
+pub data CannotBeFound (user : Uic) (name : List ℕ) (old new : Disk) : Type 0 where
+  lacks_file : (refusal : Refusal) → LacksFile user name refusal old new → CannotBeFound user name old new
+  cannot_be_read : (fault : VolumeFault) → CannotBeRead fault old new → CannotBeFound user name old new
+
+-- The line was written that says why there is none.
+pub record TellsNone {W : Type 0} (user : Uic) (name : List ℕ) (answer : Answer) (old new : Disk) (contents : W → Option (List ℕ))
+    (before after : W) : Type 0 where
+  pub is_fault : answer ≡ Fault
+  pub refusal : Refusal
+  pub lacks : LacksFile user name refusal old new
+  pub takes : WriterTakes contents before after (refused_line (Files refusal))
 
 -- Nothing is taken out: the volume can be read and the file isn't found, or it can't be read.
 pub data TellsWhyNot {W : Type 0} (user : Uic) (name : List ℕ) (answer : Answer) (old new : Disk) (contents : W → Option (List ℕ))
     (before after : W) : Type 0 where
   tells_none : TellsNone user name answer old new contents before after → TellsWhyNot user name answer old new contents before after
   tells_fault : TellsFault answer old new contents before after → TellsWhyNot user name answer old new contents before after
+
+-- The file couldn't be sought: a transfer failed, or there was no memory, and nothing was written; or there was a line to write, and the
+-- writer takes no more.
+abbrev pub FailsToSeek : {W : Type 0} → Failure → Uic → List ℕ → Disk → Disk → W → W → Type 0
+FailsToSeek DeviceFault user name old new before after = Reads old new 1 × (after ≡ before)
+FailsToSeek NoMemory user name old new before after = Reads old new 0 × (after ≡ before)
+FailsToSeek CannotWrite user name old new before after = CannotBeFound user name old new
 
 -- the line of a file of so many bytes that was taken out
 abbrev pub taken_line : ℕ → List ℕ
@@ -100,7 +119,7 @@ pub record TakesOut {H W : Type 0} (index : Index) (file : FileReader) (end : �
   pub writes : WritesContent index file end count old new held host_before host_after
   pub takes : WriterTakes contents before after (taken_line count)
 
--- It couldn't be: a transfer failed, and then the host holds what was read before, and nothing is told; or the host or the writer takes no
+-- It couldn't be: a transfer failed, and then the host was given a beginning of it, and nothing is told; or the host or the writer takes no
 -- more. It takes no memory.
 abbrev pub FailsToTakeOut : {H W : Type 0} → Failure → Index → FileReader → ℕ → Disk → Disk → (H → Option (List ℕ)) → H → H → W → W
     → Type 0

@@ -5,13 +5,15 @@ use Rattle.f11_catalog.specs.Records.{Reads, directory_refusal, file_named, reco
 use Rattle.f11_chain.specs.Calls.{table}
 use Rattle.f11_dev.specs.Disk.{Disk}
 use Rattle.f11_dev.specs.Image.{Image}
+use Rattle.f11_flx.specs.declared.refusal.FlxRefusal.TheVariants.{Files}
 use Rattle.f11_home.specs.Home.{HomeFields}
 use Rattle.f11_index.specs.IndexFile.{Index}
 use Rattle.f11_index.specs.Table.{Table, table_of}
 use Rattle.f11_store.specs.declared.files.FileId.{FileId}
 use Rattle.f11_store.specs.declared.callers.Uic.{Uic}
 use Rattle.f11_store.specs.declared.refusals.Refusal.{Refusal}
-use Rattle.f11_commands.specs.AnyVolume.{IsVerified, IsReadable, TellsFault, no_line, unless_refused, user_directory}
+use Rattle.f11_commands.specs.AnyVolume.{IsVerified, IsReadable, TellsFault, unless_refused, user_directory}
+use Rattle.f11_commands.specs.CopyCommand.{refused_line}
 use Rattle.f11_commands.specs.Copying.{master_directory}
 use Rattle.f11_commands.specs.Output.{WriterTakes}
 use Rattle.f11_commands.specs.declared.ls.Served.{Served}
@@ -46,7 +48,7 @@ listed image t None = users_listed image t
 -- what is written: the lines, or why there are none
 abbrev pub listing_text : Result (List ℕ) Refusal → List ℕ
 listing_text (Ok lines) = lines
-listing_text (Err refusal) = no_line refusal
+listing_text (Err refusal) = refused_line (Files refusal)
 
 -- and what is answered
 abbrev pub listing_answer : Result (List ℕ) Refusal → Answer

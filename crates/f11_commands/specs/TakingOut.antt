@@ -19,11 +19,12 @@ pub record BeginsWith (part whole : List ℕ) : Type 0 where
 abbrev pub bytes_to_come : Index → Disk → FileReader → ℕ → List ℕ
 bytes_to_come index disk file end = take end (concat (contents_to_come index disk file))
 
--- Blocks of a file were read that hold bytes before an end, each once, and the headers that lead to them; so many transfers failed.
+-- At most so many transfers were made: one for each block of a file that holds bytes before an end and one for each header that the file
+-- may still have, and those that failed.
 pub record ReadsBefore (index : Index) (file : FileReader) (end : ℕ) (old new : Disk) (faults : ℕ) : Type 0 where
   pub blocks : ℕ
   pub few : blocks ≤ (end + 511) / 512
-  pub each_once : IsTrue old.honest → blocks ≤ length (contents_to_come index old file)
+  pub come : IsTrue old.honest → blocks ≤ length (contents_to_come index old file)
   pub looked : Looked old new (headers_left file + blocks + faults) faults
 
 -- a text of so many bytes is the file's before an end

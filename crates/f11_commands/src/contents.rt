@@ -12,12 +12,13 @@ use f11_reader::FileReader;
 use std::io::Write;
 
 /// Writes the bytes of a file that are still to come, before `end` bytes: each block whole, and the last one cut there. Where the file
-/// ends earlier, so does the text. It says how many bytes were written. No block behind the end is read, and no memory is taken.
+/// ends earlier, so does the text. It says how many bytes were written. It makes at most so many transfers: one for each block before the
+/// end and one for each header that a file may still have, and one that fails. No memory is taken.
 ///
 /// # Errors
 ///
-/// [`Failure::DeviceFault`] where a transfer failed: then the writer holds what was read before. [`Failure::CannotWrite`] where the
-/// writer takes no more: then it may hold a part of the bytes.
+/// [`Failure::DeviceFault`] where a transfer failed: then the writer was given a beginning of the bytes. [`Failure::CannotWrite`] where
+/// the writer takes no more: then it may hold a part of them.
 pub(crate) fn write_contents<D: Device, W: Write>(
     device: &mut D,
     index: &IndexFile,

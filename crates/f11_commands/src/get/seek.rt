@@ -1,10 +1,10 @@
 //! The first step of `get`: the file is found.
 ghost use Rattle.std.specs.Prelude.{◌≡◌, IfErr, IfOk, OnErr, length};
-ghost use Rattle.f11_catalog.specs.Records.{Reads, file_named};
+ghost use Rattle.f11_catalog.specs.Records.{Reads};
 ghost use Rattle.f11_index.specs.Kept.{index_kept, IndexLiesWithin};
-ghost use Rattle.f11_commands.specs.AnyVolume.{FailsToServe, IsVerified};
+ghost use Rattle.f11_commands.specs.AnyVolume.{IsVerified};
 ghost use Rattle.f11_commands.specs.FoundFile.{device_with, end_found, has_faults, index_with, reader_of};
-ghost use Rattle.f11_commands.specs.GetCommand.{FindsSought, IsToRead, LacksSought, OpensSought, TellsWhyNot, file_entered, file_or_none, file_sought};
+ghost use Rattle.f11_commands.specs.GetCommand.{FailsToSeek, FindsSought, IsToRead, LacksSought, OpensSought, TellsWhyNot, file_entered, file_identified, file_sought};
 ghost use Rattle.f11_commands.specs.TakingOut.{bytes_to_come};
 
 use crate::copy::finding::{MASTER_DIRECTORY, directory_name};
@@ -31,8 +31,8 @@ use std::io::Write;
 ///
 /// # Errors
 ///
-/// [`Failure::DeviceFault`] where a transfer failed, [`Failure::NoMemory`] where there was no memory, and
-/// [`Failure::CannotWrite`] where the writer takes no more, each with the device.
+/// [`Failure::DeviceFault`] where a transfer failed and [`Failure::NoMemory`] where there was no memory, with nothing written; and
+/// [`Failure::CannotWrite`] where there is such a line and the writer takes no more. Each comes with the device.
 pub fn seek_file<D: Device, W: Write>(
     alloc: Global,
     device: D,
@@ -50,8 +50,8 @@ pub fn seek_file<D: Device, W: Write>(
         IsVerified told.1.faulty (D.disk device)
         × TellsWhyNot user name.now told.1.answer
         (D.disk device) (D.disk told.0) W.contents writer.old writer.new)) }
-    ensures failed { IfErr result (λ failed. FailsToServe failed.1
-        (D.disk device) (D.disk failed.0) W.contents writer.old writer.new) }
+    ensures failed { IfErr result (λ failed. FailsToSeek failed.1 user name.now
+        (D.disk device) (D.disk failed.0) writer.old writer.new) }
 {
     match verify(alloc, device) {
         Ok(Report::Accepted(accepted, _)) => {
@@ -81,8 +81,8 @@ fn seek<D: Device, W: Write>(
     ensures none { IfOk result (λ answer. IfErr answer (λ told. (told.1.faulty ≡ faulty)
         × TellsWhyNot user name.now told.1.answer
         (D.disk device) (D.disk told.0) W.contents writer.old writer.new)) }
-    ensures failed { IfErr result (λ failed. FailsToServe failed.1
-        (D.disk device) (D.disk failed.0) W.contents writer.old writer.new) }
+    ensures failed { IfErr result (λ failed. FailsToSeek failed.1 user name.now
+        (D.disk device) (D.disk failed.0) writer.old writer.new) }
 {
     let mut device = device;
     match seek_on_volume(alloc, &mut device, writer, user, name) {
@@ -113,8 +113,8 @@ fn seek_on_volume<D: Device, W: Write>(
         (D.disk device.old) (D.disk device.new))) }
     ensures none { IfOk result (λ answer. IfErr answer (λ told. TellsWhyNot user name.now told
         (D.disk device.old) (D.disk device.new) W.contents writer.old writer.new)) }
-    ensures failed { IfErr result (λ failure. FailsToServe failure
-        (D.disk device.old) (D.disk device.new) W.contents writer.old writer.new) }
+    ensures failed { IfErr result (λ failure. FailsToSeek failure user name.now
+        (D.disk device.old) (D.disk device.new) writer.old writer.new) }
 {
     match read_index(alloc, device) {
         Ok(Ok((_, index))) => match seek_in_index(device, &index, user, name) {
@@ -196,10 +196,10 @@ fn open_file<D: Device>(
 ) -> Result<Result<(FileReader, u64), Refusal>, DeviceFault>
     requires within { IndexLiesWithin (index_kept index.now) (length (D.disk device.old).image) }
     ensures found { IfOk result (λ answer. IfOk answer (λ found.
-        OpensSought (λ image t. file_or_none (file_named image t id)) (index_kept index.now)
+        OpensSought (λ image t. file_identified image t id) (index_kept index.now)
         found.0 found.1 (D.disk device.old) (D.disk device.new))) }
     ensures none { IfOk result (λ answer. IfErr answer (λ refusal.
-        LacksSought (λ image t. file_or_none (file_named image t id)) (index_kept index.now)
+        LacksSought (λ image t. file_identified image t id) (index_kept index.now)
         refusal (D.disk device.old) (D.disk device.new))) }
     ensures failed { OnErr result (Reads (D.disk device.old) (D.disk device.new) 1) }
 {

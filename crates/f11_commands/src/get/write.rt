@@ -11,11 +11,12 @@ use f11_dev::Device;
 use std::io::Write;
 
 /// Writes the bytes of a file that was found to the host, up to the file's end, or all where its blocks end before; and then the line
-/// `copied N bytes`, which tells how many. The blocks before the end are read once each, and the file's headers.
+/// `copied N bytes`, which tells how many. It makes at most so many transfers: one for each block before the end and one for each header
+/// that a file may still have, and one that fails.
 ///
 /// # Errors
 ///
-/// [`Failure::DeviceFault`] where a transfer failed: then the host holds what was read before, and no line is written.
+/// [`Failure::DeviceFault`] where a transfer failed: then the host was given a beginning of the bytes, and no line is written.
 /// [`Failure::CannotWrite`] where the host or the writer takes no more: either may hold a part then.
 pub fn write_file<D: Device, H: Write, W: Write>(
     found: FoundFile<D>,

@@ -1,7 +1,7 @@
 use Rattle.std.proofs.Common.{refl, sym, true, false}
 use Rattle.std.proofs.lemmas.Result.{IfErr-weaker, IfOk-weaker}
-use Rattle.f11_commands.proofs.AnyVolumeLemmas.{fails-behind-look, verified-first}
-use Rattle.f11_commands.proofs.GetLemmas.{sought-behind, why-not-behind}
+use Rattle.f11_commands.proofs.AnyVolumeLemmas.{verified-first}
+use Rattle.f11_commands.proofs.GetLemmas.{sought-behind, unsought-behind, why-not-behind}
 use Rattle.f11_commands.proofs.get.seek.seek_file.Goals as goal
 
 pub returns-in-Ok-Accepted-clause-found : goal.returns-in-Ok-Accepted-clause-found
@@ -24,7 +24,7 @@ pub returns-in-Ok-Accepted-clause-failed : goal.returns-in-Ok-Accepted-clause-fa
 returns-in-Ok-Accepted-clause-failed g c =
     let report = rw c.in-Ok-Accepted.field-0-is at c.in-Ok-Accepted.ensures.report in
     let examines = rw (sym c.device.ensures.device) at report in
-    IfErr-weaker c.seek.result _ _ (λ failed fails. fails-behind-look failed.1 _ _ _ _ _ _ (_, examines.looked.looked) fails)
+    IfErr-weaker c.seek.result _ _ (λ failed fails. unsought-behind _ _ _ _ _ (_, examines.looked.looked) failed.1 _ _ fails)
     c.seek.ensures.failed
 
 pub returns-in-Ok-Faulty-clause-found : goal.returns-in-Ok-Faulty-clause-found
@@ -44,5 +44,5 @@ returns-in-Ok-Faulty-clause-none g c =
 pub returns-in-Ok-Faulty-clause-failed : goal.returns-in-Ok-Faulty-clause-failed
 returns-in-Ok-Faulty-clause-failed g c =
     let report = rw c.in-Ok-Faulty.field-0-is at c.in-Ok-Faulty.ensures.report in
-    IfErr-weaker c.seek-in-Ok-Faulty.result _ _ (λ failed fails. fails-behind-look failed.1 _ _ _ _ _ _ (_, report.0.looked.looked) fails)
+    IfErr-weaker c.seek-in-Ok-Faulty.result _ _ (λ failed fails. unsought-behind _ _ _ _ _ (_, report.0.looked.looked) failed.1 _ _ fails)
     c.seek-in-Ok-Faulty.ensures.failed
