@@ -22,11 +22,11 @@ use Rattle.f11_flx.proofs.PourLemmas.{took-one}
 use Rattle.f11_flx.proofs.RtCopyLemmas.{has-written, took-puts}
 use Rattle.f11_flx.proofs.SmallLemmas.{or-false}
 use Rattle.rt11_volume.specs.Calls.{has_failed}
-use Rattle.rt11_volume.specs.Files.{is_fault}
+use Rattle.rt11_volume.specs.Files.{faults_in, is_fault}
 use Rattle.rt11_volume.specs.Verifying.Verdict.{IsSoundDisk}
 use Rattle.rt11_volume.specs.declared.refusal.RtRefusal.{RtRefusal}
 use Rattle.rt11_volume.specs.declared.volume.RtAccepted.{RtAccepted}
-use Rattle.f11_commands.specs.RtFile.{block_transfers, rt_faults}
+use Rattle.f11_commands.specs.RtFile.{block_transfers}
 use Rattle.f11_commands.specs.RtFilling.{FillsNamed, LacksBytes, ReadsPiece, StopsFilling}
 use Rattle.f11_commands.specs.RtPut.{MakesTransfers, blocks_for, filled_up}
 
@@ -129,6 +129,7 @@ module _ {E : Type 0} {met : Ghosts E} (disk : E → Disk) (name : List ℕ) (by
       -- the host's file gives no more
       pub lacks-bytes : (blocks : ℕ) → place < blocks → LacksBytes disk name blocks old now
       lacks-bytes blocks inside = record {
+        some = omega (arith, inside);
         pieces = pieces;
         puts = puts-so-far;
         went = transfers-within filled.went (omega (arith, inside));
@@ -137,7 +138,7 @@ module _ {E : Type 0} {met : Ghosts E} (disk : E → Disk) (name : List ℕ) (by
       -- a block was refused
       pub stops-filling : (blocks : ℕ) (e : RtRefusal) (new : RtAccepted E met) → has_failed old ≡ false
           → (IsSoundDisk (rt_disk disk old) → HasRtBlocks name blocks (rt_store disk old)) → place < blocks
-          → FailsPutting disk name place e now new → MakesTransfers (rt_disk disk now) (rt_disk disk new) 63 (rt_faults e)
+          → FailsPutting disk name place e now new → MakesTransfers (rt_disk disk now) (rt_disk disk new) 63 (faults_in {T = Unit} (Err e))
           → StopsFilling disk blocks e old new
       stops-filling blocks e new fresh file inside fails went = record {
         fresh = fails.refused.alive (still-fresh fresh);

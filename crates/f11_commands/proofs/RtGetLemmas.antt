@@ -5,6 +5,7 @@ use Rattle.std.specs.List.{concat, slice_get}
 use Rattle.std.specs.Io.KnownBytes.{Appends}
 use Rattle.std.proofs.KnownBytes.{Appends-trans}
 use Rattle.std.proofs.lemmas.List.{append-nil, length-append, take_all}
+use Rattle.std.proofs.lemmas.List.Elements.{All-nil, All-push}
 use Rattle.std.proofs.lemmas.List.Folds.{concat-append}
 use Rattle.f11_dev.specs.Disk.{Disk}
 use Rattle.f11_dev.specs.Image.{Image}
@@ -17,7 +18,7 @@ use Rattle.rt11_volume.specs.Verifying.Verdict.{IsSoundDisk}
 use Rattle.rt11_volume.specs.declared.refusal.RtRefusal.{RtRefusal}
 use Rattle.rt11_volume.specs.declared.refusal.RtRefusal.TheVariants as rt
 use Rattle.f11_commands.specs.RtFile.{TellsRt, block_transfers, contents_named}
-use Rattle.f11_commands.specs.RtGet.{AreFirst, EndsGet, GetsFile, HasLength, StopsTakingOut, TakesRtOut}
+use Rattle.f11_commands.specs.RtGet.{AreFirst, AreWhole, EndsGet, GetsFile, HasLength, StopsTakingOut, TakesRtOut}
 use Rattle.f11_commands.specs.declared.copy.FileAnswer.{FileAnswer}
 use Rattle.f11_commands.specs.declared.outcome.Failure.{Failure}
 use Rattle.f11_commands.proofs.RtFileLemmas.{contents-of, has-length, length-is, reached-or-fault, sound-after, sound-before}
@@ -33,12 +34,14 @@ found-stays name start blocks most old new looked found s =
 -- So many blocks were read, and these are they.
 pub record ReadsFirst (name : List ℕ) (place : ℕ) (given : List (List ℕ)) (old now : Disk) : Type 0 where
   pub count : length given ≡ place
+  pub whole : AreWhole given
   pub are : IsSoundDisk old → AreFirst name given (rt_store_of old.image)
   pub looked : Looked old now (block_transfers * place) 0
 
 pub reads-none : (name : List ℕ) (old : Disk) → ReadsFirst name 0 [] old old
 reads-none name old = record {
   count = refl;
+  whole = All-nil (λ (b : List ℕ). length b ≡ 512);
   are = λ s whole is. refl;
   looked = looked_within (looked_none old) (omega arith);
 }
@@ -46,10 +49,11 @@ reads-none name old = record {
 module _ (name : List ℕ) (place : ℕ) (given : List (List ℕ)) (old now : Disk) (reads : ReadsFirst name place given old now) where
   -- the next one was read
   module _ (block : List ℕ) (new : Disk) (looked : Looked now new 63 0)
-      (has : IsSoundDisk now → HasBlock name (rt_store_of now.image) place block) where
+      (size : length block ≡ 512) (has : IsSoundDisk now → HasBlock name (rt_store_of now.image) place block) where
     pub reads-more : ReadsFirst name (place + 1) (given ++ block ∷ []) old new
     reads-more = record {
       count = length-append given (block ∷ []) ∙ ap (λ n. n + 1) reads.count;
+      whole = All-push (λ (b : List ℕ). length b ≡ 512) given block reads.whole size;
       are = λ s whole is.
           let h = has (sound-after reads.looked s) in
           let same : contents_named name (rt_store_of now.image) ≡ Some whole =
@@ -74,7 +78,10 @@ module _ (name : List ℕ) (place : ℕ) (given : List (List ℕ)) (old now : Di
     pub stops-reading : (e : RtRefusal) (new : Disk) → place < blocks → Looked now new 63 (faults_in {T = Unit} (Err e))
         → FailsToReach e name place now → e ≢ rt.Failed → StopsTakingOut name blocks e old new contents before after
     stops-reading e new inside looked why fresh = record {
+      fresh = fresh;
       given = given;
+      few = omega (arith, reads.count, inside);
+      whole = reads.whole;
       are = reads.are;
       takes = text;
       fault = λ s.
@@ -88,6 +95,7 @@ module _ (name : List ℕ) (place : ℕ) (given : List (List ℕ)) (old now : Di
     takes-out all = record {
       given = given;
       count = reads.count ∙ all;
+      whole = reads.whole;
       are = λ s. by s (contents_named name (rt_store_of old.image)) refl;
       takes = text;
       looked = subst (λ n. Looked old now (block_transfers * n) 0) all reads.looked;

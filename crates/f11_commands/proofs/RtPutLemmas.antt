@@ -1,5 +1,5 @@
 -- A file of an RT-11 volume that is made, filled, and undone.
-use Rattle.std.proofs.Common.{◌≡◌, inl, inr, ℕ, Bool, true, false, List, Option, Err}
+use Rattle.std.proofs.Common.{◌≡◌, inl, inr, ℕ, ◌<◌, Bool, true, false, List, Option, Err}
 use Rattle.std.proofs.Common.{[], if◌then◌else◌, refl, sym, ap, ◌∙◌, subst, arith}
 use Rattle.f11_dev.specs.Disk.{Disk}
 use Rattle.f11_dev.specs.declared.device.Device.{Ghosts}
@@ -8,12 +8,11 @@ use Rattle.f11_flx.specs.Target.{DeletesRtFile, FailsDeleting, FailsMaking, Make
 use Rattle.f11_flx.proofs.RtCopyLemmas.{has-copy, has-gone, has-written, still-lies}
 use Rattle.f11_flx.proofs.SmallLemmas.{or-false}
 use Rattle.rt11_volume.specs.Calls.{has_failed}
-use Rattle.rt11_volume.specs.Files.{is_fault}
+use Rattle.rt11_volume.specs.Files.{faults_in, is_fault}
 use Rattle.rt11_volume.specs.Verifying.Verdict.{IsSoundDisk}
 use Rattle.rt11_volume.specs.declared.refusal.RtRefusal.{RtRefusal}
 use Rattle.rt11_volume.specs.declared.volume.RtAccepted.{RtAccepted}
 use Rattle.f11_commands.specs.RtDelete.{delete_transfers}
-use Rattle.f11_commands.specs.RtFile.{rt_faults}
 use Rattle.f11_commands.specs.RtFilling.{FillsNamed, LacksBytes, StopsFilling, UndoesStoring, stop_of}
 use Rattle.f11_commands.specs.RtPut.{IsNotStored, IsStored, IsUnstored, PutsFile, MakesTransfers, blocks_for, create_transfers}
 use Rattle.f11_commands.specs.RtPut.{put_transfers}
@@ -28,7 +27,7 @@ module _ {E : Type 0} {met : Ghosts E} (disk : E → Disk) (name : List ℕ) (by
   where
     -- no file was made
     pub not-made : (e : RtRefusal) (new : RtAccepted E met) → has_failed old ≡ false → FailsMaking disk name (blocks_for bytes) e old new
-        → MakesTransfers (rt_disk disk old) (rt_disk disk new) create_transfers (rt_faults e)
+        → MakesTransfers (rt_disk disk old) (rt_disk disk new) create_transfers (faults_in {T = Unit} (Err e))
         → IsNotStored name bytes e (rt_disk disk old) (rt_disk disk new)
     not-made e new fresh fails went = record {
       fresh = fails.refused.alive fresh;
@@ -73,23 +72,26 @@ module _ {E : Type 0} {met : Ghosts E} (disk : E → Disk) (name : List ℕ) (by
             → MakesTransfers (rt_disk disk old) (rt_disk disk new) (put_transfers (blocks_for bytes)) faults
         all last = transfers-within (transfers-more (transfers-more went lacks.went) last) (omega arith)
 
+        more-than-none : 0 < bytes
+        more-than-none = omega (arith, lacks.some)
+
         pub gone : DeletesRtFile disk name left new → MakesTransfers (rt_disk disk left) (rt_disk disk new) delete_transfers 0
             → IsUnstored name bytes (rt_disk disk old) (rt_disk disk new)
         gone deleted last = record {
+          some = more-than-none;
           sound = λ s. deleted.sound (lacks.puts.sound (makes.sound s));
           same = λ s.
               let g = has-gone name (blocks_for bytes) 0 lacks.pieces (rt_store disk old) (rt_store disk made) (rt_store disk left)
               (makes.made s) (lacks.puts.replaced (makes.sound s)) (rt_store disk new)
               (deleted.gone (lacks.puts.sound (makes.sound s))) in
               record { named = g.0; others = g.1 };
-          directory = λ s. inr (record {
-            blocks = blocks_for bytes;
-            day = 0;
+          undone = λ s. record {
+            none = (makes.made s).none;
             made = rt_store disk left;
             lies = still-lies name (blocks_for bytes) 0 (rt_store disk old) (rt_store disk made) (rt_store disk left) (makes.lies s)
                 (lacks.puts.directory (makes.sound s));
             emptied = deleted.emptied (lacks.puts.sound (makes.sound s));
-          });
+          };
           went = all last;
         }
 
@@ -124,11 +126,12 @@ module _ {E : Type 0} {met : Ghosts E} (disk : E → Disk) (name : List ℕ) (by
                   went = all g.went;
                 })
             by false is =
-                let no-faults : rt_faults g.e ≡ 0 = ap (λ (b : Bool). if b then 1 else 0) is in
+                let no-faults : faults_in {T = Unit} (Err g.e) ≡ 0 = ap (λ (b : Bool). if b then 1 else 0) is in
                 subst (λ (b : Bool). PutsFile name bytes (Err (if b then Volume g.e else Host)) unread unread' (rt_disk disk old)
                 (rt_disk disk new)) (sym is) (record {
+                  some = more-than-none;
                   sound = λ s. absurd (kept-never g.e g.refused is s);
                   same = λ s. absurd (kept-never g.e g.refused is s);
-                  directory = λ s. absurd (kept-never g.e g.refused is s);
+                  undone = λ s. absurd (kept-never g.e g.refused is s);
                   went = all (subst (λ n. MakesTransfers (rt_disk disk left) (rt_disk disk new) delete_transfers n) no-faults g.went);
                 })

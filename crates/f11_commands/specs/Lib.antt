@@ -2,6 +2,7 @@ pub mod CopyCommand
 pub mod Copying
 pub mod Dump
 pub mod DumpCommand
+pub mod FileAnswers
 pub mod Finding
 pub mod FoundFile
 pub mod GetCommand

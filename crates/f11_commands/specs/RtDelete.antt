@@ -4,14 +4,14 @@ use Rattle.f11_dev.specs.Disk.{Disk}
 use Rattle.f11_dev.specs.Looked.{Looked}
 use Rattle.f11_dev.specs.Went.{Went}
 use Rattle.rt11_volume.specs.Calls.{most_transfers}
-use Rattle.rt11_volume.specs.Files.{DeletesFile, FailsToDelete, KeepsFiles, is_fault}
+use Rattle.rt11_volume.specs.Files.{DeletesFile, FailsToDelete, KeepsFiles, faults_in, is_fault}
 use Rattle.rt11_volume.specs.Verifying.Verdict.{IsSoundDisk}
 use Rattle.rt11_volume.specs.declared.refusal.RtRefusal.{RtRefusal}
 use Rattle.rt11_volume.specs.declared.refusal.RtRefusal.TheVariants.{Failed}
 use Rattle.f11_commands.specs.CopyCommand.{EndsRt, VerifiesRt}
 use Rattle.f11_commands.specs.InitCommand.{done_line}
 use Rattle.f11_commands.specs.Output.{WriterTakes}
-use Rattle.f11_commands.specs.RtFile.{TellsRt, rt_faults}
+use Rattle.f11_commands.specs.RtFile.{TellsRt}
 use Rattle.f11_commands.specs.declared.copy.FileAnswer.{FileAnswer}
 use Rattle.f11_commands.specs.declared.copy.FileAnswer.TheVariants.{Done}
 use Rattle.f11_commands.specs.declared.outcome.Failure.{Failure}
@@ -31,7 +31,7 @@ pub record IsNotDeleted (name : List ℕ) (e : RtRefusal) (old new : Disk) : Typ
   pub why : FailsToDelete e name old
   pub fresh : e ≢ Failed
   pub kept : is_fault e ≡ false → Looked old new most_transfers 0
-  pub went : Went (KeepsFiles old) old new delete_transfers (rt_faults e)
+  pub went : Went (KeepsFiles old) old new delete_transfers (faults_in {T = Unit} (Err e))
 
 -- what came of it
 abbrev pub DeletesNamed : List ℕ → Result Unit RtRefusal → Disk → Disk → Type 0

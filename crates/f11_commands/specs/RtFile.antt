@@ -1,8 +1,7 @@
 -- Commands on one file of an RT-11 volume (profile).
-use Rattle.std.specs.Prelude.{ℕ, if◌then◌else◌, List, Option, Result, Ok, Err, map}
+use Rattle.std.specs.Prelude.{ℕ, List, Option, Result, Ok, Err, map}
 use Rattle.std.specs.List.{slice_get}
 use Rattle.f11_flx.specs.declared.refusal.FlxRefusal.TheVariants.{Rt}
-use Rattle.rt11_volume.specs.Files.{is_fault}
 use Rattle.rt11_volume.specs.Named.{files_named}
 use Rattle.rt11_volume.specs.Store.{Area, RtStore}
 use Rattle.rt11_volume.specs.declared.refusal.RtRefusal.{RtRefusal}
@@ -18,10 +17,6 @@ contents_named name t = slice_get (map (λ (file : Area). file.contents) (files_
 abbrev pub TellsRt : {W : Type 0} → Result ℕ RtRefusal → Result FileAnswer Failure → (W → Option (List ℕ)) → W → W → Type 0
 TellsRt (Ok blocks) told contents before after = TellsCopy (Ok blocks) told contents before after
 TellsRt (Err e) told contents before after = TellsCopy (Err (Rt e)) told contents before after
-
--- how many transfers failed where a call is refused so
-abbrev pub rt_faults : RtRefusal → ℕ
-rt_faults e = if is_fault e then 1 else 0
 
 -- so many transfers are made for a block at most: the directory is read for each
 abbrev pub block_transfers : ℕ

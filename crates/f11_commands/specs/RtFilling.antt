@@ -1,17 +1,17 @@
 -- How a file of an RT-11 volume that was made is filled, and undone (profile).
-use Rattle.std.specs.Prelude.{◌≡◌, ◌≢◌, ◌⊎◌, ℕ, ◌*◌, true, List, ◌++◌, length, replicate, Option, ◌-◌, if◌then◌else◌}
+use Rattle.std.specs.Prelude.{◌≡◌, ◌≢◌, ◌⊎◌, ℕ, ◌*◌, true, List, ◌++◌, length, replicate, Option, Err, ◌-◌, ◌<◌, if◌then◌else◌}
 use Rattle.std.specs.Io.KnownBytes.{Consumes}
 use Rattle.std.specs.List.{concat}
 use Rattle.f11_dev.specs.Disk.{Disk}
 use Rattle.f11_dev.specs.declared.device.Device.{Ghosts}
 use Rattle.f11_flx.specs.Target.{DeletesRtFile, FailsDeleting, Puts, rt_disk}
-use Rattle.rt11_volume.specs.Files.{is_fault}
+use Rattle.rt11_volume.specs.Files.{faults_in, is_fault}
 use Rattle.rt11_volume.specs.Verifying.Verdict.{IsSoundDisk}
 use Rattle.rt11_volume.specs.declared.refusal.RtRefusal.{RtRefusal}
 use Rattle.rt11_volume.specs.declared.refusal.RtRefusal.TheVariants.{Failed}
 use Rattle.rt11_volume.specs.declared.volume.RtAccepted.{RtAccepted}
 use Rattle.f11_commands.specs.RtDelete.{delete_transfers}
-use Rattle.f11_commands.specs.RtFile.{block_transfers, rt_faults}
+use Rattle.f11_commands.specs.RtFile.{block_transfers}
 use Rattle.f11_commands.specs.RtPut.{MakesTransfers, filled_up}
 use Rattle.f11_commands.specs.declared.rt_file.Stop.{Stop}
 use Rattle.f11_commands.specs.declared.rt_file.Stop.TheVariants.{Volume, Host}
@@ -40,11 +40,12 @@ pub record StopsFilling {E : Type 0} {met : Ghosts E} (disk : E → Disk) (block
     : Type 0 where
   pub fresh : e ≢ Failed
   pub fault : IsSoundDisk (rt_disk disk old) → is_fault e ≡ true
-  pub went : MakesTransfers (rt_disk disk old) (rt_disk disk new) (block_transfers * blocks) (rt_faults e)
+  pub went : MakesTransfers (rt_disk disk old) (rt_disk disk new) (block_transfers * blocks) (faults_in {T = Unit} (Err e))
 
--- The host's file gave no more: some blocks were written.
+-- The host's file gave no more: some blocks were written, and one more is to be.
 pub record LacksBytes {E : Type 0} {met : Ghosts E} (disk : E → Disk) (name : List ℕ) (blocks : ℕ) (old new : RtAccepted E met)
     : Type 0 where
+  pub some : 0 < blocks
   pub pieces : List (List ℕ)
   pub puts : Puts disk name 0 pieces old new
   pub went : MakesTransfers (rt_disk disk old) (rt_disk disk new) (block_transfers * blocks) 0
@@ -67,7 +68,7 @@ pub record IsNotGone {E : Type 0} {met : Ghosts E} (disk : E → Disk) (name : L
   pub e : RtRefusal
   pub stop_is : stop ≡ stop_of e
   pub refused : FailsDeleting disk name e old new
-  pub went : MakesTransfers (rt_disk disk old) (rt_disk disk new) delete_transfers (rt_faults e)
+  pub went : MakesTransfers (rt_disk disk old) (rt_disk disk new) delete_transfers (faults_in {T = Unit} (Err e))
 
 abbrev pub UndoesStoring : {E : Type 0} {met : Ghosts E} → (E → Disk) → List ℕ → Stop → RtAccepted E met → RtAccepted E met → Type 0
 UndoesStoring disk name stop old new = (IsGone disk name stop old new) ⊎ (IsNotGone disk name stop old new)

@@ -1,18 +1,18 @@
 -- What `rt-get` does: a file of an RT-11 volume is found, and its blocks are written to a file of the host (profile).
-use Rattle.std.specs.Prelude.{◌≡◌, ◌≢◌, ◌⊎◌, ℕ, ◌*◌, true, List, Option, Some, Result, Ok, Err, length, option_map, take}
+use Rattle.std.specs.Prelude.{◌≡◌, ◌≢◌, ◌⊎◌, ℕ, ◌*◌, ◌<◌, true, All, List, Option, Some, Result, Ok, Err, length, option_map, take}
 use Rattle.std.specs.List.{concat}
 use Rattle.std.specs.Io.KnownBytes.{Keeps}
 use Rattle.f11_dev.specs.Disk.{Disk}
 use Rattle.f11_dev.specs.Looked.{Looked}
 use Rattle.rt11_volume.specs.Calls.{most_transfers}
-use Rattle.rt11_volume.specs.Files.{FailsToFindFile, is_fault}
+use Rattle.rt11_volume.specs.Files.{FailsToFindFile, faults_in, is_fault}
 use Rattle.rt11_volume.specs.Store.{RtStore, rt_store_of}
 use Rattle.rt11_volume.specs.Verifying.Verdict.{IsSoundDisk}
 use Rattle.rt11_volume.specs.declared.refusal.RtRefusal.{RtRefusal}
 use Rattle.rt11_volume.specs.declared.refusal.RtRefusal.TheVariants.{Failed}
 use Rattle.f11_commands.specs.CopyCommand.{EndsRt, VerifiesRt}
 use Rattle.f11_commands.specs.Output.{WriterTakes}
-use Rattle.f11_commands.specs.RtFile.{TellsRt, block_transfers, contents_named, rt_faults}
+use Rattle.f11_commands.specs.RtFile.{TellsRt, block_transfers, contents_named}
 use Rattle.f11_commands.specs.declared.copy.FileAnswer.{FileAnswer}
 use Rattle.f11_commands.specs.declared.outcome.Failure.{Failure}
 use Rattle.f11_commands.specs.declared.outcome.Failure.TheVariants.{CannotWrite}
@@ -38,7 +38,7 @@ pub record NotFoundInImage {W : Type 0} (name : List ℕ) (told : Result FileAns
   pub verified : VerifiesRt old read
   pub why : FailsToFindFile e name read
   pub fresh : e ≢ Failed
-  pub looked : Looked read new most_transfers (rt_faults e)
+  pub looked : Looked read new most_transfers (faults_in {T = Unit} (Err e))
   pub tells : TellsRt (Err e) told contents before after
 
 -- how the command ends where no file was found: the image isn't accepted, or has no such file
@@ -46,11 +46,16 @@ abbrev pub EndsFinding : {W : Type 0} → List ℕ → Result FileAnswer Failure
 EndsFinding name told old new contents before after =
     (EndsRt told old new contents before after) ⊎ (NotFoundInImage name told old new contents before after)
 
+-- each of these blocks has 512 bytes
+abbrev pub AreWhole : List (List ℕ) → Type 0
+AreWhole blocks = All (λ block. length block ≡ 512) blocks
+
 -- The file's blocks were written to the host's file.
 pub record TakesRtOut {H : Type 0} (name : List ℕ) (blocks : ℕ) (old new : Disk) (contents : H → Option (List ℕ)) (before after : H)
     : Type 0 where
   pub given : List (List ℕ)
   pub count : length given ≡ blocks
+  pub whole : AreWhole given
   pub are : IsSoundDisk old → contents_named name (rt_store_of old.image) ≡ Some given
   pub takes : WriterTakes contents before after (concat given)
   pub looked : Looked old new (block_transfers * blocks) 0
@@ -59,14 +64,17 @@ pub record TakesRtOut {H : Type 0} (name : List ℕ) (blocks : ℕ) (old new : D
 abbrev pub AreFirst : List ℕ → List (List ℕ) → RtStore → Type 0
 AreFirst name given t = (whole : List (List ℕ)) → contents_named name t ≡ Some whole → take (length given) whole ≡ given
 
--- A block couldn't be read: those before it were written. On a sound disk a transfer failed.
+-- A block couldn't be read: those before it were written. On a sound disk they are the first of the file's, and a transfer failed.
 pub record StopsTakingOut {H : Type 0} (name : List ℕ) (blocks : ℕ) (e : RtRefusal) (old new : Disk)
     (contents : H → Option (List ℕ)) (before after : H) : Type 0 where
+  pub fresh : e ≢ Failed
   pub given : List (List ℕ)
+  pub few : length given < blocks
+  pub whole : AreWhole given
   pub are : IsSoundDisk old → AreFirst name given (rt_store_of old.image)
   pub takes : WriterTakes contents before after (concat given)
   pub fault : IsSoundDisk old → is_fault e ≡ true
-  pub looked : Looked old new (block_transfers * blocks) (rt_faults e)
+  pub looked : Looked old new (block_transfers * blocks) (faults_in {T = Unit} (Err e))
 
 -- why the blocks weren't all written: the volume refused one, or the host's file takes no more
 abbrev pub FailsToWriteBlocks : {H : Type 0} → List ℕ → ℕ → Stop → Disk → Disk → (H → Option (List ℕ)) → H → H → Type 0

@@ -1,20 +1,21 @@
 -- What `rt-put` does: a file of an RT-11 volume is made, and filled with the bytes of a file of the host (profile).
-use Rattle.std.specs.Prelude.{◌≡◌, ◌≢◌, ◌⊎◌, ⊤, ℕ, ◌+◌, ◌-◌, ◌*◌, ◌/◌, false, List, ◌++◌, length, replicate, Option, Result, Ok}
+use Rattle.std.specs.Prelude.{◌≡◌, ◌≢◌, ◌⊎◌, ⊤, ℕ, ◌+◌, ◌-◌, ◌*◌, ◌/◌, ◌<◌, false, List, [], ◌++◌, length, replicate, Option, Result, Ok}
 use Rattle.std.specs.Prelude.{Err}
 use Rattle.std.specs.Io.KnownBytes.{Consumes, Keeps}
 use Rattle.f11_dev.specs.Disk.{Disk}
 use Rattle.f11_dev.specs.Image.{Image}
 use Rattle.f11_dev.specs.Went.{Went}
-use Rattle.f11_flx.specs.CopyToRt.{FailsToMake, HasCopy}
-use Rattle.f11_flx.specs.RtOutcome.{HasSameFiles, KeepsDirectory}
-use Rattle.rt11_volume.specs.Files.{is_fault}
-use Rattle.rt11_volume.specs.Store.{rt_store_of}
+use Rattle.f11_flx.specs.CopyToRt.{FailsToMake, HasCopy, HasEmptied, LiesInFirstArea}
+use Rattle.f11_flx.specs.RtOutcome.{HasSameFiles}
+use Rattle.rt11_volume.specs.Files.{faults_in, is_fault}
+use Rattle.rt11_volume.specs.Named.{files_named}
+use Rattle.rt11_volume.specs.Store.{RtStore, rt_store_of}
 use Rattle.rt11_volume.specs.Verifying.Verdict.{IsSoundDisk}
 use Rattle.rt11_volume.specs.declared.refusal.RtRefusal.{RtRefusal}
 use Rattle.rt11_volume.specs.declared.refusal.RtRefusal.TheVariants.{Failed}
 use Rattle.f11_commands.specs.CopyCommand.{EndsRt, VerifiesRt}
 use Rattle.f11_commands.specs.RtDelete.{delete_transfers}
-use Rattle.f11_commands.specs.RtFile.{TellsRt, block_transfers, rt_faults}
+use Rattle.f11_commands.specs.RtFile.{TellsRt, block_transfers}
 use Rattle.f11_commands.specs.declared.copy.FileAnswer.{FileAnswer}
 use Rattle.f11_commands.specs.declared.outcome.Failure.{Failure}
 use Rattle.f11_commands.specs.declared.rt_file.Stop.{Stop}
@@ -57,13 +58,23 @@ pub record IsNotStored (name : List ℕ) (bytes : ℕ) (e : RtRefusal) (old new 
   pub fresh : e ≢ Failed
   pub why : is_fault e ≡ false → IsSoundDisk old → FailsToMake e name (blocks_for bytes) old
   pub stays : is_fault e ≡ false → IsSoundDisk old → new.image ≡ old.image
-  pub went : MakesTransfers old new (put_transfers (blocks_for bytes)) (rt_faults e)
+  pub went : MakesTransfers old new (put_transfers (blocks_for bytes)) (faults_in {T = Unit} (Err e))
 
--- The host's file wasn't read to its length, and the file that was made was deleted. A sound disk has the files that it had.
+-- A file of so many blocks was made, the only one of its name, in the front of the first empty area that is as long, and that area was
+-- emptied again.
+pub record IsMadeAndDeleted (name : List ℕ) (blocks : ℕ) (t t' : RtStore) : Type 0 where
+  pub none : files_named name t ≡ []
+  pub made : RtStore
+  pub lies : LiesInFirstArea name blocks 0 t made
+  pub emptied : HasEmptied name made t'
+
+-- The host's file, which isn't empty, wasn't read to its length. On a sound disk a file for its bytes was made, and deleted again, and the
+-- files are those that there were.
 pub record IsUnstored (name : List ℕ) (bytes : ℕ) (old new : Disk) : Type 0 where
+  pub some : 0 < bytes
   pub sound : IsSoundDisk old → IsSoundDisk new
   pub same : IsSoundDisk old → HasSameFiles name (rt_store_of old.image) (rt_store_of new.image)
-  pub directory : IsSoundDisk old → KeepsDirectory name (rt_store_of old.image) (rt_store_of new.image)
+  pub undone : IsSoundDisk old → IsMadeAndDeleted name (blocks_for bytes) (rt_store_of old.image) (rt_store_of new.image)
   pub went : MakesTransfers old new (put_transfers (blocks_for bytes)) 0
 
 -- what came of it

@@ -6,12 +6,14 @@ pub(crate) mod serving;
 pub(crate) mod telling;
 pub(crate) mod verifying;
 
+ghost use Rattle.std.specs.Prelude.{◌≡◌};
 ghost use Rattle.f11_commands.specs.CopyCommand.{EndsCopy};
+ghost use Rattle.f11_commands.specs.FileAnswers.{plain_answer};
 ghost use Rattle.f11_commands.specs.declared.copy.Direction.TheVariants as direction;
 
 use crate::copy::serving::serve;
 use crate::copy::verifying::{accept_files, accept_rt};
-use crate::outcome::Failure;
+use crate::outcome::{Answer, Failure};
 use crate::report::System;
 use f11_dev::Device;
 use f11_flx::CopyMode;
@@ -54,6 +56,19 @@ pub enum FileAnswer {
     Refused,
     /// The volume of this file system has a fault, and its report was written.
     Faulty(System),
+}
+
+impl FileAnswer {
+    /// What any command answers that ended so: a refusal and a faulty volume are a fault.
+    pub fn answer(self) -> Answer
+        ensures { result ≡ plain_answer self }
+    {
+        match self {
+            FileAnswer::Done => Answer::Done,
+            FileAnswer::Refused => Answer::Fault,
+            FileAnswer::Faulty(_) => Answer::Fault,
+        }
+    }
 }
 
 /// Verifies a Files-11 volume and an RT-11 volume, the one that is copied from first, and copies a file from the one to the other, as

@@ -77,8 +77,8 @@ fn found_in<D: Device>(volume: RtAccepted<D>, name: &RtName, blocks: u16) -> Fou
 ///
 /// # Errors
 ///
-/// [`Failure::DeviceFault`] where a transfer failed: then `host` holds the blocks before it. [`Failure::CannotWrite`] where `host` or
-/// `writer` takes no more: then it may hold a part.
+/// [`Failure::DeviceFault`] where a transfer failed: then `host` got a beginning of them. [`Failure::CannotWrite`] where `host` or
+/// `writer` takes no more: what `host` got then isn't said where it is `host`.
 pub fn write_rt_file<D: Device, H: Write, W: Write>(
     file: FoundRtFile<D>,
     host: &mut H,

@@ -25,7 +25,7 @@ use std::io::{Read, Write};
 pub enum PutFailure {
     /// The command failed.
     Command(Failure),
-    /// The host's file couldn't be read to its length.
+    /// The host's file couldn't be read to its length: what was made for it was deleted again.
     Unread,
 }
 

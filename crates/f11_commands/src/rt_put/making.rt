@@ -1,10 +1,9 @@
 //! A file of an RT-11 volume is made.
-ghost use Rattle.std.specs.Prelude.{◌≡◌, ◌<◌, ℕ, IfErr, IfOk, OnOk};
+ghost use Rattle.std.specs.Prelude.{◌≡◌, ◌<◌, ℕ, Err, IfErr, IfOk, OnOk};
 ghost use Rattle.f11_commands.specs.RtPut.{MakesTransfers, create_transfers};
 ghost use Rattle.f11_flx.specs.Target.{FailsMaking, Makes};
 ghost use Rattle.rt11_volume.specs.Calls.{volume_device};
 ghost use Rattle.rt11_volume.specs.Files.{faults_in, is_fault};
-ghost use Rattle.f11_commands.specs.RtFile.{rt_faults};
 
 use f11_dev::Device;
 use rt11_volume::{RtAccepted, RtName, RtRefusal};
@@ -43,7 +42,7 @@ fn refusal_of<D: Device>(volume: &mut RtAccepted<D>, name: &RtName) -> RtRefusal
     ensures refused { (blocks : ℕ) → 65535 < blocks
         → FailsMaking D.disk name.now blocks result volume.old volume.new }
     ensures went { MakesTransfers (D.disk (volume_device volume.old)) (D.disk (volume_device volume.new))
-        create_transfers (rt_faults result) }
+        create_transfers (faults_in {T = Unit} (Err result)) }
 {
     match volume.find(name) {
         Ok(_) => RtRefusal::DuplicateName,

@@ -17,7 +17,7 @@ loop-place-preserved g c =
     let e = c.in-Ok.ensures in
     record {
       given = l.invariant.given ++ c.read.new.into ∷ [];
-      reads = reads-more c.args.name.now _ _ _ _ l.invariant.reads c.read.new.into _ e.looked e.read;
+      reads = reads-more c.args.name.now _ _ _ _ l.invariant.reads c.read.new.into _ e.looked (search) e.read;
       text = text-more g.H.Write.contents _ l.host _ l.invariant.given c.read.new.into l.invariant.text c.in-Ok-write_all.ensures.bytes;
       fresh = e.answers.next ∙ ap (λ b. b || false) l.invariant.fresh;
     }
