@@ -15,13 +15,13 @@ use std::{fmt, io};
 pub enum Failure {
     /// The words don't parse, ask for help, or there are none.
     Usage,
-    /// A file can't be opened.
+    /// A file can't be opened, or a host's file not be read to its length.
     CannotOpen,
     /// A transfer failed.
     DeviceFault,
     /// A script can't be read, or its answers can't be written.
     ScriptFault,
-    /// Standard output takes no more.
+    /// Standard output takes no more, or a file of the host that is made.
     CannotWrite,
     /// No memory is left.
     NoMemory,
