@@ -6,6 +6,8 @@ use Rattle.f11_commands.specs.declared.outcome.Answer.{Answer}
 use Rattle.f11_commands.specs.declared.outcome.Answer.TheVariants.{Done, Fault}
 use Rattle.f11_commands.specs.declared.outcome.Failure.{Failure as CommandFailure}
 use Rattle.f11_commands.specs.declared.outcome.Failure.TheVariants as commands
+use Rattle.f11_commands.specs.declared.rt_put.PutFailure.{PutFailure}
+use Rattle.f11_commands.specs.declared.rt_put.PutFailure.TheVariants as put
 use Rattle.f11_commands.specs.declared.run.RunFailure.{RunFailure}
 use Rattle.f11_commands.specs.declared.run.RunFailure.TheVariants.{Command, Script}
 use Rattle.f11_pip.specs.declared.outcome.Failure.{Failure}
@@ -46,3 +48,8 @@ failure_of_command commands.NoMemory = NoMemory
 abbrev pub failure_of_run : RunFailure → Failure
 failure_of_run (Command failure) = failure_of_command failure
 failure_of_run (Script error) = ScriptFault
+
+-- and one of `rt-put` is that of the command, or the host's file can't be read to its length
+abbrev pub failure_of_put : PutFailure → Failure
+failure_of_put (put.Command failure) = failure_of_command failure
+failure_of_put put.Unread = CannotOpen

@@ -411,10 +411,7 @@ fn copied<'a>(
             ))
         }
     };
-    match answer {
-        FileAnswer::Done => Answer::Done,
-        FileAnswer::Refused | FileAnswer::Faulty(_) => Answer::Fault,
-    }
+    answer.answer()
 }
 
 /// What was opened under a word, and where nothing could be, a remark why.

@@ -5,7 +5,7 @@ ghost use Rattle.f11_pip.specs.Outcome.{failure_of_kind, status_of};
 ghost use Rattle.f11_pip.specs.declared.outcome.Failure.TheVariants as failures;
 
 use clap::error::ErrorKind;
-use f11_commands::{Answer, RunFailure};
+use f11_commands::{Answer, PutFailure, RunFailure};
 use f11_dev::{CannotOpen, NoMemory};
 use std::alloc::AllocError;
 use std::{fmt, io};
@@ -78,6 +78,20 @@ impl From<RunFailure> for Failure {
         match failure {
             RunFailure::Command(failure) => Failure::from(failure),
             RunFailure::Script(_) => Failure::ScriptFault,
+        }
+    }
+}
+
+/// A file of the host that isn't put on a volume.
+impl From<PutFailure> for Failure {
+    ghost use Rattle.f11_pip.specs.Outcome.{failure_of_put};
+
+    ghost from_gives = { λ put failure. failure ≡ failure_of_put put };
+
+    fn from(failure: PutFailure) -> Self {
+        match failure {
+            PutFailure::Command(failure) => Failure::from(failure),
+            PutFailure::Unread => Failure::CannotOpen,
         }
     }
 }

@@ -50,13 +50,14 @@ pub fn put<'a, W: Write>(
     let (_, told) = print_rt_put(rt.alloc(), device, &name, &mut file, bytes, writer);
     match told {
         Ok(answer) => Ok(ended(rt, image, answer, remark)),
-        Err(PutFailure::Command(failure)) => Err(failure.into()),
-        Err(PutFailure::Unread) => {
-            *remark = Some(Remark {
-                word: Which::Text(host),
-                why: Why::Unread,
-            });
-            Err(Failure::CannotOpen)
+        Err(failure) => {
+            if failure == PutFailure::Unread {
+                *remark = Some(Remark {
+                    word: Which::Text(host),
+                    why: Why::Unread,
+                });
+            }
+            Err(failure.into())
         }
     }
 }
@@ -96,8 +97,5 @@ fn ended<'a>(
 ) -> Answer {
     let is_faulty = matches!(answer, FileAnswer::Faulty(_));
     *remark = remarks::of_image(rt, image, is_faulty);
-    match answer {
-        FileAnswer::Done => Answer::Done,
-        FileAnswer::Refused | FileAnswer::Faulty(_) => Answer::Fault,
-    }
+    answer.answer()
 }
