@@ -13,8 +13,8 @@ mod spelled;
 mod volumes;
 
 use crate::outcome::Failure;
-use crate::words::copies::{copy_of, from_rt, to_rt};
-use crate::words::rt_files::{rt_del_of, rt_get_of, rt_put_of, with_rt_files};
+use crate::words::copies::{from_rt, to_rt};
+use crate::words::rt_files::{moving_of, with_rt_files};
 use crate::words::rt_volumes::{rt_init, rt_init_of, rt_list, rt_list_of, rt_vfy, rt_vfy_of};
 use crate::words::spelled::{name, name_of, rights, rights_of};
 use crate::words::volumes::{
@@ -255,9 +255,6 @@ fn command_of<'a>(matches: &ArgMatches<'a>) -> Result<Words<'a>, Failure>
         Some(("rt-vfy", given)) => rt_vfy_of(given),
         Some(("run", given)) => run_of(given),
         Some(("vfy", given)) => vfy_of(given),
-        Some(("rt-del", given)) => rt_del_of(given),
-        Some(("rt-get", given)) => rt_get_of(given),
-        Some(("rt-put", given)) => rt_put_of(given),
-        _ => copy_of(matches),
+        _ => moving_of(matches),
     }
 }

@@ -1,12 +1,13 @@
 //! The words of the commands on one file of an RT-11 volume.
-ghost use Rattle.std.specs.Prelude.{◌≡◌, List, ℕ, codes, IfErr, IfOk, IsOkAnd};
-ghost use Rattle.clap.specs.Words.{app_of};
-ghost use Rattle.f11_pip.specs.Commands.{HasRtFileWords, HasRtHostWords, rt_del_app, rt_get_app, rt_put_app, rt_file_app, with_rt_files};
-ghost use Rattle.f11_pip.specs.Words.{AsksRtDel, AsksRtGet, AsksRtPut};
+ghost use Rattle.std.specs.Prelude.{◌≡◌, List, None, ℕ, codes, IfErr, IfOk, IsErr, IsOkAnd, MatchResult};
+ghost use Rattle.clap.specs.Words.{app_of, subcommand_rows_of};
+ghost use Rattle.f11_pip.specs.Commands.{HasRtFileWords, HasRtHostWords, MeetsCopy, MeetsRtFile, MeetsRtHost, rt_del_app, rt_get_app, rt_put_app, rt_file_app, with_rt_files};
+ghost use Rattle.f11_pip.specs.Words.{AsksFromRt, AsksRtDel, AsksRtGet, AsksRtPut, AsksToRt, IsNoCopy};
 
 use crate::outcome::Failure;
 use crate::words::Words;
 use crate::words::args::{needed, word_of};
+use crate::words::copies::copy_of;
 use clap::{ArgMatches, Command};
 use std::alloc::{AllocError, Global};
 
@@ -83,4 +84,36 @@ pub(crate) fn rt_put_of<'a>(given: &ArgMatches<'a>) -> Result<Words<'a>, Failure
         name: word_of(given, "name")?,
         host: word_of(given, "host")?,
     })
+}
+
+/// The command on one file of an RT-11 volume that the words named, or the copy.
+pub(crate) fn moving_of<'a>(matches: &ArgMatches<'a>) -> Result<Words<'a>, Failure>
+    ensures from_rt { (mode rt rt_name image uic name : List ℕ)
+        → MeetsCopy (codes "flx-from-rt") mode image uic name rt rt_name
+        (subcommand_rows_of matches.now)
+        → MatchResult result (AsksFromRt mode rt rt_name image uic name)
+        (λ _. IsNoCopy mode uic) }
+    ensures to_rt { (mode image uic name rt rt_name : List ℕ)
+        → MeetsCopy (codes "flx-to-rt") mode image uic name rt rt_name
+        (subcommand_rows_of matches.now)
+        → MatchResult result (AsksToRt mode image uic name rt rt_name)
+        (λ _. IsNoCopy mode uic) }
+    ensures rt_del { (rt name : List ℕ)
+        → MeetsRtFile (codes "rt-del") rt name (subcommand_rows_of matches.now)
+        → IsOkAnd result (AsksRtDel rt name) }
+    ensures rt_get { (rt name host : List ℕ)
+        → MeetsRtHost (codes "rt-get") rt name host (subcommand_rows_of matches.now)
+        → IsOkAnd result (AsksRtGet rt name host) }
+    ensures rt_put { (rt name host : List ℕ)
+        → MeetsRtHost (codes "rt-put") rt name host (subcommand_rows_of matches.now)
+        → IsOkAnd result (AsksRtPut rt name host) }
+    ensures none { subcommand_rows_of matches.now ≡ None → IsErr result }
+    ensures usage { IfErr result (λ failure. failure ≡ Failure.Usage) }
+{
+    match matches.subcommand() {
+        Some(("rt-del", given)) => rt_del_of(given),
+        Some(("rt-get", given)) => rt_get_of(given),
+        Some(("rt-put", given)) => rt_put_of(given),
+        _ => copy_of(matches),
+    }
 }

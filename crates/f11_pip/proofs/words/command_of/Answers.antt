@@ -1,6 +1,6 @@
 use Rattle.std.proofs.Common.{◌∙◌, ap, codes, List, Option, None, slice_index_or}
 use Rattle.clap.specs.Words.{Text, found_of}
-use Rattle.f11_pip.specs.Commands.{get_names, init_names, ls_names, rt_file_names, rt_host_names, rt_init_names}
+use Rattle.f11_pip.specs.Commands.{get_names, init_names, ls_names, rt_init_names}
 use Rattle.clap.proofs.WalkLemmas.{first_value-rows, one_text-rows}
 use Rattle.f11_pip.proofs.WordsLemmas.{first_of-met, one_of-met, words_met}
 use Rattle.f11_pip.proofs.words.command_of.Goals as goal
@@ -103,33 +103,4 @@ returns-in-Some-text-default-clause-rt_init c blocks segments image met =
       blocks_are = first_value-rows (found_of given) (codes "blocks") ∙ ap (λ (l : List (Option Text)). slice_index_or l 0 None) words;
       segments_are = first_value-rows (found_of given) (codes "segments") ∙ ap (λ (l : List (Option Text)). slice_index_or l 1 None) words;
       image_is = first_value-rows (found_of given) (codes "image") ∙ ap (λ (l : List (Option Text)). slice_index_or l 2 None) words;
-    })
-
-pub returns-in-Some-text-default-4-clause-rt_del : goal.returns-in-Some-text-default-4-clause-rt_del
-returns-in-Some-text-default-4-clause-rt_del c rt name met =
-    let given = c.in-Some-text-default-4.given.now in
-    let words = words_met _ _ _ rt_file_names _ c.in-Some-text-default-4.ensures.rows met in
-    c.rt_del_of.ensures.rt_del rt name (record {
-      rt_is = first_value-rows (found_of given) (codes "rt") ∙ ap (λ (l : List (Option Text)). slice_index_or l 0 None) words;
-      name_is = first_value-rows (found_of given) (codes "name") ∙ ap (λ (l : List (Option Text)). slice_index_or l 1 None) words;
-    })
-
-pub returns-in-Some-text-default-5-clause-rt_get : goal.returns-in-Some-text-default-5-clause-rt_get
-returns-in-Some-text-default-5-clause-rt_get c rt name host met =
-    let given = c.in-Some-text-default-5.given.now in
-    let words = words_met _ _ _ rt_host_names _ c.in-Some-text-default-5.ensures.rows met in
-    c.rt_get_of.ensures.rt_get rt name host (record {
-      rt_is = first_value-rows (found_of given) (codes "rt") ∙ ap (λ (l : List (Option Text)). slice_index_or l 0 None) words;
-      name_is = first_value-rows (found_of given) (codes "name") ∙ ap (λ (l : List (Option Text)). slice_index_or l 1 None) words;
-      host_is = first_value-rows (found_of given) (codes "host") ∙ ap (λ (l : List (Option Text)). slice_index_or l 2 None) words;
-    })
-
-pub returns-in-Some-text-default-6-clause-rt_put : goal.returns-in-Some-text-default-6-clause-rt_put
-returns-in-Some-text-default-6-clause-rt_put c rt name host met =
-    let given = c.in-Some-text-default-6.given.now in
-    let words = words_met _ _ _ rt_host_names _ c.in-Some-text-default-6.ensures.rows met in
-    c.rt_put_of.ensures.rt_put rt name host (record {
-      rt_is = first_value-rows (found_of given) (codes "rt") ∙ ap (λ (l : List (Option Text)). slice_index_or l 0 None) words;
-      name_is = first_value-rows (found_of given) (codes "name") ∙ ap (λ (l : List (Option Text)). slice_index_or l 1 None) words;
-      host_is = first_value-rows (found_of given) (codes "host") ∙ ap (λ (l : List (Option Text)). slice_index_or l 2 None) words;
     })
