@@ -17,14 +17,15 @@ use Rattle.f11_flx.specs.Asking.{Asking, BreaksOffAsking, Denies, Fails, Granted
 use Rattle.f11_flx.specs.CopyFromRt.{Making, as_file, creation, entry, opening}
 use Rattle.f11_flx.specs.Ended.{Ends, EndsDenied, TriedCleanly, is_building}
 use Rattle.f11_flx.specs.FromRt.{FailsToCopyFrom}
-use Rattle.f11_flx.specs.Making.{FailsToFillFromRt, FailsToFillFile, FailsToMakeCopy, FillsFile, Undoing, UndoingIf, extension, filling_of}
-use Rattle.f11_flx.specs.Making.{is_created}
+use Rattle.f11_flx.specs.Making.{AsksToFill, FailsToFillFromRt, FailsToFillOpened, FailsToMake, FillsFromRt, FillsOpened, IsBrokenOff}
+use Rattle.f11_flx.specs.Making.{Undoing, UndoingIf, extension, filling_of, is_created}
 use Rattle.f11_flx.specs.Planning.{FailsToPlan}
 use Rattle.f11_flx.specs.Refusal.{is_lethal}
 use Rattle.f11_flx.specs.declared.mode.CopyMode.{CopyMode}
 use Rattle.f11_flx.specs.declared.refusal.FlxRefusal.{FlxRefusal}
 use Rattle.f11_flx.specs.declared.refusal.FlxRefusal.TheVariants.{BadRecord, Files, LineTooLong, Rt}
 use Rattle.f11_flx.proofs.AskingLemmas.{granted-append}
+use Rattle.f11_flx.proofs.MakingLemmas.{asks-to-fill}
 
 abbrev builds : Asking → Type 0
 builds x = is_building x ≡ true
@@ -158,51 +159,58 @@ build-creation : (making : Making) (id : FileId) → All builds (creation making
 build-creation making id =
     All-cons builds (told (request.Create 0 (ident_with making.name) making.attr) (reply.Created id)) [] refl (All-nil builds)
 
-module _ {V E : Type 0} {met : Ghosts E} (S : FilesService V) (disk : E → Disk) (m : CopyMode) (who : Who) (lun : ℕ) (name : List ℕ) where
-  fill-so-far : (f : FlxRefusal) (many n : ℕ) (a b : RtAccepted E met) (v w : V) → FailsToFillFromRt S disk m who lun name many n f a b v w
-      → SoFar S who f v w
-  fill-so-far (Files e) many n a b v w h = breaks-so-far S who (filling_of lun n h.pieces) e v w h.breaks
-  fill-so-far (Rt e) many n a b v w h = record {
+-- the making of a file from any source
+module _ {V : Type 0} (S : FilesService V) (who : Who) (lun n : ℕ) where
+  broken-so-far : (f : FlxRefusal) (v w : V) → IsBrokenOff S who lun n f v w → SoFar S who f v w
+  broken-so-far (Files e) v w h = breaks-so-far S who (filling_of lun n h.0) e v w h.1
+  broken-so-far (Rt e) v w h = record {
     ended = λ lethal. record {
-      asked = extension lun n ++ writes_of lun 0 h.pieces;
-      granted = h.granted;
-      building = All-append builds (extension lun n) (writes_of lun 0 h.pieces) (build-extension lun n) (build-writes lun 0 h.pieces);
+      asked = extension lun n ++ writes_of lun 0 h.0;
+      granted = h.1;
+      building = All-append builds (extension lun n) (writes_of lun 0 h.0) (build-extension lun n) (build-writes lun 0 h.0);
     };
-    clean = λ clean. cleanly-all S who (extension lun n ++ writes_of lun 0 h.pieces) v w h.granted;
+    clean = λ clean. cleanly-all S who (extension lun n ++ writes_of lun 0 h.0) v w h.1;
   }
-  fill-so-far BadRecord many n a b v w h = absurd h
-  fill-so-far LineTooLong many n a b v w h =
-      record { ended = λ lethal. tt; clean = λ clean. cleanly-all S who (extension lun n ++ writes_of lun 0 h.pieces) v w h.granted }
+  broken-so-far BadRecord v w h =
+      record { ended = λ lethal. tt; clean = λ clean. cleanly-all S who (extension lun n ++ writes_of lun 0 h.0) v w h.1 }
+  broken-so-far LineTooLong v w h =
+      record { ended = λ lethal. tt; clean = λ clean. cleanly-all S who (extension lun n ++ writes_of lun 0 h.0) v w h.1 }
 
-  fill-file-so-far : (f : FlxRefusal) (many n : ℕ) (id : FileId) (a b : RtAccepted E met) (v w : V)
-      → FailsToFillFile S disk m who lun name many n id f a b v w → SoFar S who f v w
-  fill-file-so-far f many n id a b v w (inl h) =
+module _ {V H : Type 0} (S : FilesService V) (who : Who) (lun n : ℕ) (Fills : H → H → V → V → Type 0)
+    (Fails : FlxRefusal → H → H → V → V → Type 0) (asking : AsksToFill S who lun n Fills Fails) where
+  fill-file-so-far : (f : FlxRefusal) (id : FileId) (a b : H) (v w : V) → FailsToFillOpened S who lun Fails id f a b v w → SoFar S who f v w
+  fill-file-so-far f id a b v w (inl h) =
       subst (λ x. SoFar S who x v w) (sym h.is) (denied-so-far S who (asks (request.Access id access.Write lun)) h.e v w h.denied)
-  fill-file-so-far f many n id a b v w (inr h) =
+  fill-file-so-far f id a b v w (inr h) =
       undoing-so-far S who (request.Deaccess lun) h.f f v h.left w
       (built-then S who h.f (opening lun id) v h.between h.left (build-opening lun id) h.opened
-      (fill-so-far h.f many n a b h.between h.left h.fails)) h.undoes
+      (broken-so-far S who lun n h.f h.between h.left (asking.fails h.f a b h.between h.left h.fails))) h.undoes
 
-  filled-cleanly : (many n : ℕ) (id : FileId) (a b : RtAccepted E met) (v w : V) → FillsFile S disk m who lun name many n id a b v w
-      → Cleanly S who v w
-  filled-cleanly many n id a b v w h =
+  filled-cleanly : (id : FileId) (a b : H) (v w : V) → FillsOpened S who lun Fills id a b v w → Cleanly S who v w
+  filled-cleanly id a b v w h =
+      let all = asking.fills a b h.between w h.fills in
       cleanly-then S who v h.between w (cleanly-all S who (opening lun id) v h.between h.opened)
-      (cleanly-all S who (filling_of lun n h.fills.pieces) h.between w h.fills.granted)
+      (cleanly-all S who (filling_of lun n all.0) h.between w all.1)
 
-  make-so-far : (f : FlxRefusal) (many n : ℕ) (making : Making) (a b : RtAccepted E met) (v w : V)
-      → FailsToMakeCopy S disk m who lun name many n making f a b v w → SoFar S who f v w
-  make-so-far f many n making a b v w (inl h) = subst (λ x. SoFar S who x v w) (sym h.is) (uncreated-so-far S who making h.e v w h.fails)
-  make-so-far f many n making a b v w (inr (inl h)) =
+  make-so-far : (f : FlxRefusal) (making : Making) (a b : H) (v w : V) → FailsToMake S who lun Fills Fails making f a b v w
+      → SoFar S who f v w
+  make-so-far f making a b v w (inl h) = subst (λ x. SoFar S who x v w) (sym h.is) (uncreated-so-far S who making h.e v w h.fails)
+  make-so-far f making a b v w (inr (inl h)) =
       undoing-so-far S who (request.Delete h.id) h.f f v h.left w
       (built-then S who h.f (creation making h.id) v h.created h.left (build-creation making h.id) h.creates
-      (fill-file-so-far h.f many n h.id a b h.created h.left h.fails)) h.undoes
-  make-so-far f many n making a b v w (inr (inr h)) =
+      (fill-file-so-far h.f h.id a b h.created h.left h.fails)) h.undoes
+  make-so-far f making a b v w (inr (inr h)) =
       undoing-so-far S who (request.Delete h.id) (Files h.e) f v h.left w
       (cleanly-so-far S who h.e v h.filled h.left
       (cleanly-then S who v h.created h.filled (cleanly-all S who (creation making h.id) v h.created h.creates)
-      (filled-cleanly many n h.id a b h.created h.filled h.fills))
+      (filled-cleanly h.id a b h.created h.filled h.fills))
       (breaks-so-far S who (entry making h.id) h.e h.filled h.left h.breaks)) h.undoes
 
+  pub making-ends : (f : FlxRefusal) (making : Making) (a b : H) (v w : V) → FailsToMake S who lun Fills Fails making f a b v w
+      → is_lethal f ≡ true → Ends S who f v w
+  making-ends f making a b v w h lethal = (make-so-far f making a b v w h).ended lethal
+
+module _ {V E : Type 0} {met : Ghosts E} (S : FilesService V) (disk : E → Disk) (m : CopyMode) (who : Who) (lun : ℕ) (name : List ℕ) where
   plan-ends : (f : FlxRefusal) (a b : RtAccepted E met) (v : V) → FailsToPlan disk m name f a b → Ends S who f v v
   plan-ends (Files e) a b v h = absurd h
   plan-ends (Rt e) a b v h = record { asked = []; granted = refl; building = All-nil builds }
@@ -213,4 +221,7 @@ module _ {V E : Type 0} {met : Ghosts E} (S : FilesService V) (disk : E → Disk
       → FailsToCopyFrom S disk m who lun name dir to protection f a b v w → is_lethal f ≡ true → Ends S who f v w
   copy-ends f dir to protection a b v w (inl h) lethal = subst (λ x. Ends S who f v x) (sym h.unasked) (plan-ends f a b v h.fails)
   copy-ends f dir to protection a b v w (inr h) lethal =
-      (make-so-far f h.many h.blocks (as_file to dir protection h.attr []) h.between b v w (h.fails [])).ended lethal
+      making-ends S who lun h.blocks (FillsFromRt {met = met} S disk m who lun name h.many h.blocks)
+      (FailsToFillFromRt {met = met} S disk m who lun name h.many h.blocks) (asks-to-fill S who lun {met = met} disk m name h.many h.blocks)
+      f
+      (as_file to dir protection h.attr []) h.between b v w (h.fails []) lethal

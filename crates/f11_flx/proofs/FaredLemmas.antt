@@ -23,13 +23,14 @@ use Rattle.f11_flx.specs.Asking.{Asking, BreaksOffAsking, Denies, Fails, Granted
 use Rattle.f11_flx.specs.Copying.{of_files, of_volume}
 use Rattle.f11_flx.specs.CopyFromRt.{Making, as_file, creation, entry, opening}
 use Rattle.f11_flx.specs.FromRt.{CopiesFrom, FailsToCopyFrom}
-use Rattle.f11_flx.specs.Making.{FailsToFillFromRt, FailsToFillFile, FailsToMakeCopy, FillsFile, Undoing, UndoingIf, extension, filling_of}
-use Rattle.f11_flx.specs.Making.{is_created}
+use Rattle.f11_flx.specs.Making.{AsksToFill, FailsToFillFromRt, FailsToFillOpened, FailsToMake, FillsFromRt, FillsOpened, IsBrokenOff}
+use Rattle.f11_flx.specs.Making.{MakesFile, Undoing, UndoingIf, extension, filling_of, is_created}
 use Rattle.f11_flx.specs.Planning.{FailsToPlan}
 use Rattle.f11_flx.specs.Refusal.{is_lethal}
 use Rattle.f11_flx.specs.declared.mode.CopyMode.{CopyMode}
 use Rattle.f11_flx.specs.declared.refusal.FlxRefusal.{FlxRefusal}
 use Rattle.f11_flx.specs.declared.refusal.FlxRefusal.TheVariants.{BadRecord, Files, LineTooLong, Rt}
+use Rattle.f11_flx.proofs.MakingLemmas.{asks-to-fill}
 use Rattle.f11_flx.proofs.SmallLemmas.{or-false}
 use Rattle.f11_flx.proofs.VolumeLemmas.{denied-fared, granted-fared, parts-sound, volume-seen}
 
@@ -95,7 +96,7 @@ module _ {D : Type 0} {met : Ghosts D} where
   as-calm : (f : FlxRefusal) (v w : Volume D met) → is_lethal f ≡ false → IsFaring (refused f) v w → IsFaring done v w
   as-calm f v w h k = alike done (refused f) v w (sym (calm-fault f h)) (sym (calm-fatal f h)) k
 
-  of-calm : (f : FlxRefusal) (v w : Volume D met) → is_lethal f ≡ false → IsFaring done v w → IsFaring (refused f) v w
+  pub of-calm : (f : FlxRefusal) (v w : Volume D met) → is_lethal f ≡ false → IsFaring done v w → IsFaring (refused f) v w
   of-calm f v w h k = alike (refused f) done v w (calm-fault f h) (calm-fatal f h) k
 
   -- and then
@@ -203,43 +204,53 @@ module _ {D : Type 0} {met : Ghosts D} where
   fares-uncreated who making e v w (inr h) =
       subst (λ x. IsFaring (refused (Files x)) v w) (sym h.2) (fares-wrong who 0 (ident_with making.name) making.attr h.0 v w h.1 h.3)
 
-module _ {D E : Type 0} {met : Ghosts D} {met' : Ghosts E} (disk : E → Disk) (m : CopyMode) (who : Who) (lun : ℕ) (name : List ℕ) where
-  fill-fares : (f : FlxRefusal) (many n : ℕ) (a b : RtAccepted E met') (v w : Volume D met)
-      → FailsToFillFromRt of_volume disk m who lun name many n f a b v w → IsFaring (refused f) v w
-  fill-fares (Files e) many n a b v w h = fares-breaking who (filling_of lun n h.pieces) e v w h.breaks
-  fill-fares (Rt e) many n a b v w h =
-      alike (refused (Rt e)) done v w refl refl (fares-all who (extension lun n ++ writes_of lun 0 h.pieces) v w h.granted)
-  fill-fares BadRecord many n a b v w h = absurd h
-  fill-fares LineTooLong many n a b v w h =
-      alike (refused LineTooLong) done v w refl refl (fares-all who (extension lun n ++ writes_of lun 0 h.pieces) v w h.granted)
+-- the making of a file from any source
+module _ {D : Type 0} {met : Ghosts D} (who : Who) (lun n : ℕ) where
+  broken-fares : (f : FlxRefusal) (v w : Volume D met) → IsBrokenOff of_volume who lun n f v w → IsFaring (refused f) v w
+  broken-fares (Files e) v w h = fares-breaking who (filling_of lun n h.0) e v w h.1
+  broken-fares (Rt e) v w h =
+      alike (refused (Rt e)) done v w refl refl (fares-all who (extension lun n ++ writes_of lun 0 h.0) v w h.1)
+  broken-fares BadRecord v w h =
+      alike (refused BadRecord) done v w refl refl (fares-all who (extension lun n ++ writes_of lun 0 h.0) v w h.1)
+  broken-fares LineTooLong v w h =
+      alike (refused LineTooLong) done v w refl refl (fares-all who (extension lun n ++ writes_of lun 0 h.0) v w h.1)
 
-  filled-fares : (many n : ℕ) (id : FileId) (a b : RtAccepted E met') (v w : Volume D met)
-      → FillsFile of_volume disk m who lun name many n id a b v w → IsFaring done v w
-  filled-fares many n id a b v w h =
+module _ {D H : Type 0} {met : Ghosts D} (who : Who) (lun n : ℕ) (Fills : H → H → Volume D met → Volume D met → Type 0)
+    (Fails : FlxRefusal → H → H → Volume D met → Volume D met → Type 0) (asking : AsksToFill of_volume who lun n Fills Fails) where
+  filled-fares : (id : FileId) (a b : H) (v w : Volume D met) → FillsOpened of_volume who lun Fills id a b v w → IsFaring done v w
+  filled-fares id a b v w h =
+      let all = asking.fills a b h.between w h.fills in
       calm-then done v h.between w (fares-all who (opening lun id) v h.between h.opened)
-      (fares-all who (filling_of lun n h.fills.pieces) h.between w h.fills.granted)
+      (fares-all who (filling_of lun n all.0) h.between w all.1)
 
-  fill-file-fares : (f : FlxRefusal) (many n : ℕ) (id : FileId) (a b : RtAccepted E met') (v w : Volume D met)
-      → FailsToFillFile of_volume disk m who lun name many n id f a b v w → IsFaring (refused f) v w
-  fill-file-fares f many n id a b v w (inl h) =
+  fill-file-fares : (f : FlxRefusal) (id : FileId) (a b : H) (v w : Volume D met) → FailsToFillOpened of_volume who lun Fails id f a b v w
+      → IsFaring (refused f) v w
+  fill-file-fares f id a b v w (inl h) =
       subst (λ x. IsFaring (refused x) v w) (sym h.is) (fares-denied who (asks (request.Access id access.Write lun)) h.e v w h.denied)
-  fill-file-fares f many n id a b v w (inr h) =
+  fill-file-fares f id a b v w (inr h) =
       calm-then (refused f) v h.between w (fares-all who (opening lun id) v h.between h.opened)
-      (fares-undoing who (request.Deaccess lun) h.f f h.between h.left w (fill-fares h.f many n a b h.between h.left h.fails) h.undoes)
+      (fares-undoing who (request.Deaccess lun) h.f f h.between h.left w
+      (broken-fares who lun n h.f h.between h.left (asking.fails h.f a b h.between h.left h.fails)) h.undoes)
 
-  make-fares : (f : FlxRefusal) (many n : ℕ) (making : Making) (a b : RtAccepted E met') (v w : Volume D met)
-      → FailsToMakeCopy of_volume disk m who lun name many n making f a b v w → IsFaring (refused f) v w
-  make-fares f many n making a b v w (inl h) = subst (λ x. IsFaring (refused x) v w) (sym h.is) (fares-uncreated who making h.e v w h.fails)
-  make-fares f many n making a b v w (inr (inl h)) =
+  pub made-fares : (making : Making) (a b : H) (v w : Volume D met) → MakesFile of_volume who lun Fills making a b v w → IsFaring done v w
+  made-fares making a b v w h =
+      calm-then done v h.created w (fares-all who (creation making h.id) v h.created h.creates)
+      (calm-then done h.created h.filled w (filled-fares h.id a b h.created h.filled h.fills)
+      (fares-all who (entry making h.id) h.filled w h.enters))
+
+  pub unmade-fares : (f : FlxRefusal) (making : Making) (a b : H) (v w : Volume D met)
+      → FailsToMake of_volume who lun Fills Fails making f a b v w → IsFaring (refused f) v w
+  unmade-fares f making a b v w (inl h) = subst (λ x. IsFaring (refused x) v w) (sym h.is) (fares-uncreated who making h.e v w h.fails)
+  unmade-fares f making a b v w (inr (inl h)) =
       calm-then (refused f) v h.created w (fares-all who (creation making h.id) v h.created h.creates)
-      (fares-undoing who (request.Delete h.id) h.f f h.created h.left w (fill-file-fares h.f many n h.id a b h.created h.left h.fails)
-      h.undoes)
-  make-fares f many n making a b v w (inr (inr h)) =
+      (fares-undoing who (request.Delete h.id) h.f f h.created h.left w (fill-file-fares h.f h.id a b h.created h.left h.fails) h.undoes)
+  unmade-fares f making a b v w (inr (inr h)) =
       calm-then (refused f) v h.created w (fares-all who (creation making h.id) v h.created h.creates)
-      (calm-then (refused f) h.created h.filled w (filled-fares many n h.id a b h.created h.filled h.fills)
+      (calm-then (refused f) h.created h.filled w (filled-fares h.id a b h.created h.filled h.fills)
       (fares-undoing who (request.Delete h.id) (Files h.e) f h.filled h.left w
       (fares-breaking who (entry making h.id) h.e h.filled h.left h.breaks) h.undoes))
 
+module _ {D E : Type 0} {met : Ghosts D} {met' : Ghosts E} (disk : E → Disk) (m : CopyMode) (who : Who) (lun : ℕ) (name : List ℕ) where
   plan-fares : (f : FlxRefusal) (a b : RtAccepted E met') (v : Volume D met) → FailsToPlan disk m name f a b → IsFaring (refused f) v v
   plan-fares (Files e) a b v h = absurd h
   plan-fares (Rt e) a b v h = alike (refused (Rt e)) done v v refl refl (calm-none v)
@@ -249,13 +260,16 @@ module _ {D E : Type 0} {met : Ghosts D} {met' : Ghosts E} (disk : E → Disk) (
   pub copies-fares : (dir : FileId) (to : List ℕ) (protection blocks : ℕ) (a b : RtAccepted E met') (v w : Volume D met)
       → CopiesFrom of_volume disk m who lun name dir to protection blocks a b v w → IsFaring done v w
   copies-fares dir to protection blocks a b v w h =
-      let k = h.makes [] in
-      calm-then done v k.created w (fares-all who (creation (as_file to dir protection h.attr []) k.id) v k.created k.creates)
-      (calm-then done k.created k.filled w (filled-fares h.many blocks k.id h.between b k.created k.filled k.fills)
-      (fares-all who (entry (as_file to dir protection h.attr []) k.id) k.filled w k.enters))
+      made-fares who lun blocks (FillsFromRt {met = met'} of_volume disk m who lun name h.many blocks)
+      (FailsToFillFromRt {met = met'} of_volume disk m who lun name h.many blocks)
+      (asks-to-fill of_volume who lun {met = met'} disk m name h.many blocks)
+      (as_file to dir protection h.attr []) h.between b v w (h.makes [])
 
   pub fails-fares : (f : FlxRefusal) (dir : FileId) (to : List ℕ) (protection : ℕ) (a b : RtAccepted E met') (v w : Volume D met)
       → FailsToCopyFrom of_volume disk m who lun name dir to protection f a b v w → IsFaring (refused f) v w
   fails-fares f dir to protection a b v w (inl h) = subst (λ x. IsFaring (refused f) v x) (sym h.unasked) (plan-fares f a b v h.fails)
   fails-fares f dir to protection a b v w (inr h) =
-      make-fares f h.many h.blocks (as_file to dir protection h.attr []) h.between b v w (h.fails [])
+      unmade-fares who lun h.blocks (FillsFromRt {met = met'} of_volume disk m who lun name h.many h.blocks)
+      (FailsToFillFromRt {met = met'} of_volume disk m who lun name h.many h.blocks)
+      (asks-to-fill of_volume who lun {met = met'} disk m name h.many h.blocks) f
+      (as_file to dir protection h.attr []) h.between b v w (h.fails [])

@@ -11,7 +11,7 @@ use Rattle.rt11_volume.specs.declared.volume.RtAccepted.{RtAccepted}
 use Rattle.f11_flx.specs.Asking.{Granted, FilesService, Who, plain}
 use Rattle.f11_flx.specs.CopyFromRt.{CopiesFromRt, HasMaking, Making, as_file, creation, entry, filling, making_of, new_id, opening}
 use Rattle.f11_flx.specs.FromRt.{CopiesFrom}
-use Rattle.f11_flx.specs.Making.{FillsFromRt, MakesCopy, filling_of}
+use Rattle.f11_flx.specs.Making.{FillsFromRt, MakesFile, filling_of}
 use Rattle.f11_flx.specs.Passes.{IsCopied}
 use Rattle.f11_flx.specs.Planning.{IsPlan, Plans}
 use Rattle.f11_flx.specs.RtSource.{HasContents}
@@ -28,6 +28,26 @@ use Rattle.f11_flx.proofs.SeenLemmas.{granted-seen}
 pub created-next : (making : Making) (id : FileId) (who : Who) (s s' : Store) → Granted plain who (creation making id) s s' → id ≡ new_id s
 created-next making id who s s' h =
     let is : reply.Created id ≡ reply.Created (new_id s) = h.1.2.reply_is in cc
+
+-- a file that was made from any source, where the blocks that are written are its own
+module _ {V H : Type 0} (S : FilesService V) (who : Who) (lun : ℕ) (Fills : H → H → V → V → Type 0) (making : Making) (a b : H)
+    (filled : (x y : V) → Fills a b x y → Granted S who (filling lun making.blocks) x y) where
+  making-granted : (v w : V) → (h : MakesFile S who lun Fills making a b v w) → Granted S who (making_of making lun h.id) v w
+  making-granted v w h =
+      granted-append S who (creation making h.id) (opening lun h.id ++ (filling lun making.blocks ++ entry making h.id)) v h.created w
+      h.creates
+      (granted-append S who (opening lun h.id) (filling lun making.blocks ++ entry making h.id) h.created h.fills.between w h.fills.opened
+      (granted-append S who (filling lun making.blocks) (entry making h.id) h.fills.between h.filled w
+      (filled h.fills.between h.filled h.fills.fills) h.enters))
+
+  -- over a sound volume it is made over its plain store
+  pub making-seen : (view : V → Store) (is_sound : V → Bool) → IsSeenPlain S view is_sound → (v w : V) → is_sound v ≡ true
+      → MakesFile S who lun Fills making a b v w → Granted plain who (making_of making lun (new_id (view v))) (view v) (view w)
+  making-seen view is_sound seen v w sound h =
+      let id : h.id ≡ new_id (view v) = created-next making h.id who (view v) (view h.created)
+      (granted-seen S view is_sound seen who (creation making h.id) v h.created h.creates sound).0 in
+      subst (λ i. Granted plain who (making_of making lun i) (view v) (view w)) id
+      (granted-seen S view is_sound seen who (making_of making lun h.id) v w (making-granted v w h) sound).0
 
 -- the file of a sound volume, and its plan
 pub record Planned (m : CopyMode) (name : List ℕ) (many blocks : ℕ) (attr : List ℕ) {E : Type 0} {met : Ghosts E} (disk : E → Disk)
@@ -79,17 +99,6 @@ module _ {E : Type 0} {met : Ghosts E} (disk : E → Disk) (m : CopyMode) (name 
         subst (λ n. Granted S who (filling_of lun n p.plan.pieces) v w) (sym p.plan.blocks_are)
         (subst (λ l. Granted S who (filling_of lun blocks l) v w) pieces h.granted)
 
-    pub made-as-planned : (making : Making) (many blocks : ℕ) (attr : List ℕ) (rt between rt' : RtAccepted E met) (v w : V)
-        → (p : Planned m name many blocks attr disk rt between) → making.blocks ≡ p.plan.pieces →
-        (h : MakesCopy S disk m who lun name many blocks making between rt' v w) → Granted S who (making_of making lun h.id) v w
-    made-as-planned making many blocks attr rt between rt' v w p is h =
-        let fill = subst (λ l. Granted S who (filling lun l) h.fills.between h.filled) (sym is)
-        (filled-as-planned many blocks attr rt between rt' h.fills.between h.filled p h.fills.fills) in
-        granted-append S who (creation making h.id) (opening lun h.id ++ (filling lun making.blocks ++ entry making h.id)) v h.created w
-        h.creates
-        (granted-append S who (opening lun h.id) (filling lun making.blocks ++ entry making h.id) h.created h.fills.between w h.fills.opened
-        (granted-append S who (filling lun making.blocks) (entry making h.id) h.fills.between h.filled w fill h.enters))
-
     -- a copy over a sound volume is one over its plain store
     pub copies-seen : (view : V → Store) (is_sound : V → Bool) → IsSeenPlain S view is_sound
         → (dir : FileId) (to : List ℕ) (protection blocks : ℕ) (rt rt' : RtAccepted E met) (v w : V) →
@@ -97,16 +106,14 @@ module _ {E : Type 0} {met : Ghosts E} (disk : E → Disk) (m : CopyMode) (name 
         CopiesFromRt m name who lun dir to protection blocks (rt_store disk rt) (view v) (view w)
     copies-seen view is_sound seen dir to protection blocks rt rt' v w h sound s =
         let p = planned h.many blocks h.attr rt h.between h.plans s in
-        let making : Making = as_file to dir protection h.attr p.plan.pieces in
-        let k = h.makes p.plan.pieces in
-        let id : k.id ≡ new_id (view v) = created-next making k.id who (view v) (view k.created)
-        (granted-seen S view is_sound seen who (creation making k.id) v k.created k.creates sound).0 in
-        let all = (granted-seen S view is_sound seen who (making_of making lun k.id) v w
-        (made-as-planned making h.many blocks h.attr rt h.between rt' v w p refl k) sound).0 in
         record {
           attr = h.attr;
           pieces = p.plan.pieces;
           has = has-making h.many blocks h.attr rt h.between dir to protection p;
           blocks_are = p.plan.blocks_are;
-          asked = subst (λ i. Granted plain who (making_of making lun i) (view v) (view w)) id all;
+          asked =
+              making-seen S who lun (FillsFromRt {met = met} S disk m who lun name h.many blocks)
+              (as_file to dir protection h.attr p.plan.pieces)
+              h.between rt' (λ x y k. filled-as-planned h.many blocks h.attr rt h.between rt' x y p k) view is_sound seen v w sound
+              (h.makes p.plan.pieces);
         }

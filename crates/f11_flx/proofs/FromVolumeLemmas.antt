@@ -11,8 +11,9 @@ use Rattle.rt11_volume.specs.Verifying.Verdict.{IsSoundDisk}
 use Rattle.rt11_volume.specs.declared.refusal.RtRefusal.TheVariants.{Failed}
 use Rattle.rt11_volume.specs.declared.volume.RtAccepted.{RtAccepted}
 use Rattle.f11_flx.specs.Asking.{Who}
-use Rattle.f11_flx.specs.Copying.{AsksOnly, FaresFiles, KeepsFailed, MayMakeFile, ReadsRt, is_making, is_whole, of_rt, of_volume}
-use Rattle.f11_flx.specs.CopyFromRt.{CopiesFromRt, FailsToCopyFromRt}
+use Rattle.f11_flx.specs.Copying.{AsksOnly, FaresFiles, KeepsFailed, KeepsSpent, MayMakeFile, ReadsRt, is_making, is_whole, of_rt}
+use Rattle.f11_flx.specs.Copying.{of_volume}
+use Rattle.f11_flx.specs.CopyFromRt.{CopiesFromRt, FailsToCopyFromRt, IsAsBefore}
 use Rattle.f11_flx.specs.FromRt.{CopiesFrom, FailsToCopyFrom}
 use Rattle.f11_flx.specs.Refusal.{is_lethal}
 use Rattle.f11_flx.specs.RtSource.{Looks}
@@ -30,13 +31,13 @@ use Rattle.f11_flx.proofs.SpentLemmas.{failed-made, failed-unasked, failed-unmad
 use Rattle.f11_flx.proofs.TriedLemmas.{IsMaking, Tries, copies-tries, fails-tries}
 use Rattle.f11_flx.proofs.VolumeLemmas.{standing, unused, volume-seen}
 
-abbrev given : ℕ → Result ℕ FlxRefusal
+abbrev pub given : ℕ → Result ℕ FlxRefusal
 given n = Ok n
 
-abbrev refused : FlxRefusal → Result ℕ FlxRefusal
+abbrev pub refused : FlxRefusal → Result ℕ FlxRefusal
 refused f = Err f
 
-making-requests : IsMaking is_making
+pub making-requests : IsMaking is_making
 making-requests = record {
   create = λ p i a. refl;
   created = λ p i a r. refl;
@@ -68,11 +69,47 @@ module _ {E : Type 0} {met : Ghosts E} (disk : E → Disk) where
         history = k.history;
       }
 
-module _ {D E : Type 0} {met : Ghosts D} {met' : Ghosts E} (disk : E → Disk) (m : CopyMode) (who : Who) (lun : ℕ) (name : List ℕ)
-    (dir : FileId) (to : List ℕ) (protection : ℕ) (a b : RtAccepted E met') (v w : Volume D met) where
+-- a file that was made from any source, or wasn't
+module _ {D : Type 0} {met : Ghosts D} (who : Who) (v w : Volume D met) where
   asks-only : Tries of_volume is_making who v w → AsksOnly is_making who v w
   asks-only h = record { asked = h.asked; tried = h.tried; only = h.only }
 
+  pub may-make : (blocks : ℕ) → IsFaring {T = Unit} (Ok tt) v w → KeepsSpent (given blocks) v w → Tries of_volume is_making who v w
+      → MayMakeFile (given blocks) who v w
+  may-make blocks k keeps tries = record {
+    fares = record { failures = k.failures; quiet = k.quiet; honest = k.honest; next = k.next; spent = k.spent; accepted = k.accepted };
+    keeps = keeps;
+    unasked = λ is. absurd (differ (Rt Failed) is);
+    asked = asks-only tries;
+    undone = λ e is sound whole. absurd (differ e is);
+  }
+    where
+      differ : (e : FlxRefusal) → given blocks ≡ refused e → ⊥
+      differ e is = cc
+
+  pub may-not-make : (f : FlxRefusal) → IsFaring {T = Unit} (Err f) v w → KeepsSpent (refused f) v w → Tries of_volume is_making who v w
+      → (refused f ≡ refused (Rt Failed) → w ≡ v)
+      → (is_sound v ≡ true → is_lethal f ≡ false → IsAsBefore (store_of_volume v) (store_of_volume w)) → MayMakeFile (refused f) who v w
+  may-not-make f k keeps tries unasked undone = record {
+    fares = fares f k;
+    keeps = keeps;
+    unasked = unasked;
+    asked = asks-only tries;
+    undone = λ e is sound whole. undone sound (not-true (is_lethal f) whole);
+  }
+    where
+      fares : (f : FlxRefusal) → IsFaring {T = Unit} (Err f) v w → FaresFiles (refused f) v w
+      fares (Files e) k =
+          record { failures = k.failures; quiet = k.quiet; honest = k.honest; next = k.next; spent = k.spent; accepted = k.accepted }
+      fares (Rt e) k =
+          record { failures = k.failures; quiet = k.quiet; honest = k.honest; next = k.next; spent = k.spent; accepted = k.accepted }
+      fares BadRecord k =
+          record { failures = k.failures; quiet = k.quiet; honest = k.honest; next = k.next; spent = k.spent; accepted = k.accepted }
+      fares LineTooLong k =
+          record { failures = k.failures; quiet = k.quiet; honest = k.honest; next = k.next; spent = k.spent; accepted = k.accepted }
+
+module _ {D E : Type 0} {met : Ghosts D} {met' : Ghosts E} (disk : E → Disk) (m : CopyMode) (who : Who) (lun : ℕ) (name : List ℕ)
+    (dir : FileId) (to : List ℕ) (protection : ℕ) (a b : RtAccepted E met') (v w : Volume D met) where
   pub source-read : (blocks : ℕ) → CopiesFrom of_volume disk m who lun name dir to protection blocks a b v w
       → ReadsRt disk (given blocks) a b
   source-read blocks h =
@@ -90,40 +127,20 @@ module _ {D E : Type 0} {met : Ghosts D} {met' : Ghosts E} (disk : E → Disk) (
   pub file-made : (blocks : ℕ) → CopiesFrom of_volume disk m who lun name dir to protection blocks a b v w
       → MayMakeFile (given blocks) who v w
   file-made blocks h =
-      let k = copies-fares disk m who lun name dir to protection blocks a b v w h in
-      record {
-        fares = record { failures = k.failures; quiet = k.quiet; honest = k.honest; next = k.next; spent = k.spent; accepted = k.accepted };
-        keeps = copies-keep disk m who lun name dir to protection blocks a b v w h;
-        unasked = λ is. absurd (differ (Rt Failed) is);
-        asked = asks-only (copies-tries of_volume disk m who lun name is_making making-requests dir to protection blocks a b v w h);
-        undone = λ e is sound whole. absurd (differ e is);
-      }
-    where
-      differ : (e : FlxRefusal) → given blocks ≡ refused e → ⊥
-      differ e is = cc
+      may-make who v w blocks (copies-fares disk m who lun name dir to protection blocks a b v w h)
+      (copies-keep disk m who lun name dir to protection blocks a b v w h)
+      (copies-tries of_volume disk m who lun name is_making making-requests dir to protection blocks a b v w h)
 
   pub file-not-made : (f : FlxRefusal) → FailsToCopyFrom of_volume disk m who lun name dir to protection f a b v w
       → MayMakeFile (refused f) who v w
-  file-not-made f h = record {
-    fares = fares f (fails-fares disk m who lun name f dir to protection a b v w h);
-    keeps = fails-keep disk m who lun name f dir to protection a b v w h;
-    unasked = λ is.
-        let dead = (fails-unfailed of_volume disk m who lun name f dir to protection a b v w h).only is in
-        failed-unasked of_volume disk m who lun name dir to protection a b v w dead f h;
-    asked = asks-only (fails-tries of_volume disk m who lun name is_making making-requests f dir to protection a b v w h);
-    undone = λ e is sound whole. copy-undone of_volume disk m who lun name store_of_volume is_sound volume-seen f dir to protection a b v w
-        (not-true (is_lethal f) whole) sound (unused v) (standing v sound) h;
-  }
-    where
-      fares : (f : FlxRefusal) → IsFaring {T = Unit} (Err f) v w → FaresFiles (refused f) v w
-      fares (Files e) k =
-          record { failures = k.failures; quiet = k.quiet; honest = k.honest; next = k.next; spent = k.spent; accepted = k.accepted }
-      fares (Rt e) k =
-          record { failures = k.failures; quiet = k.quiet; honest = k.honest; next = k.next; spent = k.spent; accepted = k.accepted }
-      fares BadRecord k =
-          record { failures = k.failures; quiet = k.quiet; honest = k.honest; next = k.next; spent = k.spent; accepted = k.accepted }
-      fares LineTooLong k =
-          record { failures = k.failures; quiet = k.quiet; honest = k.honest; next = k.next; spent = k.spent; accepted = k.accepted }
+  file-not-made f h =
+      may-not-make who v w f (fails-fares disk m who lun name f dir to protection a b v w h)
+      (fails-keep disk m who lun name f dir to protection a b v w h)
+      (fails-tries of_volume disk m who lun name is_making making-requests f dir to protection a b v w h)
+      (λ is. failed-unasked of_volume disk m who lun name dir to protection a b v w
+      ((fails-unfailed of_volume disk m who lun name f dir to protection a b v w h).only is) f h)
+      (λ sound clean. copy-undone of_volume disk m who lun name store_of_volume is_sound volume-seen f dir to protection a b v w clean sound
+      (unused v) (standing v sound) h)
 
   pub copy-made : (blocks : ℕ) → CopiesFrom of_volume disk m who lun name dir to protection blocks a b v w → is_sound v ≡ true
       → IsSoundDisk (rt_disk disk a) →

@@ -29,13 +29,14 @@ use Rattle.f11_flx.specs.Asking.{writes, writes_of}
 use Rattle.f11_flx.specs.Copying.{KeepsFailed, KeepsSpent, of_volume}
 use Rattle.f11_flx.specs.CopyFromRt.{Making, as_file, creation, entry, opening}
 use Rattle.f11_flx.specs.FromRt.{CopiesFrom, FailsToCopyFrom}
-use Rattle.f11_flx.specs.Making.{FailsToFillFromRt, FailsToFillFile, FailsToMakeCopy, FillsFile, Undoing, UndoingIf, extension, filling_of}
-use Rattle.f11_flx.specs.Making.{is_created}
+use Rattle.f11_flx.specs.Making.{AsksToFill, FailsToFillFile, FailsToFillFromRt, FailsToFillOpened, FailsToMake, FailsToMakeCopy}
+use Rattle.f11_flx.specs.Making.{FillsFromRt, FillsOpened, IsBrokenOff, MakesFile, Undoing, UndoingIf, extension, filling_of, is_created}
 use Rattle.f11_flx.specs.Planning.{FailsToPlan}
 use Rattle.f11_flx.specs.Refusal.{is_lethal}
 use Rattle.f11_flx.specs.declared.mode.CopyMode.{CopyMode}
 use Rattle.f11_flx.specs.declared.refusal.FlxRefusal.{FlxRefusal}
 use Rattle.f11_flx.specs.declared.refusal.FlxRefusal.TheVariants.{BadRecord, Files, LineTooLong, Rt}
+use Rattle.f11_flx.proofs.MakingLemmas.{asks-to-fill}
 use Rattle.f11_flx.proofs.PassLemmas.{stays-alive}
 use Rattle.f11_flx.proofs.VolumeLemmas.{denied-fared, granted-fared}
 
@@ -218,59 +219,88 @@ module _ {D : Type 0} {met : Ghosts D} where
       differ : Files Damaged ≡ Files VolumeFailed → ⊥
       differ is = cc
 
+  dead-uncreated : (who : Who) (making : Making) (e : Refusal) (v w : Volume D met) → is_spent v ≡ true
+      → Fails of_volume who is_created (request.Create 0 (ident_with making.name) making.attr) e v w → e ≡ VolumeFailed
+  dead-uncreated who making e v w dead (inl h) = (dead-asks who (request.Create 0 (ident_with making.name) making.attr) e v w dead h).0
+  dead-uncreated who making e v w dead (inr h) =
+      absurd (true-false (sym dead ∙ granted-unspent who (told (request.Create 0 (ident_with making.name) making.attr) h.0) v w h.3))
+
   pub created-alive : (who : Who) (making : Making) (id : FileId) (v w : Volume D met) → Granted of_volume who (creation making id) v w
       → is_spent v ≡ false
   created-alive who making id v w h =
       granted-unspent who (told (request.Create 0 (ident_with making.name) making.attr) (reply.Created id)) v h.0 h.1
 
-module _ {D E : Type 0} {met : Ghosts D} {met' : Ghosts E} (disk : E → Disk) (m : CopyMode) (who : Who) (lun : ℕ) (name : List ℕ) where
-  fill-live : (f : FlxRefusal) (many n : ℕ) (a b : RtAccepted E met') (v w : Volume D met) → is_spent v ≡ false
-      → FailsToFillFromRt of_volume disk m who lun name many n f a b v w → IsLive f w
-  fill-live (Files e) many n a b v w alive h = breaks-live who (filling_of lun n h.pieces) e v w alive h.breaks
-  fill-live (Rt e) many n a b v w alive h =
-      record {
-        other = files-apart e VolumeFailed;
-        alive = λ clean. all-unspent who (extension lun n ++ writes_of lun 0 h.pieces) v w alive
-            h.granted;
-      }
-  fill-live BadRecord many n a b v w alive h = absurd h
-  fill-live LineTooLong many n a b v w alive h =
-      record {
-        other = λ is. absurd (cc);
-        alive = λ clean. all-unspent who (extension lun n ++ writes_of lun 0 h.pieces) v w alive
-            h.granted;
-      }
+-- the making of a file from any source
+module _ {D : Type 0} {met : Ghosts D} (who : Who) (lun n : ℕ) where
+  broken-live : (f : FlxRefusal) (v w : Volume D met) → is_spent v ≡ false → IsBrokenOff of_volume who lun n f v w → IsLive f w
+  broken-live (Files e) v w alive h = breaks-live who (filling_of lun n h.0) e v w alive h.1
+  broken-live (Rt e) v w alive h = record {
+    other = files-apart e VolumeFailed;
+    alive = λ clean. all-unspent who (extension lun n ++ writes_of lun 0 h.0) v w alive h.1;
+  }
+  broken-live BadRecord v w alive h = record {
+    other = λ is. absurd (cc);
+    alive = λ clean. all-unspent who (extension lun n ++ writes_of lun 0 h.0) v w alive h.1;
+  }
+  broken-live LineTooLong v w alive h = record {
+    other = λ is. absurd (cc);
+    alive = λ clean. all-unspent who (extension lun n ++ writes_of lun 0 h.0) v w alive h.1;
+  }
 
-  filled-alive : (many n : ℕ) (id : FileId) (a b : RtAccepted E met') (v w : Volume D met) → is_spent v ≡ false
-      → FillsFile of_volume disk m who lun name many n id a b v w → is_spent w ≡ false
-  filled-alive many n id a b v w alive h =
-      all-unspent who (filling_of lun n h.fills.pieces) h.between w (all-unspent who (opening lun id) v h.between alive h.opened)
-      h.fills.granted
+module _ {D H : Type 0} {met : Ghosts D} (who : Who) (lun n : ℕ) (Fills : H → H → Volume D met → Volume D met → Type 0)
+    (Fails : FlxRefusal → H → H → Volume D met → Volume D met → Type 0) (asking : AsksToFill of_volume who lun n Fills Fails) where
+  filled-alive : (id : FileId) (a b : H) (v w : Volume D met) → is_spent v ≡ false → FillsOpened of_volume who lun Fills id a b v w
+      → is_spent w ≡ false
+  filled-alive id a b v w alive h =
+      let all = asking.fills a b h.between w h.fills in
+      all-unspent who (filling_of lun n all.0) h.between w (all-unspent who (opening lun id) v h.between alive h.opened) all.1
 
-  fill-file-live : (f : FlxRefusal) (many n : ℕ) (id : FileId) (a b : RtAccepted E met') (v w : Volume D met) → is_spent v ≡ false
-      → FailsToFillFile of_volume disk m who lun name many n id f a b v w → IsLive f w
-  fill-file-live f many n id a b v w alive (inl h) =
+  fill-file-live : (f : FlxRefusal) (id : FileId) (a b : H) (v w : Volume D met) → is_spent v ≡ false
+      → FailsToFillOpened of_volume who lun Fails id f a b v w → IsLive f w
+  fill-file-live f id a b v w alive (inl h) =
       subst (λ x. IsLive x w) (sym h.is) (denied-live who (asks (request.Access id access.Write lun)) h.e v w alive h.denied)
-  fill-file-live f many n id a b v w alive (inr h) =
+  fill-file-live f id a b v w alive (inr h) =
       undoing-live who (request.Deaccess lun) h.f f h.left w
-      (fill-live h.f many n a b h.between h.left (all-unspent who (opening lun id) v h.between alive h.opened) h.fails) h.undoes
+      (broken-live who lun n h.f h.between h.left (all-unspent who (opening lun id) v h.between alive h.opened)
+      (asking.fails h.f a b h.between h.left h.fails)) h.undoes
 
-  make-keeps : (f : FlxRefusal) (many n : ℕ) (making : Making) (a b : RtAccepted E met') (v w : Volume D met)
-      → FailsToMakeCopy of_volume disk m who lun name many n making f a b v w → KeepsSpent (refused f) v w
-  make-keeps f many n making a b v w (inl h) =
+  pub unmade-keeps : (f : FlxRefusal) (making : Making) (a b : H) (v w : Volume D met)
+      → FailsToMake of_volume who lun Fills Fails making f a b v w → KeepsSpent (refused f) v w
+  unmade-keeps f making a b v w (inl h) =
       subst (λ x. KeepsSpent (refused x) v w) (sym h.is) (uncreated-keeps who making h.e v w h.fails)
-  make-keeps f many n making a b v w (inr (inl h)) =
+  unmade-keeps f making a b v w (inr (inl h)) =
       let alive = created-alive who making h.id v h.created h.creates in
       let made = all-unspent who (creation making h.id) v h.created alive h.creates in
       keeps-live f v w alive (undoing-live who (request.Delete h.id) h.f f h.left w
-      (fill-file-live h.f many n h.id a b h.created h.left made h.fails) h.undoes).other
-  make-keeps f many n making a b v w (inr (inr h)) =
+      (fill-file-live h.f h.id a b h.created h.left made h.fails) h.undoes).other
+  unmade-keeps f making a b v w (inr (inr h)) =
       let alive = created-alive who making h.id v h.created h.creates in
       let made = all-unspent who (creation making h.id) v h.created alive h.creates in
-      let filled = filled-alive many n h.id a b h.created h.filled made h.fills in
+      let filled = filled-alive h.id a b h.created h.filled made h.fills in
       keeps-live f v w alive (undoing-live who (request.Delete h.id) (Files h.e) f h.left w
       (breaks-live who (entry making h.id) h.e h.filled h.left filled h.breaks) h.undoes).other
 
+  pub made-keeps : (blocks : ℕ) (making : Making) (a b : H) (v w : Volume D met) → MakesFile of_volume who lun Fills making a b v w
+      → KeepsSpent (given blocks) v w
+  made-keeps blocks making a b v w h = record {
+    only = λ is. absurd (no-answer blocks (Files VolumeFailed) is);
+    untouched = λ dead. absurd (true-false (sym dead ∙ created-alive who making h.id v h.created h.creates));
+  }
+
+  -- one to a volume that had failed is refused at its first request
+  pub dead-unmade : (f : FlxRefusal) (making : Making) (a b : H) (v w : Volume D met) → is_spent v ≡ true
+      → FailsToMake of_volume who lun Fills Fails making f a b v w → f ≡ Files VolumeFailed
+  dead-unmade f making a b v w dead (inl h) = h.is ∙ ap Files (dead-uncreated who making h.e v w dead h.fails)
+  dead-unmade f making a b v w dead (inr (inl h)) =
+      absurd (true-false (sym dead ∙ created-alive who making h.id v h.created h.creates))
+  dead-unmade f making a b v w dead (inr (inr h)) =
+      absurd (true-false (sym dead ∙ created-alive who making h.id v h.created h.creates))
+
+  pub dead-made : (making : Making) (a b : H) (v w : Volume D met) → is_spent v ≡ true → MakesFile of_volume who lun Fills making a b v w
+      → ⊥
+  dead-made making a b v w dead h = true-false (sym dead ∙ created-alive who making h.id v h.created h.creates)
+
+module _ {D E : Type 0} {met : Ghosts D} {met' : Ghosts E} (disk : E → Disk) (m : CopyMode) (who : Who) (lun : ℕ) (name : List ℕ) where
   plan-keeps : (f : FlxRefusal) (a b : RtAccepted E met') (v : Volume D met) → FailsToPlan disk m name f a b → KeepsSpent (refused f) v v
   plan-keeps (Files e) a b v h = absurd h
   plan-keeps (Rt e) a b v h =
@@ -285,18 +315,19 @@ module _ {D E : Type 0} {met : Ghosts D} {met' : Ghosts E} (disk : E → Disk) (
   pub copies-keep : (dir : FileId) (to : List ℕ) (protection blocks : ℕ) (a b : RtAccepted E met') (v w : Volume D met)
       → CopiesFrom of_volume disk m who lun name dir to protection blocks a b v w → KeepsSpent (given blocks) v w
   copies-keep dir to protection blocks a b v w h =
-      let k = h.makes [] in
-      let alive = created-alive who (as_file to dir protection h.attr []) k.id v k.created k.creates in
-      record {
-        only = λ is. absurd (no-answer blocks (Files VolumeFailed) is);
-        untouched = λ dead. absurd (true-false (sym dead ∙ alive));
-      }
+      made-keeps who lun blocks (FillsFromRt {met = met'} of_volume disk m who lun name h.many blocks)
+      (FailsToFillFromRt {met = met'} of_volume disk m who lun name h.many blocks)
+      (asks-to-fill of_volume who lun {met = met'} disk m name h.many blocks) blocks
+      (as_file to dir protection h.attr []) h.between b v w (h.makes [])
 
   pub fails-keep : (f : FlxRefusal) (dir : FileId) (to : List ℕ) (protection : ℕ) (a b : RtAccepted E met') (v w : Volume D met)
       → FailsToCopyFrom of_volume disk m who lun name dir to protection f a b v w → KeepsSpent (refused f) v w
   fails-keep f dir to protection a b v w (inl h) = subst (λ x. KeepsSpent (refused f) v x) (sym h.unasked) (plan-keeps f a b v h.fails)
   fails-keep f dir to protection a b v w (inr h) =
-      make-keeps f h.many h.blocks (as_file to dir protection h.attr []) h.between b v w (h.fails [])
+      unmade-keeps who lun h.blocks (FillsFromRt {met = met'} of_volume disk m who lun name h.many h.blocks)
+      (FailsToFillFromRt {met = met'} of_volume disk m who lun name h.many h.blocks)
+      (asks-to-fill of_volume who lun {met = met'} disk m name h.many h.blocks) f
+      (as_file to dir protection h.attr []) h.between b v w (h.fails [])
 
 module _ {V : Type 0} (S : FilesService V) (who : Who) where
   unfailed-undoing : (r : Request) (f f' : FlxRefusal) (v w : V) → (f ≡ Rt Failed → ⊥) → Undoing S who r f f' v w → f' ≡ Rt Failed → ⊥

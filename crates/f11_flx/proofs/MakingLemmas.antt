@@ -11,7 +11,7 @@ use Rattle.rt11_volume.specs.declared.volume.RtAccepted.{RtAccepted}
 use Rattle.f11_flx.specs.Asking.{BreaksOffAsking, Denies, Granted, Grants, FilesService, Who, asks, told, writes, writes_of}
 use Rattle.f11_flx.specs.Conversion.{Copy}
 use Rattle.f11_flx.specs.CopyFromRt.{giving_up}
-use Rattle.f11_flx.specs.Making.{BreaksFilling, FailsToFillFromRt, FillsFromRt, extension, filling_of}
+use Rattle.f11_flx.specs.Making.{AsksToFill, BreaksFilling, FailsToFillFromRt, FillsFromRt, IsBrokenOff, extension, filling_of}
 use Rattle.f11_flx.specs.Passes.{CopiesFile, FailsToCopyFile, IsCopied}
 use Rattle.f11_flx.specs.declared.mode.CopyMode.{CopyMode}
 use Rattle.f11_flx.specs.declared.refusal.FlxRefusal.{FlxRefusal}
@@ -57,14 +57,15 @@ module _ {V : Type 0} (S : FilesService V) (who : Who) (lun : ℕ) where
       (breaks-behind S who (writes_of lun 0 pieces) (writes_of lun (0 + length pieces) (last ∷ rest)) e v w x h
       (inl (subst (λ n. Denies S who (writes lun n last) e w x) (sym at) d)))
 
-  breaks-filling : (n : ℕ) (pieces rest : List (List ℕ)) (last : List ℕ) (e : Refusal) (u v w x : V) → Granted S who (extension lun n) u v
+  pub breaks-filling : (n : ℕ) (pieces rest : List (List ℕ)) (last : List ℕ) (e : Refusal) (u v w x : V)
+      → Granted S who (extension lun n) u v
       → Granted S who (writes_of lun 0 pieces) v w →
       Denies S who (writes lun (suc (length pieces)) last) e w x → BreaksOffAsking S who (filling_of lun n (pieces ++ last ∷ rest)) e u x
   breaks-filling n pieces rest last e u v w x g h d =
       breaks-behind S who (extension lun n) (writes_of lun 0 (pieces ++ last ∷ rest) ++ giving_up lun) e u v x g
       (breaks-before S who (writes_of lun 0 (pieces ++ last ∷ rest)) (giving_up lun) e v x (breaks-writes pieces rest last e v w x h d))
 
-  breaks-giving : (n : ℕ) (pieces : List (List ℕ)) (e : Refusal) (u v w x : V) → Granted S who (extension lun n) u v
+  pub breaks-giving : (n : ℕ) (pieces : List (List ℕ)) (e : Refusal) (u v w x : V) → Granted S who (extension lun n) u v
       → Granted S who (writes_of lun 0 pieces) v w → BreaksOffAsking S who (giving_up lun) e w x →
       BreaksOffAsking S who (filling_of lun n pieces) e u x
   breaks-giving n pieces e u v w x g h d =
@@ -136,3 +137,15 @@ module _ {V : Type 0} (S : FilesService V) (who : Who) (lun : ℕ) where
       granted = granted-append S who (extension lun n) (writes_of lun 0 h.pieces ++ giving_up lun) u v x g
           (granted-append S who (writes_of lun 0 h.pieces) (giving_up lun) v w x h.granted d);
     }
+
+    -- what is asked is that of any source
+    pub asks-to-fill : AsksToFill S who lun n (FillsFromRt {met = met} S disk m who lun name many n)
+        (FailsToFillFromRt {met = met} S disk m who lun name many n)
+    asks-to-fill = record { fills = λ a b v w h. (h.pieces, h.granted); fails = broken }
+      where
+        broken : (f : FlxRefusal) (a b : RtAccepted E met) (v w : V) → FailsToFillFromRt S disk m who lun name many n f a b v w
+            → IsBrokenOff S who lun n f v w
+        broken (Files e) a b v w h = (h.pieces, h.breaks)
+        broken (Rt e) a b v w h = (h.pieces, h.granted)
+        broken BadRecord a b v w h = absurd h
+        broken LineTooLong a b v w h = (h.pieces, h.granted)

@@ -2,7 +2,6 @@
 use Rattle.std.proofs.Common.{◌≡◌, ◌⊎◌, inl, inr, ℕ, true, false, List, [], refl, sym, ap, ◌∙◌, subst}
 use Rattle.f11_dev.specs.Disk.{Disk}
 use Rattle.f11_dev.specs.declared.device.Device.{Ghosts}
-use Rattle.f11_store.specs.Ident.{ident_with}
 use Rattle.f11_store.specs.declared.files.FileId.{FileId}
 use Rattle.f11_store.specs.declared.files.Mode.TheVariants as access
 use Rattle.f11_store.specs.declared.refusals.Refusal.{Refusal}
@@ -15,12 +14,12 @@ use Rattle.rt11_volume.specs.Calls.{has_failed}
 use Rattle.rt11_volume.specs.Files.{file_area}
 use Rattle.rt11_volume.specs.declared.refusal.RtRefusal.TheVariants.{Failed}
 use Rattle.rt11_volume.specs.declared.volume.RtAccepted.{RtAccepted}
-use Rattle.f11_flx.specs.Asking.{Fails, FilesService, Who, asks, told}
+use Rattle.f11_flx.specs.Asking.{FilesService, Who, asks}
 use Rattle.f11_flx.specs.Copies.{FailsToCopyText}
 use Rattle.f11_flx.specs.Copying.{MayRefuseFailed, of_volume}
-use Rattle.f11_flx.specs.CopyFromRt.{FailsToCopySpent, Making, as_file}
+use Rattle.f11_flx.specs.CopyFromRt.{FailsToCopySpent, as_file}
 use Rattle.f11_flx.specs.FromRt.{CopiesFrom, FailsToCopyFrom}
-use Rattle.f11_flx.specs.Making.{FailsToMakeCopy, is_created}
+use Rattle.f11_flx.specs.Making.{FailsToFillFromRt, FillsFromRt}
 use Rattle.f11_flx.specs.Planning.{FailsToPlan}
 use Rattle.f11_flx.specs.Refusal.{is_lethal}
 use Rattle.f11_flx.specs.Source.{FailsAs, up_to_end}
@@ -34,7 +33,8 @@ use Rattle.f11_flx.specs.declared.refusal.FlxRefusal.TheVariants.{BadRecord, Fil
 use Rattle.f11_flx.specs.declared.target.Nowhere.{Nowhere}
 use Rattle.f11_flx.specs.declared.to_text.ToText.{ToText}
 use Rattle.f11_flx.proofs.FromRtLemmas.{has-making, planned}
-use Rattle.f11_flx.proofs.KeptLemmas.{created-alive, dead-asks, granted-unspent, refused}
+use Rattle.f11_flx.proofs.KeptLemmas.{dead-asks, dead-made, dead-unmade, granted-unspent, refused}
+use Rattle.f11_flx.proofs.MakingLemmas.{asks-to-fill}
 
 -- a copy of a Files-11 volume that had failed is refused at its first request
 module _ {D E : Type 0} {met : Ghosts D} {met' : Ghosts E} (disk : E → Disk) (who : Who) (lun : ℕ) (name : List ℕ) (file : FileId) (day : ℕ)
@@ -63,19 +63,6 @@ module _ {D E : Type 0} {met : Ghosts D} {met' : Ghosts E} (disk : E → Disk) (
     (dir : FileId)
     (to : List ℕ) (protection : ℕ) (a b : RtAccepted E met') (v w : Volume D met) (dead : is_spent v ≡ true)
   where
-    uncreated : (making : Making) (e : Refusal)
-        → Fails of_volume who is_created (request.Create 0 (ident_with making.name) making.attr) e v w →
-        e ≡ VolumeFailed
-    uncreated making e (inl h) = (dead-asks who (request.Create 0 (ident_with making.name) making.attr) e v w dead h).0
-    uncreated making e (inr h) =
-        absurd (true-false (sym dead ∙ granted-unspent who (told (request.Create 0 (ident_with making.name) making.attr) h.0) v w h.3))
-
-    unmade : (f : FlxRefusal) (many n : ℕ) (making : Making) (x : RtAccepted E met') →
-        FailsToMakeCopy of_volume disk m who lun name many n making f x b v w → f ≡ Files VolumeFailed
-    unmade f many n making x (inl h) = h.is ∙ ap Files (uncreated making h.e h.fails)
-    unmade f many n making x (inr (inl h)) = absurd (true-false (sym dead ∙ created-alive who making h.id v h.created h.creates))
-    unmade f many n making x (inr (inr h)) = absurd (true-false (sym dead ∙ created-alive who making h.id v h.created h.creates))
-
     unplanned : (f : FlxRefusal) → FailsToPlan disk m name f a b → FailsToCopySpent f m name (rt_disk disk a)
     unplanned (Files e) h = absurd h
     unplanned (Rt e) h = h.why
@@ -87,15 +74,20 @@ module _ {D E : Type 0} {met : Ghosts D} {met' : Ghosts E} (disk : E → Disk) (
 
     pub spent-made : (blocks : ℕ) → CopiesFrom of_volume disk m who lun name dir to protection blocks a b v w → ⊥
     spent-made blocks h =
-        let k = h.makes [] in
-        true-false (sym dead ∙ created-alive who (as_file to dir protection h.attr []) k.id v k.created k.creates)
+        dead-made who lun blocks (FillsFromRt {met = met'} of_volume disk m who lun name h.many blocks)
+        (FailsToFillFromRt {met = met'} of_volume disk m who lun name h.many blocks)
+        (asks-to-fill of_volume who lun {met = met'} disk m name h.many blocks)
+        (as_file to dir protection h.attr []) h.between b v w dead (h.makes [])
 
     pub spent-unmade : (f : FlxRefusal) → FailsToCopyFrom of_volume disk m who lun name dir to protection f a b v w →
         FailsToCopySpent f m name (rt_disk disk a)
     spent-unmade f (inl h) = unplanned f h.fails
     spent-unmade f (inr h) =
         subst (λ x. FailsToCopySpent x m name (rt_disk disk a))
-        (sym (unmade f h.many h.blocks (as_file to dir protection h.attr []) h.between (h.fails []))) (
+        (sym (dead-unmade who lun h.blocks (FillsFromRt {met = met'} of_volume disk m who lun name h.many h.blocks)
+        (FailsToFillFromRt {met = met'} of_volume disk m who lun name h.many h.blocks)
+        (asks-to-fill of_volume who lun {met = met'} disk m name h.many h.blocks) f
+        (as_file to dir protection h.attr []) h.between b v w dead (h.fails []))) (
           refl,
           λ s.
               let p = planned disk m name h.many h.blocks h.attr a h.between h.plans s in (

@@ -16,12 +16,13 @@ use Rattle.f11_flx.specs.Asking.{Asking, BreaksOffAsking, Denies, Fails, Granted
 use Rattle.f11_flx.specs.Asking.{writes_of}
 use Rattle.f11_flx.specs.CopyFromRt.{Making, as_file, creation, entry, giving_up, opening}
 use Rattle.f11_flx.specs.FromRt.{CopiesFrom, FailsToCopyFrom}
-use Rattle.f11_flx.specs.Making.{FailsToFillFromRt, FailsToFillFile, FailsToMakeCopy, FillsFile, Undoing, UndoingIf, extension, filling_of}
-use Rattle.f11_flx.specs.Making.{is_created}
+use Rattle.f11_flx.specs.Making.{AsksToFill, FailsToFillFromRt, FailsToFillOpened, FailsToMake, FillsFromRt, FillsOpened, IsBrokenOff}
+use Rattle.f11_flx.specs.Making.{MakesFile, Undoing, UndoingIf, extension, filling_of, is_created}
 use Rattle.f11_flx.specs.Refusal.{is_lethal}
 use Rattle.f11_flx.specs.declared.mode.CopyMode.{CopyMode}
 use Rattle.f11_flx.specs.declared.refusal.FlxRefusal.{FlxRefusal}
 use Rattle.f11_flx.specs.declared.refusal.FlxRefusal.TheVariants.{BadRecord, Files, LineTooLong, Rt}
+use Rattle.f11_flx.proofs.MakingLemmas.{asks-to-fill}
 
 -- Only such things were asked, one after another, whatever was answered.
 pub record Tries {V : Type 0} (S : FilesService V) (is_one : Asking → Bool) (who : Who) (v w : V) : Type 0 where
@@ -132,59 +133,72 @@ module _ {V : Type 0} (S : FilesService V) (who : Who) (lun : ℕ) (is_one : Ask
   only-entry : (making : Making) (id : FileId) → Only S is_one who (entry making id)
   only-entry making id = (is.enter making.directory making.name id, (is.protect id making.protection, tt))
 
-module _ {V E : Type 0} {met : Ghosts E} (S : FilesService V) (disk : E → Disk) (m : CopyMode) (who : Who) (lun : ℕ) (name : List ℕ)
-    (is_one : Asking → Bool) (is : IsMaking is_one) where
-  fill-tries : (f : FlxRefusal) (many n : ℕ) (a b : RtAccepted E met) (v w : V) → FailsToFillFromRt S disk m who lun name many n f a b v w
-      → Tries S is_one who v w
-  fill-tries (Files e) many n a b v w h =
-      tries-breaks S is_one who (filling_of lun n h.pieces) e v w (only-filling S who lun is_one is n h.pieces) h.breaks
-  fill-tries (Rt e) many n a b v w h =
-      tries-granted S is_one who (extension lun n ++ writes_of lun 0 h.pieces) v w (only-front S who lun is_one is n h.pieces) h.granted
-  fill-tries BadRecord many n a b v w h = absurd h
-  fill-tries LineTooLong many n a b v w h =
-      tries-granted S is_one who (extension lun n ++ writes_of lun 0 h.pieces) v w (only-front S who lun is_one is n h.pieces) h.granted
+-- the making of a file from any source
+module _ {V : Type 0} (S : FilesService V) (who : Who) (lun n : ℕ) (is_one : Asking → Bool) (is : IsMaking is_one) where
+  broken-tries : (f : FlxRefusal) (v w : V) → IsBrokenOff S who lun n f v w → Tries S is_one who v w
+  broken-tries (Files e) v w h =
+      tries-breaks S is_one who (filling_of lun n h.0) e v w (only-filling S who lun is_one is n h.0) h.1
+  broken-tries (Rt e) v w h =
+      tries-granted S is_one who (extension lun n ++ writes_of lun 0 h.0) v w (only-front S who lun is_one is n h.0) h.1
+  broken-tries BadRecord v w h =
+      tries-granted S is_one who (extension lun n ++ writes_of lun 0 h.0) v w (only-front S who lun is_one is n h.0) h.1
+  broken-tries LineTooLong v w h =
+      tries-granted S is_one who (extension lun n ++ writes_of lun 0 h.0) v w (only-front S who lun is_one is n h.0) h.1
 
-  filled-tries : (many n : ℕ) (id : FileId) (a b : RtAccepted E met) (v w : V) → FillsFile S disk m who lun name many n id a b v w
-      → Tries S is_one who v w
-  filled-tries many n id a b v w h =
+module _ {V H : Type 0} (S : FilesService V) (who : Who) (lun n : ℕ) (Fills : H → H → V → V → Type 0)
+    (Fails : FlxRefusal → H → H → V → V → Type 0) (asking : AsksToFill S who lun n Fills Fails) (is_one : Asking → Bool)
+    (is : IsMaking is_one) where
+  filled-tries : (id : FileId) (a b : H) (v w : V) → FillsOpened S who lun Fills id a b v w → Tries S is_one who v w
+  filled-tries id a b v w h =
+      let all = asking.fills a b h.between w h.fills in
       tries-then S is_one who v h.between w (tries-granted S is_one who (opening lun id) v h.between (is.access-to id lun, tt) h.opened)
-      (tries-granted S is_one who (filling_of lun n h.fills.pieces) h.between w (only-filling S who lun is_one is n h.fills.pieces)
-      h.fills.granted)
+      (tries-granted S is_one who (filling_of lun n all.0) h.between w (only-filling S who lun is_one is n all.0) all.1)
 
-  fill-file-tries : (f : FlxRefusal) (many n : ℕ) (id : FileId) (a b : RtAccepted E met) (v w : V)
-      → FailsToFillFile S disk m who lun name many n id f a b v w → Tries S is_one who v w
-  fill-file-tries f many n id a b v w (inl h) =
+  fill-file-tries : (f : FlxRefusal) (id : FileId) (a b : H) (v w : V) → FailsToFillOpened S who lun Fails id f a b v w
+      → Tries S is_one who v w
+  fill-file-tries f id a b v w (inl h) =
       tries-deny S is_one who (asks (request.Access id access.Write lun)) h.e v w (is.access-to id lun) h.denied
-  fill-file-tries f many n id a b v w (inr h) =
+  fill-file-tries f id a b v w (inr h) =
       tries-then S is_one who v h.between w (tries-granted S is_one who (opening lun id) v h.between (is.access-to id lun, tt) h.opened)
-      (tries-then S is_one who h.between h.left w (fill-tries h.f many n a b h.between h.left h.fails)
+      (tries-then S is_one who h.between h.left w
+      (broken-tries S who lun n is_one is h.f h.between h.left (asking.fails h.f a b h.between h.left h.fails))
       (tries-undoing S is_one who (request.Deaccess lun) h.f f h.left w (is.give-up lun) h.undoes))
 
-  make-tries : (f : FlxRefusal) (many n : ℕ) (making : Making) (a b : RtAccepted E met) (v w : V)
-      → FailsToMakeCopy S disk m who lun name many n making f a b v w → Tries S is_one who v w
-  make-tries f many n making a b v w (inl h) = not-created-tries S who lun is_one is making h.e v w h.fails
-  make-tries f many n making a b v w (inr (inl h)) =
+  pub made-tries : (making : Making) (a b : H) (v w : V) → MakesFile S who lun Fills making a b v w → Tries S is_one who v w
+  made-tries making a b v w h =
       tries-then S is_one who v h.created w (create-tries S who lun is_one is making h.id v h.created h.creates)
-      (tries-then S is_one who h.created h.left w (fill-file-tries h.f many n h.id a b h.created h.left h.fails)
+      (tries-then S is_one who h.created h.filled w (filled-tries h.id a b h.created h.filled h.fills)
+      (tries-granted S is_one who (entry making h.id) h.filled w (only-entry S who lun is_one is making h.id) h.enters))
+
+  pub unmade-tries : (f : FlxRefusal) (making : Making) (a b : H) (v w : V) → FailsToMake S who lun Fills Fails making f a b v w
+      → Tries S is_one who v w
+  unmade-tries f making a b v w (inl h) = not-created-tries S who lun is_one is making h.e v w h.fails
+  unmade-tries f making a b v w (inr (inl h)) =
+      tries-then S is_one who v h.created w (create-tries S who lun is_one is making h.id v h.created h.creates)
+      (tries-then S is_one who h.created h.left w (fill-file-tries h.f h.id a b h.created h.left h.fails)
       (tries-undoing S is_one who (request.Delete h.id) h.f f h.left w (is.delete h.id) h.undoes))
-  make-tries f many n making a b v w (inr (inr h)) =
+  unmade-tries f making a b v w (inr (inr h)) =
       tries-then S is_one who v h.created w (create-tries S who lun is_one is making h.id v h.created h.creates)
-      (tries-then S is_one who h.created h.filled w (filled-tries many n h.id a b h.created h.filled h.fills)
+      (tries-then S is_one who h.created h.filled w (filled-tries h.id a b h.created h.filled h.fills)
       (tries-then S is_one who h.filled h.left w
       (tries-breaks S is_one who (entry making h.id) h.e h.filled h.left (only-entry S who lun is_one is making h.id) h.breaks)
       (tries-undoing S is_one who (request.Delete h.id) (Files h.e) f h.left w (is.delete h.id) h.undoes)))
 
+module _ {V E : Type 0} {met : Ghosts E} (S : FilesService V) (disk : E → Disk) (m : CopyMode) (who : Who) (lun : ℕ) (name : List ℕ)
+    (is_one : Asking → Bool) (is : IsMaking is_one) where
   pub copies-tries : (dir : FileId) (to : List ℕ) (protection blocks : ℕ) (a b : RtAccepted E met) (v w : V)
       → CopiesFrom S disk m who lun name dir to protection blocks a b v w → Tries S is_one who v w
   copies-tries dir to protection blocks a b v w h =
-      let making : Making = as_file to dir protection h.attr [] in
-      let k = h.makes [] in
-      tries-then S is_one who v k.created w (create-tries S who lun is_one is making k.id v k.created k.creates)
-      (tries-then S is_one who k.created k.filled w (filled-tries h.many blocks k.id h.between b k.created k.filled k.fills)
-      (tries-granted S is_one who (entry making k.id) k.filled w (only-entry S who lun is_one is making k.id) k.enters))
+      made-tries S who lun blocks (FillsFromRt {met = met} S disk m who lun name h.many blocks)
+      (FailsToFillFromRt {met = met} S disk m who lun name h.many blocks)
+      (asks-to-fill S who lun {met = met} disk m name h.many blocks) is_one is (as_file to dir protection h.attr []) h.between b v w
+      (h.makes [])
 
   pub fails-tries : (f : FlxRefusal) (dir : FileId) (to : List ℕ) (protection : ℕ) (a b : RtAccepted E met) (v w : V)
       → FailsToCopyFrom S disk m who lun name dir to protection f a b v w → Tries S is_one who v w
   fails-tries f dir to protection a b v w (inl h) = subst (λ x. Tries S is_one who v x) (sym h.unasked) (tries-none S is_one who v)
   fails-tries f dir to protection a b v w (inr h) =
-      make-tries f h.many h.blocks (as_file to dir protection h.attr []) h.between b v w (h.fails [])
+      unmade-tries S who lun h.blocks (FillsFromRt {met = met} S disk m who lun name h.many h.blocks)
+      (FailsToFillFromRt {met = met} S disk m who lun name h.many h.blocks) (asks-to-fill S who lun {met = met} disk m name h.many h.blocks)
+      is_one is f
+      (as_file to dir protection h.attr []) h.between b v w (h.fails [])

@@ -23,9 +23,13 @@ longest_of (first ∷ records) = max (length first) (longest_of records)
 abbrev pub text_attributes : ℕ → ℕ → ℕ → List ℕ
 text_attributes longest allocation end = with_end (2 ∷ 2 ∷ (word_bytes longest ++ replicate 28 0)) allocation end
 
--- the attributes of so many blocks copied as they are: fixed records of a block each
+-- the attributes of so many blocks copied as they are, which end behind so many bytes: fixed records of a block each
+abbrev pub image_attributes_to : ℕ → ℕ → List ℕ
+image_attributes_to blocks end = with_end (1 ∷ 0 ∷ (word_bytes 512 ++ replicate 28 0)) blocks end
+
+-- those that end with the last block
 abbrev pub image_attributes : ℕ → List ℕ
-image_attributes blocks = with_end (1 ∷ 0 ∷ (word_bytes 512 ++ replicate 28 0)) blocks (512 * blocks)
+image_attributes blocks = image_attributes_to blocks (512 * blocks)
 
 -- the blocks that a copy as they are takes: up to the end of the file, rounded up
 abbrev pub image_of : File → List (List ℕ)

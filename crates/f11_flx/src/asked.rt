@@ -41,6 +41,10 @@ pub struct Asker {
 }
 
 /// Asks a request that neither fills nor reads the block that is lent.
+///
+/// # Errors
+///
+/// The volume's refusal.
 pub fn ask<S: Asked>(service: &mut S, by: &Asker, request: Request) -> Result<Reply, Refusal>
     ensures granted { IfOk result (λ reply. Grants S.service (who_asks by.now.task by.now.uic)
         (told request reply) service.old service.new) }

@@ -4,7 +4,7 @@ ghost use Rattle.f11_bytes.specs.Words.{word_bytes as bytes_of_word, long_bytes 
 ghost use Rattle.f11_store.specs.File.{File, length_of, stated_end};
 ghost use Rattle.f11_store.specs.Directory.{with_end};
 ghost use Rattle.f11_flx.specs.Records.{layout_of, some_of};
-ghost use Rattle.f11_flx.specs.Spelled.{text_attributes as attributes_of_text, image_attributes as attributes_of_image, image_of};
+ghost use Rattle.f11_flx.specs.Spelled.{text_attributes as attributes_of_text, image_attributes as attributes_of_image, image_attributes_to as attributes_of_image_to, image_of};
 
 use crate::layout::Layout;
 use f11_bytes::{long_bytes, read_long, read_word, word_bytes};
@@ -77,6 +77,13 @@ pub fn image_attributes(blocks: u32) -> [u8; 32]
     ensures { result ≡ attributes_of_image blocks }
 {
     attributes(1, 0, 512, blocks, 512 * blocks)
+}
+
+/// The attributes of a file of so many blocks of 512 bytes copied as they are, which ends behind so many bytes.
+pub fn image_attributes_to(blocks: u32, end: u32) -> [u8; 32]
+    ensures { result ≡ attributes_of_image_to blocks end }
+{
+    attributes(1, 0, 512, blocks, end)
 }
 
 /// The attributes of a text whose longest line has so many bytes, of so many blocks, which ends behind so many bytes.

@@ -13,7 +13,7 @@ use crate::mode::CopyMode;
 use crate::pass::{copy_image, copy_lines};
 use crate::plan::Plan;
 use crate::refusal::FlxRefusal;
-use crate::undo::undo;
+use crate::undoing::undo;
 use f11_dev::Device;
 use f11_rad50::Name;
 use f11_store::{Change, FileId, Mode, Refusal, Reply, Request, ident_with};
@@ -28,7 +28,11 @@ pub struct Entry {
 }
 
 /// Creates a file that bars nobody.
-fn create<S: Asked>(
+///
+/// # Errors
+///
+/// The volume's refusal; `Damaged` also where it replies with anything but a file.
+pub fn create<S: Asked>(
     service: &mut S,
     by: &Asker,
     name: &Name,
@@ -53,7 +57,11 @@ fn create<S: Asked>(
 }
 
 /// Allocates so many blocks to the file that is accessed, if there are any.
-fn extend<S: Asked>(service: &mut S, by: &Asker, blocks: u32) -> Result<(), Refusal>
+///
+/// # Errors
+///
+/// The volume's refusal.
+pub fn extend<S: Asked>(service: &mut S, by: &Asker, blocks: u32) -> Result<(), Refusal>
     ensures granted { OnOk result (Granted S.service (who_asks by.now.task by.now.uic)
         (extension by.now.lun blocks) service.old service.new) }
     ensures denied { IfErr result (λ e. BreaksOffAsking S.service (who_asks by.now.task by.now.uic)
@@ -154,7 +162,16 @@ fn fill_file<E: Device, S: Asked>(
 }
 
 /// Enters the file into the directory, and protects it.
-fn enter<S: Asked>(service: &mut S, by: &Asker, entry: &Entry, id: FileId) -> Result<(), Refusal>
+///
+/// # Errors
+///
+/// The volume's refusal; where it is of the protection the file stays entered.
+pub fn enter<S: Asked>(
+    service: &mut S,
+    by: &Asker,
+    entry: &Entry,
+    id: FileId,
+) -> Result<(), Refusal>
     ensures granted { (attr : List ℕ) (blocks : List (List ℕ)) → OnOk result (Granted S.service
         (who_asks by.now.task by.now.uic)
         (entry_of (as_file entry.now.name entry.now.dir entry.now.protection attr blocks) id)

@@ -13,6 +13,10 @@ use f11_bytes::{BLOCK_SIZE, Block};
 use f11_store::{Refusal, Request};
 
 /// Writes the block at a VBN of the file that is accessed. What the block is then isn't known.
+///
+/// # Errors
+///
+/// The volume's refusal.
 pub fn write<S: Asked>(
     service: &mut S,
     by: &Asker,
