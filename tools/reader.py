@@ -1,0 +1,223 @@
+"""Reads files and directories of Files-11 images, by docs/FORMATS.md, without a look at the program's code or definitions."""
+import re
+
+from images import BLOCK, CHARACTERS
+
+DIR = 6778
+
+
+def word(b, at):
+    return b[at] | b[at + 1] << 8
+
+
+def long(b, at):
+    return word(b, at) << 16 | word(b, at + 2)
+
+
+def word_sum(b, words):
+    return sum(word(b, 2 * i) for i in range(words)) % 65536
+
+
+def text(words):
+    """The characters of a part of a name without the spaces at its end; None for what is no part."""
+    if any(w > 63999 or 29 in (w // 1600, w // 40 % 40, w % 40) for w in words):
+        return None
+    found = "".join(CHARACTERS[k] for w in words for k in (w // 1600, w // 40 % 40, w % 40)).rstrip(" ")
+    return None if " " in found or "." in found else found
+
+
+def is_name(words):
+    name, kind = text(words[:3]), text(words[3:4])
+    return None not in (name, kind) and name + kind != "" and 1 <= words[4] <= 32767
+
+
+def shown(words):
+    """The text of a name, ? for what is none."""
+    return f"{text(words[:3])}.{text(words[3:4])};{words[4]:o}" if is_name(words) else "?"
+
+
+def identified(number, sequence, volume):
+    return f"{number},{sequence}" + (f",{volume}" if volume else "")
+
+
+class Header:
+    """A block as a file header."""
+
+    def __init__(self, b):
+        self.b, self.number, self.sequence = b, word(b, 2), word(b, 4)
+        self.map = b[2 * b[1]:] if b[1] <= 250 else bytes(12)
+        self.segment, self.volume, self.link, self.link_sequence = self.map[0], self.map[1], word(self.map, 2), word(self.map, 4)
+
+    def is_valid(self, n):
+        b, m = self.b, self.map
+        ident = 0 if self.segment else 23
+        return (self.number == n != 0 and self.sequence != 0 and word(b, 6) == 0o401 and word(b, 510) == word_sum(b, 255) and b[0] >= 23
+                and b[0] + ident <= b[1] <= 250 and m[6:8] == b"\1\3" and m[8] % 2 == 0 and m[8] // 2 <= min(m[9], 250 - b[1]) // 2)
+
+    def pointers(self):
+        return [(self.map[i] << 16 | word(self.map, i + 2), self.map[i + 1] + 1) for i in range(10, 10 + 2 * self.map[8], 4)]
+
+    def blocks(self):
+        return [lbn + k for lbn, count in self.pointers() for k in range(count)]
+
+    def links_to(self, other):
+        return (self.link, self.link_sequence, self.segment + 1) == (other.number, other.sequence, other.segment)
+
+    def end(self):
+        block = long(self.b, 22)
+        return (block - 1) * BLOCK + word(self.b, 26) if block else 0
+
+    def uic(self):
+        return f"[{self.b[9]:o},{self.b[8]:o}]"
+
+    def marks(self):
+        return " contiguous" * (self.b[12] >> 7 & 1) + " marked" * (self.b[13] >> 7 & 1) + " open" * (self.b[12] >> 6 & 1)
+
+    def is_directory(self):
+        return word(self.b, 2 * self.b[0] + 6) == DIR and self.b[14] == 1 and word(self.b, 16) == 16
+
+
+class Wrong(Exception):
+    """A fault of the frame."""
+
+
+class Refused(Exception):
+    """Why a directory isn't listed."""
+
+
+class Files:
+    """The files of an image whose home block and index file can be read."""
+
+    def __init__(self, image):
+        self.image, self.blocks = image, len(image) // BLOCK
+        self.read_home()
+        self.read_index()
+
+    def block(self, lbn):
+        return self.image[BLOCK * lbn:BLOCK * lbn + BLOCK] if lbn < self.blocks else bytes(BLOCK)
+
+    def read_home(self):
+        self.candidates = [lbn for lbn in (1, *range(256, self.blocks, 256)) if lbn < self.blocks]
+        for lbn in self.candidates:
+            b = self.block(lbn)
+            self.home, self.bitmap_size, self.bitmap_lbn = lbn, word(b, 0), long(b, 2)
+            if (1 <= self.bitmap_size <= 16 and 0 < self.bitmap_lbn <= self.blocks - self.bitmap_size - 16 and word(b, 8) == 1
+                    and word(b, 12) in (0o401, 0o402) and word(b, 58) == word_sum(b, 29) and b[496:508] == b"DECFILE11A  "
+                    and word(b, 510) == word_sum(b, 255)):
+                return
+        raise Wrong("F1 no home block")
+
+    def bit(self, n):
+        return self.block(self.bitmap_lbn + (n - 1) // 4096)[(n - 1) % 4096 // 8] >> (n - 1) % 8 & 1
+
+    def read_index(self):
+        misplaced = Wrong("F2 index file misplaced")
+        before = 2 + self.bitmap_size
+        header = Header(self.block(self.bitmap_lbn + self.bitmap_size))
+        if not (self.bit(1) and header.is_valid(1) and header.segment == 0 and header.sequence == 1):
+            raise misplaced
+        index = header.blocks()
+        while header.link:
+            place = before + header.link - 1
+            if place >= len(index) or header.link > 4096 * self.bitmap_size or not self.bit(header.link):
+                raise misplaced
+            following = Header(self.block(index[place]))
+            if not (following.is_valid(header.link) and header.links_to(following)):
+                raise misplaced
+            header = following
+            index += header.blocks()
+        fixed = [0, self.home, *range(self.bitmap_lbn, self.bitmap_lbn + self.bitmap_size + 16)]
+        if any(lbn >= self.blocks for lbn in index) or index[:len(fixed)] != fixed:
+            raise misplaced
+        self.slots = min(len(index) - before, 4096 * self.bitmap_size, 65535)
+        self.used = {n: Header(self.block(index[before + n - 1])) for n in range(1, self.slots + 1) if self.bit(n)}
+        self.live = {n: h for n, h in self.used.items() if h.is_valid(n)}
+        self.files = {n: h for n, h in self.live.items() if h.segment == 0}
+
+    def next(self, header):
+        found = self.live.get(header.link)
+        return found if found and header.links_to(found) else None
+
+    def chain(self, n):
+        headers, header = [], self.files[n]
+        while header:
+            headers.append(header)
+            header = self.next(header)
+        return headers
+
+    def places(self, n):
+        return [lbn for h in self.chain(n) for lbn in h.blocks()]
+
+    def records(self, n):
+        """The records of a directory, each its eight words."""
+        places = self.places(n)
+        for i in range(min(self.files[n].end(), BLOCK * len(places)) // 16):
+            r = self.block(places[i // 32])[16 * (i % 32):][:16]
+            yield i, *(word(r, 2 * k) for k in range(3)), [word(r, 6 + 2 * k) for k in range(5)]
+
+    def has(self, number, sequence, volume):
+        return number in self.files and self.files[number].sequence == sequence and volume == 0
+
+    def listed(self, number, sequence, volume):
+        """The lines of a directory."""
+        if not self.has(number, sequence, volume):
+            raise Refused("NoSuchFile")
+        if not self.files[number].is_directory():
+            raise Refused("NotDirectory")
+        for _, *found, name in self.records(number):
+            what = f"{shown(name)} {identified(*found)}"
+            if found[0] and self.has(*found):
+                h, blocks = self.files[found[0]], len(self.places(found[0]))
+                facts = f"blocks {blocks} bytes {min(h.end(), BLOCK * blocks)} owner {h.uic()} prot {word(h.b, 10):o}"
+                yield f"file {what} {facts}{h.marks()}"
+            elif found[0]:
+                yield f"entry {what} no file"
+
+    def users(self):
+        """The lines of all users' directories."""
+        if not self.has(4, 4, 0):
+            raise Refused("NoSuchFile")
+        if not self.files[4].is_directory():
+            raise Refused("NotDirectory")
+        for _, *found, name in self.records(4):
+            user = re.fullmatch(r"([0-3][0-7]{2})([0-3][0-7]{2})\.DIR;1", shown(name))
+            if found[0] and user and self.has(*found) and self.files[found[0]].is_directory():
+                yield f"[{int(user[1], 8):o},{int(user[2], 8):o}]"
+                yield from self.listed(*found)
+
+    def found(self, directory, name):
+        """What the first record of a directory with a name has: number, sequence number and volume."""
+        if not self.has(*directory):
+            raise Refused("NoSuchFile")
+        if not self.files[directory[0]].is_directory():
+            raise Refused("NotDirectory")
+        for _, *found, words in self.records(directory[0]):
+            if found[0] and shown(words) == name:
+                return found
+        raise Refused("NoSuchEntry")
+
+    def user(self, name):
+        """The lines of the user's directory with a name."""
+        return self.listed(*self.found((4, 4, 0), name))
+
+    def content(self, user, name):
+        """The bytes of the file that a user's directory has under a name."""
+        found = self.found(self.found((4, 4, 0), user), name)
+        if not self.has(*found):
+            raise Refused("NoSuchFile")
+        return b"".join(map(self.block, self.places(found[0])))[:self.files[found[0]].end()]
+
+    def names(self):
+        """Names of all directories' records."""
+        return [shown(words) for d, h in self.files.items() if h.is_directory() for _, *found, words in self.records(d) if found[0] and is_name(words)]
+
+
+def listing(image, user=None):
+    """The lines of `ls`."""
+    try:
+        files = Files(image)
+        return [*(files.users() if user is None else files.user(user))]
+    except Wrong as wrong:
+        return [f"fault {wrong}"]
+    except Refused as refused:
+        return [f"no {refused}"]
