@@ -9,7 +9,7 @@ use Rattle.f11_flx.specs.Conversion.{copied_to_rt}
 use Rattle.f11_flx.specs.CopyToRt.{HasWholeBlocks}
 use Rattle.f11_flx.specs.Lines.{in_whole_blocks, text_of}
 use Rattle.f11_flx.specs.Place.{text_from}
-use Rattle.f11_flx.specs.Records.{layout_of, records_in, records_of}
+use Rattle.f11_flx.specs.Records.{all, layout_of, records_in, records_of}
 use Rattle.f11_flx.specs.Source.{StartsText, up_to_end}
 use Rattle.f11_flx.specs.Spelled.{image_of}
 use Rattle.f11_flx.specs.ToText.{HasNoText, converted_text, rest_of, text_left}
@@ -56,7 +56,7 @@ module _ (f : File) where
         let same : take (rest_of text) (concat f.blocks) ≡ take (rest_of text) (concat given) =
         ap (take (rest_of text)) (bytes-are given is)
         ∙ take-append-le (rest_of text) (concat given) (concat (drop (length given) f.blocks)) enough in
-        ap (text_from text.layout text.place) same
+        ap (text_from text.ends all text.layout text.place) same
 
     pub text-is : (bytes : List ℕ) → length given ≡ up_to_end f.attr (length_of f) → All (λ b. length b ≡ 512) given
         → text_left text (concat given) ≡ Some bytes →

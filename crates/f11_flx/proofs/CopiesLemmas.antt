@@ -12,6 +12,7 @@ use Rattle.f11_flx.specs.Copies.{CopiesBlocks, CopiesText, FailsToCopyBlocks, Fa
 use Rattle.f11_flx.specs.Filling.{FailsToFinish, FailsToPour, FinishesBlocks, Out, Pours, Refusing, TakingBlocks, Took, out_text, padded}
 use Rattle.f11_flx.specs.Filling.{pending}
 use Rattle.f11_flx.specs.Lines.{in_whole_blocks}
+use Rattle.f11_flx.specs.Records.{all}
 use Rattle.f11_flx.specs.ToText.{ends_record, rest_of, text_left}
 use Rattle.f11_flx.specs.declared.refusal.FlxRefusal.{FlxRefusal}
 use Rattle.f11_flx.specs.declared.refusal.FlxRefusal.TheVariants.{Files}
@@ -243,7 +244,7 @@ module _ {V W : Type 0} (S : FilesService V) (K : TakingBlocks W) (R : Refusing 
           omega (arith, whole, length-append {A = ℕ} (concat h.given) more, whole-length h.given h.sizes, h.count_is) in
           h.text more enough
           ∙ ap (λ (r : Option (List ℕ)). option_map (λ (text : List ℕ). concat h.pieces ++ text)
-          (option_map (λ (text : List ℕ). pending o ++ text) r)) (text_ends t more none h.ended)
+          (option_map (λ (text : List ℕ). pending o ++ text) r)) (text_ends all t more none h.ended)
           ∙ ap (λ (l : List ℕ). Some (concat h.pieces ++ l)) (append-nil (pending o))
 
       filled : length (pending o) ≡ o.to

@@ -6,12 +6,13 @@ use Rattle.std.proofs.lemmas.List.{append-nil}
 use Rattle.f11_flx.specs.Laws.{HasNoMore}
 use Rattle.f11_flx.specs.Lines.{has_long_line, lines_of, lines_upto}
 use Rattle.f11_flx.specs.Place.{text_in, text_from, is_ending, wanted_at}
-use Rattle.f11_flx.specs.Records.{records_upto}
+use Rattle.f11_flx.specs.Records.{Which, all, good, good_upto, records_upto}
 use Rattle.f11_flx.specs.Spelled.{variable_records, longest_of}
 use Rattle.f11_flx.specs.Stage.{given_in, is_given, lines_from, text_so_far, with_cr}
 use Rattle.f11_flx.specs.ToRecords.{gives, lines_left, open_of}
-use Rattle.f11_flx.specs.ToText.{ends_record, rest_of, text_left, Converts, StopsAt}
+use Rattle.f11_flx.specs.ToText.{ends_record, rest_of, text_by, text_left, Converts, StopsAt}
 use Rattle.f11_flx.specs.declared.layout.Layout.{Layout}
+use Rattle.f11_flx.specs.declared.line_end.LineEnd.{LineEnd}
 use Rattle.f11_flx.specs.declared.place.Place.{Place}
 use Rattle.f11_flx.specs.declared.place.Place.TheVariants as place
 use Rattle.f11_flx.specs.declared.stage.Stage.{Stage}
@@ -21,24 +22,27 @@ use Rattle.f11_flx.specs.declared.to_records.ToRecords.{ToRecords}
 use Rattle.f11_flx.proofs.TextLemmas.{some-left}
 
 -- no bytes have no text
-text_in-none : (layout : Layout) → text_in layout [] ≡ Some []
-unfolding text_in records_upto
-text_in-none layout = refl
+text_in-none : (ends : LineEnd) (which : Which) (layout : Layout) → text_in ends which layout [] ≡ Some []
+unfolding text_in records_upto good_upto
+text_in-none ends all layout = refl
+text_in-none ends good layout = refl
 
 -- nothing is to come behind the last byte
-text_from-none : (layout : Layout) (at : Place) → wanted_at at ≤ 0 → is_ending at ≡ false → text_from layout at [] ≡ Some []
-text_from-none layout place.Record few more = text_in-none layout
-text_from-none layout (place.High low) few more = absurd (omega arith)
-text_from-none layout (place.Within left pad) few more = absurd (omega (arith, some-left left more))
-text_from-none layout (place.LineFeed pad) few more = absurd (differ more)
+text_from-none : (ends : LineEnd) (which : Which) (layout : Layout) (at : Place) → wanted_at at ≤ 0 → is_ending at ≡ false
+    → text_from ends which layout at [] ≡ Some []
+text_from-none ends which layout place.Record few more = text_in-none ends which layout
+text_from-none ends which layout (place.High low) few more = absurd (omega arith)
+text_from-none ends which layout (place.Within left pad) few more = absurd (omega (arith, some-left left more))
+text_from-none ends which layout (place.LineFeed pad) few more = absurd (differ more)
   where
     differ : true ≡ false → ⊥
     differ is = cc
-text_from-none layout place.Pad few more = text_in-none layout
+text_from-none ends which layout place.Pad few more = text_in-none ends which layout
 
-pub text_ends : (s : ToText) (bytes : List ℕ) → rest_of s ≡ 0 → ends_record s ≡ false → text_left s bytes ≡ Some []
-text_ends s bytes none more =
-    ap (λ (n : ℕ). text_from s.layout s.place (take n bytes)) none ∙ text_from-none s.layout s.place (omega (arith, s.wanted)) more
+pub text_ends : (which : Which) (s : ToText) (bytes : List ℕ) → rest_of s ≡ 0 → ends_record s ≡ false → text_by which s bytes ≡ Some []
+text_ends which s bytes none more =
+    ap (λ (n : ℕ). text_from s.ends which s.layout s.place (take n bytes)) none
+    ∙ text_from-none s.ends which s.layout s.place (omega (arith, s.wanted)) more
 
 -- a text that is to come has one before it
 no_text : (given : List ℕ) (before after : Option (List ℕ)) → before ≡ option_map (λ (text : List ℕ). given ++ text) after → before ≡ None
@@ -54,13 +58,13 @@ pub text_is_refused : (old new : ToText) (source target : List ℕ) (used from t
 text_is_refused old new source target used from to (done) (inl full) enough none = full
 text_is_refused old new source target used from to done (inr stops) enough none =
     let rest : rest_of new ≡ 0 = elim stops.1 [
-      | inl all ↦ omega (arith, done.read, all)
+      | inl read ↦ omega (arith, done.read, read)
       | inr none ↦ none
     ] in
     let whole : source ++ [] ≡ source = append-nil source in
     absurd (no_text (slice_range target from to) (text_left old (source ++ [])) (text_left new (drop used source ++ []))
-    (done.text [] (omega (arith, ap length whole)))
-    (ap (text_left old) whole ∙ none) (text_ends new (drop used source ++ []) rest stops.0))
+    (done.text all [] (omega (arith, ap length whole)))
+    (ap (text_left old) whole ∙ none) (text_ends all new (drop used source ++ []) rest stops.0))
 
 -- no line is to come where none is open
 lines_from-none : (line : List ℕ) (at : Stage) → length (text_so_far line at) ≡ 0 → is_given at ≡ false → lines_from line at [] ≡ []

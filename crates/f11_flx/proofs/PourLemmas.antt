@@ -1,5 +1,5 @@
 -- A text that is converted into blocks, a step at a time.
-use Rattle.std.proofs.Common.{◌≡◌, ◌⊎◌, inl, inr, ℕ, suc, ◌+◌, ◌-◌, ◌*◌, ◌<◌, ◌≤◌, ◌==◌, Bool, true, false, if◌then◌else◌, List, [], ◌∷◌}
+use Rattle.std.proofs.Common.{◌≡◌, ◌⊎◌, inl, inr, ℕ, suc, ◌+◌, ◌-◌, ◌*◌, ◌<◌, ◌≤◌, List, [], ◌∷◌}
 use Rattle.std.proofs.Common.{◌++◌, length, take, drop, Option, Some, None, All, refl, sym, ap, ◌∙◌, subst, append-nil, length-append}
 use Rattle.std.proofs.Common.{length-drop, arith}
 use Rattle.std.specs.Prelude.{slice_range, option_map}
@@ -10,13 +10,12 @@ use Rattle.std.proofs.lemmas.List.Elements.{All-append, All-cons, All-head, All-
 use Rattle.std.proofs.lemmas.List.Folds.{concat-append}
 use Rattle.f11_flx.specs.Filling.{FailsToPour, Out, Pouring, Pours, Refusing, TakingBlocks, TakesNext, Took, out_text, pending}
 use Rattle.f11_flx.specs.Puts.{PutsAt}
+use Rattle.f11_flx.specs.Records.{all}
 use Rattle.f11_flx.specs.ToText.{Converts, Stops, StopsAt, rest_of, text_left}
-use Rattle.f11_flx.specs.Place.{ending_at}
-use Rattle.f11_flx.specs.declared.place.Place.{Place}
-use Rattle.f11_flx.specs.declared.place.Place.TheVariants as place
 use Rattle.f11_flx.specs.declared.refusal.FlxRefusal.{FlxRefusal}
 use Rattle.f11_flx.specs.declared.to_text.ToText.{ToText}
 use Rattle.f11_flx.proofs.ConvertLemmas.{option_map-append}
+use Rattle.f11_flx.proofs.TextLemmas.{ending_at-few}
 
 -- blocks of 512 bytes have 512 times as many
 pub whole-length : (pieces : List (List ℕ)) → All (λ b. length b ≡ 512) pieces → length (concat pieces) ≡ 512 * length pieces
@@ -44,18 +43,6 @@ option_map-longer a (Some t) text is =
 -- where no byte is to come, those that follow don't matter
 text-of-none : (t : ToText) (xs ys : List ℕ) → rest_of t ≡ 0 → text_left t xs ≡ text_left t ys
 text-of-none t xs ys none = cc
-
--- at most CR and LF are to come before a byte is read
-ending-small : (p : Place) → ending_at p ≤ 2
-ending-small place.Record = omega arith
-ending-small (place.High low) = omega arith
-ending-small (place.Within left pad) = by (left == 0)
-  where
-    by : (b : Bool) → (if b then 2 else 0) ≤ 2
-    by true = omega arith
-    by false = omega arith
-ending-small (place.LineFeed pad) = omega arith
-ending-small place.Pad = omega arith
 
 module _ {V : Type 0} (K : TakingBlocks V) (name : List ℕ) where
   pub took-append : (place : ℕ) (xs ys : List (List ℕ)) (old now new : V) → Took K name place xs old now
@@ -97,7 +84,7 @@ module _ {V : Type 0} (K : TakingBlocks V) (name : List ℕ) where
         ∙ ap (λ (n : ℕ). drop n source) (sym is) in
         h.text more long
         ∙ ap (λ (r : Option (List ℕ)). option_map (λ (text : List ℕ). concat h.pieces ++ text)
-        (option_map (λ (text : List ℕ). pending o ++ text) r)) (c.text more enough)
+        (option_map (λ (text : List ℕ). pending o ++ text) r)) (c.text all more enough)
         ∙ ap (option_map (λ (text : List ℕ). concat h.pieces ++ text))
         (option_map-append (pending o) (slice_range o'.block o.to o'.to) (text_left t' (drop read (drop used source) ++ more)))
         ∙ ap (λ (b : List ℕ). option_map (λ (text : List ℕ). concat h.pieces ++ text)
@@ -145,7 +132,7 @@ module _ {V : Type 0} (K : TakingBlocks V) (name : List ℕ) where
     pieces = h.pieces;
     took = h.took;
     place = h.place;
-    few = omega (arith, h.few, h.within, ending-small t0.place, size, room);
+    few = omega (arith, h.few, h.within, ending_at-few t0.place, size, room);
     whole = h.whole;
     text = λ more long. h.text more long
         ∙ ap (λ (r : Option (List ℕ)). option_map (λ (text : List ℕ). concat h.pieces ++ text)
@@ -156,13 +143,13 @@ module _ {V : Type 0} (K : TakingBlocks V) (name : List ℕ) where
     where
       same : ((read ≡ length (drop used source)) ⊎ (rest_of t ≡ 0)) → (more : List ℕ)
           → text_left t (drop (used + read) source ++ more) ≡ text_left t more
-      same (inl all) more =
-          let whole : used + read ≡ length source = omega (arith, all, low, length-drop {A = ℕ} used source) in
+      same (inl every) more =
+          let whole : used + read ≡ length source = omega (arith, every, low, length-drop {A = ℕ} used source) in
           ap (λ (n : ℕ). text_left t (drop n source ++ more)) whole ∙ ap (λ (b : List ℕ). text_left t (b ++ more)) (drop-length source)
       same (inr none) more = text-of-none t (drop (used + read) source ++ more) more none
 
       rest : ((read ≡ length (drop used source)) ⊎ (rest_of t ≡ 0)) → rest_of t ≡ rest_of t0 - length source
-      rest (inl all) = omega (arith, h.read, all, low, length-drop {A = ℕ} used source)
+      rest (inl every) = omega (arith, h.read, every, low, length-drop {A = ℕ} used source)
       rest (inr none) = omega (arith, h.read, none, h.within)
 
   -- a block is refused
@@ -201,4 +188,4 @@ module _ {V : Type 0} (K : TakingBlocks V) (name : List ℕ) where
   -- few blocks are given meanwhile
   pub pouring-few : (t0 t : ToText) (source : List ℕ) (used : ℕ) (o0 o : Out) (v w : V) → Pouring K name t0 t source used o0 o v w →
       512 * o.place ≤ 512 * o0.place + o0.to + 2 + 3 * length source
-  pouring-few t0 t source used o0 o v w h = omega (arith, h.few, h.place, h.within, ending-small t0.place)
+  pouring-few t0 t source used o0 o v w h = omega (arith, h.few, h.place, h.within, ending_at-few t0.place)

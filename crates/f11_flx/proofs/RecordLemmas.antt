@@ -1,11 +1,11 @@
 -- The records of bytes.
 use Rattle.std.proofs.Common.{◌≡◌, inl, inr, ℕ, zero, suc, ◌+◌, ◌-◌, ◌%◌, ◌<◌, ◌≤◌, ltb, List, [], ◌∷◌, ◌++◌, length, take, drop, Option}
 use Rattle.std.proofs.Common.{Some, None, refl, sym, ap, ◌∙◌, arith, append_assoc, length-append, length-drop, lt-ltb, le-ltb}
-use Rattle.std.specs.Prelude.{slice_range, replicate, option_and_then, option_map}
+use Rattle.std.specs.Prelude.{slice_range, replicate, option_and_then, option_map, unwrap_or}
 use Rattle.std.proofs.lemmas.Bool.{cases_lt, cond-true, cond-false}
 use Rattle.std.proofs.lemmas.List.{length-replicate}
 use Rattle.std.proofs.Math.Seq.{drop-append_seam, take-append_seam}
-use Rattle.f11_flx.specs.Records.{some_of, head_of, size_of, pad_of, first_record, records_upto, records_in}
+use Rattle.f11_flx.specs.Records.{some_of, head_of, size_of, pad_of, first_record, records_upto, records_in, good_upto, good_in}
 use Rattle.f11_flx.specs.Spelled.{variable_record, variable_records}
 use Rattle.f11_flx.specs.declared.layout.Layout.{Layout}
 use Rattle.f11_flx.specs.declared.layout.Layout.TheVariants.{Fixed, Variable}
@@ -85,6 +85,67 @@ records_in-first layout (byte ∷ bytes) some long =
     (λ record_bytes rest is.
     let shorter = first_record-shorter layout (byte ∷ bytes) record_bytes rest some (omega arith) is in
     records_upto-enough (length bytes) (length rest) layout rest some (omega arith) (omega arith))
+
+-- the first good record, and what makes the others of the bytes behind it
+abbrev pub with_good : Option (List ℕ × List ℕ) → (List ℕ → List (List ℕ)) → List (List ℕ)
+with_good first others = unwrap_or (option_map (λ (f : List ℕ × List ℕ). f.0 ∷ others f.1) first) []
+
+-- two ways to make them that agree on those bytes
+with_good-same : (first : Option (List ℕ × List ℕ)) (f g : List ℕ → List (List ℕ))
+    → ((record_bytes rest : List ℕ) → first ≡ Some (record_bytes, rest) → f rest ≡ g rest) → with_good first f ≡ with_good first g
+with_good-same None f g agree = refl
+with_good-same (Some first) f g agree = ap (λ (more : List (List ℕ)). first.0 ∷ more) (agree first.0 first.1 refl)
+
+-- any number that is no less than the bytes does for them, too
+good_upto-enough : (n m : ℕ) (layout : Layout) (bytes : List ℕ) → 0 < some_of layout → length bytes ≤ n → length bytes ≤ m
+    → good_upto n layout bytes ≡ good_upto m layout bytes
+unfolding good_upto
+good_upto-enough n m layout [] some few enough = refl
+good_upto-enough zero m layout (byte ∷ bytes) some few enough = absurd (omega arith)
+good_upto-enough (suc n) zero layout (byte ∷ bytes) some few enough = absurd (omega arith)
+good_upto-enough (suc n) (suc m) layout (byte ∷ bytes) some few enough =
+    with_good-same (first_record layout (byte ∷ bytes)) (good_upto n layout) (good_upto m layout)
+    (λ record_bytes rest is.
+    let shorter = first_record-shorter layout (byte ∷ bytes) record_bytes rest some (omega arith) is in
+    good_upto-enough n m layout rest some (omega arith) (omega arith))
+
+-- the first good record and the others
+pub good_in-first : (layout : Layout) (bytes : List ℕ) → 0 < some_of layout → 0 < length bytes
+    → good_in layout bytes ≡ with_good (first_record layout bytes) (good_in layout)
+unfolding good_upto
+good_in-first layout [] some long = absurd (omega arith)
+good_in-first layout (byte ∷ bytes) some long =
+    with_good-same (first_record layout (byte ∷ bytes)) (good_upto (length bytes) layout) (good_in layout)
+    (λ record_bytes rest is.
+    let shorter = first_record-shorter layout (byte ∷ bytes) record_bytes rest some (omega arith) is in
+    good_upto-enough (length bytes) (length rest) layout rest some (omega arith) (omega arith))
+
+-- where there is a first record and others, the good ones are these
+with_good-all : (first : Option (List ℕ × List ℕ)) (f : List ℕ → Option (List (List ℕ))) (g : List ℕ → List (List ℕ))
+    → ((rest : List ℕ) (others : List (List ℕ)) → f rest ≡ Some others → g rest ≡ others)
+    → (records : List (List ℕ)) → with_first first f ≡ Some records → with_good first g ≡ records
+with_good-all None f g agree records is = absurd (cc)
+with_good-all (Some first) f g agree records is = by (f first.1) refl is
+  where
+    by : (o : Option (List (List ℕ))) → f first.1 ≡ o → option_map (λ (more : List (List ℕ)). first.0 ∷ more) o ≡ Some records
+        → first.0 ∷ g first.1 ≡ records
+    by None has same = absurd (cc)
+    by (Some others) has same =
+        let whole : first.0 ∷ others ≡ records = cc in
+        ap (λ (more : List (List ℕ)). first.0 ∷ more) (agree first.1 others has) ∙ whole
+
+good_upto-all : (n : ℕ) (layout : Layout) (bytes : List ℕ) (records : List (List ℕ)) → records_upto n layout bytes ≡ Some records
+    → good_upto n layout bytes ≡ records
+unfolding records_upto good_upto
+good_upto-all n layout [] records is = cc
+good_upto-all zero layout (byte ∷ bytes) records is = absurd (cc)
+good_upto-all (suc n) layout (byte ∷ bytes) records is =
+    with_good-all (first_record layout (byte ∷ bytes)) (records_upto n layout) (good_upto n layout)
+    (λ rest others has. good_upto-all n layout rest others has) records is
+
+pub all_are_good : (layout : Layout) (bytes : List ℕ) (records : List (List ℕ)) → records_in layout bytes ≡ Some records
+    → good_in layout bytes ≡ records
+all_are_good layout bytes records is = good_upto-all (length bytes) layout bytes records is
 
 -- no bytes have no records
 pub records_in-none : (layout : Layout) → records_in layout [] ≡ Some []

@@ -5,9 +5,9 @@ use Rattle.f11_bytes.specs.Words.{word}
 use Rattle.f11_store.specs.File.{File, length_of, stated_end}
 use Rattle.f11_flx.specs.Conversion.{Copy, HoldsCopy, copied_from_rt, copied_to_rt}
 use Rattle.f11_flx.specs.Lines.{without_zeros, has_crlf, lines_of, text_of, in_whole_blocks}
-use Rattle.f11_flx.specs.Records.{layout_of, some_of, records_in, records_of}
+use Rattle.f11_flx.specs.Records.{Which, good_in, layout_of, some_of, records_in, records_of}
 use Rattle.f11_flx.specs.Spelled.{image_attributes, text_attributes, variable_records}
-use Rattle.f11_flx.specs.ToText.{ends_record, rest_of, text_left, Converts, StopsAt}
+use Rattle.f11_flx.specs.ToText.{ends_record, rest_of, text_by, text_left, Converts, StopsAt}
 use Rattle.f11_flx.specs.ToRecords.{bytes_to_come, gives, is_too_long, longest_given, longest_with, open_of}
 use Rattle.f11_flx.specs.Walk.{Walk, bytes_left, end_by, place_of, walk_from_start, TakesRecord}
 use Rattle.f11_flx.specs.declared.to_text.ToText.{ToText}
@@ -63,9 +63,14 @@ StartHasAll =
     (file : File) (layout : Layout) → layout_of file.attr ≡ Some layout →
     records_of file ≡ records_in layout (bytes_left (walk_from_start layout file.attr (length_of file)) (concat file.blocks))
 
+-- where no record goes past the end all of them are good
+abbrev pub AllAreGood : Type 0
+AllAreGood = (layout : Layout) (bytes : List ℕ) (records : List (List ℕ)) → records_in layout bytes ≡ Some records →
+    good_in layout bytes ≡ records
+
 -- a file that is read to its end has no more text to come
 abbrev pub TextEnds : Type 0
-TextEnds = (s : ToText) (bytes : List ℕ) → rest_of s ≡ 0 → ends_record s ≡ false → text_left s bytes ≡ Some []
+TextEnds = (which : Which) (s : ToText) (bytes : List ℕ) → rest_of s ≡ 0 → ends_record s ≡ false → text_by which s bytes ≡ Some []
 
 -- where the source has the rest of a file that has no text, a conversion fills the target or refuses
 abbrev pub TextIsRefused : Type 0

@@ -24,6 +24,8 @@ use Rattle.std.specs.Prelude.{
   flat_map,
 }
 use Rattle.std.specs.List.{list_any}
+use Rattle.f11_flx.specs.declared.line_end.LineEnd.{LineEnd}
+use Rattle.f11_flx.specs.declared.line_end.LineEnd.TheVariants.{CrLf, Lf}
 
 -- zero bytes fill a text up, and stand for nothing
 abbrev pub without_zeros : List ℕ → List ℕ
@@ -73,9 +75,18 @@ longest_line = 2048
 abbrev pub has_long_line : List (List ℕ) → Bool
 has_long_line lines = list_any (λ line. nat_lt longest_line (length line)) lines
 
--- the text of these lines: each of them, then CR LF
+-- what ends a line: CR LF on an RT-11 volume, LF on a host (profile)
+abbrev pub line_end : LineEnd → List ℕ
+line_end CrLf = 13 ∷ 10 ∷ []
+line_end Lf = 10 ∷ []
+
+-- the text of these lines: each of them, then what ends it
+abbrev pub text_with : LineEnd → List (List ℕ) → List ℕ
+text_with ends lines = flat_map (λ line. line ++ line_end ends) lines
+
+-- their text on an RT-11 volume
 abbrev pub text_of : List (List ℕ) → List ℕ
-text_of lines = flat_map (λ line. line ++ (13 ∷ 10 ∷ [])) lines
+text_of lines = text_with CrLf lines
 
 -- bytes with zeros up to the end of their last block
 abbrev pub in_whole_blocks : List ℕ → List ℕ

@@ -21,6 +21,7 @@ use Rattle.std.specs.Prelude.{
   Some,
   None,
   option_and_then,
+  unwrap_or,
 }
 use Rattle.std.specs.Option.{option_map}
 use Rattle.std.specs.Int.{bit_at}
@@ -82,3 +83,33 @@ records_in layout bytes = records_upto (length bytes) layout bytes
 -- the records of a file: those of its bytes up to its end
 abbrev pub records_of : File → Option (List (List ℕ))
 records_of file = option_and_then (λ layout. records_in layout (take (end_of file) (concat file.blocks))) (layout_of file.attr)
+
+-- the good records of these bytes: those before the first that goes past their end, or all. There are no more than n.
+unfoldable pub good_upto : ℕ → Layout → List ℕ → List (List ℕ)
+good_upto n layout [] = []
+good_upto zero layout (byte ∷ bytes) = []
+good_upto (suc n) layout (byte ∷ bytes) =
+    unwrap_or (option_map (λ (first : List ℕ × List ℕ). first.0 ∷ good_upto n layout first.1)
+    (first_record layout (byte ∷ bytes))) []
+
+abbrev pub good_in : Layout → List ℕ → List (List ℕ)
+good_in layout bytes = good_upto (length bytes) layout bytes
+
+-- those of a file: none where its attributes don't say how records lie
+abbrev pub good_of : File → List (List ℕ)
+good_of file = unwrap_or (option_map (λ layout. good_in layout (take (end_of file) (concat file.blocks))) (layout_of file.attr)) []
+
+-- which records are meant: all, where they can be read, or the good ones
+pub data Which : Type 0 where
+  all : Which
+  good : Which
+
+-- those of these bytes
+abbrev pub records_by : Which → Layout → List ℕ → Option (List (List ℕ))
+records_by all layout bytes = records_in layout bytes
+records_by good layout bytes = Some (good_in layout bytes)
+
+-- those of a file
+abbrev pub records_of_by : Which → File → Option (List (List ℕ))
+records_of_by all file = records_of file
+records_of_by good file = Some (good_of file)

@@ -22,6 +22,11 @@ pub fn walks()
     ensures end { laws.EndHasNone }
 {}
 
+/// Which records are good.
+pub fn good_records()
+    ensures all { laws.AllAreGood }
+{}
+
 /// When a conversion is done: [`ToText`](crate::ToText) and [`ToRecords`](crate::ToRecords) have nothing more to give.
 pub fn ends()
     ensures text { laws.TextEnds }

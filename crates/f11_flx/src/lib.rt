@@ -21,6 +21,7 @@ mod from_rt;
 mod into_rt;
 pub mod laws;
 mod layout;
+mod line_end;
 mod lines;
 mod making;
 pub mod making_laws;
@@ -53,6 +54,7 @@ pub use attributes::{
 pub use from_rt::copy_from_rt;
 pub use into_rt::copy_to_rt;
 pub use layout::Layout;
+pub use line_end::LineEnd;
 pub use making::{Entry, create, enter, extend};
 pub use mode::CopyMode;
 pub use records::{BadRecord, Records};

@@ -7,7 +7,7 @@ pub enum Place {
     Record,
     /// The high byte of a length word with this low byte.
     High(u8),
-    /// So many bytes of a record, then CR LF, and then a pad byte or none.
+    /// So many bytes of a record, then what ends a line, and then a pad byte or none.
     Within(u16, bool),
     /// LF, and then a pad byte or none.
     LineFeed(bool),

@@ -1,21 +1,23 @@
 //! From records to text.
-ghost use Rattle.std.specs.Prelude.{◌≡◌, ◌↔◌, ◌+◌, ◌-◌, ◌*◌, ◌<◌, ◌≤◌, ℕ, false, List, ◌∷◌, IsTrue, length, min, slice_range, None, option_map, option_to_list, IsErr, IfOk, IfSome, IfNone, OnErr};
-ghost use Rattle.f11_flx.specs.Place.{has_place, is_ending, text_from, wanted_at, ReadsByte, RefusesByte};
+ghost use Rattle.std.specs.Prelude.{◌≡◌, ◌↔◌, ◌+◌, ◌-◌, ◌*◌, ◌<◌, ◌≤◌, ℕ, true, false, List, ◌∷◌, IsTrue, length, min, slice_range, None, option_map, option_to_list, IsErr, IfOk, IfSome, IfNone, OnErr};
+ghost use Rattle.f11_flx.specs.Place.{behind_line, has_place, is_ending, wanted_at, ReadsByte, RefusesByte};
 ghost use Rattle.f11_flx.specs.Puts.{PutsAt};
-ghost use Rattle.f11_flx.specs.Records.{layout_of, some_of};
+ghost use Rattle.f11_flx.specs.Records.{layout_of, some_of, Which};
 
 use crate::attributes::{end, layout};
 use crate::layout::Layout;
+use crate::line_end::LineEnd;
 use crate::place::Place;
 use crate::put::put;
 use crate::records::BadRecord;
 use f11_bytes::{BLOCK_SIZE, Block};
 
-/// The text of a file's records, each of them and then CR LF (RSX-11M Utilities manual, FLX), made from the file's bytes in
-/// whatever pieces they come.
+/// The text of a file's records, each of them and then what ends a line (RSX-11M Utilities manual, FLX), made from the
+/// file's bytes in whatever pieces they come.
 #[derive(Clone, Copy, Debug)]
 pub struct ToText {
     layout: Layout,
+    ends: LineEnd,
     /// The bytes of the file that are still to come.
     rest: u32,
     place: Place,
@@ -28,9 +30,10 @@ impl ToText {
     ghost use Rattle.std.specs.Prelude.{drop};
     ghost use Rattle.std.specs.List.{concat};
     ghost use Rattle.f11_store.specs.File.{File, stated_end, length_of};
-    ghost use Rattle.f11_flx.specs.ToText.{converted_text, ends_record, rest_of, text_left, Converts, HasNoText, StopsAt, Stops, EndsRecord, ReadsOn, RefusesOn, IsTextStep};
+    ghost use Rattle.f11_flx.specs.ToText.{converted_by, converted_text, ends_record, rest_of, text_by, text_left, Converts, HasNoText, MeetsBad, StopsAt, Stops, EndsRecord, ReadsOn, RefusesOn, IsTextStep};
 
-    /// The conversion of a file with these attributes (H.UFAT) and so many blocks, of which it may have 8,323,072.
+    /// The conversion into lines that end with CR LF of a file with these attributes (H.UFAT) and so many blocks, of which it
+    /// may have 8,323,072.
     ///
     /// # Errors
     ///
@@ -45,11 +48,30 @@ impl ToText {
         ensures begins { IfOk result (λ text. ends_record text ≡ false) }
         ensures bad { IsErr result ↔ (layout_of attr.now ≡ None) }
     {
+        ToText::ending(attr, allocation, LineEnd::CrLf)
+    }
+
+    /// The conversion as [`ToText::new`] begins it, into lines that end so.
+    ///
+    /// # Errors
+    ///
+    /// `BadRecord` where the attributes don't say how the records lie.
+    pub fn ending(attr: &[u8; 32], allocation: u32, ends: LineEnd) -> Result<ToText, BadRecord>
+        requires { allocation ≤ 8323072 }
+        ensures starts { IfOk result (λ text. (which : Which) (file : File) → file.attr ≡ attr.now
+            → length_of file ≡ allocation
+            → text_by which text (concat file.blocks) ≡ converted_by ends which file) }
+        ensures rest { IfOk result (λ text.
+            rest_of text ≡ min (stated_end attr.now) (512 * allocation)) }
+        ensures begins { IfOk result (λ text. ends_record text ≡ false) }
+        ensures bad { IsErr result ↔ (layout_of attr.now ≡ None) }
+    {
         let Some(layout) = layout(attr) else {
             return Err(BadRecord);
         };
         Ok(ToText {
             layout,
+            ends,
             rest: end(attr, allocation),
             place: Place::Record,
         })
@@ -76,27 +98,54 @@ impl ToText {
         ensures stops { IfOk result (λ done. StopsAt self.new source.now done.0 done.1) }
         ensures bad { OnErr result (HasNoText self.old source.now) }
     {
-        let mut used = 0;
-        let mut to = from;
-        while to < BLOCK_SIZE {
-            let Some((next, given)) = self.step(source, used)? else {
-                return Ok((used, to));
-            };
-            used = next;
-            to = put(target, to, given);
+        let (used, to, bad) = self.convert_good(source, target, from);
+        if bad {
+            return Err(BadRecord);
         }
         Ok((used, to))
     }
 
-    /// Gives the CR or LF that is to come, or else reads the source's next byte: how many of its bytes are then read, and the
-    /// byte of text that was given, if one was. `None` where neither can be done.
+    /// Converts as [`ToText::convert`] does, up to a record that goes past the end of the file: how many bytes of the source
+    /// were read, the byte of the target behind the last that was put, and whether there is such a record. Then all of the
+    /// text before it was put, and this value is of no more use.
+    pub fn convert_good(
+        &mut self,
+        source: &[u8],
+        target: &mut Block,
+        from: usize,
+    ) -> (usize, usize, bool)
+        requires { from ≤ 512 }
+        ensures converts { Converts self.old self.new source.now result.0 target.new from result.1 }
+        ensures puts { PutsAt target.old target.new from result.1 }
+        ensures room { result.1 ≤ 512 }
+        ensures stops { result.2 ≡ false → StopsAt self.new source.now result.0 result.1 }
+        ensures bad { result.2 ≡ true → MeetsBad self.new (drop result.0 source.now) }
+    {
+        let mut used = 0;
+        let mut to = from;
+        while to < BLOCK_SIZE {
+            match self.step(source, used) {
+                Ok(Some((next, given))) => {
+                    used = next;
+                    to = put(target, to, given);
+                }
+                Ok(None) => return (used, to, false),
+                Err(_) => return (used, to, true),
+            }
+        }
+        (used, to, false)
+    }
+
+    /// Gives the byte of a line's end that is to come, or else reads the source's next byte: how many of its bytes are then
+    /// read, and the byte of text that was given, if one was. `None` where neither can be done.
     fn step(&mut self, source: &[u8], used: usize) -> Result<Option<(usize, Option<u8>)>, BadRecord>
         requires { used ≤ length source.now }
         ensures steps { IfOk result (λ answer. IfSome answer (λ step.
             IsTextStep self.old self.new source.now used step.0 step.1)) }
         ensures stops { IfOk result (λ answer. IfNone answer (Stops self.old source.now used)) }
         ensures stays { IfOk result (λ answer. IfNone answer (self.new ≡ self.old)) }
-        ensures bad { OnErr result (HasNoText self.old (drop used source.now)) }
+        ensures bad { OnErr result (MeetsBad self.new (drop used source.now)) }
+        ensures kept { OnErr result (self.new ≡ self.old) }
     {
         if let Some(byte) = self.end_record() {
             return Ok(Some((used, Some(byte))));
@@ -115,19 +164,25 @@ impl ToText {
         self.rest
     }
 
-    /// CR or LF, where one of them is to come.
+    /// A byte that ends a line, where one is to come.
     fn end_record(&mut self) -> Option<u8>
         ensures ends { IfSome result (λ byte. EndsRecord self.old self.new byte) }
         ensures none { IfNone result (ends_record self.old ≡ false) }
         ensures stays { IfNone result (self.new ≡ self.old) }
     {
         match self.place {
-            Place::Within(0, pad) => {
-                self.place = Place::LineFeed(pad);
-                Some(b'\r')
-            }
+            Place::Within(0, pad) => match self.ends {
+                LineEnd::CrLf => {
+                    self.place = Place::LineFeed(pad);
+                    Some(b'\r')
+                }
+                LineEnd::Lf => {
+                    self.place = behind(pad);
+                    Some(b'\n')
+                }
+            },
             Place::LineFeed(pad) => {
-                self.place = if pad { Place::Pad } else { Place::Record };
+                self.place = behind(pad);
                 Some(b'\n')
             }
             _ => None,
@@ -140,6 +195,7 @@ impl ToText {
         requires reads { ends_record self.old ≡ false }
         ensures reads { IfOk result (λ given. ReadsOn self.old self.new byte given) }
         ensures bad { OnErr result (RefusesOn self.old byte) }
+        ensures kept { OnErr result (self.new ≡ self.old) }
     {
         let rest = self.rest - 1;
         let (place, given) = next(self.layout, self.place, byte, rest)?;
@@ -147,6 +203,13 @@ impl ToText {
         self.place = place;
         Ok(given)
     }
+}
+
+/// What comes behind the end of a line.
+fn behind(pad: bool) -> Place
+    ensures { result ≡ behind_line pad }
+{
+    if pad { Place::Pad } else { Place::Record }
 }
 
 /// What comes behind a byte, and the byte of text that it is, if it is one.

@@ -1,18 +1,10 @@
-use Rattle.std.proofs.Common.{arith}
-use Rattle.f11_flx.proofs.ConvertLemmas.{Converts-more}
-use Rattle.f11_flx.proofs.PutLemmas.{PutsAt-more, slice_range-more}
+use Rattle.f11_flx.proofs.ConvertLemmas.{none-behind}
 use Rattle.f11_flx.proofs.to_text.ToText.convert.Goals as goal
 
-pub loop-to-preserved : goal.loop-to-preserved
-loop-to-preserved c =
-    let held = c.loop-to.invariant in
-    let step = rw c.in-Some.is at c.in_ok-next.ensures.steps in
-    let put = c.put-to.ensures in
-    record {
-      converts =
-          Converts-more c.args.self.now c.loop-to.self c.step.new.self c.args.source.now c.loop-to.used _ c.loop-to.target
-          c.put-to.new.block c.args.from c.loop-to.to c.put-to.result _ held.converts step
-          (slice_range-more c.args.from held.converts.order (omega (arith, put.place)) put.puts put.put) put.place;
-      puts = PutsAt-more held.converts.order (omega (arith, put.place)) held.puts put.puts;
-      room = put.within;
-    }
+pub returns-then-bad-clause-bad : goal.returns-then-bad-clause-bad
+returns-then-bad-clause-bad c =
+    let e = c.convert_good-used.ensures in
+    none-behind c.args.self.now c.convert_good-used.new.self c.args.source.now _ _ c.args.from _ e.converts (e.bad c.if-bad.true)
+
+pub returns-clause-stops : goal.returns-clause-stops
+returns-clause-stops c = c.convert_good-used.ensures.stops c.if-bad.false

@@ -1,14 +1,13 @@
-use Rattle.std.proofs.Common.{List, ℕ, ◌*◌, min, take, sym, ap, ◌∙◌}
+use Rattle.std.proofs.lemmas.Result.{IfOk-weaker}
+use Rattle.std.proofs.Common.{◌≡◌}
 use Rattle.std.specs.List.{concat}
-use Rattle.f11_store.specs.File.{stated_end}
-use Rattle.f11_flx.specs.Place.{text_in}
-use Rattle.f11_flx.specs.Records.{layout_of}
-use Rattle.f11_flx.proofs.TextLemmas.{converted_text-in}
+use Rattle.f11_store.specs.File.{File, length_of}
+use Rattle.f11_flx.specs.Records.{Which, all}
+use Rattle.f11_flx.specs.ToText.{converted_by, text_by}
+use Rattle.f11_flx.specs.declared.line_end.LineEnd.TheVariants.{CrLf}
 use Rattle.f11_flx.proofs.to_text.ToText.new.Goals as goal
 
 pub returns-clause-starts : goal.returns-clause-starts
-returns-clause-starts c = λ file attr allocation.
-    let end = c.end.ensures ∙ ap (λ (a : List ℕ). min (stated_end a) (512 * c.args.allocation)) (sym attr)
-    ∙ ap (λ (n : ℕ). min (stated_end file.attr) (512 * n)) (sym allocation) in
-    ap (λ (n : ℕ). text_in c.in-Some.layout (take n (concat file.blocks))) end
-    ∙ converted_text-in file c.in-Some.layout (ap layout_of attr ∙ sym c.layout.ensures.layout ∙ c.in-Some.is)
+returns-clause-starts c =
+    IfOk-weaker c.ending.result (λ text. (which : Which) (file : File) → file.attr ≡ c.args.attr.now → length_of file ≡ c.args.allocation
+    → text_by which text (concat file.blocks) ≡ converted_by CrLf which file) _ (λ text starts. starts all) c.ending.ensures.starts

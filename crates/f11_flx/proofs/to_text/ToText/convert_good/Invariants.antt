@@ -1,7 +1,7 @@
 use Rattle.std.proofs.Common.{◌+◌, ◌-◌, ◌≤◌, length}
 use Rattle.f11_flx.specs.Puts.{PutsAt}
 use Rattle.f11_flx.specs.ToText.{Converts}
-use Rattle.f11_flx.proofs.to_text.ToText.convert.Given as goal
+use Rattle.f11_flx.proofs.to_text.ToText.convert_good.Given as goal
 
 -- the bytes so far are converted
 abbrev pub invariant-loop-to : goal.invariant-loop-to
