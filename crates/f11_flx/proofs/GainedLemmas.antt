@@ -1,19 +1,18 @@
 -- A store whose index file gets slots before headers are taken.
-use Rattle.std.proofs.Common.{◌≡◌, ℕ, zero, suc, ◌+◌, ◌-◌, ◌≤◌, ◌==◌, ◌&&◌, Bool, true, false, nat_le, if◌then◌else◌, List, [], ◌++◌}
-use Rattle.std.proofs.Common.{Option, Some, None, option_map, slice_index, take, unwrap_or, refl, sym, ◌∙◌, ap, subst, arith}
+use Rattle.std.proofs.Common.{◌≡◌, ℕ, zero, suc, ◌+◌, ◌≤◌, ◌==◌, ◌&&◌, Bool, true, false, nat_le, if◌then◌else◌, List, [], ◌++◌}
+use Rattle.std.proofs.Common.{Option, Some, None, option_map, take, unwrap_or, refl, sym, ◌∙◌, ap, subst, arith}
 use Rattle.std.proofs.lemmas.Bool.{le-ltb, ne_eqb}
 use Rattle.std.proofs.lemmas.List.{append-nil}
-use Rattle.f11_store.specs.Changes.{EntersAt, EntersAtEnd, GetsSlots, grown_file, next_sequence, with_end_after, with_entry}
+use Rattle.f11_store.specs.Changes.{EntersAt, EntersAtEnd, GetsSlots, grown_file, with_end_after, with_entry}
 use Rattle.f11_store.specs.Changes.{with_more_slots, with_slots_added}
 use Rattle.f11_store.specs.Directory.{entry_count, needs_block}
 use Rattle.f11_store.specs.File.{File, need, no_file, without_contiguous, zero_blocks}
 use Rattle.f11_store.specs.Headroom.{slots_first}
 use Rattle.f11_store.specs.SlotsFirst.{IsReady}
-use Rattle.f11_store.specs.Step.{next_id}
 use Rattle.f11_store.specs.Store.{Store, file_named, free_slots, index_file}
 use Rattle.f11_store.specs.declared.files.FileId.{FileId}
 use Rattle.f11_store.proofs.PieceLemmas.{cleared-twice}
-use Rattle.f11_store.proofs.SlotsFirst.{HasRoom, first-fit, free-stays, gained-is-ready}
+use Rattle.f11_store.proofs.SlotsFirst.{HasRoom, first-fit, gained-is-ready}
 use Rattle.f11_flx.specs.CopyFromRt.{IndexAfter, IsGrownIndex, as_it_was, grown}
 
 -- the index file once it has them
