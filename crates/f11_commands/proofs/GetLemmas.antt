@@ -30,6 +30,7 @@ use Rattle.f11_commands.specs.GetCommand.{CannotBeFound, FailsToSeek, FindsSough
 use Rattle.f11_commands.specs.GetCommand.{TellsWhyNot, cannot_be_read, lacks_file, tells_fault, tells_none}
 use Rattle.f11_commands.specs.GetCommand.{file_entered, file_identified, file_sought}
 use Rattle.f11_commands.specs.TakingOut.{bytes_to_come}
+use Rattle.f11_commands.specs.TakingText.{file_to_come}
 use Rattle.f11_commands.specs.declared.outcome.Answer.{Answer}
 use Rattle.f11_commands.specs.declared.outcome.Failure.{Failure}
 use Rattle.f11_commands.specs.declared.outcome.Failure.TheVariants.{DeviceFault, NoMemory, CannotWrite}
@@ -52,6 +53,9 @@ module _ (index : Index) (id : FileId) (old new : Disk) where
             ∙ ap (λ (n : ℕ). take n (concat f.blocks))
             (end-is ∙ ap (λ b. stated_end (attributes b)) (opens.header_is honest)
             ∙ ap stated_end (sym (attr-is old.image t file.number)));
+        attr_is = λ honest. ap attributes (opens.header_is honest) ∙ sym (attr-is old.image t file.number);
+        blocks_are = λ honest.
+            contents-stay index file old new _ _ opens.looked ∙ opened-has index id file old new opens honest;
         reading = opens.reading;
         reads = (_, opens.looked);
       }
@@ -73,6 +77,8 @@ module _ (sought next : Image → Table → Result File Refusal) (index : Index)
     found = finds.found;
     is = λ honest. later honest ∙ finds.is (reads.1.honest ∙ honest);
     to_come = λ honest. finds.to_come (reads.1.honest ∙ honest);
+    attr_is = λ honest. finds.attr_is (reads.1.honest ∙ honest);
+    blocks_are = λ honest. finds.blocks_are (reads.1.honest ∙ honest);
     reading = finds.reading;
     reads = reads-then reads finds.reads;
   }
@@ -119,13 +125,15 @@ module _ (home : HomeFields) (index : Index) (old mid : Disk) (found : FindsVolu
   of-volume honest = said-of-volume home index old mid found (λ image t. file_sought image t user name) honest
 
   pub volume-has : (file : FileReader) (end : ℕ) → OpensSought (λ image t. file_sought image t user name) index file end mid new
-      → FindsSought user name (bytes_to_come index new file end) old new
+      → FindsSought user name (bytes_to_come index new file end) (file_to_come index new file) old new
   volume-has file end finds = record {
     home = home;
     readable = found.readable;
     found = finds.found;
     is = λ honest. sym (of-volume honest) ∙ finds.is (found.looked.honest ∙ honest);
     bytes_are = λ honest. finds.to_come (found.looked.honest ∙ honest);
+    attr_is = λ honest. finds.attr_is (found.looked.honest ∙ honest);
+    blocks_are = λ honest. finds.blocks_are (found.looked.honest ∙ honest);
     reads = reads-then (_, found.looked) finds.reads;
   }
 
@@ -147,14 +155,16 @@ module _ (home : HomeFields) (index : Index) (old mid : Disk) (found : FindsVolu
 
 -- the volume was verified before
 module _ (user : Uic) (name : List ℕ) (old mid new : Disk) (reads : Reads old mid 0) where
-  pub sought-behind : (bytes : List ℕ) → FindsSought user name bytes mid new → FindsSought user name bytes old new
-  sought-behind bytes finds = record {
+  pub sought-behind : (bytes : List ℕ) (come : File) → FindsSought user name bytes come mid new → FindsSought user name bytes come old new
+  sought-behind bytes come finds = record {
     home = finds.home;
     readable = λ honest. subst (λ (i : Image). IsReadable i finds.home) reads.1.image (finds.readable (reads.1.honest ∙ honest));
     found = finds.found;
     is = λ honest.
         sym (ap (λ (i : Image). file_sought i (table_of i finds.home) user name) reads.1.image) ∙ finds.is (reads.1.honest ∙ honest);
     bytes_are = λ honest. finds.bytes_are (reads.1.honest ∙ honest);
+    attr_is = λ honest. finds.attr_is (reads.1.honest ∙ honest);
+    blocks_are = λ honest. finds.blocks_are (reads.1.honest ∙ honest);
     reads = reads-then reads finds.reads;
   }
 

@@ -11,6 +11,7 @@ mod CopyLemmas
 mod NamedLemmas
 mod DirectoryLemmas
 mod TakingOutLemmas
+mod TakingTextLemmas
 mod RtFileLemmas
 mod RtGetLemmas
 mod RtFillLemmas

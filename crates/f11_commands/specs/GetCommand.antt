@@ -8,7 +8,9 @@ use Rattle.f11_catalog.specs.Records.{Reads, file_named}
 use Rattle.f11_chain.specs.Calls.{table}
 use Rattle.f11_dev.specs.Disk.{Disk}
 use Rattle.f11_dev.specs.Image.{Image}
-use Rattle.f11_flx.specs.declared.refusal.FlxRefusal.TheVariants.{Files}
+use Rattle.f11_flx.specs.declared.mode.CopyMode.{CopyMode}
+use Rattle.f11_flx.specs.declared.mode.CopyMode.TheVariants as mode
+use Rattle.f11_flx.specs.declared.refusal.FlxRefusal.TheVariants.{BadRecord, Files}
 use Rattle.f11_home.specs.Home.{HomeFields}
 use Rattle.f11_index.specs.IndexFile.{Index}
 use Rattle.f11_index.specs.Kept.{IndexLiesWithin}
@@ -24,8 +26,9 @@ use Rattle.f11_commands.specs.AnyVolume.{CannotBeRead, IsReadable, TellsFault, u
 use Rattle.f11_commands.specs.CopyCommand.{refused_line}
 use Rattle.f11_commands.specs.Output.{WriterTakes}
 use Rattle.f11_commands.specs.TakingOut.{BreaksOff, ReadsBefore, WritesContent, bytes_to_come}
+use Rattle.f11_commands.specs.TakingText.{FailsToWriteText, WritesGoodText, WritesText, file_to_come}
 use Rattle.f11_commands.specs.declared.outcome.Answer.{Answer}
-use Rattle.f11_commands.specs.declared.outcome.Answer.TheVariants.{Fault}
+use Rattle.f11_commands.specs.declared.outcome.Answer.TheVariants.{Done, Fault}
 use Rattle.f11_commands.specs.declared.outcome.Failure.{Failure}
 use Rattle.f11_commands.specs.declared.outcome.Failure.TheVariants.{DeviceFault, NoMemory, CannotWrite}
 use Rattle.f11_commands.specs.declared.volume.VolumeFault.{VolumeFault}
@@ -53,6 +56,8 @@ pub record OpensSought (sought : Image → Table → Result File Refusal) (index
   pub found : File
   pub is : IsTrue old.honest → sought old.image (table index old) ≡ Ok found
   pub to_come : IsTrue old.honest → bytes_to_come index new file end ≡ bytes_of found
+  pub attr_is : IsTrue old.honest → (file_to_come index new file).attr ≡ found.attr
+  pub blocks_are : IsTrue old.honest → (file_to_come index new file).blocks ≡ found.blocks
   pub reading : IsReading index file new
   pub reads : Reads old new 0
 
@@ -66,13 +71,16 @@ pub record IsToRead (index : Index) (file : FileReader) (disk : Disk) : Type 0 w
   pub within : IndexLiesWithin index (length disk.image)
   pub reading : IsReading index file disk
 
--- The file of a user's directory was found on a volume that can be read, and these bytes of it are to come.
-pub record FindsSought (user : Uic) (name bytes : List ℕ) (old new : Disk) : Type 0 where
+-- The file of a user's directory was found on a volume that can be read: these bytes of it are to come, and a file with its attributes
+-- and its blocks.
+pub record FindsSought (user : Uic) (name bytes : List ℕ) (come : File) (old new : Disk) : Type 0 where
   pub home : HomeFields
   pub readable : IsTrue old.honest → IsReadable old.image home
   pub found : File
   pub is : IsTrue old.honest → file_sought old.image (table_of old.image home) user name ≡ Ok found
   pub bytes_are : IsTrue old.honest → bytes ≡ bytes_of found
+  pub attr_is : IsTrue old.honest → come.attr ≡ found.attr
+  pub blocks_are : IsTrue old.honest → come.blocks ≡ found.blocks
   pub reads : Reads old new 0
 
 -- There is none on it, and this says why.
@@ -127,3 +135,50 @@ FailsToTakeOut DeviceFault index file end old new held host_before host_after be
     BreaksOff index file end old new held host_before host_after × (after ≡ before)
 FailsToTakeOut NoMemory index file end old new held host_before host_after before after = ⊥
 FailsToTakeOut CannotWrite index file end old new held host_before host_after before after = ReadsBefore index file end old new 0
+
+-- The text of its records was written to the host, and how many bytes that has.
+pub record TakesOutText {H W : Type 0} (index : Index) (file : FileReader) (old new : Disk) (held : H → Option (List ℕ))
+    (host_before host_after : H) (contents : W → Option (List ℕ)) (before after : W) : Type 0 where
+  pub count : ℕ
+  pub writes : WritesText index file count old new held host_before host_after
+  pub takes : WriterTakes contents before after (taken_line count)
+
+-- Its records can't all be read: the text of those before the first that can't was written to the host, and the line that says so.
+pub record TellsBadRecord {H W : Type 0} (index : Index) (file : FileReader) (old new : Disk) (held : H → Option (List ℕ))
+    (host_before host_after : H) (contents : W → Option (List ℕ)) (before after : W) : Type 0 where
+  pub writes : WritesGoodText index file old new held host_before host_after
+  pub takes : WriterTakes contents before after (refused_line BadRecord)
+
+-- what was told of a text, with each answer
+abbrev pub TakesOutTextAs : {H W : Type 0} → Answer → Index → FileReader → Disk → Disk → (H → Option (List ℕ)) → H → H
+    → (W → Option (List ℕ)) → W → W → Type 0
+TakesOutTextAs Done index file old new held host_before host_after contents before after =
+    TakesOutText index file old new held host_before host_after contents before after
+TakesOutTextAs Fault index file old new held host_before host_after contents before after =
+    TellsBadRecord index file old new held host_before host_after contents before after
+
+-- what was taken out in each mode
+abbrev pub TakesOutAs : {H W : Type 0} → CopyMode → Answer → Index → FileReader → ℕ → Disk → Disk → (H → Option (List ℕ)) → H → H
+    → (W → Option (List ℕ)) → W → W → Type 0
+TakesOutAs mode.Image Done index file end old new held host_before host_after contents before after =
+    TakesOut index file end old new held host_before host_after contents before after
+TakesOutAs mode.Image Fault index file end old new held host_before host_after contents before after = ⊥
+TakesOutAs mode.Text answer index file end old new held host_before host_after contents before after =
+    TakesOutTextAs answer index file old new held host_before host_after contents before after
+
+-- It couldn't be as text, likewise.
+abbrev pub FailsToTakeOutText : {H W : Type 0} → Failure → Index → FileReader → Disk → Disk → (H → Option (List ℕ)) → H → H → W → W
+    → Type 0
+FailsToTakeOutText DeviceFault index file old new held host_before host_after before after =
+    FailsToWriteText DeviceFault index file old new held host_before host_after × (after ≡ before)
+FailsToTakeOutText NoMemory index file old new held host_before host_after before after = ⊥
+FailsToTakeOutText CannotWrite index file old new held host_before host_after before after =
+    FailsToWriteText CannotWrite index file old new held host_before host_after
+
+-- nor in a mode
+abbrev pub FailsToTakeOutAs : {H W : Type 0} → CopyMode → Failure → Index → FileReader → ℕ → Disk → Disk → (H → Option (List ℕ)) → H → H
+    → W → W → Type 0
+FailsToTakeOutAs mode.Image failure index file end old new held host_before host_after before after =
+    FailsToTakeOut failure index file end old new held host_before host_after before after
+FailsToTakeOutAs mode.Text failure index file end old new held host_before host_after before after =
+    FailsToTakeOutText failure index file old new held host_before host_after before after

@@ -27,5 +27,6 @@ pub mod RtPut
 pub mod RunCommand
 pub mod RtVolume
 pub mod TakingOut
+pub mod TakingText
 pub mod VfyCommand
 pub mod UpdateCommand

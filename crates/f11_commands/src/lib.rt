@@ -27,6 +27,7 @@ mod rt_name;
 mod rt_put;
 mod rt_vfy;
 mod run;
+mod text;
 mod update;
 mod vfy;
 mod volume;

@@ -2,6 +2,7 @@
 use f11_commands::{Answer, Failure, FoundFile, Served, read_name, seek_file, write_file};
 use f11_dev::{DeviceFault, Memory};
 use f11_fixtures::{Lines, lines, text_of, volumes};
+use f11_flx::CopyMode;
 use f11_rad50::Name;
 use f11_store::Uic;
 use std::alloc::Global;
@@ -48,7 +49,7 @@ fn a_file_is_taken_out(rt: HostRuntime) -> Result<(), Fail> {
     let Ok(Ok(found)) = sought(rt.alloc(), device, &mut told, &name) else {
         return Err(DeviceFault)?;
     };
-    let (_, served) = write_file(found, &mut host, &mut told);
+    let (_, served) = write_file(found, CopyMode::Image, &mut host, &mut told);
     let wanted = Served {
         answer: Answer::Done,
         faulty: false,

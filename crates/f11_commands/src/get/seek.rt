@@ -6,6 +6,7 @@ ghost use Rattle.f11_commands.specs.AnyVolume.{IsVerified};
 ghost use Rattle.f11_commands.specs.FoundFile.{device_with, end_found, has_faults, index_with, reader_of};
 ghost use Rattle.f11_commands.specs.GetCommand.{FailsToSeek, FindsSought, IsToRead, LacksSought, OpensSought, TellsWhyNot, file_entered, file_identified, file_sought};
 ghost use Rattle.f11_commands.specs.TakingOut.{bytes_to_come};
+ghost use Rattle.f11_commands.specs.TakingText.{file_to_come};
 
 use crate::copy::finding::{MASTER_DIRECTORY, directory_name};
 use crate::get::found::FoundFile;
@@ -45,6 +46,7 @@ pub fn seek_file<D: Device, W: Write>(
         × FindsSought user name.now
         (bytes_to_come (index_with found) (D.disk (device_with found))
         (reader_of found) (end_found found))
+        (file_to_come (index_with found) (D.disk (device_with found)) (reader_of found))
         (D.disk device) (D.disk (device_with found)))) }
     ensures none { IfOk result (λ answer. IfErr answer (λ told.
         IsVerified told.1.faulty (D.disk device)
@@ -77,6 +79,7 @@ fn seek<D: Device, W: Write>(
         × FindsSought user name.now
         (bytes_to_come (index_with found) (D.disk (device_with found))
         (reader_of found) (end_found found))
+        (file_to_come (index_with found) (D.disk (device_with found)) (reader_of found))
         (D.disk device) (D.disk (device_with found)))) }
     ensures none { IfOk result (λ answer. IfErr answer (λ told. (told.1.faulty ≡ faulty)
         × TellsWhyNot user name.now told.1.answer
@@ -110,6 +113,7 @@ fn seek_on_volume<D: Device, W: Write>(
         × IsToRead (index_kept found.0) found.1 (D.disk device.new)
         × FindsSought user name.now
         (bytes_to_come (index_kept found.0) (D.disk device.new) found.1 found.2)
+        (file_to_come (index_kept found.0) (D.disk device.new) found.1)
         (D.disk device.old) (D.disk device.new))) }
     ensures none { IfOk result (λ answer. IfErr answer (λ told. TellsWhyNot user name.now told
         (D.disk device.old) (D.disk device.new) W.contents writer.old writer.new)) }
