@@ -7,7 +7,7 @@ use Rattle.std.proofs.Math.Seq.{drop-cons}
 use Rattle.std.proofs.lemmas.Bool.{cases_lt}
 use Rattle.std.proofs.lemmas.List.{drop_all, length-append, length-drop}
 use Rattle.std.proofs.lemmas.Option.{none-some, slice_get-get_or, slice_get_within, get_or_from_slice_get}
-use Rattle.f11_chain.specs.Calls.{HoldsHeader, ReadsFirst, ReadsNext, FindsLast, FindsWrongLink, table}
+use Rattle.f11_chain.specs.Calls.{FindsNoFile, HoldsHeader, ReadsFirst, ReadsNext, FindsLast, FindsWrongLink, table}
 use Rattle.f11_chain.specs.FileHeaders.{blocks_by}
 use Rattle.f11_chain.proofs.AlongLemmas.{HoldsHeader-live, table-stays, honest-stays}
 use Rattle.f11_dev.specs.Disk.{Disk}
@@ -26,7 +26,7 @@ use Rattle.f11_store.specs.declared.files.FileId.{FileId}
 use Rattle.f11_volume.specs.Contents.{block_or_zeros, blocks_reached, following}
 use Rattle.f11_volume.proofs.FileLemmas.{following-none}
 use Rattle.f11_reader.specs.Reading.{IsReading, HasToCome, headers_left, headers_to_come, blocks_to_come, contents_to_come}
-use Rattle.f11_reader.specs.Reading.{OpensFile, FindsNone, ReadsOn, HasEnded, FailsToReadOn}
+use Rattle.f11_reader.specs.Reading.{OpensFile, OpensSlot, id_in_hand, FindsNone, ReadsOn, HasEnded, FailsToReadOn}
 use Rattle.f11_reader.specs.Steps.{ReadsOrZeros, StepsOn, StepsNowhere, FailsToStep, ComesTo}
 use Rattle.f11_reader.specs.declared.file.FileReader.{FileReader}
 
@@ -275,30 +275,41 @@ count-more t file later after blocks first so_far is =
     let all = ap length is ∙ count-all t after in
     omega (arith, all, so_far, first, after.named_is)
 
+-- a header in hand names the next block
+pub comes-first : (t : Table) (mid : FileReader) (lbn : ℕ) → slice_get (blocks_named mid.header) mid.place ≡ Some lbn
+    → blocks_to_come t mid ≡ lbn ∷ (drop (mid.place + 1) (blocks_named mid.header) ++ blocks_by t (headers_to_come t mid))
+unfolding blocks_to_come
+comes-first t mid lbn named =
+    ap (λ (front : List ℕ). front ++ blocks_by t (headers_to_come t mid)) (drop-at (blocks_named mid.header) mid.place lbn named)
+
+-- which is passed: the others are to come
+pub comes-next : (t : Table) (mid later : FileReader) (lbn : ℕ) → slice_get (blocks_named mid.header) mid.place ≡ Some lbn
+    → later.header ≡ mid.header → later.number ≡ mid.number → later.place ≡ mid.place + 1
+    → blocks_to_come t mid ≡ lbn ∷ blocks_to_come t later
+unfolding blocks_to_come
+comes-next t mid later lbn named header number place =
+    let left : headers_to_come t mid ≡ headers_to_come t later =
+    ap (λ (h : List ℕ). following (255 - segment_number h) t (next_of t mid.number)) (sym header)
+    ∙ ap (λ (n : ℕ). following (headers_left later) t (next_of t n)) (sym number) in
+    let rest : drop (mid.place + 1) (blocks_named mid.header) ≡ drop later.place (blocks_named later.header) =
+    ap (λ (k : ℕ). drop k (blocks_named mid.header)) (sym place)
+    ∙ ap (λ (h : List ℕ). drop later.place (blocks_named h)) (sym header) in
+    comes-first t mid lbn named
+    ∙ ap (λ (front : List ℕ). lbn ∷ (front ++ blocks_by t (headers_to_come t mid))) rest
+    ∙ ap (λ (hs : List ℕ). lbn ∷ (drop later.place (blocks_named later.header) ++ blocks_by t hs)) left
+
 -- the block was read
 module _ (index : Index) (file mid later : FileReader) (lbn : ℕ) (block : List ℕ) (old now new : Disk)
     (comes : ComesTo index file mid lbn old now) where
   pub reads-on : later.header ≡ mid.header → later.number ≡ mid.number → later.place ≡ mid.place + 1 → ReadsOrZeros lbn block now new
       → ReadsOn index file later block old new
-  unfolding blocks_to_come
   reads-on header number place reads = record {
     next = λ honest.
         let t : Table = table index old in
         let image : Image = old.image in
-        let cut : drop mid.place (blocks_named mid.header) ≡ lbn ∷ drop (mid.place + 1) (blocks_named mid.header) =
-        drop-at (blocks_named mid.header) mid.place lbn comes.named in
         let is : block ≡ block_or_zeros image lbn =
         reads.block (comes.looked.honest ∙ honest) ∙ ap (λ (i : Image). block_or_zeros i lbn) comes.looked.image in
-        let left : headers_to_come t mid ≡ headers_to_come t later =
-        ap (λ (h : List ℕ). following (255 - segment_number h) t (next_of t mid.number)) (sym header)
-        ∙ ap (λ (n : ℕ). following (headers_left later) t (next_of t n)) (sym number) in
-        let rest : drop (mid.place + 1) (blocks_named mid.header) ≡ drop later.place (blocks_named later.header) =
-        ap (λ (k : ℕ). drop k (blocks_named mid.header)) (sym place)
-        ∙ ap (λ (h : List ℕ). drop later.place (blocks_named h)) (sym header) in
-        ap (map (block_or_zeros image)) (sym (comes.same honest)
-        ∙ ap (λ (front : List ℕ). front ++ blocks_by t (headers_to_come t mid)) cut
-        ∙ ap (λ (front : List ℕ). lbn ∷ (front ++ blocks_by t (headers_to_come t mid))) rest
-        ∙ ap (λ (hs : List ℕ). lbn ∷ (drop later.place (blocks_named later.header) ++ blocks_by t hs)) left)
+        ap (map (block_or_zeros image)) (sym (comes.same honest) ∙ comes-next t mid later lbn comes.named header number place)
         ∙ ap (λ (b : List ℕ). b ∷ contents_to_come index old later) (sym is);
     forward = omega (arith, comes.forward, segment);
     few = omega (arith, comes.few, segment);
@@ -307,6 +318,15 @@ module _ (index : Index) (file mid later : FileReader) (lbn : ℕ) (block : List
     where
       segment : segment_number later.header ≡ segment_number mid.header
       segment = ap segment_number header
+
+-- There is no such slot.
+pub no-slot : (index : Index) (n : ℕ) (disk : Disk) → ¬ ((0 < n) × (n ≤ slots index)) → FindsNoFile index n disk disk
+unfolding table_in
+no-slot index n disk never = record {
+  no_file = λ honest file.
+      let in_use : is_in_use index n ≡ true = file.live.in_use in never (in_use-some index n in_use, in_use-slot index n in_use);
+  looked = looked_within (looked_none disk) (omega arith);
+}
 
 -- An identification that can't be a file's.
 pub finds-none : (index : Index) (id : FileId) (disk : Disk)
@@ -353,3 +373,12 @@ opens index id file header old new number is place here sequence reads = record 
 
     first : segment_number file.header ≡ 0
     first = ap segment_number is ∙ reads.first
+
+-- The first header of the file in a slot was read.
+pub opens-slot : (index : Index) (n : ℕ) (file : FileReader) (header : List ℕ) (old new : Disk)
+    → file.number ≡ n → file.header ≡ header → file.place ≡ 0 → ReadsFirst index n header old new → OpensSlot index n file old new
+opens-slot index n file header old new number is place reads = record {
+  number = number;
+  opens = opens index (id_in_hand file) file header old new refl is place refl (ap file_sequence (sym is))
+      (subst (λ (k : ℕ). ReadsFirst index k header old new) (sym number) reads);
+}

@@ -1,4 +1,5 @@
 pub mod Reading
+pub mod Missing
 pub mod Steps
 pub mod Laws
 pub use Rattle.f11_chain.specs.Calls

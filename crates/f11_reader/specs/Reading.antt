@@ -6,6 +6,7 @@ use Rattle.f11_chain.specs.Calls.{HoldsHeader, table}
 use Rattle.f11_chain.specs.FileHeaders.{blocks_by}
 use Rattle.f11_dev.specs.Disk.{Disk}
 use Rattle.f11_dev.specs.Looked.{Looked}
+use Rattle.f11_header.specs.Fields.{file_sequence}
 use Rattle.f11_index.specs.Headers.{next_of}
 use Rattle.f11_index.specs.IndexFile.{Index}
 use Rattle.f11_index.specs.Table.{Table}
@@ -21,6 +22,10 @@ number_in_hand file = file.number
 
 abbrev pub header_in_hand : FileReader → List ℕ
 header_in_hand file = file.header
+
+-- the identification of the file whose first header is in hand
+abbrev pub id_in_hand : FileReader → FileId
+id_in_hand file = record { number = file.number; sequence = file_sequence file.header; volume = 0 }
 
 -- how many headers may still be read: a file has 256 at most
 abbrev pub headers_left : FileReader → ℕ
@@ -52,6 +57,11 @@ pub record OpensFile (index : Index) (id : FileId) (file : FileReader) (old new 
   pub header_is : IsTrue old.honest → header_in_hand file ≡ (table index old).header (number_in_hand file)
   pub blocks : IsTrue old.honest → blocks_to_come (table index old) file ≡ blocks_reached (table index old) (number_in_hand file)
   pub looked : Looked old new 1 0
+
+-- The file whose first header is in this slot was found.
+pub record OpensSlot (index : Index) (n : ℕ) (file : FileReader) (old new : Disk) : Type 0 where
+  pub number : number_in_hand file ≡ n
+  pub opens : OpensFile index (id_in_hand file) file old new
 
 -- No file has that identification.
 pub record FindsNone (index : Index) (id : FileId) (old new : Disk) : Type 0 where
