@@ -6,3 +6,7 @@ pub mod ListingLemmas
 pub mod SearchLemmas
 pub mod LineLemmas
 pub mod UserLemmas
+pub mod WalkLemmas
+pub mod EnteredLemmas
+pub mod LostLemmas
+pub mod FilesLemmas

@@ -28,7 +28,7 @@ use Rattle.f11_catalog.proofs.LineLemmas.{is-named}
 use Rattle.f11_catalog.proofs.ListingLemmas.{lists-all, reads-none, writes-none, writes-one, writes-then}
 
 -- what is refused names no directory, and what isn't does
-refused-none : (found : Option File) (refusal : Refusal) → directory_refusal found ≡ Some refusal → names_directory found ≡ false
+pub refused-none : (found : Option File) (refusal : Refusal) → directory_refusal found ≡ Some refusal → names_directory found ≡ false
 refused-none None refusal is = refl
 refused-none (Some f) refusal is = elim (cases_Bool (is_directory f)) [
   | inl directory ↦
@@ -36,7 +36,7 @@ refused-none (Some f) refusal is = elim (cases_Bool (is_directory f)) [
   | inr other ↦ other
 ]
 
-readable-names : (found : Option File) → directory_refusal found ≡ None → names_directory found ≡ true
+pub readable-names : (found : Option File) → directory_refusal found ≡ None → names_directory found ≡ true
 readable-names None is = absurd cc
 readable-names (Some f) is = elim (cases_Bool (is_directory f)) [
   | inl directory ↦ directory
@@ -84,7 +84,7 @@ module _ {W : Type 0} (index : Index) (contents : W → Option (List ℕ)) (user
           (reads-none old)) all
 
 -- where the words are none, no user's directory has them
-none-named : (words : List ℕ) → None ≡ (if is_name words then Some words else None) → user_named words ≡ None
+pub none-named : (words : List ℕ) → None ≡ (if is_name words then Some words else None) → user_named words ≡ None
 unfolding user_named
 none-named words none = elim (cases_Bool (is_name words)) [
   | inl named ↦

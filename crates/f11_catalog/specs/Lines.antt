@@ -14,12 +14,19 @@ use Rattle.f11_store.specs.declared.files.FileId.{FileId}
 use Rattle.f11_store.specs.declared.callers.Uic.{Uic}
 use Rattle.f11_catalog.specs.Records.{file_named, records_of}
 use Rattle.f11_catalog.specs.declared.facts.FileFacts.{FileFacts}
+use Rattle.f11_catalog.specs.declared.walk.place.Place.{Place}
+use Rattle.f11_catalog.specs.declared.walk.place.Place.TheVariants.{Entered, Lost}
 use Rattle.f11_catalog.specs.Users.{user_named}
 
 -- a name, and a question mark where there is none
 abbrev pub found_shown : Option (List ℕ) → List ℕ
 found_shown (Some words) = name_text words
 found_shown None = codes "?"
+
+-- where a file stands: the user and the name in the user's directory, or that it is in none
+abbrev pub place_text : Place → List ℕ
+place_text (Entered user name id) = uic_text user ++ (codes " " ++ name_text name)
+place_text (Lost id) = codes "lost " ++ id_text id
 
 -- the name with five words
 abbrev pub name_shown : List ℕ → List ℕ

@@ -1,5 +1,5 @@
 //! A directory whose records are read one after another.
-ghost use Rattle.std.specs.Prelude.{◌≡◌, ◌≤◌};
+ghost use Rattle.std.specs.Prelude.{◌≡◌, ◌<◌, ◌≤◌, ◌^◌};
 
 use f11_bytes::{BLOCK_SIZE, Block};
 use f11_dir::RECORDS;
@@ -18,11 +18,14 @@ pub struct DirectoryReader {
     pub(crate) left: u64,
     /// A block has no more.
     pub ghost within: { at ≤ 32 },
+    /// An end is below 2^42 bytes.
+    pub ghost few: { left < 2 ^ 38 },
 }
 
 impl DirectoryReader {
     /// A directory whose file this is, none of whose blocks was read, and so many records before its stated end.
     pub(crate) fn begin(file: FileReader, left: u64) -> DirectoryReader
+        requires { left < 2 ^ 38 }
         ensures file { result.file ≡ file }
         ensures at { result.at ≡ 32 }
         ensures left { result.left ≡ left }

@@ -1,23 +1,27 @@
 //! The directories of any Files-11 volume whose index file can be read, sound or not: their records in order, files found by name, and
 //! the lines that list them (Files-11 On-Disk Structure Level 1, "Directories").
 //!
-//! Nothing is written to the volume, and no memory is taken. The crate stands on [`f11_reader`], for files, and on [`f11_dir`], for the
+//! Nothing is written to the volume, and memory is taken by [`AllFiles`] alone. The crate stands on [`f11_reader`], for files, and on [`f11_dir`], for the
 //! records of a block.
 #![tactic(auto)]
 
 mod directory;
 mod facts;
 mod fault;
+pub mod laws;
 mod list;
 mod record_line;
 mod records;
 mod search;
 mod shown;
 mod users;
+mod walk;
 
 pub use directory::DirectoryReader;
-pub use fault::ListFault;
+pub use fault::{ListFault, WalkFault};
 pub use list::{list_directory, list_users};
 pub use records::stated_end;
 pub use search::find;
 pub use users::user_of;
+pub use walk::place::{FileAt, Place};
+pub use walk::state::AllFiles;

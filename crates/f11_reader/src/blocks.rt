@@ -1,13 +1,11 @@
 //! Files found by their identification, and read block by block.
-ghost use Rattle.std.specs.Prelude.{◌≡◌, ◌↔◌, ◌<◌, ◌≤◌, ◌+◌, length, IfOk, IfSome, IfNone, IsTrue, OnOk, OnErr, Ok, true, false};
+ghost use Rattle.std.specs.Prelude.{◌≡◌, ◌↔◌, ◌<◌, ◌≤◌, length, IfOk, IfSome, IfNone, IsTrue, OnOk, OnErr, Ok, true, false};
 ghost use Rattle.f11_dev.specs.Looked.{Looked};
 ghost use Rattle.f11_header.specs.Fields.{file_sequence};
 ghost use Rattle.f11_header.specs.Header.{holds_header};
 ghost use Rattle.f11_index.specs.IndexFile.{slots};
 ghost use Rattle.f11_index.specs.Kept.{index_kept, IndexLiesWithin};
-ghost use Rattle.f11_reader.specs.Missing.{FindsMissing, LacksBlock, PassesBlock};
-ghost use Rattle.f11_chain.specs.Calls.{FindsNoFile};
-ghost use Rattle.f11_reader.specs.Reading.{OpensFile, OpensSlot, FindsNone, id_in_hand, IsReading, header_in_hand, headers_left, CountsBlocks};
+ghost use Rattle.f11_reader.specs.Reading.{OpensFile, FindsNone, IsReading, header_in_hand, headers_left, CountsBlocks};
 ghost use Rattle.f11_reader.specs.Reading.{ReadsOn, HasEnded, FailsToReadOn};
 ghost use Rattle.f11_reader.specs.Steps.{ReadsOrZeros, StepsOn, StepsNowhere, FailsToStep, ComesTo};
 
@@ -23,14 +21,14 @@ use f11_store::FileId;
 const MOST_HEADERS: u32 = 256;
 
 /// The sequence number of a header.
-fn sequence(block: &Block) -> u16
+pub(crate) fn sequence(block: &Block) -> u16
     ensures { result ≡ file_sequence block.now }
 {
     Header::new(block).id().sequence
 }
 
 /// Whether the index file has a slot of this number.
-fn has_slot(index: &IndexFile, number: u16) -> bool
+pub(crate) fn has_slot(index: &IndexFile, number: u16) -> bool
     ensures { IsTrue result ↔ ((0 < number) × (number ≤ slots (index_kept index.now))) }
 {
     number != 0 && u32::from(number) <= index.slots()
@@ -93,48 +91,6 @@ impl FileReader {
         Ok(Some(FileReader::begin(id.number, header)))
     }
 
-    /// Begins to read the file whose first header is in slot `number`; `None` where there is no such slot, or its header isn't the first
-    /// of a file. One transfer at most.
-    ///
-    /// # Errors
-    ///
-    /// `DeviceFault` where the transfer failed.
-    pub fn open_slot<D: Device>(
-        device: &mut D,
-        index: &IndexFile,
-        number: u16,
-    ) -> Result<Option<FileReader>, DeviceFault>
-        requires within { IndexLiesWithin (index_kept index.now)
-            (length (D.disk device.old).image) }
-        ensures opens { IfOk result (λ answer. IfSome answer (λ file.
-            OpensSlot (index_kept index.now) number file (D.disk device.old) (D.disk device.new))) }
-        ensures none { IfOk result (λ answer. IfNone answer
-            (FindsNoFile (index_kept index.now) number (D.disk device.old) (D.disk device.new))) }
-        ensures failed { OnErr result (Looked (D.disk device.old) (D.disk device.new) 1 1) }
-    {
-        if !has_slot(index, number) {
-            return Ok(None);
-        }
-        let mut header = [0; BLOCK_SIZE];
-        match first(device, index, number, &mut header) {
-            Ok(()) => Ok(Some(FileReader::begin(number, header))),
-            Err(ChainFault::Damaged) => Ok(None),
-            Err(ChainFault::EndOfFile) => Ok(None),
-            Err(ChainFault::DeviceFault) => Err(DeviceFault),
-        }
-    }
-
-    /// The identification of the file, where its first header is in hand: after [`FileReader::open`] the one that it was opened by.
-    pub fn id(&self) -> FileId
-        ensures { result ≡ id_in_hand self.now }
-    {
-        FileId {
-            number: self.number,
-            sequence: sequence(&self.header),
-            volume: 0,
-        }
-    }
-
     /// The header in hand: after [`FileReader::open`] the first one of the file, which says whose it is, and where it ends.
     pub fn header(&self) -> &Block
         ensures header { result.now ≡ header_in_hand self.now }
@@ -166,60 +122,6 @@ impl FileReader {
             blocks += reader.named;
         }
         Ok(blocks)
-    }
-
-    /// The first of the next `blocks` blocks that isn't there: it lies past the device's end, so that it counts as zeros, or the file has
-    /// no more blocks. It is counted from 1, as VBNs are where no block was read yet; `None` where all are there. It reads the headers that
-    /// follow the one in hand, each once.
-    ///
-    /// # Errors
-    ///
-    /// `DeviceFault` where a transfer failed.
-    pub fn first_missing<D: Device>(
-        &self,
-        device: &mut D,
-        index: &IndexFile,
-        blocks: u64,
-    ) -> Result<Option<u64>, DeviceFault>
-        requires within { IndexLiesWithin (index_kept index.now)
-            (length (D.disk device.old).image) }
-        requires reading { IsReading (index_kept index.now) self.now (D.disk device.old) }
-        ensures finds { IfOk result (λ missing. FindsMissing (index_kept index.now) self.now
-            blocks missing (D.disk device.old) (D.disk device.new)) }
-        ensures failed { OnErr result
-            (Looked (D.disk device.old) (D.disk device.new) (headers_left self.now + 1) 1) }
-    {
-        let (mut reader, mut there) = (*self, 0);
-        while there < blocks {
-            if !reader.pass(device, index)? {
-                return Ok(Some(there + 1));
-            }
-            there += 1;
-        }
-        Ok(None)
-    }
-
-    /// Passes the next block, where it is there, and says whether it is: a header names it, and it isn't past the device's end.
-    fn pass<D: Device>(&mut self, device: &mut D, index: &IndexFile) -> Result<bool, DeviceFault>
-        requires within { IndexLiesWithin (index_kept index.now)
-            (length (D.disk device.old).image) }
-        requires reading { IsReading (index_kept index.now) self.old (D.disk device.old) }
-        ensures reading { IsReading (index_kept index.now) self.new (D.disk device.new) }
-        ensures passes { result ≡ Ok true → PassesBlock (index_kept index.now) self.old self.new
-            (D.disk device.old) (D.disk device.new) }
-        ensures lacks { result ≡ Ok false → LacksBlock (index_kept index.now) self.old
-            (D.disk device.old) (D.disk device.new) }
-        ensures failed { OnErr result (FailsToReadOn (index_kept index.now) self.old self.new
-            (D.disk device.old) (D.disk device.new)) }
-    {
-        let Some(lbn) = self.next_lbn(device, index)? else {
-            return Ok(false);
-        };
-        if lbn >= device.blocks() {
-            return Ok(false);
-        }
-        self.place += 1;
-        Ok(true)
     }
 
     /// Reads the next block of the file into `into`, and says whether there is one. A block past the device's end counts as zeros,
@@ -255,7 +157,7 @@ impl FileReader {
     }
 
     /// The LBN of the next block, which the header in hand names then; `None` where no block is to come. It reads the headers on the way.
-    fn next_lbn<D: Device>(
+    pub(crate) fn next_lbn<D: Device>(
         &mut self,
         device: &mut D,
         index: &IndexFile,

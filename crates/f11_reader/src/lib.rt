@@ -8,5 +8,7 @@
 mod blocks;
 mod file;
 pub mod laws;
+mod missing;
+mod slot;
 
 pub use file::FileReader;

@@ -1,0 +1,5 @@
+use Rattle.f11_catalog.proofs.FilesLemmas.{none-left-out}
+use Rattle.f11_catalog.proofs.laws.all_files.Goals as goal
+
+pub returns : goal.returns
+returns c = none-left-out

@@ -1,0 +1,13 @@
+use Rattle.std.proofs.Common.{sym, ap, ◌∙◌}
+use Rattle.f11_catalog.specs.declared.walk.place.Place.TheVariants.{Lost}
+use Rattle.f11_catalog.specs.Walking.{is_met}
+use Rattle.f11_catalog.proofs.LostLemmas.{lost-none, lost-one}
+use Rattle.f11_catalog.proofs.walk.state.OtherFiles.open.Goals as goal
+
+pub returns-in-Ok-Some-clause-one : goal.returns-in-Ok-Some-clause-one
+returns-in-Ok-Some-clause-one g c =
+    lost-one (is_met c.args.self.now) _ _ _ _ _ (sym c.has_met.ensures ∙ c.if-has_met.false) (rw c.in-Ok-Some.field-0-is at c.in-Ok-Some.ensures.opens)
+    (ap Lost c.id.ensures)
+
+pub returns-in-Ok-None-clause-none : goal.returns-in-Ok-None-clause-none
+returns-in-Ok-None-clause-none g c = lost-none (is_met c.args.self.now) _ _ _ _ (rw c.in-Ok-None.field-0-is at c.in-Ok-None.ensures.none)

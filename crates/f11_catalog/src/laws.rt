@@ -1,0 +1,7 @@
+//! Laws of directories and files, each the contract of a function that does nothing: layers above cite them.
+ghost use Rattle.f11_catalog.specs.Laws as laws;
+
+/// All files of a volume.
+pub fn all_files()
+    ensures { laws.NoFileIsLeftOut }
+{}

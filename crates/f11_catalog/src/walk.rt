@@ -1,0 +1,9 @@
+//! All files of a volume, one after another.
+
+pub mod begin;
+pub mod entered;
+pub mod lost;
+pub mod next;
+pub mod place;
+pub mod state;
+pub mod users;

@@ -1,0 +1,105 @@
+//! The files that no user's directory names, one after another.
+ghost use Rattle.std.specs.Prelude.{◌≡◌, ◌+◌, ◌<◌, ◌||◌, ◌==◌, IfOk, IfSome, IfNone, OnErr, length, ℕ};
+ghost use Rattle.f11_index.specs.Kept.{index_kept, IndexLiesWithin};
+ghost use Rattle.f11_catalog.specs.Records.{Reads};
+
+use crate::walk::place::{FileAt, Place};
+use crate::walk::state::OtherFiles;
+use f11_dev::{Device, DeviceFault};
+use f11_index::IndexFile;
+use f11_reader::FileReader;
+
+impl OtherFiles {
+    ghost use Rattle.f11_catalog.specs.AllFiles.{place_lost};
+    ghost use Rattle.f11_catalog.specs.Walking.{EntersNone, EntersOne, FindsNoOther, FindsOther, is_met};
+
+    /// A file was met in a user's directory.
+    pub(crate) fn meet(&mut self, number: u16)
+        ensures adds { (n : ℕ) → is_met self.new n ≡ (is_met self.old n || (number == n)) }
+        ensures next { self.new.next ≡ self.old.next }
+    {
+        self.met[usize::from(number)] = true;
+    }
+
+    /// Whether a file was met in a user's directory.
+    fn has_met(&self, number: u16) -> bool
+        ensures { result ≡ is_met self.now number }
+    {
+        self.met[usize::from(number)]
+    }
+
+    /// The next number, which is looked at then.
+    fn take_number(&mut self) -> u16
+        requires { self.old.next < 65536 }
+        ensures number { result ≡ self.old.next }
+        ensures next { self.new.next ≡ self.old.next + 1 }
+        ensures met { self.new.met ≡ self.old.met }
+    {
+        let number = self.next as u16;
+        self.next += 1;
+        number
+    }
+
+    /// The file whose first header is in this slot, if there is one and it wasn't met. One transfer at most.
+    ///
+    /// # Errors
+    ///
+    /// `DeviceFault` where the transfer failed.
+    fn open<D: Device>(
+        &self,
+        device: &mut D,
+        index: &IndexFile,
+        number: u16,
+    ) -> Result<Option<FileAt>, DeviceFault>
+        requires within { IndexLiesWithin (index_kept index.now) (length (D.disk device.old).image) }
+        ensures one { IfOk result (λ answer. IfSome answer (λ found.
+            EntersOne (λ image t. place_lost t (is_met self.now) number) (index_kept index.now) found
+            (D.disk device.old) (D.disk device.new))) }
+        ensures none { IfOk result (λ answer. IfNone answer (
+            EntersNone (λ image t. place_lost t (is_met self.now) number) (index_kept index.now)
+            (D.disk device.old) (D.disk device.new))) }
+        ensures failed { OnErr result (Reads (D.disk device.old) (D.disk device.new) 1) }
+    {
+        if self.has_met(number) {
+            return Ok(None);
+        }
+        match FileReader::open_slot(device, index, number) {
+            Ok(Some(file)) => Ok(Some(FileAt {
+                place: Place::Lost(file.id()),
+                file,
+            })),
+            Ok(None) => Ok(None),
+            Err(DeviceFault) => Err(DeviceFault),
+        }
+    }
+
+    /// The next file that wasn't met; `None` behind the last slot. Each header that may be one's first is read once.
+    ///
+    /// # Errors
+    ///
+    /// `DeviceFault` where a transfer failed.
+    pub(crate) fn next<D: Device>(
+        &mut self,
+        device: &mut D,
+        index: &IndexFile,
+    ) -> Result<Option<FileAt>, DeviceFault>
+        requires within { IndexLiesWithin (index_kept index.now) (length (D.disk device.old).image) }
+        ensures finds { IfOk result (λ answer. IfSome answer (λ found.
+            FindsOther (is_met self.old) (index_kept index.now) self.old self.new found
+            (D.disk device.old) (D.disk device.new))) }
+        ensures none { IfOk result (λ answer. IfNone answer (
+            FindsNoOther (is_met self.old) (index_kept index.now) self.old (D.disk device.old) (D.disk device.new))) }
+        ensures met { self.new.met ≡ self.old.met }
+        ensures failed { OnErr result (Reads (D.disk device.old) (D.disk device.new) 1) }
+    {
+        while self.next <= index.slots() {
+            let number = self.take_number();
+            match self.open(device, index, number) {
+                Ok(Some(found)) => return Ok(Some(found)),
+                Ok(None) => {}
+                Err(DeviceFault) => return Err(DeviceFault),
+            }
+        }
+        Ok(None)
+    }
+}
