@@ -1,5 +1,6 @@
 pub mod LineLemmas
 pub mod VolumeLemmas
+mod AllLemmas
 mod AnyVolumeLemmas
 mod LsLemmas
 mod GetLemmas

@@ -1,7 +1,6 @@
 -- A file's content, written block by block.
 use Rattle.std.proofs.Common.{◌≡◌, ℕ, ◌+◌, ◌-◌, ◌*◌, ◌/◌, ◌<◌, ◌≤◌, min, IsTrue, List, [], ◌∷◌, ◌++◌, length, take, map}
-use Rattle.std.specs.Prelude.{Result, Ok, Err, IsErrAnd, IfErr}
-use Rattle.std.proofs.Common.{refl, sym, ap, subst, ◌∙◌, inl, inr, arith, append_assoc}
+use Rattle.std.proofs.Common.{refl, sym, ap, ◌∙◌, inl, inr, arith, append_assoc}
 use Rattle.std.specs.List.{concat}
 use Rattle.std.proofs.Math.Seq.{take-length, take-nil}
 use Rattle.std.proofs.lemmas.Bool.{cases_lt}
@@ -14,16 +13,11 @@ use Rattle.f11_index.specs.IndexFile.{Index}
 use Rattle.f11_index.specs.Table.{table_in}
 use Rattle.f11_index.proofs.PlaceLemmas.{take-append-back}
 use Rattle.f11_map.specs.HeaderBlock.{segment_number}
-use Rattle.f11_reader.specs.Reading.{IsReading, ReadsOn, HasEnded, blocks_to_come, contents_to_come, header_in_hand}
+use Rattle.f11_reader.specs.Reading.{FailsToReadOn, IsReading, ReadsOn, HasEnded, blocks_to_come, contents_to_come, header_in_hand}
 use Rattle.f11_reader.specs.Reading.{headers_left}
 use Rattle.f11_reader.specs.declared.file.FileReader.{FileReader}
 use Rattle.f11_volume.specs.Contents.{block_or_zeros}
-use Rattle.f11_commands.specs.TakingOut.{IsContent, ReadsBefore, bytes_to_come}
-
--- an error that is this one
-pub error-is : {T E : Type 0} (r : Result T E) (e : E) (P : E → Type 0) → IsErrAnd r (λ x. x ≡ e) → P e → IfErr r P
-error-is (Ok x) e P is given = tt
-error-is (Err x) e P is given = subst P (sym is) given
+use Rattle.f11_commands.specs.TakingOut.{IsContent, IsPart, ReadsBefore, bytes_to_come}
 
 -- a device that was looked at has the same to come of a file
 pub contents-stay : (index : Index) (file : FileReader) (old now : Disk) (most faults : ℕ) → Looked old now most faults
@@ -155,4 +149,23 @@ module _ (index : Index) (file later : FileReader) (end left k : ℕ) (text : Li
           sym (to-come later) ∙ ap (map (block_or_zeros now.image)) (ends.none (taken.looked.honest ∙ honest)) in
           sym (taken.text_is honest ∙ ap (λ (bs : List (List ℕ)). text ++ take left (concat bs)) none
           ∙ ap (λ (more : List ℕ). text ++ more) (take-nil left) ∙ append-nil text);
+    }
+
+  -- or a transfer failed
+  module _ (after : FileReader) (new : Disk) (fails : FailsToReadOn index later after now new) where
+    pub reads-failed : ReadsBefore index file end old new 1
+    reads-failed = record {
+      blocks = k;
+      few = taken.few;
+      come = λ honest. omega (arith, taken.blocks honest);
+      looked = looked_within (looked_more taken.looked fails.looked) (omega (arith, taken.forward, taken.near));
+    }
+
+    pub content-part : IsPart index file end (end - left) old text
+    content-part = record {
+      counted = omega (arith, taken.sum);
+      begins = record {
+        few = omega (arith, taken.sum);
+        begins = λ honest. record { rest = bytes_to_come index old later left; is = taken.text_is honest };
+      };
     }

@@ -11,6 +11,7 @@ pub mod InitCommand
 pub mod Label
 pub mod Name
 pub mod Output
+pub mod AllCommand
 pub mod AnyVolume
 pub mod LsCommand
 pub mod Report

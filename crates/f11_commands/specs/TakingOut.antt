@@ -8,6 +8,8 @@ use Rattle.f11_reader.specs.Reading.{contents_to_come, headers_left}
 use Rattle.f11_reader.specs.declared.file.FileReader.{FileReader}
 use Rattle.f11_commands.specs.Output.{TakesText}
 use Rattle.f11_commands.specs.declared.outcome.Failure.{Failure}
+use Rattle.f11_commands.specs.declared.outcome.Stop.{Stop}
+use Rattle.f11_commands.specs.declared.outcome.Stop.TheVariants as stop
 use Rattle.f11_commands.specs.declared.outcome.Failure.TheVariants.{DeviceFault, NoMemory, CannotWrite}
 
 -- a text begins with another
@@ -38,6 +40,11 @@ pub record IsBeginning (index : Index) (file : FileReader) (end : ℕ) (disk : D
   pub few : length text ≤ end
   pub begins : IsTrue disk.honest → BeginsWith text (bytes_to_come index disk file end)
 
+-- a beginning of so many bytes
+pub record IsPart (index : Index) (file : FileReader) (end count : ℕ) (disk : Disk) (text : List ℕ) : Type 0 where
+  pub counted : length text ≡ count
+  pub begins : IsBeginning index file end disk text
+
 -- The file's content before an end was written: so many bytes.
 pub record WritesContent {W : Type 0} (index : Index) (file : FileReader) (end count : ℕ) (old new : Disk)
     (contents : W → Option (List ℕ)) (before after : W) : Type 0 where
@@ -49,6 +56,18 @@ pub record BreaksOff {W : Type 0} (index : Index) (file : FileReader) (end : ℕ
     (contents : W → Option (List ℕ)) (before after : W) : Type 0 where
   pub takes : TakesText contents (IsBeginning index file end old) before after
   pub reads : ReadsBefore index file end old new 1
+
+-- A transfer failed behind so many bytes of it, which were written.
+pub record StopsBehind {W : Type 0} (index : Index) (file : FileReader) (end count : ℕ) (old new : Disk)
+    (contents : W → Option (List ℕ)) (before after : W) : Type 0 where
+  pub takes : TakesText contents (IsPart index file end count old) before after
+  pub reads : ReadsBefore index file end old new 1
+
+-- or the writer takes no more
+abbrev pub StopsWriting : {W : Type 0} → Stop → Index → FileReader → ℕ → Disk → Disk → (W → Option (List ℕ)) → W → W → Type 0
+StopsWriting (stop.DeviceFault count) index file end old new contents before after =
+    StopsBehind index file end count old new contents before after
+StopsWriting stop.CannotWrite index file end old new contents before after = ReadsBefore index file end old new 0
 
 -- what is left where the content couldn't be written: it takes no memory
 abbrev pub FailsToWriteContent : {W : Type 0} → Failure → Index → FileReader → ℕ → Disk → Disk → (W → Option (List ℕ)) → W → W → Type 0

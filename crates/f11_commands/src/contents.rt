@@ -1,12 +1,12 @@
 //! A file's content, taken out.
 ghost use Rattle.std.specs.Prelude.{◌≡◌, length, IfErr, IfOk};
-ghost use Rattle.f11_commands.specs.TakingOut.{WritesContent, FailsToWriteContent};
+ghost use Rattle.f11_commands.specs.TakingOut.{FailsToWriteContent, StopsWriting, WritesContent};
 ghost use Rattle.f11_index.specs.Kept.{index_kept, IndexLiesWithin};
 ghost use Rattle.f11_reader.specs.Reading.{IsReading};
 
-use crate::outcome::Failure;
+use crate::outcome::{Failure, Stop};
 use f11_bytes::BLOCK_SIZE;
-use f11_dev::Device;
+use f11_dev::{Device, DeviceFault};
 use f11_index::IndexFile;
 use f11_reader::FileReader;
 use std::io::Write;
@@ -33,14 +33,45 @@ pub(crate) fn write_contents<D: Device, W: Write>(
     ensures failed { IfErr result (λ failure. FailsToWriteContent failure (index_kept index.now)
         file end (D.disk device.old) (D.disk device.new) W.contents writer.old writer.new) }
 {
+    match put_contents(device, index, file, end, writer) {
+        Ok(count) => Ok(count),
+        Err(Stop::DeviceFault(_)) => Err(Failure::DeviceFault),
+        Err(Stop::CannotWrite) => Err(Failure::CannotWrite),
+    }
+}
+
+/// As [`write_contents`], and where a transfer failed it says how many bytes were written before.
+///
+/// # Errors
+///
+/// [`Stop::DeviceFault`] where a transfer failed, and [`Stop::CannotWrite`] where the writer takes no more.
+pub(crate) fn put_contents<D: Device, W: Write>(
+    device: &mut D,
+    index: &IndexFile,
+    file: FileReader,
+    end: u64,
+    writer: &mut W,
+) -> Result<u64, Stop>
+    requires within { IndexLiesWithin (index_kept index.now) (length (D.disk device.old).image) }
+    requires reading { IsReading (index_kept index.now) file (D.disk device.old) }
+    ensures writes { IfOk result (λ count. WritesContent (index_kept index.now) file end count
+        (D.disk device.old) (D.disk device.new) W.contents writer.old writer.new) }
+    ensures stops { IfErr result (λ stop. StopsWriting stop (index_kept index.now)
+        file end (D.disk device.old) (D.disk device.new) W.contents writer.old writer.new) }
+{
     let (mut reader, mut left) = (file, end);
     let mut block = [0; BLOCK_SIZE];
     while left > 0 {
-        if !reader.read(device, index, &mut block)? {
-            return Ok(end - left);
+        match reader.read(device, index, &mut block) {
+            Ok(true) => {}
+            Ok(false) => return Ok(end - left),
+            Err(DeviceFault) => return Err(Stop::DeviceFault(end - left)),
         }
         let count = left.min(512);
-        writer.write_all(&block[..count as usize])?;
+        match writer.write_all(&block[..count as usize]) {
+            Ok(()) => {}
+            Err(_) => return Err(Stop::CannotWrite),
+        }
         left -= count;
     }
     Ok(end)

@@ -1,5 +1,6 @@
 //! The command `get`.
 
+pub mod all;
 pub mod found;
 pub mod name;
 pub mod seek;

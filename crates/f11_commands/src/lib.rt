@@ -36,6 +36,8 @@ mod volume_dump;
 pub use copy::names::{read_names, refuse_names};
 pub use copy::{Copying, Direction, FileAnswer, print_copy};
 pub use dump::dump_header;
+pub use get::all::begin::begin_all;
+pub use get::all::state::TakingAll;
 pub use get::found::FoundFile;
 pub use get::name::read_name;
 pub use get::seek::seek_file;

@@ -41,3 +41,12 @@ impl From<io::Error> for Failure {
         Failure::CannotWrite
     }
 }
+
+/// Why a file's content wasn't written to its end.
+#[derive(Clone, Copy, Debug, PartialEq, Eq)]
+pub(crate) enum Stop {
+    /// A transfer failed behind so many bytes.
+    DeviceFault(u64),
+    /// The writer takes no more.
+    CannotWrite,
+}

@@ -2,7 +2,7 @@ use Rattle.std.proofs.Common.{ℕ, List}
 use Rattle.std.specs.Io.KnownBytes.{Appends}
 use Rattle.f11_index.specs.Kept.{index_kept}
 use Rattle.f11_commands.proofs.TakingOutLemmas.{Taken}
-use Rattle.f11_commands.proofs.contents.write_contents.Given as goal
+use Rattle.f11_commands.proofs.contents.put_contents.Given as goal
 
 -- so many blocks were read, and what they hold before the end was written
 abbrev pub invariant-loop-left : goal.invariant-loop-left

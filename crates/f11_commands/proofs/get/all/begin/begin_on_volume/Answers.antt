@@ -1,0 +1,15 @@
+use Rattle.std.proofs.Common.{refl}
+use Rattle.f11_catalog.proofs.ListingLemmas.{reads-then}
+use Rattle.f11_commands.proofs.AllLemmas.{begins-all, lies-within}
+use Rattle.f11_commands.proofs.get.all.begin.begin_on_volume.Goals as goal
+
+pub returns-in-Ok-clause-begins : goal.returns-in-Ok-clause-begins
+returns-in-Ok-clause-begins g c =
+    let found = rw c.in-Ok-Ok.field-0-is at c.in-Ok-Ok.ensures.found in
+    let begins = c.in-Ok.ensures.begins in
+    (refl, lies-within _ _ _ _ found _ _ begins, begins.walking, begins-all _ _ _ _ found _ _ begins)
+
+pub returns-in-Err-DeviceFault-clause-failed : goal.returns-in-Err-DeviceFault-clause-failed
+returns-in-Err-DeviceFault-clause-failed g c =
+    let found = rw c.in-Ok-Ok.field-0-is at c.in-Ok-Ok.ensures.found in
+    (reads-then (_, found.looked) (rw c.in-Err-DeviceFault.field-0-is at c.in-Err-DeviceFault.ensures.failed), refl)

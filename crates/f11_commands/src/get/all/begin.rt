@@ -1,0 +1,111 @@
+//! The beginning of `get --all`.
+ghost use Rattle.std.specs.Prelude.{◌≡◌, false, length, IfErr, IfOk};
+ghost use Rattle.f11_catalog.specs.Walking.{IsWalking};
+ghost use Rattle.f11_index.specs.Kept.{index_kept, IndexLiesWithin};
+ghost use Rattle.f11_commands.specs.AllCommand.{BeginsAll, FailsToBeginAll, device_of, files_of, has_failed, has_faults, index_of};
+ghost use Rattle.f11_commands.specs.AnyVolume.{IsVerified, TellsFault};
+
+use crate::copy::finding::MASTER_DIRECTORY;
+use crate::get::all::state::TakingAll;
+use crate::ls::Served;
+use crate::outcome::{Answer, Failure};
+use crate::volume::read_index;
+use f11_catalog::{AllFiles, WalkFault};
+use f11_dev::Device;
+use f11_index::IndexFile;
+use f11_vfy::{Report, VfyError, verify};
+use std::alloc::Global;
+use std::io::Write;
+
+/// Verifies a volume and begins with all its files: those that users' directories name, in the order in which [`crate::print_ls`] lists
+/// them, and behind them by their numbers those that no user's directory names. It serves any volume whose home block and index file can
+/// be read, faulty or not, and writes nothing to it.
+///
+/// Where the volume can't be read it writes the line of its fault, F1 or F2: then it gives the device back, and what the command answers.
+/// Else it writes nothing.
+///
+/// # Errors
+///
+/// [`Failure::DeviceFault`] where a transfer failed and [`Failure::NoMemory`] where there was no memory, with nothing written; and
+/// [`Failure::CannotWrite`] where there is such a line and the writer takes no more. Each comes with the device.
+pub fn begin_all<D: Device, W: Write>(
+    alloc: Global,
+    device: D,
+    writer: &mut W,
+) -> Result<TakingAll<D>, (D, Result<Served, Failure>)>
+    ensures begins { IfOk result (λ all. (writer.new ≡ writer.old)
+        × IsVerified (has_faults all) (D.disk device)
+        × (has_failed all ≡ false)
+        × BeginsAll (index_of all) (files_of all) (D.disk device) (D.disk (device_of all))) }
+    ensures told { IfErr result (λ told. IfOk told.1 (λ served.
+        IsVerified served.faulty (D.disk device)
+        × TellsFault served.answer (D.disk device) (D.disk told.0) W.contents writer.old writer.new)) }
+    ensures failed { IfErr result (λ told. IfErr told.1 (λ failure.
+        FailsToBeginAll failure (D.disk device) (D.disk told.0) writer.old writer.new)) }
+{
+    match verify(alloc, device) {
+        Ok(Report::Accepted(accepted, _)) => begin(alloc, accepted.device(), false, writer),
+        Ok(Report::Faulty(device, _, _)) => begin(alloc, device, true, writer),
+        Err(VfyError::DeviceFault(device)) => Err((device, Err(Failure::DeviceFault))),
+        Err(VfyError::NoMemory(device)) => Err((device, Err(Failure::NoMemory))),
+    }
+}
+
+/// Begins with all files of a volume that has faults or hasn't.
+fn begin<D: Device, W: Write>(
+    alloc: Global,
+    device: D,
+    faulty: bool,
+    writer: &mut W,
+) -> Result<TakingAll<D>, (D, Result<Served, Failure>)>
+    ensures begins { IfOk result (λ all. (writer.new ≡ writer.old)
+        × (has_faults all ≡ faulty)
+        × (has_failed all ≡ false)
+        × BeginsAll (index_of all) (files_of all) (D.disk device) (D.disk (device_of all))) }
+    ensures told { IfErr result (λ told. IfOk told.1 (λ served. (served.faulty ≡ faulty)
+        × TellsFault served.answer (D.disk device) (D.disk told.0) W.contents writer.old writer.new)) }
+    ensures failed { IfErr result (λ told. IfErr told.1 (λ failure.
+        FailsToBeginAll failure (D.disk device) (D.disk told.0) writer.old writer.new)) }
+{
+    let mut device = device;
+    match begin_on_volume(alloc, &mut device, writer) {
+        Ok(Ok((index, files))) => Ok(TakingAll {
+            device,
+            index,
+            files,
+            faulty,
+            failed: false,
+        }),
+        Ok(Err(answer)) => Err((device, Ok(Served { answer, faulty }))),
+        Err(failure) => Err((device, Err(failure))),
+    }
+}
+
+/// Reads the index file, and begins with all files, or tells why it can't.
+fn begin_on_volume<D: Device, W: Write>(
+    alloc: Global,
+    device: &mut D,
+    writer: &mut W,
+) -> Result<Result<(IndexFile, AllFiles), Answer>, Failure>
+    ensures begins { IfOk result (λ answer. IfOk answer (λ found. (writer.new ≡ writer.old)
+        × IndexLiesWithin (index_kept found.0) (length (D.disk device.new).image)
+        × IsWalking (index_kept found.0) found.1 (D.disk device.new)
+        × BeginsAll (index_kept found.0) found.1 (D.disk device.old) (D.disk device.new))) }
+    ensures told { IfOk result (λ answer. IfErr answer (λ told.
+        TellsFault told (D.disk device.old) (D.disk device.new) W.contents writer.old writer.new)) }
+    ensures failed { IfErr result (λ failure.
+        FailsToBeginAll failure (D.disk device.old) (D.disk device.new) writer.old writer.new) }
+{
+    match read_index(alloc, device) {
+        Ok(Ok((_, index))) => match AllFiles::begin(alloc, device, &index, MASTER_DIRECTORY) {
+            Ok(files) => Ok(Ok((index, files))),
+            Err(WalkFault::DeviceFault) => Err(Failure::DeviceFault),
+            Err(WalkFault::NoMemory) => Err(Failure::NoMemory),
+        },
+        Ok(Err(fault)) => match writeln!(writer, "fault {fault}") {
+            Ok(()) => Ok(Err(Answer::Fault)),
+            Err(_) => Err(Failure::CannotWrite),
+        },
+        Err(failure) => Err(failure),
+    }
+}

@@ -1,0 +1,28 @@
+//! A volume whose files are taken out one after another.
+ghost use Rattle.std.specs.Prelude.{◌≡◌, length};
+ghost use Rattle.std.proofs.Props.{props};
+ghost use Rattle.f11_catalog.specs.Walking.{IsWalking};
+ghost use Rattle.f11_index.specs.Kept.{index_kept, IndexLiesWithin};
+
+use f11_catalog::AllFiles;
+use f11_dev::Device;
+use f11_index::IndexFile;
+
+/// A volume whose files are taken out one after another, on its device.
+#[derive(Drop)]
+pub struct TakingAll<D: Device> {
+    /// The device that has the volume.
+    pub(crate) device: D,
+    /// The volume's index file.
+    pub(crate) index: IndexFile,
+    /// The files that are still to come.
+    pub(crate) files: AllFiles,
+    /// Whether the volume has faults.
+    pub(crate) faulty: bool,
+    /// Whether a transfer failed.
+    pub(crate) failed: bool,
+    /// The index file lies on the device.
+    pub ghost within: { IndexLiesWithin (index_kept index) (length (D.disk device).image) },
+    /// Its directories are read from the device.
+    pub ghost walking: { IsWalking (index_kept index) files (D.disk device) } by { Prim.hlevel props },
+}
