@@ -1,0 +1,4 @@
+pub mod CopyFromHost
+pub mod Filling
+pub mod Pieces
+pub mod Refusal

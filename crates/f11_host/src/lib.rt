@@ -1,0 +1,14 @@
+//! Files of the host, made files on a Files-11 volume.
+//!
+//! [`copy_from_host`] makes a file of the bytes that a reader gives, as they are. [`read_piece`] reads the bytes of one block.
+#![tactic(auto)]
+
+mod copy;
+mod filling;
+mod making;
+mod piece;
+mod refusal;
+
+pub use copy::copy_from_host;
+pub use piece::read_piece;
+pub use refusal::HostRefusal;
