@@ -27,6 +27,20 @@ both true false h k = refl
 both true true h k = absurd (let never : true ≡ false = k in cc)
 both false b h k = absurd (let never : false ≡ true = h in cc)
 
+-- the stores of a volume that was mounted, and then asked
+module _ {D : Type 0} {met : Ghosts D} (old : Disk) (first last : Volume D met) (mounts : Mounts old first)
+    (home : (state_in last).home ≡ (state_in first).home) where
+  pub first-is : store_of_volume first ≡ held_in no_entries (store_of old.image (state_in first).home)
+  first-is =
+      ap (λ (t : AccessTable). held_in t (store_of (state_in first).disk.image (state_in first).home)) mounts.none
+      ∙ ap (λ (i : Image). held_in no_entries (store_of i (state_in first).home)) mounts.looked.image
+
+  pub last-is : store_of_volume last ≡ held_in (state_in last).table (store_of (state_in last).disk.image (state_in first).home)
+  last-is = ap (λ (h : HomeFields). held_in (state_in last).table (store_of (state_in last).disk.image h)) home
+
+  pub sound-first : IsTrue old.honest → is_sound first ≡ true
+  sound-first is = both (state_in first).disk.honest (is_spent first) (mounts.looked.honest ∙ is) mounts.fresh
+
 -- a volume that was mounted, between which and an RT-11 volume a copy was asked for
 module _ {D E : Type 0} {met : Ghosts D} {met' : Ghosts E} (rt-disk : E → Disk) (c : Copying) (result : Result ℕ FlxRefusal) (old : Disk)
     (first last : Volume D met) (rt rt' : RtAccepted E met') (mounts : Mounts old first)
@@ -34,14 +48,6 @@ module _ {D E : Type 0} {met : Ghosts D} {met' : Ghosts E} (rt-disk : E → Disk
     (unfailed : has_failed rt ≡ false)
     (answers : FaresAsAnswered rt-disk c.direction c.rt_name result (OutcomeIs c result) first last rt rt')
   where
-    first-is : store_of_volume first ≡ held_in no_entries (store_of old.image (state_in first).home)
-    first-is =
-        ap (λ (t : AccessTable). held_in t (store_of (state_in first).disk.image (state_in first).home)) mounts.none
-        ∙ ap (λ (i : Image). held_in no_entries (store_of i (state_in first).home)) mounts.looked.image
-
-    last-is : store_of_volume last ≡ held_in (state_in last).table (store_of (state_in last).disk.image (state_in first).home)
-    last-is = ap (λ (h : HomeFields). held_in (state_in last).table (store_of (state_in last).disk.image h)) answers.home
-
     abbrev d : Disk
     d = rt-disk (volume_device rt)
 
@@ -51,9 +57,6 @@ module _ {D E : Type 0} {met : Ghosts D} {met' : Ghosts E} (rt-disk : E → Disk
     sound-rt : IsTrue d.honest → IsSoundDisk d
     sound-rt honest = record { honest = honest; accepted = accepted honest }
 
-    sound : IsTrue old.honest → is_sound first ≡ true
-    sound is = both (state_in first).disk.honest (is_spent first) (mounts.looked.honest ∙ is) mounts.fresh
-
     pub copies-images : CopiesImages c result old (state_in last).disk d d'
     copies-images = record {
       home = (state_in first).home;
@@ -61,9 +64,10 @@ module _ {D E : Type 0} {met : Ghosts D} {met' : Ghosts E} (rt-disk : E → Disk
       home_is = mounts.home;
       outcome = λ is rt-is whole.
           subst (λ (s : Store). OutcomeIs c result s
-          (held_in (state_in last).table (store_of (state_in last).disk.image (state_in first).home)) d d') first-is
-          (subst (λ (s : Store). OutcomeIs c result (store_of_volume first) s d d') last-is
-          (answers.outcome (sound is) (sound-rt rt-is) whole));
+          (held_in (state_in last).table (store_of (state_in last).disk.image (state_in first).home)) d d')
+          (first-is old first last mounts answers.home)
+          (subst (λ (s : Store). OutcomeIs c result (store_of_volume first) s d d') (last-is old first last mounts answers.home)
+          (answers.outcome (sound-first old first last mounts answers.home is) (sound-rt rt-is) whole));
       undamaged = λ is. answers.undamaged mounts.fresh (mounts.looked.honest ∙ is);
       fares = record {
         failures = let none = mounts.looked.failures in let some = answers.fares.failures in omega (arith, none, some);
@@ -76,8 +80,9 @@ module _ {D E : Type 0} {met : Ghosts D} {met' : Ghosts E} (rt-disk : E → Disk
       source = answers.source;
       broken = λ is fault.
           subst (λ (s : Store). StandsAsIs s (held_in (state_in last).table (store_of (state_in last).disk.image (state_in first).home)))
-          first-is
-          (subst (λ (s : Store). StandsAsIs (store_of_volume first) s) last-is (answers.broken (sound is) fault));
+          (first-is old first last mounts answers.home)
+          (subst (λ (s : Store). StandsAsIs (store_of_volume first) s) (last-is old first last mounts answers.home)
+          (answers.broken (sound-first old first last mounts answers.home is) fault));
       accepted = λ is. answers.fares.accepted (answers.fares.honest ∙ mounts.looked.honest ∙ is);
       rt_broken = λ is. answers.rt_broken (sound-rt is);
       rt_accepted = λ is none. (answers.sound_rt (sound-rt is) none).accepted;

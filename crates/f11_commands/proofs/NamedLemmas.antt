@@ -38,7 +38,7 @@ use Rattle.f11_commands.proofs.AskedLemmas.{denied-home, denied-undamaged, grant
 use Rattle.f11_commands.proofs.BrokenLemmas.{begun-left, held-stands, stands-behind, unread-stands}
 use Rattle.f11_commands.specs.Copying.{CopiesWithin, KeepsRt, LeavesBegun, OutcomeIs, ReadsSource, StandsAsIs, directory_name, is_undoing}
 use Rattle.f11_commands.specs.Copying.{master_directory, operator}
-use Rattle.f11_commands.specs.Finding.{FaresAsAnswered, WithinDirectory, is_found}
+use Rattle.f11_commands.specs.Finding.{FaresAlone, FaresAsAnswered, WithinDirectory, is_found}
 use Rattle.f11_commands.specs.declared.copy.Copying.{Copying}
 use Rattle.f11_commands.specs.declared.copy.Direction.{Direction}
 use Rattle.f11_commands.specs.declared.copy.Direction.TheVariants.{ToRt, FromRt}
@@ -99,7 +99,7 @@ module _ {D : Type 0} {met : Ghosts D} where
       }
 
   -- a volume that a copy was asked of, as it tells itself
-  undamaged-asked : (is_one : Asking → Bool) (who : Who) (result : Result ℕ FlxRefusal) (v w : Volume D met) → FaresFiles result v w
+  pub undamaged-asked : (is_one : Asking → Bool) (who : Who) (result : Result ℕ FlxRefusal) (v w : Volume D met) → FaresFiles result v w
       → AsksOnly is_one who v w
       → is_spent v ≡ false → IsTrue (state_in v).disk.honest → result ≢ Err (Files Damaged)
   undamaged-asked is_one who result v w fares asked alive honest is =
@@ -107,6 +107,71 @@ module _ {D : Type 0} {met : Ghosts D} where
       let more = tried-breaks who asked.asked v w asked.tried honest alive dead in
       let same = fares.failures ∙ ap (λ r. failures_of v + (if of_files is_fault r then 1 else 0)) is in
       absurd (omega (arith, more, same))
+
+  -- behind something that was granted
+  pub alone-behind : (result : Result ℕ FlxRefusal) (x : Asking) (v u w : Volume D met) → Grants of_volume operator x v u
+      → FaresAlone result u w → FaresAlone result v w
+  alone-behind result x v u w grants a =
+      let fared = granted-fared operator x v u grants in
+      record {
+        fares = fares-behind result v u w fared a.fares;
+        alive = λ alive. a.alive (fared.next ∙ ap (λ b. b || false) alive);
+        home = a.home ∙ granted-home operator x v u grants;
+        undamaged = λ alive honest. a.undamaged (fared.next ∙ ap (λ b. b || false) alive) (fared.honest ∙ honest);
+      }
+
+  -- a find that is refused
+  pub alone-not-found : (dir : FileId) (name : List ℕ) (e : Refusal) (v w : Volume D met)
+      → Fails of_volume operator is_found (request.Find dir name) e v w → FaresAlone (Err (Files e)) v w
+  alone-not-found dir name e v w (inl denies) =
+      let fared = denied-fared operator (asks (request.Find dir name)) e v w denies in
+      record {
+        fares = record {
+          failures = fared.failures;
+          quiet = fared.quiet;
+          honest = fared.honest;
+          next = λ honest. fared.next;
+          spent = λ dead. sym fared.next ∙ dead;
+          accepted = fared.accepted;
+        };
+        alive = λ alive is. (denied-live operator (asks (request.Find dir name)) e v w alive denies).other
+            (same-refusal (Files e) (Files VolumeFailed) is);
+        home = denied-home operator (asks (request.Find dir name)) e v w denies;
+        undamaged = λ alive honest is. denied-undamaged operator (asks (request.Find dir name)) e v w alive honest denies
+            (let same = is in cc);
+      }
+  alone-not-found dir name e v w (inr wrong) =
+      let fared = granted-fared operator (told (request.Find dir name) wrong.0) v w wrong.3 in
+      let dishonest : IsTrue (state_in v).disk.honest → ⊥ = λ honest. never (found-reply dir name wrong.0 v w wrong.3 honest) wrong.1 in
+      record {
+        fares = subst (λ x. FaresFiles {T = ℕ} (Err (Files x)) v w) (sym wrong.2) (record {
+          failures = fared.failures;
+          quiet = λ fault. absurd (cc);
+          honest = fared.honest;
+          next = λ honest. absurd (dishonest honest);
+          spent = λ dead. or-true (is_spent v);
+          accepted = fared.accepted;
+        });
+        alive = λ alive is. damaged-apart e wrong.2 (same-refusal (Files e) (Files VolumeFailed) is);
+        home = granted-home operator (told (request.Find dir name) wrong.0) v w wrong.3;
+        undamaged = λ alive honest is. dishonest honest;
+      }
+    where
+      damaged-apart : (e : Refusal) → e ≡ Damaged → Files e ≡ Files VolumeFailed → ⊥
+      damaged-apart e is same = cc
+
+  -- over a sound volume the store refused it
+  pub not-found-seen : (dir : FileId) (name : List ℕ) (e : Refusal) (v w : Volume D met) → is_sound v ≡ true
+      → is_whole {T = ℕ} (Err (Files e)) ≡ true → Fails of_volume operator is_found (request.Find dir name) e v w
+      → Denies plain operator (asks (request.Find dir name)) e (store_of_volume v) (store_of_volume w)
+  not-found-seen dir name e v w sound whole (inl denies) =
+      (volume-seen.denied operator (asks (request.Find dir name)) e v w denies sound (not-true whole)).0
+    where
+      not-true : {b : Bool} → not b ≡ true → b ≡ false
+      not-true {b = true} h = absurd (cc)
+      not-true {b = false} h = refl
+  not-found-seen dir name e v w sound whole (inr wrong) =
+      absurd (let lethal = subst (λ x. is_whole {T = ℕ} (Err (Files x)) ≡ true) wrong.2 whole in cc)
 
 module _ {D E : Type 0} {met : Ghosts D} {met' : Ghosts E} (disk : E → Disk) where
   -- a copy behind something that was granted
@@ -118,15 +183,16 @@ module _ {D E : Type 0} {met : Ghosts D} {met' : Ghosts E} (disk : E → Disk) w
       → Holds' (store_of_volume v) (store_of_volume w) (disk (volume_device rt)) (disk (volume_device rt')))
       → FaresAsAnswered disk direction rt-name result Holds' v w rt rt'
   answers-behind direction rt-name result Holds Holds' x v u w rt rt' none grants a step =
-      let fared = granted-fared operator x v u grants in
+      let alone = alone-behind result x v u w grants
+      (record { fares = a.fares; alive = a.alive; home = a.home; undamaged = a.undamaged }) in
       record {
-        fares = fares-behind result v u w fared a.fares;
+        fares = alone.fares;
         fares_rt = a.fares_rt;
         source = a.source;
-        alive = λ alive. a.alive (fared.next ∙ ap (λ b. b || false) alive);
+        alive = alone.alive;
         rt_alive = a.rt_alive;
-        home = a.home ∙ granted-home operator x v u grants;
-        undamaged = λ alive honest. a.undamaged (fared.next ∙ ap (λ b. b || false) alive) (fared.honest ∙ honest);
+        home = alone.home;
+        undamaged = alone.undamaged;
         sound_rt = a.sound_rt;
         rt_broken = a.rt_broken;
         outcome = λ sound rt-sound whole.
@@ -144,61 +210,21 @@ module _ {D E : Type 0} {met : Ghosts D} {met' : Ghosts E} (disk : E → Disk) w
       → (Denies plain operator (asks (request.Find dir name)) e (store_of_volume v) (store_of_volume w)
       → Holds (store_of_volume v) (store_of_volume w) (disk (volume_device rt)) (disk (volume_device rt)))
       → FaresAsAnswered disk direction rt-name (Err (Files e)) Holds v w rt rt
-  answers-not-found direction rt-name Holds dir name e v w rt (inl denies) step =
-      let fared = denied-fared operator (asks (request.Find dir name)) e v w denies in
+  answers-not-found direction rt-name Holds dir name e v w rt fails step =
+      let alone = alone-not-found dir name e v w fails in
       record {
-        fares = record {
-          failures = fared.failures;
-          quiet = fared.quiet;
-          honest = fared.honest;
-          next = λ honest. fared.next;
-          spent = λ dead. sym fared.next ∙ dead;
-          accepted = fared.accepted;
-        };
+        fares = alone.fares;
         fares_rt = untouched disk e rt;
         source = unread direction (disk (volume_device rt));
-        alive = λ alive is. (denied-live operator (asks (request.Find dir name)) e v w alive denies).other
-            (same-refusal (Files e) (Files VolumeFailed) is);
+        alive = alone.alive;
         rt_alive = λ alive is. rt-apart e Failed (same-refusal (Files e) (Rt Failed) is);
-        home = denied-home operator (asks (request.Find dir name)) e v w denies;
-        undamaged = λ alive honest is. denied-undamaged operator (asks (request.Find dir name)) e v w alive honest denies
-            (let same = is in cc);
+        home = alone.home;
+        undamaged = alone.undamaged;
         sound_rt = λ sound none. sound;
         rt_broken = λ sound fatal. inl (same-files rt-name (rt_store_of (disk (volume_device rt)).image));
-        outcome = λ sound rt-sound whole.
-            step (volume-seen.denied operator (asks (request.Find dir name)) e v w denies sound (not-true whole)).0;
+        outcome = λ sound rt-sound whole. step (not-found-seen dir name e v w sound whole fails);
         broken = λ sound fault. absurd (cc);
       }
-    where
-      not-true : {b : Bool} → not b ≡ true → b ≡ false
-      not-true {b = true} h = absurd (cc)
-      not-true {b = false} h = refl
-  answers-not-found direction rt-name Holds dir name e v w rt (inr wrong) step =
-      let fared = granted-fared operator (told (request.Find dir name) wrong.0) v w wrong.3 in
-      let dishonest : IsTrue (state_in v).disk.honest → ⊥ = λ honest. never (found-reply dir name wrong.0 v w wrong.3 honest) wrong.1 in
-      record {
-        fares = subst (λ x. FaresFiles {T = ℕ} (Err (Files x)) v w) (sym wrong.2) (record {
-          failures = fared.failures;
-          quiet = λ fault. absurd (cc);
-          honest = fared.honest;
-          next = λ honest. absurd (dishonest honest);
-          spent = λ dead. or-true (is_spent v);
-          accepted = fared.accepted;
-        });
-        fares_rt = untouched disk e rt;
-        source = unread direction (disk (volume_device rt));
-        alive = λ alive is. damaged-apart e wrong.2 (same-refusal (Files e) (Files VolumeFailed) is);
-        rt_alive = λ alive is. rt-apart e Failed (same-refusal (Files e) (Rt Failed) is);
-        home = granted-home operator (told (request.Find dir name) wrong.0) v w wrong.3;
-        undamaged = λ alive honest is. dishonest honest;
-        sound_rt = λ sound none. sound;
-        rt_broken = λ sound fatal. inl (same-files rt-name (rt_store_of (disk (volume_device rt)).image));
-        outcome = λ sound rt-sound whole. absurd (let lethal = subst (λ x. is_whole {T = ℕ} (Err (Files x)) ≡ true) wrong.2 whole in cc);
-        broken = λ sound fault. absurd (cc);
-      }
-    where
-      damaged-apart : (e : Refusal) → e ≡ Damaged → Files e ≡ Files VolumeFailed → ⊥
-      damaged-apart e is same = cc
 
   module _ (c : Copying) (v w : Volume D met) (rt rt' : RtAccepted E met') where
     abbrev d : Disk

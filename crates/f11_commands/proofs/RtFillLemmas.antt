@@ -1,13 +1,7 @@
 -- A file of an RT-11 volume that is filled block by block with bytes that are read.
 use Rattle.std.proofs.Common.{◌≡◌, ℕ, ◌+◌, ◌-◌, ◌*◌, ◌<◌, ◌≤◌, Bool, true, false, List, [], ◌∷◌, ◌++◌, length}
-use Rattle.std.proofs.Common.{drop}
-use Rattle.std.proofs.Common.{replicate, min, Option, Result, Ok, Err, OnOk, refl, sym, ap, ◌∙◌, subst, arith, append_assoc}
-use Rattle.std.specs.List.{concat}
+use Rattle.std.proofs.Common.{min, Option, Err, refl, ap, ◌∙◌, subst, arith}
 use Rattle.std.specs.Prelude.{⊤}
-use Rattle.std.specs.Io.KnownBytes.{Consumes}
-use Rattle.std.proofs.KnownBytes.{Consumes-nil, Consumes-trans}
-use Rattle.std.proofs.lemmas.List.{append-nil, length-append, drop-replicate}
-use Rattle.std.proofs.lemmas.List.Folds.{concat-append}
 use Rattle.f11_dev.specs.Disk.{Disk}
 use Rattle.f11_dev.specs.Image.{Image}
 use Rattle.f11_dev.specs.Looked.{Looked}
@@ -27,8 +21,10 @@ use Rattle.rt11_volume.specs.Verifying.Verdict.{IsSoundDisk}
 use Rattle.rt11_volume.specs.declared.refusal.RtRefusal.{RtRefusal}
 use Rattle.rt11_volume.specs.declared.volume.RtAccepted.{RtAccepted}
 use Rattle.f11_commands.specs.RtFile.{block_transfers}
-use Rattle.f11_commands.specs.RtFilling.{FillsNamed, LacksBytes, ReadsPiece, StopsFilling}
-use Rattle.f11_commands.specs.RtPut.{MakesTransfers, blocks_for, filled_up}
+use Rattle.f11_host.specs.Pieces.{ReadsPiece, blocks_for, filled_up}
+use Rattle.f11_host.proofs.PieceLemmas.{TakesBlocks, takes-all, takes-more, takes-none}
+use Rattle.f11_commands.specs.RtFilling.{FillsNamed, LacksBytes, StopsFilling}
+use Rattle.f11_commands.specs.RtPut.{MakesTransfers}
 
 -- what is said of each image is left out
 pub transfers : (P : Image → Type 0) {old new : Disk} {most faults : ℕ} → Went P old new most faults → MakesTransfers old new most faults
@@ -44,29 +40,10 @@ transfers-more first then = went_more (λ image. ⊤) first then
 pub transfers-within : {a b : Disk} {m n faults : ℕ} → MakesTransfers a b m faults → m ≤ n → MakesTransfers a b n faults
 transfers-within went fewer = went_within (λ image. ⊤) went fewer
 
--- a block that was zeros, with bytes in its front
-pub reads-piece : {E : Type 0} (count : ℕ) (unread unread' : Option (List ℕ)) (piece zeros : List ℕ) (result : Result Unit E) → count ≤ 512
-    → length piece ≡ count → zeros ≡ replicate 512 0 → OnOk result (Consumes unread unread' piece)
-    → OnOk result (ReadsPiece count unread unread' (piece ++ drop (0 + length piece) zeros))
-reads-piece count unread unread' piece zeros (Ok x) few size is takes = record {
-  piece = piece;
-  size = size;
-  takes = takes;
-  is =
-      let all : 0 + length piece ≡ count = omega (arith, size) in
-      ap (λ (l : List ℕ). piece ++ drop (0 + length piece) l) is ∙ ap (λ (n : ℕ). piece ++ drop n (replicate 512 0)) all
-      ∙ ap (λ (l : List ℕ). piece ++ l) (drop-replicate count 512 0);
-}
-reads-piece count unread unread' piece zeros (Err e) few size is takes = tt
-
 -- So many blocks were written, with the bytes that were read.
 pub record Filled {E : Type 0} {met : Ghosts E} (disk : E → Disk) (name : List ℕ) (bytes place left : ℕ) (taken : List ℕ)
     (pieces : List (List ℕ)) (unread unread' : Option (List ℕ)) (old now : RtAccepted E met) : Type 0 where
-  pub count : length pieces ≡ place
-  pub left_is : left ≡ bytes - 512 * place
-  pub size : length taken ≡ bytes - left
-  pub content : concat pieces ≡ filled_up taken place
-  pub takes : Consumes unread unread' taken
+  pub read : TakesBlocks bytes place left taken pieces unread unread'
   pub took : Took (rt_takes disk) name 0 pieces old now
   pub went : MakesTransfers (rt_disk disk old) (rt_disk disk now) (block_transfers * place) 0
 
@@ -74,11 +51,7 @@ module _ {E : Type 0} {met : Ghosts E} (disk : E → Disk) (name : List ℕ) (by
   where
     pub filled-none : Filled disk name bytes 0 bytes [] [] unread unread old old
     filled-none = record {
-      count = refl;
-      left_is = omega arith;
-      size = omega arith;
-      content = refl;
-      takes = Consumes-nil unread;
+      read = takes-none bytes unread;
       took = refl;
       went = transfers-within (transfers-looked (looked_none (rt_disk disk old))) (omega arith);
     }
@@ -97,34 +70,11 @@ module _ {E : Type 0} {met : Ghosts E} (disk : E → Disk) (name : List ℕ) (by
           → MakesTransfers (rt_disk disk now) (rt_disk disk new) 63 0
           → Filled disk name bytes (place + 1) (left - count) (taken ++ r.piece) (pieces ++ block ∷ []) unread new' old new
       filled-more count block new' new inside is r put went = record {
-        count = length-append pieces (block ∷ []) ∙ ap (λ n. n + 1) filled.count;
-        left_is = omega (arith, filled.left_is, inside, is);
-        size =
-            let both = length-append taken r.piece in
-            omega (arith, both, r.size, filled.size, filled.left_is, is);
-        content =
-            concat-append pieces (block ∷ [])
-            ∙ ap (λ (l : List ℕ). concat pieces ++ l) (append-nil block)
-            ∙ ap (λ (l : List ℕ). l ++ block) (filled.content ∙ no-zeros)
-            ∙ ap (λ (l : List ℕ). taken ++ l) r.is
-            ∙ sym (append_assoc taken r.piece (replicate (512 - count) 0))
-            ∙ ap (λ n. (taken ++ r.piece) ++ replicate n 0) rest;
-        takes = Consumes-trans unread now' new' taken r.piece filled.takes r.takes;
+        read = takes-more bytes place left taken pieces unread now' filled.read count block new' inside is r;
         took = took-one (rt_takes disk) name 0 pieces block old now new filled.took
-            (subst (λ n. Puts disk name n (block ∷ []) now new) (omega (arith, filled.count)) put);
+            (subst (λ n. Puts disk name n (block ∷ []) now new) (omega (arith, filled.read.count)) put);
         went = transfers-within (transfers-more filled.went went) (omega arith);
       }
-        where
-          whole : length taken ≡ 512 * place
-          whole = omega (arith, filled.size, filled.left_is, inside)
-
-          no-zeros : filled_up taken place ≡ taken
-          no-zeros =
-              let none : 512 * place - length taken ≡ 0 = omega (arith, whole) in
-              ap (λ n. taken ++ replicate n 0) none ∙ append-nil taken
-
-          rest : 512 - count ≡ 512 * (place + 1) - length (taken ++ r.piece)
-          rest = let both = length-append taken r.piece in omega (arith, both, r.size, whole, is, filled.left_is, inside)
 
       -- the host's file gives no more
       pub lacks-bytes : (blocks : ℕ) → place < blocks → LacksBytes disk name blocks old now
@@ -168,10 +118,10 @@ module _ {E : Type 0} {met : Ghosts E} (disk : E → Disk) (name : List ℕ) (by
       fills blocks all count = record {
         pieces = pieces;
         taken = taken;
-        count = filled.count ∙ all;
-        size = omega (arith, filled.size, filled.left_is, all, count);
-        content = filled.content ∙ ap (filled_up taken) all;
-        takes = filled.takes;
+        count = filled.read.count ∙ all;
+        size = (takes-all bytes place left taken pieces unread now' filled.read (all ∙ count)).0;
+        content = filled.read.content ∙ ap (filled_up taken) all;
+        takes = filled.read.takes;
         puts = puts-so-far;
         went = subst (λ n. MakesTransfers (rt_disk disk old) (rt_disk disk now) (block_transfers * n) 0) all filled.went;
       }

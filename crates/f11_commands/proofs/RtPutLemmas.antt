@@ -14,7 +14,8 @@ use Rattle.rt11_volume.specs.declared.refusal.RtRefusal.{RtRefusal}
 use Rattle.rt11_volume.specs.declared.volume.RtAccepted.{RtAccepted}
 use Rattle.f11_commands.specs.RtDelete.{delete_transfers}
 use Rattle.f11_commands.specs.RtFilling.{FillsNamed, LacksBytes, StopsFilling, UndoesStoring, stop_of}
-use Rattle.f11_commands.specs.RtPut.{IsNotStored, IsStored, IsUnstored, PutsFile, MakesTransfers, blocks_for, create_transfers}
+use Rattle.f11_host.specs.Pieces.{blocks_for}
+use Rattle.f11_commands.specs.RtPut.{IsNotStored, IsStored, IsUnstored, PutsFile, MakesTransfers, create_transfers}
 use Rattle.f11_commands.specs.RtPut.{put_transfers}
 use Rattle.f11_commands.specs.declared.rt_file.Stop.{Stop}
 use Rattle.f11_commands.specs.declared.rt_file.Stop.TheVariants.{Volume, Host}

@@ -30,6 +30,14 @@ abbrev pub is_found : Reply → Bool
 is_found (reply.Found id) = true
 is_found _ = false
 
+-- A volume fared as the answer says of it: it had failed before where that is the answer, its home block stays, and where its disk is
+-- honest it isn't damaged.
+pub record FaresAlone {D : Type 0} {met : Ghosts D} (result : Result ℕ FlxRefusal) (old new : Volume D met) : Type 0 where
+  pub fares : FaresFiles result old new
+  pub alive : is_spent old ≡ false → result ≢ Err (Files VolumeFailed)
+  pub home : (state_in new).home ≡ (state_in old).home
+  pub undamaged : is_spent old ≡ false → IsTrue (state_in old).disk.honest → result ≢ Err (Files Damaged)
+
 -- A copy was asked for, of two volumes: each fared as its answer says, and where both are sound this holds of their stores. Where a
 -- device fault of one broke it off nothing is undone on the other.
 pub record FaresAsAnswered {D E : Type 0} {met : Ghosts D} {met' : Ghosts E} (disk : E → Disk) (direction : Direction) (name : List ℕ)

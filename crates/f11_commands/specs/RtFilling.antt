@@ -1,10 +1,11 @@
 -- How a file of an RT-11 volume that was made is filled, and undone (profile).
-use Rattle.std.specs.Prelude.{◌≡◌, ◌≢◌, ◌⊎◌, ℕ, ◌*◌, true, List, ◌++◌, length, replicate, Option, Err, ◌-◌, ◌<◌, if◌then◌else◌}
+use Rattle.std.specs.Prelude.{◌≡◌, ◌≢◌, ◌⊎◌, ℕ, ◌*◌, true, List, length, Option, Err, ◌<◌, if◌then◌else◌}
 use Rattle.std.specs.Io.KnownBytes.{Consumes}
 use Rattle.std.specs.List.{concat}
 use Rattle.f11_dev.specs.Disk.{Disk}
 use Rattle.f11_dev.specs.declared.device.Device.{Ghosts}
 use Rattle.f11_flx.specs.Target.{DeletesRtFile, FailsDeleting, Puts, rt_disk}
+use Rattle.f11_host.specs.Pieces.{filled_up}
 use Rattle.rt11_volume.specs.Files.{faults_in, is_fault}
 use Rattle.rt11_volume.specs.Verifying.Verdict.{IsSoundDisk}
 use Rattle.rt11_volume.specs.declared.refusal.RtRefusal.{RtRefusal}
@@ -12,16 +13,9 @@ use Rattle.rt11_volume.specs.declared.refusal.RtRefusal.TheVariants.{Failed}
 use Rattle.rt11_volume.specs.declared.volume.RtAccepted.{RtAccepted}
 use Rattle.f11_commands.specs.RtDelete.{delete_transfers}
 use Rattle.f11_commands.specs.RtFile.{block_transfers}
-use Rattle.f11_commands.specs.RtPut.{MakesTransfers, filled_up}
+use Rattle.f11_commands.specs.RtPut.{MakesTransfers}
 use Rattle.f11_commands.specs.declared.rt_file.Stop.{Stop}
 use Rattle.f11_commands.specs.declared.rt_file.Stop.TheVariants.{Volume, Host}
-
--- So many bytes were read into a block, whose other bytes are zeros.
-pub record ReadsPiece (count : ℕ) (unread unread' : Option (List ℕ)) (block : List ℕ) : Type 0 where
-  pub piece : List ℕ
-  pub size : length piece ≡ count
-  pub takes : Consumes unread unread' piece
-  pub is : block ≡ piece ++ replicate (512 - count) 0
 
 -- All blocks of a file were written: they hold the bytes that were read, filled up.
 pub record FillsNamed {E : Type 0} {met : Ghosts E} (disk : E → Disk) (name : List ℕ) (bytes blocks : ℕ) (unread unread' : Option (List ℕ))

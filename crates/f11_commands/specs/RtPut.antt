@@ -7,6 +7,7 @@ use Rattle.f11_dev.specs.Image.{Image}
 use Rattle.f11_dev.specs.Went.{Went}
 use Rattle.f11_flx.specs.CopyToRt.{FailsToMake, HasCopy, HasEmptied, LiesInFirstArea}
 use Rattle.f11_flx.specs.RtOutcome.{HasSameFiles}
+use Rattle.f11_host.specs.Pieces.{blocks_for, filled_up}
 use Rattle.rt11_volume.specs.Files.{faults_in, is_fault}
 use Rattle.rt11_volume.specs.Named.{files_named}
 use Rattle.rt11_volume.specs.Store.{RtStore, rt_store_of}
@@ -22,14 +23,6 @@ use Rattle.f11_commands.specs.declared.rt_file.Stop.{Stop}
 use Rattle.f11_commands.specs.declared.rt_file.Stop.TheVariants.{Volume, Host}
 use Rattle.f11_commands.specs.declared.rt_put.PutFailure.{PutFailure}
 use Rattle.f11_commands.specs.declared.rt_put.PutFailure.TheVariants.{Command, Unread}
-
--- how many blocks so many bytes take, the last one filled up
-abbrev pub blocks_for : ℕ → ℕ
-blocks_for bytes = (bytes + 511) / 512
-
--- bytes, filled up with zeros to so many blocks
-abbrev pub filled_up : List ℕ → ℕ → List ℕ
-filled_up bytes blocks = bytes ++ replicate (512 * blocks - length bytes) 0
 
 -- So many transfers were made at most, and so many failed.
 abbrev pub MakesTransfers : Disk → Disk → ℕ → ℕ → Type 0

@@ -3,7 +3,8 @@
 //! A command's contract says which lines it writes and what it answers; it knows nothing of files, words or terminals. The
 //! program opens the files and calls them, and so can whatever else wants their lines. The crate stands on [`f11_dev`], for
 //! devices, on [`f11_home`], for home blocks, on [`f11_header`] and [`f11_map`], for file headers, on [`f11_rad50`], for
-//! names, on [`f11_store`], for rights, on [`f11_fcp`] and [`f11_serving`], for scripts, and on [`f11_flx`], for copies.
+//! names, on [`f11_store`], for rights, on [`f11_fcp`] and [`f11_serving`], for scripts, and on [`f11_flx`] and [`f11_host`], for
+//! copies.
 #![tactic(auto)]
 
 mod contents;
@@ -16,6 +17,7 @@ mod label;
 mod ls;
 mod name;
 mod outcome;
+mod put;
 mod report;
 mod rights;
 mod rt_delete;
@@ -48,6 +50,7 @@ pub use label::Label;
 pub use ls::{Served, print_ls};
 pub use name::print_name;
 pub use outcome::{Answer, Failure};
+pub use put::{Putting, print_put};
 pub use report::System;
 pub use rights::print_rights;
 pub use rt_delete::print_rt_delete;

@@ -62,7 +62,7 @@ pub fn print_rt_put<D: Device, R: Read, W: Write>(
 }
 
 /// An answer of a command.
-fn as_put(told: Result<FileAnswer, Failure>) -> Result<FileAnswer, PutFailure>
+pub(crate) fn as_put(told: Result<FileAnswer, Failure>) -> Result<FileAnswer, PutFailure>
     ensures { result ≡ put_told told }
 {
     match told {

@@ -56,7 +56,7 @@ pub fn serve<D: Device, E: Device, W: Write>(
 }
 
 /// Gives a volume up, and its device.
-fn dismount<D: Device>(volume: Volume<D>) -> D
+pub fn dismount<D: Device>(volume: Volume<D>) -> D
     ensures { result ≡ device_in volume }
 {
     match volume.dismount() {

@@ -1,27 +1,18 @@
 //! A file of an RT-11 volume that was made is filled, or deleted again.
-ghost use Rattle.std.specs.Prelude.{◌≡◌, ◌+◌, ◌*◌, ◌<◌, ◌≤◌, false, IfErr, OnOk};
-ghost use Rattle.f11_commands.specs.RtFilling.{FailsToFill, FillsNamed, ReadsPiece, UndoesStoring};
-ghost use Rattle.f11_commands.specs.RtPut.{blocks_for};
+ghost use Rattle.std.specs.Prelude.{◌≡◌, ◌*◌, false, IfErr, OnOk};
+ghost use Rattle.f11_commands.specs.RtFilling.{FailsToFill, FillsNamed, UndoesStoring};
 ghost use Rattle.f11_flx.specs.Target.{HasRtBlocks};
+ghost use Rattle.f11_host.specs.Pieces.{blocks_for};
 ghost use Rattle.rt11_volume.specs.Calls.{has_failed, volume_device};
 ghost use Rattle.rt11_volume.specs.Store.{rt_store_of};
 ghost use Rattle.rt11_volume.specs.Verifying.Verdict.{IsSoundDisk};
 
 use crate::rt_file::{Stop, is_fault};
-use f11_bytes::{BLOCK_SIZE, Block, bytes_mut};
+use f11_bytes::BLOCK_SIZE;
 use f11_dev::Device;
+use f11_host::read_piece;
 use rt11_volume::{RtAccepted, RtName};
-use std::io::{self, Read};
-
-/// Reads so many bytes into a block, whose other bytes are zeros then.
-fn read_piece<R: Read>(host: &mut R, count: usize, block: &mut Block) -> io::Result<()>
-    requires few { count ≤ 512 }
-    ensures read { OnOk result (ReadsPiece count (R.remaining host.old) (R.remaining host.new)
-        block.new) }
-{
-    *block = [0; BLOCK_SIZE];
-    host.read_exact(bytes_mut(block, 0, count))
-}
+use std::io::Read;
 
 /// Writes the bytes that `host` gives to the file of a name, whose blocks they fill, the last one filled up.
 pub(crate) fn fill<D: Device, R: Read>(

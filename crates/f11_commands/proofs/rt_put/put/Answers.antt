@@ -1,7 +1,7 @@
 use Rattle.std.proofs.Common.{◌≡◌, ◌∙◌, subst, arith}
 use Rattle.f11_flx.specs.Target.{Makes}
 use Rattle.f11_commands.specs.RtFilling.{LacksBytes, StopsFilling}
-use Rattle.f11_commands.specs.RtPut.{blocks_for}
+use Rattle.f11_host.specs.Pieces.{blocks_for}
 use Rattle.f11_commands.proofs.RtPutLemmas.{stopped, stored, undone}
 use Rattle.f11_commands.proofs.rt_put.put.Goals as goal
 

@@ -1,6 +1,6 @@
 use Rattle.std.proofs.Common.{◌≡◌, ◌<◌, Ok, Err, [], subst, arith}
 use Rattle.f11_flx.proofs.TargetLemmas.{fails-putting, puts}
-use Rattle.f11_commands.specs.RtPut.{blocks_for}
+use Rattle.f11_host.specs.Pieces.{blocks_for}
 use Rattle.f11_commands.proofs.RtFillLemmas.{filled-more, filled-none, fills, lacks-bytes, stops-filling, transfers}
 use Rattle.f11_commands.proofs.rt_put.filling.fill.Goals as goal
 

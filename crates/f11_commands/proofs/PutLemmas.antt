@@ -1,0 +1,160 @@
+-- A file of the host that is put on a volume by its name.
+use Rattle.std.proofs.Common.{◌≡◌, inl, inr, ℕ, true, IsTrue, List, [], Option, Result, Ok, Err, IfOk, IfErr, refl, sym, ◌∙◌, subst, arith}
+use Rattle.std.proofs.KnownBytes.{Consumes-nil}
+use Rattle.f11_dev.specs.Disk.{Disk}
+use Rattle.f11_dev.specs.declared.device.Device.{Ghosts}
+use Rattle.f11_fcp.specs.Lists.{is_sound, store_of_volume}
+use Rattle.f11_fcp.specs.Accesses.{held_in}
+use Rattle.f11_fcp.specs.Mounting.{Mounts}
+use Rattle.f11_fcp.specs.Serving.{state_in}
+use Rattle.f11_fcp.specs.declared.volume.Volume.{Volume}
+use Rattle.f11_flx.proofs.VolumeLemmas.{volume-seen}
+use Rattle.f11_flx.specs.Asking.{Fails, Grants, told, who_asks}
+use Rattle.f11_flx.specs.Copying.{MayMakeFile, is_whole, of_volume}
+use Rattle.f11_host.specs.CopyFromHost.{CopiesFromHost, FailsToCopyFromHost, ReadsHost}
+use Rattle.f11_host.specs.Refusal.{as_copy, copy_result}
+use Rattle.f11_host.specs.declared.refusal.HostRefusal.{HostRefusal}
+use Rattle.f11_host.specs.declared.refusal.HostRefusal.TheVariants.{Files}
+use Rattle.f11_image_store.specs.StoreOf.{store_of}
+use Rattle.f11_store.specs.Store.{Store}
+use Rattle.f11_store.specs.declared.files.FileId.{FileId}
+use Rattle.f11_store.specs.declared.refusals.Refusal.{Refusal}
+use Rattle.f11_store.specs.declared.requests.Reply.TheVariants as reply
+use Rattle.f11_store.specs.declared.requests.Request.TheVariants as request
+use Rattle.f11_commands.proofs.AskedLemmas.{never, tried-home}
+use Rattle.f11_commands.proofs.CopyLemmas.{first-is, last-is, sound-first}
+use Rattle.f11_commands.proofs.NamedLemmas.{alone-behind, alone-not-found, not-found-seen, undamaged-asked}
+use Rattle.f11_commands.specs.CopyCommand.{VerifiesFiles}
+use Rattle.f11_commands.specs.Copying.{directory_name, master_directory, operator}
+use Rattle.f11_commands.specs.Finding.{is_found}
+use Rattle.f11_commands.specs.PutCommand.{AnswersPutting, EndsPutting, PutsByName, PutsInto, PutsNamed, PutsOnImage, TellsPutting}
+use Rattle.f11_commands.specs.declared.copy.FileAnswer.{FileAnswer}
+use Rattle.f11_commands.specs.declared.put.Putting.{Putting}
+use Rattle.f11_commands.specs.declared.rt_put.PutFailure.{PutFailure}
+
+module _ {D : Type 0} {met : Ghosts D} (p : Putting) (bytes : ℕ) (u : Option (List ℕ)) where
+  -- the file was to be made in a directory
+  made-in : (dir : FileId) (result : Result ℕ HostRefusal) (u' : Option (List ℕ)) (v w : Volume D met)
+      → MayMakeFile (copy_result result) operator v w → ReadsHost bytes result u u'
+      → IfOk result (λ blocks. is_sound v ≡ true
+      → CopiesFromHost bytes u u' operator 0 dir p.name 0 (store_of_volume v) (store_of_volume w))
+      → IfErr result (λ e. is_whole (copy_result result) ≡ true → is_sound v ≡ true
+      → FailsToCopyFromHost e bytes u u' operator 0 dir p.name 0 (store_of_volume v) (store_of_volume w))
+      → PutsNamed bytes result u u' (PutsInto p bytes dir result u u') v w
+  made-in dir result u' v w files host copied refused = record {
+    fares = record {
+      fares = files.fares;
+      alive = λ alive is. never (files.keeps.only is) alive;
+      home = tried-home operator files.asked.asked v w files.asked.tried;
+      undamaged = undamaged-asked _ operator (copy_result result) v w files.fares files.asked;
+    };
+    host = host;
+    outcome = by result files copied refused;
+  }
+    where
+      by : (r : Result ℕ HostRefusal) → MayMakeFile (copy_result r) operator v w
+          → IfOk r (λ blocks. is_sound v ≡ true
+          → CopiesFromHost bytes u u' operator 0 dir p.name 0 (store_of_volume v) (store_of_volume w))
+          → IfErr r (λ e. is_whole (copy_result r) ≡ true → is_sound v ≡ true
+          → FailsToCopyFromHost e bytes u u' operator 0 dir p.name 0 (store_of_volume v) (store_of_volume w))
+          → is_sound v ≡ true → is_whole (copy_result r) ≡ true
+          → PutsInto p bytes dir r u u' (store_of_volume v) (store_of_volume w)
+      by (Ok blocks) files copied refused sound whole = copied sound
+      by (Err e) files copied refused sound whole =
+          record { refused = refused whole sound; undone = files.undone (as_copy e) refl sound whole }
+
+  pub put-into : (task lun : ℕ) → task ≡ 0 → lun ≡ 0 → (dir : FileId) (result : Result ℕ HostRefusal) (u' : Option (List ℕ))
+      (v w : Volume D met) → MayMakeFile (copy_result result) (who_asks task operator.caller) v w → ReadsHost bytes result u u'
+      → IfOk result (λ blocks. is_sound v ≡ true → CopiesFromHost bytes u u' (who_asks task operator.caller) lun dir p.name 0
+      (store_of_volume v) (store_of_volume w))
+      → IfErr result (λ e. is_whole (copy_result result) ≡ true → is_sound v ≡ true
+      → FailsToCopyFromHost e bytes u u' (who_asks task operator.caller) lun dir p.name 0 (store_of_volume v) (store_of_volume w))
+      → PutsNamed bytes result u u' (PutsInto p bytes dir result u u') v w
+  put-into task lun task-is lun-is dir result u' v w =
+      subst (λ t. By t lun) (sym task-is) (subst (λ l. By 0 l) (sym lun-is) (made-in dir result u' v w))
+    where
+      By : ℕ → ℕ → Type 0
+      By t l =
+          MayMakeFile (copy_result result) (who_asks t operator.caller) v w → ReadsHost bytes result u u'
+          → IfOk result (λ blocks. is_sound v ≡ true → CopiesFromHost bytes u u' (who_asks t operator.caller) l dir p.name 0
+          (store_of_volume v) (store_of_volume w))
+          → IfErr result (λ e. is_whole (copy_result result) ≡ true → is_sound v ≡ true
+          → FailsToCopyFromHost e bytes u u' (who_asks t operator.caller) l dir p.name 0 (store_of_volume v) (store_of_volume w))
+          → PutsNamed bytes result u u' (PutsInto p bytes dir result u u') v w
+
+  -- the user's directory was found
+  pub put-found : (name : List ℕ) → name ≡ directory_name p.directory → (dir : FileId) (result : Result ℕ HostRefusal)
+      (u' : Option (List ℕ)) (v m w : Volume D met) → Grants of_volume operator (told (request.Find master_directory name) (reply.Found dir)) v m
+      → PutsNamed bytes result u u' (PutsInto p bytes dir result u u') m w
+      → PutsNamed bytes result u u' (PutsByName p bytes result u u') v w
+  put-found name name-is dir result u' v m w grants' a = record {
+    fares = alone-behind (copy_result result) (told (request.Find master_directory (directory_name p.directory)) (reply.Found dir)) v m w
+        grants a.fares;
+    host = a.host;
+    outcome = λ sound whole.
+        let seen = volume-seen.granted operator (told (request.Find master_directory (directory_name p.directory)) (reply.Found dir)) v m
+        grants sound in
+        inl (record {
+          dir = dir;
+          found = store_of_volume m;
+          finds = (store_of_volume m, seen.0, refl);
+          puts = a.outcome seen.1 whole;
+        });
+  }
+    where
+      grants : Grants of_volume operator (told (request.Find master_directory (directory_name p.directory)) (reply.Found dir)) v m
+      grants = subst (λ n. Grants of_volume operator (told (request.Find master_directory n) (reply.Found dir)) v m) name-is grants'
+
+  -- it isn't there
+  pub put-nowhere : (name : List ℕ) → name ≡ directory_name p.directory → (e : Refusal) (v w : Volume D met)
+      → Fails of_volume operator is_found (request.Find master_directory name) e v w
+      → PutsNamed bytes (Err (Files e)) u u (PutsByName p bytes (Err (Files e)) u u) v w
+  put-nowhere name name-is e v w fails' = record {
+    fares = alone-not-found master_directory (directory_name p.directory) e v w fails;
+    host = λ clean. record { taken = []; few = omega arith; takes = Consumes-nil u };
+    outcome = λ sound whole. inr (record {
+      refusal = e;
+      is = refl;
+      not_found = not-found-seen master_directory (directory_name p.directory) e v w sound whole fails;
+      unread_is = refl;
+    });
+  }
+    where
+      fails : Fails of_volume operator is_found (request.Find master_directory (directory_name p.directory)) e v w
+      fails = subst (λ n. Fails of_volume operator is_found (request.Find master_directory n) e v w) name-is fails'
+
+  -- on the volume of an image
+  module _ (result : Result ℕ HostRefusal) (u' : Option (List ℕ)) (old : Disk) (first last : Volume D met) (mounts : Mounts old first)
+      (puts : PutsNamed bytes result u u' (PutsByName p bytes result u u') first last) where
+    pub puts-on-image : PutsOnImage p bytes result u u' old (state_in last).disk
+    puts-on-image = record {
+      home = (state_in first).home;
+      held = (state_in last).table;
+      home_is = mounts.home;
+      outcome = λ is whole.
+          subst (λ (s : Store). PutsByName p bytes result u u' s
+          (held_in (state_in last).table (store_of (state_in last).disk.image (state_in first).home)))
+          (first-is old first last mounts puts.fares.home)
+          (subst (λ (s : Store). PutsByName p bytes result u u' (store_of_volume first) s)
+          (last-is old first last mounts puts.fares.home)
+          (puts.outcome (sound-first old first last mounts puts.fares.home is) whole));
+      host = puts.host;
+      failures = let none = mounts.looked.failures in let some = puts.fares.fares.failures in omega (arith, none, some);
+      quiet = puts.fares.fares.quiet;
+      alive = puts.fares.alive mounts.fresh;
+      undamaged = λ is. puts.fares.undamaged mounts.fresh (mounts.looked.honest ∙ is);
+      accepted = λ is. puts.fares.fares.accepted (puts.fares.fares.honest ∙ mounts.looked.honest ∙ is);
+    }
+
+    pub ends-putting : {W : Type 0} (told : Result FileAnswer PutFailure) (contents : W → Option (List ℕ)) (before now after : W)
+        (image new : Disk) → VerifiesFiles image old × (now ≡ before) → new ≡ (state_in last).disk
+        → TellsPutting result told contents now after → EndsPutting p bytes told u u' image new contents before after
+    ends-putting {W} told contents before now after image new verified at tells =
+        inr (subst (λ (x : Disk). AnswersPutting p bytes told u u' image x contents before after) (sym at)
+        (record {
+          result = result;
+          read = old;
+          verified = verified.0;
+          puts = puts-on-image;
+          tells = subst (λ (x : W). TellsPutting result told contents x after) verified.1 tells;
+        }))

@@ -1,9 +1,0 @@
-use Rattle.std.proofs.Common.{refl, arith}
-use Rattle.f11_commands.proofs.RtFillLemmas.{reads-piece}
-use Rattle.f11_commands.proofs.rt_put.filling.read_piece.Goals as goal
-
-pub returns : goal.returns
-returns g c = record {
-  read = reads-piece c.args.count _ _ _ _ c.read_exact.result c.requires.few (omega (arith, c.bytes_mut.ensures.bytes.1)) refl
-      c.read_exact.ensures.bytes;
-}

@@ -1,0 +1,121 @@
+//! The command `put`.
+
+ghost use Rattle.std.specs.Prelude.{◌≡◌};
+ghost use Rattle.f11_commands.specs.PutCommand.{EndsPutting, PutsByName, PutsInto, PutsNamed, TellsPutting};
+
+use crate::copy::FileAnswer;
+use crate::copy::finding::{
+    MASTER_DIRECTORY, OPERATOR, directory_name, find, first_lun, first_task,
+};
+use crate::copy::serving::dismount;
+use crate::copy::telling::tell;
+use crate::copy::verifying::accept_files;
+use crate::outcome::Failure;
+use crate::rt_put::{PutFailure, as_put};
+use f11_dev::Device;
+use f11_fcp::Volume;
+use f11_files::OpenFault;
+use f11_flx::FlxRefusal;
+use f11_host::{HostRefusal, copy_from_host};
+use f11_rad50::Name;
+use f11_store::{FileId, Uic};
+use std::alloc::Global;
+use std::io::{Read, Write};
+
+/// Which file is made on a Files-11 volume.
+#[derive(Clone, Copy, Debug)]
+pub struct Putting {
+    /// Whose directory it gets to stand in.
+    pub directory: Uic,
+    /// Its name there.
+    pub name: Name,
+}
+
+/// Verifies the Files-11 volume on a device, and makes a file of so many bytes that `host` gives, as
+/// [`copy_from_host`](f11_host::copy_from_host) does. It writes the line `copied N`, N being how many blocks the file has, or `no` and the
+/// refusal's name; where the volume has faults nothing is read of `host`, and it writes the lines of `vfy`. The device comes back.
+///
+/// The directory is the one that [4,4]'s file has under the name of the user's code, as `200001.DIR;1`. The operator, [1,1], asks; the file
+/// has the protection 0.
+///
+/// # Errors
+///
+/// [`PutFailure::Unread`] where `host` couldn't be read to that length, and what was made was deleted again; else of [`PutFailure::Command`]
+/// [`Failure::DeviceFault`] where a transfer failed, [`Failure::NoMemory`] where there was no memory, and [`Failure::CannotWrite`] where the
+/// writer takes no more: then the file may be made.
+pub fn print_put<D: Device, R: Read, W: Write>(
+    alloc: Global,
+    device: D,
+    put: &Putting,
+    host: &mut R,
+    bytes: u64,
+    writer: &mut W,
+) -> (D, Result<FileAnswer, PutFailure>)
+    ensures ends { EndsPutting put.now bytes result.1 (R.remaining host.old) (R.remaining host.new)
+        (D.disk device) (D.disk result.0) W.contents writer.old writer.new }
+{
+    let accepted = match accept_files(alloc, device, writer) {
+        Ok(accepted) => accepted,
+        Err((device, told)) => return (device, as_put(told)),
+    };
+    match Volume::mount(alloc, accepted) {
+        Ok(mut volume) => {
+            let made = put_by_name(&mut volume, put, host, bytes);
+            let told = tell_put(made, writer);
+            (dismount(volume), told)
+        }
+        Err(OpenFault::DeviceFault(device) | OpenFault::Damaged(device)) => {
+            (device, as_put(Err(Failure::DeviceFault)))
+        }
+        Err(OpenFault::NoMemory(accepted)) => (accepted.device(), as_put(Err(Failure::NoMemory))),
+    }
+}
+
+/// Finds the user's directory, and makes a file in it: how many blocks it has.
+fn put_by_name<D: Device, R: Read>(
+    volume: &mut Volume<D>,
+    put: &Putting,
+    host: &mut R,
+    bytes: u64,
+) -> Result<u32, HostRefusal>
+    ensures puts { PutsNamed bytes result (R.remaining host.old) (R.remaining host.new)
+        (PutsByName put.now bytes result (R.remaining host.old) (R.remaining host.new))
+        volume.old volume.new }
+{
+    let directory = directory_name(put.directory);
+    match find(volume, MASTER_DIRECTORY, &directory) {
+        Ok(dir) => put_into(volume, dir, put, host, bytes),
+        Err(refusal) => Err(HostRefusal::Files(refusal)),
+    }
+}
+
+/// Makes the file, and enters it into a directory.
+fn put_into<D: Device, R: Read>(
+    volume: &mut Volume<D>,
+    dir: FileId,
+    put: &Putting,
+    host: &mut R,
+    bytes: u64,
+) -> Result<u32, HostRefusal>
+    ensures puts { PutsNamed bytes result (R.remaining host.old) (R.remaining host.new)
+        (PutsInto put.now bytes dir result (R.remaining host.old) (R.remaining host.new))
+        volume.old volume.new }
+{
+    let task = first_task();
+    let lun = first_lun();
+    copy_from_host(host, bytes, volume, task, lun, OPERATOR, dir, &put.name, 0)
+}
+
+/// Writes the line of what came of it, if it has one.
+fn tell_put<W: Write>(
+    made: Result<u32, HostRefusal>,
+    writer: &mut W,
+) -> Result<FileAnswer, PutFailure>
+    ensures tells { TellsPutting made result W.contents writer.old writer.new }
+{
+    match made {
+        Ok(blocks) => as_put(tell(Ok(blocks), writer)),
+        Err(HostRefusal::Files(refusal)) => as_put(tell(Err(FlxRefusal::Files(refusal)), writer)),
+        Err(HostRefusal::Unread) => Err(PutFailure::Unread),
+    }
+}
