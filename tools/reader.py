@@ -205,7 +205,43 @@ class Files:
         found = self.found(self.found((4, 4, 0), user), name)
         if not self.has(*found):
             raise Refused("NoSuchFile")
-        return b"".join(map(self.block, self.places(found[0])))[:self.files[found[0]].end()]
+        return self.bytes_of(found[0])
+
+    def bytes_of(self, n):
+        """A file's bytes up to its end."""
+        return b"".join(map(self.block, self.places(n)))[:self.files[n].end()]
+
+    def first_missing(self, n):
+        """The VBN of a file's first block before its end that isn't there, or None."""
+        places = self.places(n)
+        for i in range((self.files[n].end() + BLOCK - 1) // BLOCK):
+            if i == len(places) or places[i] >= self.blocks:
+                return i + 1
+        return None
+
+    def entered(self):
+        """The files that users' directories name: the user's two numbers, in three octal digits each, the name, and the file's number."""
+        if not (self.has(4, 4, 0) and self.files[4].is_directory()):
+            return
+        for _, *found, name in self.records(4):
+            user = re.fullmatch(r"([0-3][0-7]{2})([0-3][0-7]{2})\.DIR;1", shown(name))
+            if found[0] and user and self.has(*found) and self.files[found[0]].is_directory():
+                for _, *file, words in self.records(found[0]):
+                    if file[0] and is_name(words) and self.has(*file):
+                        yield user[1], user[2], shown(words), file[0]
+
+    def everything(self):
+        """What `get --all` takes out: of each file the line without the bytes, the path, and the number."""
+        known = set()
+        for group, member, name, n in self.entered():
+            known.add(n)
+            yield f"[{int(group, 8):o},{int(member, 8):o}] {name}", f"[{group},{member}]/{name}", n
+        for n in sorted(self.files.keys() - known):
+            yield f"lost {n},{self.files[n].sequence}", self.lost(n), n
+
+    def lost(self, n):
+        """The path of a file in no directory, and of one whose path is taken."""
+        return f"lost/{n},{self.files[n].sequence}"
 
     def names(self):
         """Names of all directories' records."""
@@ -221,3 +257,17 @@ def listing(image, user=None):
         return [f"fault {wrong}"]
     except Refused as refused:
         return [f"no {refused}"]
+
+
+def everything(image):
+    """The lines of `get --all`, and the files that it makes, each by its path."""
+    try:
+        files = Files(image)
+    except Wrong as wrong:
+        return [f"fault {wrong}"], None
+    lines, made = [], {}
+    for what, path, n in files.everything():
+        content, missing = files.bytes_of(n), files.first_missing(n)
+        lines.append(f"{what} copied {len(content)} bytes" + (f" broke off at VBN {missing}" if missing else ""))
+        made.setdefault(files.lost(n) if path in made else path, content)
+    return lines, made

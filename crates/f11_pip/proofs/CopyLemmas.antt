@@ -26,7 +26,7 @@ abbrev pub ArePlain : List Text → Type 0
 ArePlain words = All (λ text. is_option text ≡ false) words
 
 -- the option `--mode` waits for its value
-abbrev mode_met : Held
+abbrev pub mode_met : Held
 mode_met = record { rows = []; pending = Some (codes "mode", []); skip = 0 }
 
 pub passes-none : (s : Shape) (w : Walk) → walk_passes s [] w [] ≡ true

@@ -1,5 +1,5 @@
 mod CopyLemmas
-mod GetLemmas
+mod HostFileLemmas
 mod LineLemmas
 mod PlainLemmas
 mod RtFileLemmas

@@ -7,11 +7,13 @@ use Rattle.f11_pip.specs.Words.{
   CommandLine,
   dump_line,
   from_rt_line,
+  get_all_line,
   get_line,
   home_line,
   is_option,
   ls_line,
   name_line,
+  put_line,
   rights_line,
   rt_del_line,
   rt_get_line,
@@ -28,7 +30,7 @@ use Rattle.f11_pip.specs.Words.{
   words_given,
 }
 use Rattle.f11_pip.proofs.CopyLemmas.{takes-from_rt, takes-to_rt}
-use Rattle.f11_pip.proofs.GetLemmas.{takes-get}
+use Rattle.f11_pip.proofs.HostFileLemmas.{takes-get, takes-get_all, takes-put}
 use Rattle.f11_pip.proofs.RtFileLemmas.{takes-rt_del, takes-rt_get, takes-rt_put}
 use Rattle.f11_pip.proofs.PlainLemmas.{no_hyphens, not_two}
 use Rattle.f11_pip.proofs.WordsLemmas.{takes-dump, takes-home, takes-name, takes-rights, takes-rt_list, takes-rt_vfy, takes-run}
@@ -74,11 +76,14 @@ pub takes-line : (command : CommandLine) (program : Text) → All (λ text. is_o
 takes-line (dump_line image number) program plain = takes-dump program image number (plain 0 [] (omega arith)) (plain 1 [] (omega arith))
 takes-line (from_rt_line mode rt rt_name image uic name) program plain = takes-from_rt program mode rt rt_name image uic name plain
 takes-line (to_rt_line mode image uic name rt rt_name) program plain = takes-to_rt program mode image uic name rt rt_name plain
-takes-line (get_line image uic name host) program plain = takes-get program image uic name host plain
+takes-line (get_line mode image uic name host) program plain = takes-get program mode image uic name host plain
+takes-line (get_all_line image folder) program plain =
+    takes-get_all program image folder (plain 0 [] (omega arith)) (plain 1 [] (omega arith))
 takes-line (home_line image) program plain = takes-home program image (plain 0 [] (omega arith))
 takes-line (ls_line image) program plain = takes-ls program image (plain 0 [] (omega arith))
 takes-line (user_line image uic) program plain = takes-user program image uic (plain 0 [] (omega arith)) (plain 1 [] (omega arith))
 takes-line (name_line text) program plain = takes-name program text (plain 0 [] (omega arith))
+takes-line (put_line image uic name host) program plain = takes-put program image uic name host plain
 takes-line (rights_line caller owner word) program plain =
     takes-rights program caller owner word (plain 0 [] (omega arith)) (plain 1 [] (omega arith)) (plain 2 [] (omega arith))
 takes-line (rt_init_line blocks segments image) program plain =

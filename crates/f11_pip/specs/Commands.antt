@@ -34,11 +34,6 @@ word_rule name = record (new_rule name) { action = Some Set }
 abbrev pub ls_app : App
 ls_app = with_rule (with_rule (new_app (codes "ls")) (needed_rule (codes "image"))) (word_rule (codes "uic"))
 
--- `get IMAGE UIC NAME HOST`
-abbrev pub get_app : App
-get_app = with_rule (with_rule (with_rule (with_rule (new_app (codes "get")) (needed_rule (codes "image")))
-    (needed_rule (codes "uic"))) (needed_rule (codes "name"))) (needed_rule (codes "host"))
-
 -- `name TEXT`
 abbrev pub name_app : App
 name_app = with_rule (new_app (codes "name")) (needed_rule (codes "text"))
@@ -68,6 +63,15 @@ vfy_app = with_rule (with_rule (new_app (codes "vfy")) (flag_rule (codes "update
 abbrev pub option_rule : Text → Bool → Rule
 option_rule name needed = record (new_rule name) { long = Some name; required = needed; action = Some Set }
 
+-- `get` with the words that may stand before its others: `--all`, and `--mode` with a mode
+abbrev pub get_options : App
+get_options = with_rule (with_rule (new_app (codes "get")) (flag_rule (codes "all"))) (option_rule (codes "mode") false)
+
+-- `get [--mode M] IMAGE UIC NAME HOST`, or `get --all IMAGE FOLDER`: then the folder stands in the place of the user's code
+abbrev pub get_app : App
+get_app = with_rule (with_rule (with_rule (with_rule get_options (needed_rule (codes "image"))) (needed_rule (codes "uic")))
+    (word_rule (codes "name"))) (word_rule (codes "host"))
+
 -- a copy's command with its mode; the words of a file of a Files-11 volume, and those of one of an RT-11 volume
 abbrev pub copy_app : Text → App
 copy_app name = with_rule (new_app name) (option_rule (codes "mode") true)
@@ -78,6 +82,10 @@ with_file_words app = with_rule (with_rule (with_rule app (needed_rule (codes "i
 
 abbrev pub with_rt_words : App → App
 with_rt_words app = with_rule (with_rule app (needed_rule (codes "rt"))) (needed_rule (codes "rt-name"))
+
+-- `put IMAGE UIC NAME HOST`
+abbrev pub put_app : App
+put_app = with_rule (with_file_words (new_app (codes "put"))) (needed_rule (codes "host"))
 
 -- `flx-from-rt --mode M RT RTNAME IMAGE UIC NAME`
 abbrev pub from_rt_app : App
@@ -110,16 +118,20 @@ rt_list_app = with_rule (new_app (codes "rt-list")) (needed_rule (codes "image")
 abbrev pub rt_vfy_app : App
 rt_vfy_app = with_rule (new_app (codes "rt-vfy")) (needed_rule (codes "image"))
 
--- the commands on Files-11 volumes
+-- the commands on Files-11 volumes alone
 abbrev pub files_app : App
-files_app = with_subcommand (with_subcommand (with_subcommand (with_subcommand (with_subcommand
+files_app = with_subcommand (with_subcommand (with_subcommand (with_subcommand
     (with_subcommand (with_subcommand (with_subcommand (with_subcommand (new_app (codes "f11_pip")) home_app.top)
-    name_app.top) rights_app.top) dump_app.top) vfy_app.top) init_app.top) ls_app.top) get_app.top) run_app.top
+    name_app.top) rights_app.top) dump_app.top) vfy_app.top) init_app.top) ls_app.top) run_app.top
+
+-- the commands with those on files of the host
+abbrev pub with_host_files : App → App
+with_host_files app = with_subcommand (with_subcommand app get_app.top) put_app.top
 
 -- those on RT-11 volumes, and the copies between the two
 abbrev pub volumes_app : App
-volumes_app = with_subcommand (with_subcommand (with_subcommand (with_subcommand (with_subcommand files_app rt_init_app.top)
-    rt_list_app.top) rt_vfy_app.top) to_rt_app.top) from_rt_app.top
+volumes_app = with_subcommand (with_subcommand (with_subcommand (with_subcommand (with_subcommand (with_host_files files_app)
+    rt_init_app.top) rt_list_app.top) rt_vfy_app.top) to_rt_app.top) from_rt_app.top
 
 -- a command with the words of a file of an RT-11 volume
 abbrev pub rt_file_app : Text → App
@@ -188,12 +200,15 @@ words_in ids rows = map (λ id. first_of id rows) ids
 abbrev pub command_and_words : List Text → Option (Text × List Row) → Option (Text × List (Option Text))
 command_and_words ids = option_map (λ p. (p.0, words_in ids p.1))
 
--- the names of the words of a copy, of those of `get`, `init`, `ls` and `rt-init`, and of a file of an RT-11 volume
+-- the names of the words of a copy, of those of `get`, `put`, `init`, `ls` and `rt-init`, and of a file of an RT-11 volume
 abbrev pub copy_names : List Text
 copy_names = codes "mode" ∷ codes "image" ∷ codes "uic" ∷ codes "name" ∷ codes "rt" ∷ codes "rt-name" ∷ []
 
 abbrev pub get_names : List Text
-get_names = codes "image" ∷ codes "uic" ∷ codes "name" ∷ codes "host" ∷ []
+get_names = codes "mode" ∷ codes "image" ∷ codes "uic" ∷ codes "name" ∷ codes "host" ∷ []
+
+abbrev pub put_names : List Text
+put_names = codes "image" ∷ codes "uic" ∷ codes "name" ∷ codes "host" ∷ []
 
 abbrev pub init_names : List Text
 init_names = codes "blocks" ∷ codes "slots" ∷ codes "label" ∷ codes "max" ∷ codes "image" ∷ []
@@ -222,10 +237,16 @@ abbrev pub MeetsCopy : Text → Text → Text → Text → Text → Text → Tex
 MeetsCopy command mode image uic name rt rt_name met = command_and_words copy_names met ≡
     Some (command, Some mode ∷ Some image ∷ Some uic ∷ Some name ∷ Some rt ∷ Some rt_name ∷ [])
 
--- `get` was met, with these words
-abbrev pub MeetsGet : Text → Text → Text → Text → Option (Text × List Row) → Type 0
-MeetsGet image uic name host met =
-    command_and_words get_names met ≡ Some (codes "get", Some image ∷ Some uic ∷ Some name ∷ Some host ∷ [])
+-- `get` was met, with `--all` or without, and with these words: the mode, the name and the host's file among them or not
+abbrev pub MeetsGet : Bool → Option Text → Text → Text → Option Text → Option Text → Option (Text × List Row) → Type 0
+MeetsGet all mode image uic name host met =
+    (command_and_words get_names met ≡ Some (codes "get", mode ∷ Some image ∷ Some uic ∷ name ∷ host ∷ []))
+    × (command_and_flag (codes "all") met ≡ Some (codes "get", Some (flag_text all)))
+
+-- `put` was met, with these words
+abbrev pub MeetsPut : Text → Text → Text → Text → Option (Text × List Row) → Type 0
+MeetsPut image uic name host met =
+    command_and_words put_names met ≡ Some (codes "put", Some image ∷ Some uic ∷ Some name ∷ Some host ∷ [])
 
 -- `init` was met, with these words, the greatest number of files among them or not
 abbrev pub MeetsInit : Text → Text → Text → Option Text → Text → Option (Text × List Row) → Type 0
@@ -272,8 +293,17 @@ pub record HasCopyWords (mode image uic name rt rt_name : Text) (given : ArgMatc
   pub rt_is : HasWord (codes "rt") rt given
   pub rt_name_is : HasWord (codes "rt-name") rt_name given
 
--- `get` has these words
-pub record HasGetWords (image uic name host : Text) (given : ArgMatches) : Type 0 where
+-- `get` has `--all` or hasn't, and has these words, the mode, the name and the host's file among them or not
+pub record HasGetWords (all : Bool) (mode : Option Text) (image uic : Text) (name host : Option Text) (given : ArgMatches) : Type 0 where
+  pub all_is : one_text (found_of given) (codes "all") ≡ Some (flag_text all)
+  pub mode_is : first_value (found_of given) (codes "mode") ≡ mode
+  pub image_is : HasWord (codes "image") image given
+  pub uic_is : HasWord (codes "uic") uic given
+  pub name_is : first_value (found_of given) (codes "name") ≡ name
+  pub host_is : first_value (found_of given) (codes "host") ≡ host
+
+-- `put` has these words
+pub record HasPutWords (image uic name host : Text) (given : ArgMatches) : Type 0 where
   pub image_is : HasWord (codes "image") image given
   pub uic_is : HasWord (codes "uic") uic given
   pub name_is : HasWord (codes "name") name given

@@ -1,5 +1,6 @@
 -- The words of the command line (profile).
-use Rattle.std.specs.Prelude.{◌≡◌, ◌⊎◌, ℕ, ◌==◌, All, Bool, true, false, List, [], ◌∷◌, Option, Some, None, codes}
+use Rattle.std.specs.Prelude.{◌≡◌, ◌⊎◌, ℕ, ◌==◌, All, Bool, true, false, List, [], ◌∷◌, ◌++◌, Option, Some, None, codes}
+use Rattle.std.specs.Prelude.{option_to_list}
 use Rattle.f11_flx.specs.declared.mode.CopyMode.{CopyMode}
 use Rattle.f11_flx.specs.declared.mode.CopyMode.TheVariants.{Image, Text}
 use Rattle.f11_store.specs.declared.callers.Uic.{Uic}
@@ -13,10 +14,12 @@ use Rattle.f11_pip.specs.declared.words.Words.TheVariants.{
   FlxFromRt,
   FlxToRt,
   Get,
+  GetAll,
   Home,
   Init,
   Ls,
   Name,
+  Put,
   Rights,
   RtDel,
   RtGet,
@@ -38,11 +41,13 @@ pub data CommandLine : Type 0 where
   dump_line : (image number : List ℕ) → CommandLine
   from_rt_line : (mode rt rt_name image uic name : List ℕ) → CommandLine
   to_rt_line : (mode image uic name rt rt_name : List ℕ) → CommandLine
-  get_line : (image uic name host : List ℕ) → CommandLine
+  get_line : (mode : Option (List ℕ)) → (image uic name host : List ℕ) → CommandLine
+  get_all_line : (image folder : List ℕ) → CommandLine
   home_line : (image : List ℕ) → CommandLine
   ls_line : (image : List ℕ) → CommandLine
   user_line : (image uic : List ℕ) → CommandLine
   name_line : (text : List ℕ) → CommandLine
+  put_line : (image uic name host : List ℕ) → CommandLine
   rights_line : (caller owner word : List ℕ) → CommandLine
   rt_del_line : (rt name : List ℕ) → CommandLine
   rt_get_line : (rt name host : List ℕ) → CommandLine
@@ -54,6 +59,11 @@ pub data CommandLine : Type 0 where
   vfy_line : (image : List ℕ) → CommandLine
   update_line : (image : List ℕ) → CommandLine
 
+-- a mode and the option before it, where there is one
+abbrev pub mode_words : Option (List ℕ) → List (List ℕ)
+mode_words None = []
+mode_words (Some mode) = codes "--mode" ∷ mode ∷ []
+
 -- the words of a command line behind the program's name, in the order of the usage text
 abbrev pub words_given : CommandLine → List (List ℕ)
 words_given (dump_line image number) = codes "dump" ∷ image ∷ number ∷ []
@@ -61,11 +71,13 @@ words_given (from_rt_line mode rt rt_name image uic name) =
     codes "flx-from-rt" ∷ codes "--mode" ∷ mode ∷ rt ∷ rt_name ∷ image ∷ uic ∷ name ∷ []
 words_given (to_rt_line mode image uic name rt rt_name) =
     codes "flx-to-rt" ∷ codes "--mode" ∷ mode ∷ image ∷ uic ∷ name ∷ rt ∷ rt_name ∷ []
-words_given (get_line image uic name host) = codes "get" ∷ image ∷ uic ∷ name ∷ host ∷ []
+words_given (get_line mode image uic name host) = codes "get" ∷ (mode_words mode ++ (image ∷ uic ∷ name ∷ host ∷ []))
+words_given (get_all_line image folder) = codes "get" ∷ codes "--all" ∷ image ∷ folder ∷ []
 words_given (home_line image) = codes "home" ∷ image ∷ []
 words_given (ls_line image) = codes "ls" ∷ image ∷ []
 words_given (user_line image uic) = codes "ls" ∷ image ∷ uic ∷ []
 words_given (name_line text) = codes "name" ∷ text ∷ []
+words_given (put_line image uic name host) = codes "put" ∷ image ∷ uic ∷ name ∷ host ∷ []
 words_given (rights_line caller owner word) = codes "rights" ∷ caller ∷ owner ∷ word ∷ []
 words_given (rt_del_line rt name) = codes "rt-del" ∷ rt ∷ name ∷ []
 words_given (rt_get_line rt name host) = codes "rt-get" ∷ rt ∷ name ∷ host ∷ []
@@ -82,11 +94,13 @@ abbrev pub texts_of : CommandLine → List (List ℕ)
 texts_of (dump_line image number) = image ∷ number ∷ []
 texts_of (from_rt_line mode rt rt_name image uic name) = mode ∷ rt ∷ rt_name ∷ image ∷ uic ∷ name ∷ []
 texts_of (to_rt_line mode image uic name rt rt_name) = mode ∷ image ∷ uic ∷ name ∷ rt ∷ rt_name ∷ []
-texts_of (get_line image uic name host) = image ∷ uic ∷ name ∷ host ∷ []
+texts_of (get_line mode image uic name host) = option_to_list mode ++ (image ∷ uic ∷ name ∷ host ∷ [])
+texts_of (get_all_line image folder) = image ∷ folder ∷ []
 texts_of (home_line image) = image ∷ []
 texts_of (ls_line image) = image ∷ []
 texts_of (user_line image uic) = image ∷ uic ∷ []
 texts_of (name_line text) = text ∷ []
+texts_of (put_line image uic name host) = image ∷ uic ∷ name ∷ host ∷ []
 texts_of (rights_line caller owner word) = caller ∷ owner ∷ word ∷ []
 texts_of (rt_del_line rt name) = rt ∷ name ∷ []
 texts_of (rt_get_line rt name host) = rt ∷ name ∷ host ∷ []
@@ -130,11 +144,27 @@ AsksToRt mode image uic name rt rt_name (FlxToRt in_mode from directory file to 
     (from.now ≡ image) × SpellsUic uic directory × (file.now ≡ name) × (to.now ≡ rt) × (to_file.now ≡ rt_name)
 AsksToRt mode image uic name rt rt_name _ = ⊥
 
--- the words ask that the file of this name in this directory of this image become a file of the host under this name
-abbrev pub AsksGet : List ℕ → List ℕ → List ℕ → List ℕ → Words → Type 0
-AsksGet image uic name host (Get from directory file to) =
-    (from.now ≡ image) × SpellsUic uic directory × (file.now ≡ name) × (to.now ≡ host)
-AsksGet image uic name host _ = ⊥
+-- the mode that a text spells, and that of an image where there is none
+abbrev pub SpellsModeOrNone : Option (List ℕ) → CopyMode → Type 0
+SpellsModeOrNone None mode = mode ≡ Image
+SpellsModeOrNone (Some text) mode = SpellsMode text mode
+
+-- the words ask that the file of this name in this directory of this image become, in this mode, a file of the host under this name
+abbrev pub AsksGet : Option (List ℕ) → List ℕ → List ℕ → List ℕ → List ℕ → Words → Type 0
+AsksGet mode image uic name host (Get in_mode from directory file to) =
+    SpellsModeOrNone mode in_mode × (from.now ≡ image) × SpellsUic uic directory × (file.now ≡ name) × (to.now ≡ host)
+AsksGet mode image uic name host _ = ⊥
+
+-- the words ask that all files of this image become files of the host in this folder
+abbrev pub AsksGetAll : List ℕ → List ℕ → Words → Type 0
+AsksGetAll name text (GetAll image folder) = (image.now ≡ name) × (folder.now ≡ text)
+AsksGetAll name text _ = ⊥
+
+-- the words ask that this file of the host become the file of this name in this directory of this image
+abbrev pub AsksPut : List ℕ → List ℕ → List ℕ → List ℕ → Words → Type 0
+AsksPut image uic name host (Put to directory file from) =
+    (to.now ≡ image) × SpellsUic uic directory × (file.now ≡ name) × (from.now ≡ host)
+AsksPut image uic name host _ = ⊥
 
 -- the words ask for the home block of this image
 abbrev pub AsksHome : List ℕ → Words → Type 0
@@ -218,11 +248,13 @@ abbrev pub Asks : CommandLine → Words → Type 0
 Asks (dump_line image number) words = AsksDump image number words
 Asks (from_rt_line mode rt rt_name image uic name) words = AsksFromRt mode rt rt_name image uic name words
 Asks (to_rt_line mode image uic name rt rt_name) words = AsksToRt mode image uic name rt rt_name words
-Asks (get_line image uic name host) words = AsksGet image uic name host words
+Asks (get_line mode image uic name host) words = AsksGet mode image uic name host words
+Asks (get_all_line image folder) words = AsksGetAll image folder words
 Asks (home_line image) words = AsksHome image words
 Asks (ls_line image) words = AsksLs image None words
 Asks (user_line image uic) words = AsksLs image (Some uic) words
 Asks (name_line text) words = AsksName text words
+Asks (put_line image uic name host) words = AsksPut image uic name host words
 Asks (rights_line caller owner word) words = AsksRights caller owner word words
 Asks (rt_del_line rt name) words = AsksRtDel rt name words
 Asks (rt_get_line rt name host) words = AsksRtGet rt name host words
@@ -252,6 +284,15 @@ IsNoUser (Some text) = IsNoUic text
 abbrev pub IsNoInit : List ℕ → List ℕ → Option (List ℕ) → Type 0
 IsNoInit blocks slots max = ¬ IsCount blocks ⊎ (¬ IsNumber slots ⊎ IsNoMax max)
 
+-- a text is there, and no mode
+abbrev pub IsNoModeOrNone : Option (List ℕ) → Type 0
+IsNoModeOrNone None = ⊥
+IsNoModeOrNone (Some text) = ¬ IsMode text
+
+-- a mode is there that isn't one, or the user's code isn't
+abbrev pub IsNoGet : Option (List ℕ) → List ℕ → Type 0
+IsNoGet mode uic = IsNoModeOrNone mode ⊎ IsNoUic uic
+
 -- a copy's mode isn't one, or its user's code
 abbrev pub IsNoCopy : List ℕ → List ℕ → Type 0
 IsNoCopy mode uic = ¬ IsMode mode ⊎ IsNoUic uic
@@ -261,11 +302,13 @@ abbrev pub IsUnreadable : CommandLine → Type 0
 IsUnreadable (dump_line image number) = ¬ IsNumber number
 IsUnreadable (from_rt_line mode rt rt_name image uic name) = IsNoCopy mode uic
 IsUnreadable (to_rt_line mode image uic name rt rt_name) = IsNoCopy mode uic
-IsUnreadable (get_line image uic name host) = IsNoUic uic
+IsUnreadable (get_line mode image uic name host) = IsNoGet mode uic
+IsUnreadable (get_all_line image folder) = ⊥
 IsUnreadable (home_line image) = ⊥
 IsUnreadable (ls_line image) = ⊥
 IsUnreadable (user_line image uic) = IsNoUic uic
 IsUnreadable (name_line text) = ⊥
+IsUnreadable (put_line image uic name host) = IsNoUic uic
 IsUnreadable (rights_line caller owner word) = IsNoUic caller ⊎ (IsNoUic owner ⊎ ¬ IsProtection word)
 IsUnreadable (rt_del_line rt name) = ⊥
 IsUnreadable (rt_get_line rt name host) = ⊥

@@ -11,7 +11,7 @@ struct Synopsis {
 /// The program's name and version, and what it was built with.
 const VERSION: &str = "f11_pip 0.1, built with Rattle, logic dac8208d650f15bf";
 
-const COMMANDS: [Synopsis; 17] = [
+const COMMANDS: [Synopsis; 18] = [
     Synopsis {
         name: "dump",
         words: "f11_pip dump IMAGE NUMBER",
@@ -29,8 +29,8 @@ const COMMANDS: [Synopsis; 17] = [
     },
     Synopsis {
         name: "get",
-        words: "f11_pip get IMAGE UIC NAME HOST",
-        does: "copies a file of a Files-11 volume to a new file HOST, also of a volume that has faults: UIC names the directory",
+        words: "f11_pip get [--mode M] IMAGE UIC NAME HOST | get --all IMAGE FOLDER",
+        does: "copies a file of a Files-11 volume to a new file HOST, or all files into a new FOLDER, also of a volume that has faults: M is image or text, UIC names the directory",
     },
     Synopsis {
         name: "home",
@@ -51,6 +51,11 @@ const COMMANDS: [Synopsis; 17] = [
         name: "name",
         words: "f11_pip name TEXT",
         does: "shows the five words of a file's name, as A.TXT;1",
+    },
+    Synopsis {
+        name: "put",
+        words: "f11_pip put IMAGE UIC NAME HOST",
+        does: "makes a file on a Files-11 volume with the bytes of a file of the host, HOST: UIC names the directory",
     },
     Synopsis {
         name: "rights",

@@ -5,26 +5,29 @@
 //! spell, and on [`clap`], for the words.
 #![tactic(auto)]
 
+mod folder;
 mod help;
+mod host_files;
 mod outcome;
 mod remarks;
 mod rt_files;
 mod words;
 
 use f11_commands::{
-    Answer, Copying, Direction, FileAnswer, FoundFile, Served, System, print_copy, print_header,
-    print_home, print_init, print_ls, print_name, print_rights, print_rt_init, print_rt_list,
-    print_rt_vfy, print_run, print_vfy, print_vfy_update, read_name, read_names, refuse_init,
-    refuse_names, seek_file, write_file,
+    Answer, Copying, Direction, FileAnswer, Served, System, print_copy, print_header, print_home,
+    print_init, print_ls, print_name, print_rights, print_rt_init, print_rt_list, print_rt_vfy,
+    print_run, print_vfy, print_vfy_update, read_names, refuse_init, refuse_names,
 };
 use f11_dev::{CannotOpen, FileImage};
 use f11_flx::CopyMode;
 use f11_store::Uic;
 use f11_vfy::{InitParams, MOST_BLOCKS};
+use folder::get_all;
+use host_files::Named;
 use outcome::{Failure, status};
 use remarks::{Remark, Which, Why};
 use std::env;
-use std::fs::{File, OpenOptions};
+use std::fs::File;
 use std::io::{self, BufWriter, ErrorKind, Write};
 use std::process::ExitCode;
 use words::Words;
@@ -177,11 +180,20 @@ fn run<'a, W: Write>(
             copy(rt, &asked, writer, remark)
         }
         Words::Get {
+            mode,
             image,
             directory,
             name,
             host,
-        } => get(rt, image, directory, name, host, writer, remark),
+        } => {
+            let file = Named {
+                image,
+                directory,
+                name,
+            };
+            host_files::get(rt, &file, mode, host, writer, remark)
+        }
+        Words::GetAll { image, folder } => get_all(rt, image, folder, writer, remark),
         Words::Home { image } => {
             let mut device = opened(FileImage::open_to_read(rt, image), image, remark)?;
             let answer = print_home(&mut device, writer)?;
@@ -209,6 +221,19 @@ fn run<'a, W: Write>(
             Ok(judged(rt, image, served?, remark))
         }
         Words::Name { text } => Ok(print_name(text, writer)?),
+        Words::Put {
+            image,
+            directory,
+            name,
+            host,
+        } => {
+            let file = Named {
+                image,
+                directory,
+                name,
+            };
+            host_files::put(rt, &file, host, writer, remark)
+        }
         Words::Rights {
             caller,
             owner,
@@ -277,50 +302,6 @@ fn vfy<'a, W: Write>(
         answer?
     };
     Ok(looked(rt, image, answer, remark))
-}
-
-/// Takes a file out of a volume. A file of the host is made for it, where none is yet, once it is found.
-fn get<'a, W: Write>(
-    rt: &HostRuntime,
-    image: &'a str,
-    directory: Uic,
-    name: &str,
-    host: &'a str,
-    writer: &mut W,
-    remark: &mut Option<Remark<'a>>,
-) -> Result<Answer, Failure> {
-    let Some(name) = read_name(rt.alloc(), name)? else {
-        return Ok(refuse_names(writer)?);
-    };
-    let device = opened(FileImage::open_to_read(rt, image), image, remark)?;
-    let served = match seek_file(rt.alloc(), device, writer, directory, &name) {
-        Ok(Ok(found)) => take_out(rt, found, host, writer, remark)?,
-        Ok(Err((_device, served))) => served,
-        Err((_device, failure)) => return Err(Failure::from(failure)),
-    };
-    Ok(judged(rt, image, served, remark))
-}
-
-/// Makes a file of the host, and writes a file that was found to it.
-fn take_out<'a, W: Write>(
-    rt: &HostRuntime,
-    found: FoundFile<FileImage<File>>,
-    host: &'a str,
-    writer: &mut W,
-    remark: &mut Option<Remark<'a>>,
-) -> Result<Served, Failure> {
-    let mut file = opened(made(rt, host), host, remark)?;
-    let (_, served) = write_file(found, &mut file, writer);
-    Ok(served?)
-}
-
-/// A new file of the host, to be written.
-fn made(rt: &HostRuntime, path: &str) -> Result<File, CannotOpen> {
-    OpenOptions::new()
-        .write(true)
-        .create_new(true)
-        .open(rt, path)
-        .map_err(CannotOpen::from)
 }
 
 /// The answer of a command that serves any volume, and what there is to say of its image.

@@ -1,12 +1,13 @@
 //! The words of the command line.
-ghost use Rattle.std.specs.Prelude.{◌≡◌, ◌≤◌, ◌⊎◌, length, ℕ, Bool, List, codes, map, Option, None, IfOk, IfErr, IsErr, IsOkAnd, MatchResult};
+ghost use Rattle.std.specs.Prelude.{◌≡◌, ◌≤◌, ◌⊎◌, length, ℕ, Bool, true, false, List, codes, map, Option, None, Some, IfOk, IfErr, IsErr, IsOkAnd, MatchResult};
 ghost use Rattle.clap.specs.Words.{app_of, subcommand_rows_of};
-ghost use Rattle.f11_pip.specs.Words.{Asks, AsksDump, AsksFromRt, AsksGet, AsksHome, AsksInit, AsksLs, AsksName, AsksRights, AsksRtDel, AsksRtGet, AsksRtInit, AsksRtList, AsksRtPut, AsksRtVfy, AsksRun, AsksToRt, AsksVfy, CommandLine, FailsToAsk, IsLineOf, IsNoCopy, IsNoInit, IsNoUic, IsNoUser, IsUnreadable, rights_line, rt_init_line};
-ghost use Rattle.f11_pip.specs.Commands.{MeetsCopy, MeetsDump, MeetsGet, MeetsInit, MeetsLs, MeetsRights, MeetsRtFile, MeetsRtHost, MeetsRtInit, MeetsRun, MeetsVfy, MeetsWord, files_app, program_app, volumes_app};
+ghost use Rattle.f11_pip.specs.Words.{Asks, AsksDump, AsksFromRt, AsksGet, AsksGetAll, AsksHome, AsksInit, AsksLs, AsksName, AsksPut, AsksRights, AsksRtDel, AsksRtGet, AsksRtInit, AsksRtList, AsksRtPut, AsksRtVfy, AsksRun, AsksToRt, AsksVfy, CommandLine, FailsToAsk, IsLineOf, IsNoCopy, IsNoGet, IsNoInit, IsNoUic, IsNoUser, IsUnreadable, rights_line, rt_init_line};
+ghost use Rattle.f11_pip.specs.Commands.{MeetsCopy, MeetsDump, MeetsGet, MeetsInit, MeetsLs, MeetsPut, MeetsRights, MeetsRtFile, MeetsRtHost, MeetsRtInit, MeetsRun, MeetsVfy, MeetsWord, files_app, program_app, volumes_app};
 ghost use Rattle.f11_numbers.specs.Decimal.{IsNumber};
 
 mod args;
 mod copies;
+mod host_files;
 mod rt_files;
 mod rt_volumes;
 mod spelled;
@@ -14,11 +15,12 @@ mod volumes;
 
 use crate::outcome::Failure;
 use crate::words::copies::{from_rt, to_rt};
+use crate::words::host_files::{get_of, with_host_files};
 use crate::words::rt_files::{moving_of, with_rt_files};
 use crate::words::rt_volumes::{rt_init, rt_init_of, rt_list, rt_list_of, rt_vfy, rt_vfy_of};
 use crate::words::spelled::{name, name_of, rights, rights_of};
 use crate::words::volumes::{
-    dump, dump_of, get, get_of, home, home_of, init, init_of, ls, ls_of, run, run_of, vfy, vfy_of,
+    dump, dump_of, home, home_of, init, init_of, ls, ls_of, run, run_of, vfy, vfy_of,
 };
 use clap::{ArgMatches, Command};
 use f11_flx::CopyMode;
@@ -52,12 +54,18 @@ pub enum Words<'a> {
         rt: &'a str,
         rt_name: &'a str,
     },
-    /// `get IMAGE UIC NAME HOST`: which file in which directory becomes a file of the host
+    /// `get [--mode M] IMAGE UIC NAME HOST`: how which file in which directory becomes a file of the host
     Get {
+        mode: CopyMode,
         image: &'a str,
         directory: Uic,
         name: &'a str,
         host: &'a str,
+    },
+    /// `get --all IMAGE FOLDER`: the folder in which all files become files of the host
+    GetAll {
+        image: &'a str,
+        folder: &'a str,
     },
     /// `home IMAGE`
     Home {
@@ -79,6 +87,13 @@ pub enum Words<'a> {
     /// `name TEXT`
     Name {
         text: &'a str,
+    },
+    /// `put IMAGE UIC NAME HOST`: the file in which directory that is made, and one of the host
+    Put {
+        image: &'a str,
+        directory: Uic,
+        name: &'a str,
+        host: &'a str,
     },
     /// `rights UIC OWNER WORD`: the caller's code, the owner's, and the file's protection word
     Rights {
@@ -155,7 +170,7 @@ fn program<'a>(alloc: Global) -> Result<Command<'a>, AllocError>
 fn volume_commands<'a>(alloc: Global) -> Result<Command<'a>, AllocError>
     ensures { IfOk result (λ command. app_of command ≡ volumes_app) }
 {
-    files(alloc)?
+    with_host_files(alloc, files(alloc)?)?
         .subcommand(rt_init(alloc)?)?
         .subcommand(rt_list(alloc)?)?
         .subcommand(rt_vfy(alloc)?)?
@@ -163,7 +178,7 @@ fn volume_commands<'a>(alloc: Global) -> Result<Command<'a>, AllocError>
         .subcommand(from_rt(alloc)?)
 }
 
-/// The commands on Files-11 volumes.
+/// The commands on Files-11 volumes alone.
 fn files<'a>(alloc: Global) -> Result<Command<'a>, AllocError>
     ensures { IfOk result (λ command. app_of command ≡ files_app) }
 {
@@ -175,7 +190,6 @@ fn files<'a>(alloc: Global) -> Result<Command<'a>, AllocError>
         .subcommand(vfy(alloc)?)?
         .subcommand(init(alloc)?)?
         .subcommand(ls(alloc)?)?
-        .subcommand(get(alloc)?)?
         .subcommand(run(alloc)?)
 }
 
@@ -194,9 +208,15 @@ fn command_of<'a>(matches: &ArgMatches<'a>) -> Result<Words<'a>, Failure>
         (subcommand_rows_of matches.now)
         → MatchResult result (AsksToRt mode image uic name rt rt_name)
         (λ _. IsNoCopy mode uic) }
-    ensures get { (image uic name host : List ℕ)
-        → MeetsGet image uic name host (subcommand_rows_of matches.now)
-        → MatchResult result (AsksGet image uic name host) (λ _. IsNoUic uic) }
+    ensures get { (mode : Option (List ℕ)) → (image uic name host : List ℕ)
+        → MeetsGet false mode image uic (Some name) (Some host) (subcommand_rows_of matches.now)
+        → MatchResult result (AsksGet mode image uic name host) (λ _. IsNoGet mode uic) }
+    ensures get_all { (image folder : List ℕ)
+        → MeetsGet true None image folder None None (subcommand_rows_of matches.now)
+        → IsOkAnd result (AsksGetAll image folder) }
+    ensures put { (image uic name host : List ℕ)
+        → MeetsPut image uic name host (subcommand_rows_of matches.now)
+        → MatchResult result (AsksPut image uic name host) (λ _. IsNoUic uic) }
     ensures home { (image : List ℕ)
         → MeetsWord (codes "home") (codes "image") image (subcommand_rows_of matches.now)
         → IsOkAnd result (AsksHome image) }

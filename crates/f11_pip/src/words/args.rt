@@ -2,12 +2,13 @@
 ghost use Rattle.std.specs.Prelude.{◌≡◌, ℕ, List, false, option_map, IfErr, MatchResult};
 ghost use Rattle.std.specs.Result.{result_ok};
 ghost use Rattle.clap.specs.Words.{first_value, found_of, rule_of};
-ghost use Rattle.f11_pip.specs.Words.{IsNoUic};
+ghost use Rattle.f11_pip.specs.Words.{IsMode, IsNoUic, SpellsMode};
 ghost use Rattle.f11_pip.specs.Commands.{HasWord, flag_rule, needed_rule, option_rule, word_rule};
 ghost use Rattle.f11_numbers.specs.Octal.{SpellsUic};
 
 use crate::outcome::Failure;
 use clap::{Arg, ArgAction, ArgMatches};
+use f11_flx::CopyMode;
 use f11_numbers::read_uic;
 use f11_store::Uic;
 use std::alloc::Global;
@@ -53,6 +54,18 @@ pub fn word_of<'a>(given: &ArgMatches<'a>, name: &str) -> Result<&'a str, Failur
     ensures usage { IfErr result (λ failure. failure ≡ Failure.Usage) }
 {
     given.get_str(name).ok_or(Failure::Usage)
+}
+
+/// The mode of a copy that a text spells.
+pub fn mode_in(text: &str) -> Result<CopyMode, Failure>
+    ensures mode { MatchResult result (SpellsMode text.now) (λ _. ¬ IsMode text.now) }
+    ensures usage { IfErr result (λ failure. failure ≡ Failure.Usage) }
+{
+    match text {
+        "image" => Ok(CopyMode::Image),
+        "text" => Ok(CopyMode::Text),
+        _ => Err(Failure::Usage),
+    }
 }
 
 /// The user's code that a word spells.

@@ -6,7 +6,7 @@ ghost use Rattle.f11_pip.specs.Commands.{HasCopyWords, HasWord, MeetsCopy, copy_
 
 use crate::outcome::Failure;
 use crate::words::Words;
-use crate::words::args::{needed, option, uic_of, word_of};
+use crate::words::args::{mode_in, needed, option, uic_of, word_of};
 use clap::{ArgMatches, Command};
 use f11_flx::CopyMode;
 use std::alloc::{AllocError, Global};
@@ -87,7 +87,7 @@ fn copy<'a>(alloc: Global, name: &'a str) -> Result<Command<'a>, AllocError>
 }
 
 /// The command with the words of a file of a Files-11 volume: the image, the directory and the name.
-fn with_file<'a>(alloc: Global, command: Command<'a>) -> Result<Command<'a>, AllocError>
+pub fn with_file<'a>(alloc: Global, command: Command<'a>) -> Result<Command<'a>, AllocError>
     ensures { IfOk result (λ made. app_of made ≡ with_file_words (app_of command.entry)) }
 {
     command
@@ -111,10 +111,5 @@ fn mode_of(given: &ArgMatches<'_>) -> Result<CopyMode, Failure>
         → MatchResult result (SpellsMode text) (λ _. ¬ IsMode text) }
     ensures usage { IfErr result (λ failure. failure ≡ Failure.Usage) }
 {
-    let mode = match word_of(given, "mode")? {
-        "image" => CopyMode::Image,
-        "text" => CopyMode::Text,
-        _ => return Err(Failure::Usage),
-    };
-    Ok(mode)
+    mode_in(word_of(given, "mode")?)
 }

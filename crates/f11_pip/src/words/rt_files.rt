@@ -1,13 +1,14 @@
 //! The words of the commands on one file of an RT-11 volume.
 ghost use Rattle.std.specs.Prelude.{◌≡◌, List, None, ℕ, codes, IfErr, IfOk, IsErr, IsOkAnd, MatchResult};
 ghost use Rattle.clap.specs.Words.{app_of, subcommand_rows_of};
-ghost use Rattle.f11_pip.specs.Commands.{HasRtFileWords, HasRtHostWords, MeetsCopy, MeetsRtFile, MeetsRtHost, rt_del_app, rt_get_app, rt_put_app, rt_file_app, with_rt_files};
-ghost use Rattle.f11_pip.specs.Words.{AsksFromRt, AsksRtDel, AsksRtGet, AsksRtPut, AsksToRt, IsNoCopy};
+ghost use Rattle.f11_pip.specs.Commands.{HasRtFileWords, HasRtHostWords, MeetsCopy, MeetsPut, MeetsRtFile, MeetsRtHost, rt_del_app, rt_get_app, rt_put_app, rt_file_app, with_rt_files};
+ghost use Rattle.f11_pip.specs.Words.{AsksFromRt, AsksPut, AsksRtDel, AsksRtGet, AsksRtPut, AsksToRt, IsNoCopy, IsNoUic};
 
 use crate::outcome::Failure;
 use crate::words::Words;
 use crate::words::args::{needed, word_of};
 use crate::words::copies::copy_of;
+use crate::words::host_files::put_of;
 use clap::{ArgMatches, Command};
 use std::alloc::{AllocError, Global};
 
@@ -86,7 +87,7 @@ pub(crate) fn rt_put_of<'a>(given: &ArgMatches<'a>) -> Result<Words<'a>, Failure
     })
 }
 
-/// The command on one file of an RT-11 volume that the words named, or the copy.
+/// The command that the words named, of those that write a file to a volume, or take one from an RT-11 volume.
 pub(crate) fn moving_of<'a>(matches: &ArgMatches<'a>) -> Result<Words<'a>, Failure>
     ensures from_rt { (mode rt rt_name image uic name : List ℕ)
         → MeetsCopy (codes "flx-from-rt") mode image uic name rt rt_name
@@ -98,6 +99,9 @@ pub(crate) fn moving_of<'a>(matches: &ArgMatches<'a>) -> Result<Words<'a>, Failu
         (subcommand_rows_of matches.now)
         → MatchResult result (AsksToRt mode image uic name rt rt_name)
         (λ _. IsNoCopy mode uic) }
+    ensures put { (image uic name host : List ℕ)
+        → MeetsPut image uic name host (subcommand_rows_of matches.now)
+        → MatchResult result (AsksPut image uic name host) (λ _. IsNoUic uic) }
     ensures rt_del { (rt name : List ℕ)
         → MeetsRtFile (codes "rt-del") rt name (subcommand_rows_of matches.now)
         → IsOkAnd result (AsksRtDel rt name) }
@@ -111,6 +115,7 @@ pub(crate) fn moving_of<'a>(matches: &ArgMatches<'a>) -> Result<Words<'a>, Failu
     ensures usage { IfErr result (λ failure. failure ≡ Failure.Usage) }
 {
     match matches.subcommand() {
+        Some(("put", given)) => put_of(given),
         Some(("rt-del", given)) => rt_del_of(given),
         Some(("rt-get", given)) => rt_get_of(given),
         Some(("rt-put", given)) => rt_put_of(given),

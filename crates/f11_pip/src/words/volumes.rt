@@ -1,13 +1,13 @@
 //! The words of the commands on a Files-11 volume.
 ghost use Rattle.std.specs.Prelude.{◌≡◌, ℕ, Bool, List, false, codes, Option, None, IfOk, IfErr, IsOkAnd, MatchResult};
 ghost use Rattle.clap.specs.Words.{app_of, first_value, found_of};
-ghost use Rattle.f11_pip.specs.Words.{AsksDump, AsksHome, AsksInit, AsksLs, AsksRun, AsksVfy, IsNoInit, IsNoMax, IsNoUic, IsNoUser, SpellsMax, SpellsUser, AsksGet};
-ghost use Rattle.f11_pip.specs.Commands.{HasDumpWords, HasInitWords, HasLsWords, HasRunWords, HasVfyWords, HasWord, dump_app, home_app, init_app, init_options, ls_app, run_app, vfy_app, HasGetWords, get_app};
+ghost use Rattle.f11_pip.specs.Words.{AsksDump, AsksHome, AsksInit, AsksLs, AsksRun, AsksVfy, IsNoInit, IsNoMax, IsNoUser, SpellsMax, SpellsUser};
+ghost use Rattle.f11_pip.specs.Commands.{HasDumpWords, HasInitWords, HasLsWords, HasRunWords, HasVfyWords, HasWord, dump_app, home_app, init_app, init_options, ls_app, run_app, vfy_app};
 ghost use Rattle.f11_numbers.specs.Decimal.{IsNumber, SpellsNumber};
 
 use crate::outcome::Failure;
 use crate::words::Words;
-use crate::words::args::{flag, needed, option, uic_of, word, word_of};
+use crate::words::args::{flag, needed, option, word, word_of};
 use clap::{ArgMatches, Command};
 use f11_numbers::{read_count, read_number, read_uic};
 use f11_store::Uic;
@@ -42,29 +42,6 @@ fn number_of(given: &ArgMatches<'_>) -> Result<u16, Failure>
     ensures usage { IfErr result (λ failure. failure ≡ Failure.Usage) }
 {
     read_number(word_of(given, "number")?).ok_or(Failure::Usage)
-}
-
-pub fn get<'a>(alloc: Global) -> Result<Command<'a>, AllocError>
-    ensures { IfOk result (λ command. app_of command ≡ get_app) }
-{
-    Command::new(alloc, "get")
-        .arg(needed(alloc, "image"))?
-        .arg(needed(alloc, "uic"))?
-        .arg(needed(alloc, "name"))?
-        .arg(needed(alloc, "host"))
-}
-
-pub fn get_of<'a>(given: &ArgMatches<'a>) -> Result<Words<'a>, Failure>
-    ensures get { (image uic name host : List ℕ) → HasGetWords image uic name host given.now
-        → MatchResult result (AsksGet image uic name host) (λ _. IsNoUic uic) }
-    ensures usage { IfErr result (λ failure. failure ≡ Failure.Usage) }
-{
-    Ok(Words::Get {
-        image: word_of(given, "image")?,
-        directory: uic_of(given, "uic")?,
-        name: word_of(given, "name")?,
-        host: word_of(given, "host")?,
-    })
 }
 
 pub fn home<'a>(alloc: Global) -> Result<Command<'a>, AllocError>

@@ -1,7 +1,8 @@
-use Rattle.std.proofs.Common.{◌∙◌, ap, codes, List, Option, None, slice_index_or}
+use Rattle.std.proofs.Common.{◌∙◌, ap, codes, false, true, List, Option, None, Some, slice_index_or}
 use Rattle.clap.specs.Words.{Text, found_of}
-use Rattle.f11_pip.specs.Commands.{get_names, init_names, ls_names, rt_init_names}
+use Rattle.f11_pip.specs.Commands.{init_names, ls_names, rt_init_names}
 use Rattle.clap.proofs.WalkLemmas.{first_value-rows, one_text-rows}
+use Rattle.f11_pip.proofs.HostFileLemmas.{has-get}
 use Rattle.f11_pip.proofs.WordsLemmas.{first_of-met, one_of-met, words_met}
 use Rattle.f11_pip.proofs.words.command_of.Goals as goal
 
@@ -76,15 +77,13 @@ returns-in-Some-init-default-clause-init c blocks slots label image max met =
     })
 
 pub returns-in-Some-get-default-clause-get : goal.returns-in-Some-get-default-clause-get
-returns-in-Some-get-default-clause-get c image uic name host met =
-    let given = c.in-Some-get-default.given.now in
-    let words = words_met _ _ _ get_names _ c.in-Some-get-default.ensures.rows met in
-    c.get_of.ensures.get image uic name host (record {
-      image_is = first_value-rows (found_of given) (codes "image") ∙ ap (λ (l : List (Option Text)). slice_index_or l 0 None) words;
-      uic_is = first_value-rows (found_of given) (codes "uic") ∙ ap (λ (l : List (Option Text)). slice_index_or l 1 None) words;
-      name_is = first_value-rows (found_of given) (codes "name") ∙ ap (λ (l : List (Option Text)). slice_index_or l 2 None) words;
-      host_is = first_value-rows (found_of given) (codes "host") ∙ ap (λ (l : List (Option Text)). slice_index_or l 3 None) words;
-    })
+returns-in-Some-get-default-clause-get c mode image uic name host met =
+    c.get_of.ensures.get mode image uic name host
+    (has-get _ _ false mode image uic (Some name) (Some host) c.in-Some-get-default.ensures.rows met)
+
+pub returns-in-Some-get-default-clause-get_all : goal.returns-in-Some-get-default-clause-get_all
+returns-in-Some-get-default-clause-get_all c image folder met =
+    c.get_of.ensures.all image folder (has-get _ _ true None image folder None None c.in-Some-get-default.ensures.rows met)
 
 pub returns-in-Some-ls-default-clause-ls : goal.returns-in-Some-ls-default-clause-ls
 returns-in-Some-ls-default-clause-ls c image uic met =

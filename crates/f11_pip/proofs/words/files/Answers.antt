@@ -1,7 +1,7 @@
 use Rattle.std.proofs.Common.{◌≡◌, ◌∙◌, ap, ap₂}
 use Rattle.std.proofs.lemmas.Result.{IfOk-weaker}
 use Rattle.clap.specs.Words.{App, app_of, with_subcommand}
-use Rattle.f11_pip.specs.Commands.{dump_app, get_app, home_app, init_app, ls_app, name_app, rights_app, run_app, vfy_app}
+use Rattle.f11_pip.specs.Commands.{dump_app, home_app, init_app, ls_app, name_app, rights_app, run_app, vfy_app}
 use Rattle.f11_pip.proofs.WordsLemmas.{third_not}
 use Rattle.f11_pip.proofs.words.files.Goals as goal
 
@@ -14,7 +14,6 @@ returns c =
     let vfy_is : app_of c.in_ok-vfy.field-0 ≡ vfy_app = c.in_ok-vfy.ensures in
     let init_is : app_of c.in_ok-init.field-0 ≡ init_app = c.in_ok-init.ensures in
     let ls_is : app_of c.in_ok-ls.field-0 ≡ ls_app = c.in_ok-ls.ensures in
-    let get_is : app_of c.in_ok-get.field-0 ≡ get_app = c.in_ok-get.ensures in
     let run_is : app_of c.in_ok-run.field-0 ≡ run_app = c.in_ok-run.ensures in
     let first = c.in_ok-subcommand.ensures.shape (third_not _ _ _ _ (ap (λ (a : App). a.top.is_plain) home_is))
     ∙ ap₂ with_subcommand c.new.ensures.app (ap (λ (a : App). a.top) home_is) in
@@ -30,7 +29,5 @@ returns c =
     ∙ ap₂ with_subcommand fifth (ap (λ (a : App). a.top) init_is) in
     let seventh = c.in_ok-subcommand-7.ensures.shape (third_not _ _ _ _ (ap (λ (a : App). a.top.is_plain) ls_is))
     ∙ ap₂ with_subcommand sixth (ap (λ (a : App). a.top) ls_is) in
-    let eighth = c.in_ok-subcommand-8.ensures.shape (third_not _ _ _ _ (ap (λ (a : App). a.top.is_plain) get_is))
-    ∙ ap₂ with_subcommand seventh (ap (λ (a : App). a.top) get_is) in
-    IfOk-weaker c.subcommand-9.result _ _ (λ command adds. adds.shape (third_not _ _ _ _ (ap (λ (a : App). a.top.is_plain) run_is))
-    ∙ ap₂ with_subcommand eighth (ap (λ (a : App). a.top) run_is)) c.subcommand-9.ensures
+    IfOk-weaker c.subcommand-8.result _ _ (λ command adds. adds.shape (third_not _ _ _ _ (ap (λ (a : App). a.top.is_plain) run_is))
+    ∙ ap₂ with_subcommand seventh (ap (λ (a : App). a.top) run_is)) c.subcommand-8.ensures

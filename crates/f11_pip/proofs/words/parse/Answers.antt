@@ -1,16 +1,18 @@
 use Rattle.std.proofs.Common.{[], arith, ◌∙◌, None, Some, ap, ap₂, codes, false, map, true}
 use Rattle.clap.specs.Words.{is_simple, subcommand_of, takes}
-use Rattle.f11_pip.specs.Commands.{command_and_flag, command_and_word, command_and_words, copy_names, get_names, ls_names}
+use Rattle.f11_pip.specs.Commands.{command_and_flag, command_and_word, command_and_words, copy_names, get_names, ls_names, put_names}
 use Rattle.f11_pip.specs.Commands.{rt_file_names, rt_host_names, rt_init_names}
 use Rattle.f11_pip.specs.Words.{
   Asks,
   IsUnreadable,
   dump_line,
   from_rt_line,
+  get_all_line,
   get_line,
   home_line,
   ls_line,
   name_line,
+  put_line,
   rights_line,
   rt_del_line,
   rt_get_line,
@@ -25,7 +27,7 @@ use Rattle.f11_pip.specs.Words.{
   vfy_line,
 }
 use Rattle.f11_pip.proofs.CopyLemmas.{subcommand_of-from_rt, subcommand_of-to_rt}
-use Rattle.f11_pip.proofs.GetLemmas.{subcommand_of-get}
+use Rattle.f11_pip.proofs.HostFileLemmas.{subcommand_of-get, subcommand_of-get_all, subcommand_of-put}
 use Rattle.f11_pip.proofs.LineLemmas.{takes-line, subcommand_of-rt_init}
 use Rattle.f11_pip.proofs.RtFileLemmas.{subcommand_of-rt_del, subcommand_of-rt_get, subcommand_of-rt_put}
 use Rattle.f11_pip.proofs.WordsLemmas.{failure_out_of_memory, match_ok, no_memory_or_none, none_or_no_memory, subcommand_of-rt_list}
@@ -48,12 +50,27 @@ returns-clause-asks g c (home_line word) line =
     (match_ok _ _ c.command_of.result
     (c.command_of.ensures.home word
     (ap (command_and_word (codes "image")) met ∙ subcommand_of-home line.program word (line.plain 0 [] (omega arith)))))
-returns-clause-asks g c (get_line image uic name host) line =
+returns-clause-asks g c (get_line mode image uic name host) line =
     let simple = ap is_simple c.in_ok-program.ensures ∙ is_simple-program in
     let met = (c.in_ok-matches.ensures.matches simple).1 ∙ ap₂ subcommand_of c.in_ok-program.ensures line.is_line in
-    none_or_no_memory (Asks (get_line image uic name host)) (IsUnreadable (get_line image uic name host)) c.command_of.result
-    (c.command_of.ensures.get image uic name host
-    (ap (command_and_words get_names) met ∙ subcommand_of-get line.program image uic name host line.plain))
+    none_or_no_memory (Asks (get_line mode image uic name host)) (IsUnreadable (get_line mode image uic name host)) c.command_of.result
+    (let these = subcommand_of-get line.program mode image uic name host line.plain in
+    c.command_of.ensures.get mode image uic name host
+    (ap (command_and_words get_names) met ∙ these.0, ap (command_and_flag (codes "all")) met ∙ these.1))
+returns-clause-asks g c (get_all_line image folder) line =
+    let simple = ap is_simple c.in_ok-program.ensures ∙ is_simple-program in
+    let met = (c.in_ok-matches.ensures.matches simple).1 ∙ ap₂ subcommand_of c.in_ok-program.ensures line.is_line in
+    none_or_no_memory (Asks (get_all_line image folder)) (IsUnreadable (get_all_line image folder)) c.command_of.result
+    (let these = subcommand_of-get_all line.program image folder (line.plain 0 [] (omega arith)) (line.plain 1 [] (omega arith)) in
+    match_ok _ _ c.command_of.result
+    (c.command_of.ensures.get_all image folder
+    (ap (command_and_words get_names) met ∙ these.0, ap (command_and_flag (codes "all")) met ∙ these.1)))
+returns-clause-asks g c (put_line image uic name host) line =
+    let simple = ap is_simple c.in_ok-program.ensures ∙ is_simple-program in
+    let met = (c.in_ok-matches.ensures.matches simple).1 ∙ ap₂ subcommand_of c.in_ok-program.ensures line.is_line in
+    none_or_no_memory (Asks (put_line image uic name host)) (IsUnreadable (put_line image uic name host)) c.command_of.result
+    (c.command_of.ensures.put image uic name host
+    (ap (command_and_words put_names) met ∙ subcommand_of-put line.program image uic name host line.plain))
 returns-clause-asks g c (name_line word) line =
     let simple = ap is_simple c.in_ok-program.ensures ∙ is_simple-program in
     let met = (c.in_ok-matches.ensures.matches simple).1 ∙ ap₂ subcommand_of c.in_ok-program.ensures line.is_line in

@@ -1,6 +1,0 @@
-use Rattle.f11_pip.proofs.WordsLemmas.{at_err}
-use Rattle.f11_pip.proofs.words.volumes.get_of.Goals as goal
-
-pub returns-in_err-uic_of-clause-get : goal.returns-in_err-uic_of-clause-get
-returns-in_err-uic_of-clause-get c image uic name host given =
-    at_err _ _ c.from_residual-in_err-uic_of.result c.from_residual-in_err-uic_of.ensures.1 (c.in_err-uic_of.ensures.uic uic given.uic_is)

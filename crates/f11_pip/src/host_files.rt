@@ -1,0 +1,129 @@
+//! The commands on files of the host: which files they open, and how.
+use crate::outcome::Failure;
+use crate::remarks::{self, Remark, Which, Why};
+use crate::{judged, opened};
+use f11_commands::{
+    Answer, FileAnswer, FoundFile, PutFailure, Putting, Served, print_put, read_name, refuse_names,
+    seek_file, write_file,
+};
+use f11_dev::{CannotOpen, FileImage};
+use f11_flx::CopyMode;
+use f11_store::Uic;
+use std::fs::{self, File, OpenOptions};
+use std::io::Write;
+
+/// A file of a volume, as the words name it: its image, its directory, and its name.
+#[derive(Clone, Copy)]
+pub struct Named<'a> {
+    pub image: &'a str,
+    pub directory: Uic,
+    pub name: &'a str,
+}
+
+/// Takes a file out of a volume. A file of the host is made for it, where none is yet, once it is found.
+pub fn get<'a, W: Write>(
+    rt: &HostRuntime,
+    file: &Named<'a>,
+    mode: CopyMode,
+    host: &'a str,
+    writer: &mut W,
+    remark: &mut Option<Remark<'a>>,
+) -> Result<Answer, Failure> {
+    let Some(name) = read_name(rt.alloc(), file.name)? else {
+        return Ok(refuse_names(writer)?);
+    };
+    let device = opened(FileImage::open_to_read(rt, file.image), file.image, remark)?;
+    let served = match seek_file(rt.alloc(), device, writer, file.directory, &name) {
+        Ok(Ok(found)) => take_out(rt, found, mode, host, writer, remark)?,
+        Ok(Err((_device, served))) => served,
+        Err((_device, failure)) => return Err(Failure::from(failure)),
+    };
+    Ok(judged(rt, file.image, served, remark))
+}
+
+/// Makes a file of the host, and writes a file that was found to it.
+fn take_out<'a, W: Write>(
+    rt: &HostRuntime,
+    found: FoundFile<FileImage<File>>,
+    mode: CopyMode,
+    host: &'a str,
+    writer: &mut W,
+    remark: &mut Option<Remark<'a>>,
+) -> Result<Served, Failure> {
+    let mut file = opened(made(rt, host), host, remark)?;
+    let (_, served) = write_file(found, mode, &mut file, writer);
+    Ok(served?)
+}
+
+/// A new file of the host, to be written.
+pub fn made(rt: &HostRuntime, path: &str) -> Result<File, CannotOpen> {
+    OpenOptions::new()
+        .write(true)
+        .create_new(true)
+        .open(rt, path)
+        .map_err(CannotOpen::from)
+}
+
+/// Makes a file on a volume with the bytes of a file of the host, which is opened first.
+pub fn put<'a, W: Write>(
+    rt: &HostRuntime,
+    file: &Named<'a>,
+    host: &'a str,
+    writer: &mut W,
+    remark: &mut Option<Remark<'a>>,
+) -> Result<Answer, Failure> {
+    let Some(name) = read_name(rt.alloc(), file.name)? else {
+        return Ok(refuse_names(writer)?);
+    };
+    let directory = file.directory;
+    let (mut bytes_of, bytes) = opened(with_length(rt, host), host, remark)?;
+    let device = opened(FileImage::open(rt, file.image), file.image, remark)?;
+    let putting = Putting { directory, name };
+    let (_, told) = print_put(rt.alloc(), device, &putting, &mut bytes_of, bytes, writer);
+    put_answer(rt, file.image, host, told, remark)
+}
+
+/// The answer of a command that puts a file of the host on a volume, and a remark on the image, or on the host's file where that couldn't
+/// be read to its length.
+pub fn put_answer<'a>(
+    rt: &HostRuntime,
+    image: &'a str,
+    host: &'a str,
+    told: Result<FileAnswer, PutFailure>,
+    remark: &mut Option<Remark<'a>>,
+) -> Result<Answer, Failure> {
+    match told {
+        Ok(answer) => Ok(ended(rt, image, answer, remark)),
+        Err(failure) => {
+            if failure == PutFailure::Unread {
+                *remark = Some(Remark {
+                    word: Which::Text(host),
+                    why: Why::Unread,
+                });
+            }
+            Err(failure.into())
+        }
+    }
+}
+
+/// A file of the host, to be read, and how many bytes it has. What is no file isn't opened, since opening a pipe may wait.
+pub fn with_length(rt: &HostRuntime, path: &str) -> Result<(File, u64), CannotOpen> {
+    if !fs::metadata(rt, path)?.is_file() {
+        return Err(CannotOpen::Refused);
+    }
+    let file = File::open(rt, path)?;
+    let bytes = file.metadata()?.len();
+    Ok((file, bytes))
+}
+
+/// The answer of a command on a file of a volume, and a remark on its image where there is one.
+pub fn ended<'a>(
+    rt: &HostRuntime,
+    image: &'a str,
+    answer: FileAnswer,
+    remark: &mut Option<Remark<'a>>,
+) -> Answer {
+    let is_faulty = matches!(answer, FileAnswer::Faulty(_));
+    *remark = remarks::of_image(rt, image, is_faulty);
+    answer.answer()
+}
