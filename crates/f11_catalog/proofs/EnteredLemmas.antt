@@ -53,7 +53,8 @@ master-on index (Some master) old new faults reads reading = holds-on reads.1 re
 -- The next user's directory was opened behind records that name none.
 pub user-comes : (index : Index) (first here : DirectoryReader) (old now : Disk)
     → Passed (λ image t. places_under image t) index first here old now
-    → (later : DirectoryReader) (r : Record) (mid : Disk) (read : ReadsRecord index here later r now mid) (next : Disk) (hand : UserDirectory)
+    → (later : DirectoryReader) (r : Record) (mid : Disk) (read : ReadsRecord index here later r now mid) (next : Disk)
+    (hand : UserDirectory)
     → OpensUser (λ image t. places_under image t read.bytes) index hand mid next → ComesToUser index first later hand old next
 user-comes index first here old now passed later r mid read next hand opens = record {
   reading = opens.reading;
@@ -135,7 +136,8 @@ module _ (index : Index) where
 
     -- none is in hand
     module _ (empty : files.hand ≡ None) where
-      as-in-master : (master : Option DirectoryReader) → files.master ≡ master → entered_to_come index old files ≡ master_to_come index old master
+      as-in-master : (master : Option DirectoryReader) → files.master ≡ master
+          → entered_to_come index old files ≡ master_to_come index old master
       as-in-master master is =
           ap (λ h. hand_to_come index old h ++ master_to_come index old files.master) empty ∙ ap (master_to_come index old) is
 

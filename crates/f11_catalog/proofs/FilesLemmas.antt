@@ -21,7 +21,8 @@ use Rattle.f11_store.specs.declared.files.FileId.{FileId}
 use Rattle.f11_catalog.specs.AllFiles.{all_files, entered_files, id_of, is_among, lost_files, place_lost}
 use Rattle.f11_catalog.specs.Records.{Reads}
 use Rattle.f11_catalog.specs.Walking.{BeginsWalk, EntersFile, EntersNoMore, FindsNoOther, FindsOther, GivesFile, HasNoFile, OpensMaster}
-use Rattle.f11_catalog.specs.Walking.{entered_to_come, files_left, files_to_come, hand_to_come, is_known, is_met, master_to_come, others_to_come}
+use Rattle.f11_catalog.specs.Walking.{entered_to_come, files_left, files_to_come, hand_to_come, is_known, is_met, master_to_come}
+use Rattle.f11_catalog.specs.Walking.{others_to_come}
 use Rattle.f11_catalog.specs.declared.walk.place.FileAt.{FileAt}
 use Rattle.f11_catalog.specs.declared.walk.place.Place.{Place}
 use Rattle.f11_catalog.specs.declared.walk.state.AllFiles.{AllFiles}
@@ -111,7 +112,8 @@ unfolding files_to_come
 files-later index files old now image =
     ap (λ ps. ps ++ others_to_come (table index now) (λ n. is_met files.others n || is_among ps n) files.others)
     (entered-later index old now image files.entered)
-    ∙ ap (λ (i : Image). entered_to_come index old files.entered ++ others_to_come (table_in i index) (is_known index old files) files.others)
+    ∙ ap (λ (i : Image). entered_to_come index old files.entered ++ others_to_come (table_in i index) (is_known index old files)
+    files.others)
     image
 
 -- what was read for the next file, found or not
@@ -192,6 +194,7 @@ none-left-out image index master n is =
     ∙ elim (cases_Bool (is_among entered n)) [
       | inl met ↦ ap (λ b. b || is_among (lost_files t (is_among entered) 1 t.slots) n) met
       | inr unmet ↦
-          ap (λ b. is_among entered n || b) (lost-among t (is_among entered) n is unmet t.slots 1 (slot-of image index n is).0 (slot-of image index n is).1)
+          ap (λ b. is_among entered n || b)
+          (lost-among t (is_among entered) n is unmet t.slots 1 (slot-of image index n is).0 (slot-of image index n is).1)
           ∙ or-true (is_among entered n)
     ]

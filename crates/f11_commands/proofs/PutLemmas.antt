@@ -1,5 +1,5 @@
 -- A file of the host that is put on a volume by its name.
-use Rattle.std.proofs.Common.{◌≡◌, inl, inr, ℕ, true, IsTrue, List, [], Option, Result, Ok, Err, IfOk, IfErr, refl, sym, ◌∙◌, subst, arith}
+use Rattle.std.proofs.Common.{◌≡◌, inl, inr, ℕ, true, List, [], Option, Result, Ok, Err, IfOk, IfErr, refl, sym, ◌∙◌, subst, arith}
 use Rattle.std.proofs.KnownBytes.{Consumes-nil}
 use Rattle.f11_dev.specs.Disk.{Disk}
 use Rattle.f11_dev.specs.declared.device.Device.{Ghosts}
@@ -27,7 +27,8 @@ use Rattle.f11_commands.proofs.NamedLemmas.{alone-behind, alone-not-found, not-f
 use Rattle.f11_commands.specs.CopyCommand.{VerifiesFiles}
 use Rattle.f11_commands.specs.Copying.{directory_name, master_directory, operator}
 use Rattle.f11_commands.specs.Finding.{is_found}
-use Rattle.f11_commands.specs.PutCommand.{AnswersPutting, EndsPutting, PutsByName, PutsInto, PutsNamed, PutsOnImage, TellsPutting}
+use Rattle.f11_commands.specs.PutCommand.{EndsAccepted, EndsPutting, PutsByName, PutsInto, PutsNamed, PutsOnImage, TellsOnImage}
+use Rattle.f11_commands.specs.PutCommand.{TellsPutting}
 use Rattle.f11_commands.specs.declared.copy.FileAnswer.{FileAnswer}
 use Rattle.f11_commands.specs.declared.put.Putting.{Putting}
 use Rattle.f11_commands.specs.declared.rt_put.PutFailure.{PutFailure}
@@ -84,7 +85,8 @@ module _ {D : Type 0} {met : Ghosts D} (p : Putting) (bytes : ℕ) (u : Option (
 
   -- the user's directory was found
   pub put-found : (name : List ℕ) → name ≡ directory_name p.directory → (dir : FileId) (result : Result ℕ HostRefusal)
-      (u' : Option (List ℕ)) (v m w : Volume D met) → Grants of_volume operator (told (request.Find master_directory name) (reply.Found dir)) v m
+      (u' : Option (List ℕ)) (v m w : Volume D met)
+      → Grants of_volume operator (told (request.Find master_directory name) (reply.Found dir)) v m
       → PutsNamed bytes result u u' (PutsInto p bytes dir result u u') m w
       → PutsNamed bytes result u u' (PutsByName p bytes result u u') v w
   put-found name name-is dir result u' v m w grants' a = record {
@@ -146,15 +148,20 @@ module _ {D : Type 0} {met : Ghosts D} (p : Putting) (bytes : ℕ) (u : Option (
       accepted = λ is. puts.fares.fares.accepted (puts.fares.fares.honest ∙ mounts.looked.honest ∙ is);
     }
 
-    pub ends-putting : {W : Type 0} (told : Result FileAnswer PutFailure) (contents : W → Option (List ℕ)) (before now after : W)
-        (image new : Disk) → VerifiesFiles image old × (now ≡ before) → new ≡ (state_in last).disk
-        → TellsPutting result told contents now after → EndsPutting p bytes told u u' image new contents before after
-    ends-putting {W} told contents before now after image new verified at tells =
-        inr (subst (λ (x : Disk). AnswersPutting p bytes told u u' image x contents before after) (sym at)
-        (record {
-          result = result;
-          read = old;
-          verified = verified.0;
-          puts = puts-on-image;
-          tells = subst (λ (x : W). TellsPutting result told contents x after) verified.1 tells;
-        }))
+    pub ends-accepted : {W : Type 0} (answer : Result FileAnswer PutFailure) (contents : W → Option (List ℕ)) (before after : W)
+        (new : Disk) → new ≡ (state_in last).disk → TellsPutting result answer contents before after
+        → EndsAccepted p bytes answer u u' old new contents before after
+    ends-accepted {W} answer contents before after new at tells =
+        inl (subst (λ (x : Disk). TellsOnImage p bytes answer u u' old x contents before after) (sym at)
+        (record { result = result; puts = puts-on-image; tells = tells }))
+
+-- behind a verified image
+pub ends-putting : {W : Type 0} (p : Putting) (bytes : ℕ) (u u' : Option (List ℕ)) (answer : Result FileAnswer PutFailure)
+    (contents : W → Option (List ℕ)) (before now after : W) (image read new : Disk) → VerifiesFiles image read × (now ≡ before)
+    → EndsAccepted p bytes answer u u' read new contents now after → EndsPutting p bytes answer u u' image new contents before after
+ends-putting {W} p bytes u u' answer contents before now after image read new verified ends =
+    inr (record {
+      read = read;
+      verified = verified.0;
+      ends = subst (λ (x : W). EndsAccepted p bytes answer u u' read new contents x after) verified.1 ends;
+    })

@@ -85,8 +85,8 @@ pub record BeginsAll (index : Index) (files : AllFiles) (old new : Disk) : Type 
   pub all : IsTrue old.honest → files_to_come index new files ≡ all_files old.image (table_of old.image home) master_directory
   pub reads : Reads old new 0
 
--- The files couldn't be begun with: a transfer failed, or there was no memory, and nothing was written; or the volume can't be read, and the
--- writer takes no more.
+-- The files couldn't be begun with: a transfer failed, or there was no memory, and nothing was written; or the volume can't be read, and
+-- the writer takes no more.
 abbrev pub FailsToBeginAll : {W : Type 0} → Failure → Disk → Disk → W → W → Type 0
 FailsToBeginAll DeviceFault old new before after = Reads old new 1 × (after ≡ before)
 FailsToBeginAll NoMemory old new before after = Reads old new 0 × (after ≡ before)
@@ -148,7 +148,8 @@ pub record TakesNext {D H W : Type 0} {G : Ghosts D} (found : FileAt) (disk : D 
   pub stays : StaysInHand all later
   pub files : files_of later ≡ files_of all
   pub taken : Taken
-  pub takes : TakesFile (index_of all) (reader_at found) (end_at found) taken (disk (device_of all)) (disk (device_of later)) held host host'
+  pub takes : TakesFile (index_of all) (reader_at found) (end_at found) taken (disk (device_of all)) (disk (device_of later)) held host
+      host'
   pub failed : has_failed later ≡ (has_failed all || taken.failed)
   pub line : WriterTakes contents before after (taken_at_line found.place taken.bytes taken.missing)
 

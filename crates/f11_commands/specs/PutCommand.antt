@@ -68,9 +68,9 @@ pub record PutsNamed {D : Type 0} {met : Ghosts D} (bytes : ℕ) (result : Resul
   pub host : ReadsHost bytes result unread unread'
   pub outcome : is_sound old ≡ true → is_whole (copy_result result) ≡ true → Holds (store_of_volume old) (store_of_volume new)
 
--- A file was to be made on the volume of an image that has no fault. Where the disk is honest it is what the answer says of the plain store,
--- from that of the image, in which nobody holds an access; and the image has no fault then. A transfer failed exactly where that is the
--- answer, and no other followed.
+-- A file was to be made on the volume of an image that has no fault. Where the disk is honest it is what the answer says of the plain
+-- store, from that of the image, in which nobody holds an access; and the image has no fault then. A transfer failed exactly where that is
+-- the answer, and no other followed.
 pub record PutsOnImage (p : Putting) (bytes : ℕ) (result : Result ℕ HostRefusal) (unread unread' : Option (List ℕ)) (old new : Disk)
     : Type 0 where
   pub home : HomeFields
@@ -93,27 +93,39 @@ TellsPutting (Err (Files e)) told contents before after =
     (t : Result FileAnswer Failure) × (told ≡ put_told t) × TellsCopy (Err (copy.Files e)) t contents before after
 TellsPutting (Err Unread) told contents before after = (told ≡ Err failure.Unread) × Keeps (contents before) (contents after)
 
--- An image was verified and has no fault; the file was to be made, and what came of it was told.
-pub record AnswersPutting {W : Type 0} (p : Putting) (bytes : ℕ) (told : Result FileAnswer PutFailure) (unread unread' : Option (List ℕ))
+-- The file was to be made on the volume of an accepted image, and what came of it was told.
+pub record TellsOnImage {W : Type 0} (p : Putting) (bytes : ℕ) (told : Result FileAnswer PutFailure) (unread unread' : Option (List ℕ))
     (old new : Disk) (contents : W → Option (List ℕ)) (before after : W) : Type 0 where
   pub result : Result ℕ HostRefusal
-  pub read : Disk
-  pub verified : VerifiesFiles old read
-  pub puts : PutsOnImage p bytes result unread unread' read new
+  pub puts : PutsOnImage p bytes result unread unread' old new
   pub tells : TellsPutting result told contents before after
 
--- how it ends before a volume is mounted: its image isn't accepted, or couldn't be mounted
-abbrev pub EndsUnmounted : {W : Type 0} → Result FileAnswer Failure → Disk → Disk → (W → Option (List ℕ)) → W → W → Type 0
-EndsUnmounted answer old new contents before after =
-    (EndsFiles answer old new contents before after)
-    ⊎ ((read : Disk) × VerifiesFiles old read × FailsToMount answer read new contents before after)
+-- The volume couldn't be mounted.
+abbrev pub FailsToMountIt : {W : Type 0} → Result FileAnswer PutFailure → Disk → Disk → (W → Option (List ℕ)) → W → W → Type 0
+FailsToMountIt (Ok answer) old new contents before after = ⊥
+FailsToMountIt (Err (failure.Command f)) old new contents before after = FailsToMount (Err f) old new contents before after
+FailsToMountIt (Err failure.Unread) old new contents before after = ⊥
 
--- So it ended, and nothing was read of the host's file.
+-- how it ends with an accepted volume: the file was to be made, or the volume couldn't be mounted, and nothing was read of the host's file
+abbrev pub EndsAccepted : {W : Type 0} → Putting → ℕ → Result FileAnswer PutFailure → Option (List ℕ) → Option (List ℕ) → Disk → Disk →
+    (W → Option (List ℕ)) → W → W → Type 0
+EndsAccepted p bytes told unread unread' old new contents before after =
+    (TellsOnImage p bytes told unread unread' old new contents before after)
+    ⊎ ((FailsToMountIt told old new contents before after) × (unread' ≡ unread))
+
+-- An image was verified and has no fault, and then it ended so.
+pub record AnswersPutting {W : Type 0} (p : Putting) (bytes : ℕ) (told : Result FileAnswer PutFailure) (unread unread' : Option (List ℕ))
+    (old new : Disk) (contents : W → Option (List ℕ)) (before after : W) : Type 0 where
+  pub read : Disk
+  pub verified : VerifiesFiles old read
+  pub ends : EndsAccepted p bytes told unread unread' read new contents before after
+
+-- The image isn't accepted, and nothing was read of the host's file.
 pub record EndsUnasked {W : Type 0} (told : Result FileAnswer PutFailure) (unread unread' : Option (List ℕ)) (old new : Disk)
     (contents : W → Option (List ℕ)) (before after : W) : Type 0 where
   pub answer : Result FileAnswer Failure
   pub told_is : told ≡ put_told answer
-  pub ends : EndsUnmounted answer old new contents before after
+  pub ends : EndsFiles answer old new contents before after
   pub unread_is : unread' ≡ unread
 
 -- how the command ends

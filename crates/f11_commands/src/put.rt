@@ -1,7 +1,8 @@
 //! The command `put`.
 
 ghost use Rattle.std.specs.Prelude.{◌≡◌};
-ghost use Rattle.f11_commands.specs.PutCommand.{EndsPutting, PutsByName, PutsInto, PutsNamed, TellsPutting};
+ghost use Rattle.f11_vfy.specs.Accepted.{device_of};
+ghost use Rattle.f11_commands.specs.PutCommand.{EndsAccepted, EndsPutting, PutsByName, PutsInto, PutsNamed, TellsPutting};
 
 use crate::copy::FileAnswer;
 use crate::copy::finding::{
@@ -19,6 +20,7 @@ use f11_flx::FlxRefusal;
 use f11_host::{HostRefusal, copy_from_host};
 use f11_rad50::Name;
 use f11_store::{FileId, Uic};
+use f11_vfy::Accepted;
 use std::alloc::Global;
 use std::io::{Read, Write};
 
@@ -54,10 +56,24 @@ pub fn print_put<D: Device, R: Read, W: Write>(
     ensures ends { EndsPutting put.now bytes result.1 (R.remaining host.old) (R.remaining host.new)
         (D.disk device) (D.disk result.0) W.contents writer.old writer.new }
 {
-    let accepted = match accept_files(alloc, device, writer) {
-        Ok(accepted) => accepted,
-        Err((device, told)) => return (device, as_put(told)),
-    };
+    match accept_files(alloc, device, writer) {
+        Ok(accepted) => put_accepted(alloc, accepted, put, host, bytes, writer),
+        Err((device, told)) => (device, as_put(told)),
+    }
+}
+
+/// Mounts an accepted volume, makes the file, tells that, and dismounts it.
+fn put_accepted<D: Device, R: Read, W: Write>(
+    alloc: Global,
+    accepted: Accepted<D>,
+    put: &Putting,
+    host: &mut R,
+    bytes: u64,
+    writer: &mut W,
+) -> (D, Result<FileAnswer, PutFailure>)
+    ensures ends { EndsAccepted put.now bytes result.1 (R.remaining host.old) (R.remaining host.new)
+        (D.disk (device_of accepted)) (D.disk result.0) W.contents writer.old writer.new }
+{
     match Volume::mount(alloc, accepted) {
         Ok(mut volume) => {
             let made = put_by_name(&mut volume, put, host, bytes);
@@ -65,9 +81,14 @@ pub fn print_put<D: Device, R: Read, W: Write>(
             (dismount(volume), told)
         }
         Err(OpenFault::DeviceFault(device) | OpenFault::Damaged(device)) => {
-            (device, as_put(Err(Failure::DeviceFault)))
+            (device, Err(PutFailure::Command(Failure::DeviceFault)))
         }
-        Err(OpenFault::NoMemory(accepted)) => (accepted.device(), as_put(Err(Failure::NoMemory))),
+        Err(OpenFault::NoMemory(accepted)) => {
+            (
+                accepted.device(),
+                Err(PutFailure::Command(Failure::NoMemory)),
+            )
+        },
     }
 }
 

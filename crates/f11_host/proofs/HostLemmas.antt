@@ -248,7 +248,8 @@ module _ {D : Type 0} {met : Ghosts D} (who : Who) (lun bytes : ℕ) (dir : File
       → FailsToFillFromHost of_volume who lun bytes (Files e) (host_file u []) (host_file u' taken) x y
       → BreaksOffAsking of_volume who (filling lun blocks) e x y) → Unmade f →
       (IsRefusal (as_image to dir protection bytes blocks) who lun f (store_of_volume v) (store_of_volume w))
-      ⊎ (IsShort (FailsToFillFromHost (of_volume {met = met}) who lun bytes) (as_image to dir protection bytes blocks) who lun (blocks_for bytes) f
+      ⊎ (IsShort (FailsToFillFromHost (of_volume {met = met}) who lun bytes) (as_image to dir protection bytes blocks) who lun
+      (blocks_for bytes) f
       (host_file u []) (host_file u' taken) (store_of_volume v) (store_of_volume w))
   made-of f blocks clean sound filled broken h =
       making-refused of_volume who lun (blocks_for bytes) (FillsFromHost of_volume who lun bytes)
@@ -279,7 +280,8 @@ module _ {D : Type 0} {met : Ghosts D} (who : Who) (lun bytes : ℕ) (dir : File
 
       by : (blocks : List (List ℕ)) →
           (IsRefusal (as_image to dir protection bytes blocks) who lun (Files e) (store_of_volume v) (store_of_volume w))
-          ⊎ (IsShort (FailsToFillFromHost (of_volume {met = met}) who lun bytes) (as_image to dir protection bytes blocks) who lun (blocks_for bytes)
+          ⊎ (IsShort (FailsToFillFromHost (of_volume {met = met}) who lun bytes) (as_image to dir protection bytes blocks) who lun
+          (blocks_for bytes)
           (Files e) (host_file u []) (host_file u' taken) (store_of_volume v) (store_of_volume w)) →
           FailsToMakeFile (as_image to dir protection bytes blocks) who lun (new_id (store_of_volume v)) e (store_of_volume v)
           (store_of_volume w)
@@ -295,7 +297,8 @@ module _ {D : Type 0} {met : Ghosts D} (who : Who) (lun bytes : ℕ) (dir : File
       (made-of BadRecord blocks refl sound (λ e is. absurd (bad-no-files e is)) (λ e is. absurd (bad-no-files e is)) h)
     where
       by : (IsRefusal (as_image to dir protection bytes blocks) who lun BadRecord (store_of_volume v) (store_of_volume w))
-          ⊎ (IsShort (FailsToFillFromHost (of_volume {met = met}) who lun bytes) (as_image to dir protection bytes blocks) who lun (blocks_for bytes)
+          ⊎ (IsShort (FailsToFillFromHost (of_volume {met = met}) who lun bytes) (as_image to dir protection bytes blocks) who lun
+          (blocks_for bytes)
           BadRecord (host_file u []) (host_file u' taken) (store_of_volume v) (store_of_volume w)) →
           IsCutShort (as_image to dir protection bytes blocks) who lun (blocks_for bytes) (new_id (store_of_volume v)) (store_of_volume v)
           (store_of_volume w)

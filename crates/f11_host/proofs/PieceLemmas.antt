@@ -1,6 +1,7 @@
 -- The bytes of a file of the host, block by block.
-use Rattle.std.proofs.Common.{◌≡◌, inl, inr, ℕ, ◌+◌, ◌-◌, ◌*◌, ◌<◌, ◌≤◌, List, [], ◌∷◌, ◌++◌, All, length, drop, take, replicate, min, Option, Result}
-use Rattle.std.proofs.Common.{Ok, Err, OnOk, refl, sym, ap, ◌∙◌, subst, arith, append_assoc}
+use Rattle.std.proofs.Common.{◌≡◌, inl, inr, ℕ, ◌+◌, ◌-◌, ◌*◌, ◌<◌, ◌≤◌, List, [], ◌∷◌, ◌++◌, All, length, drop, take, replicate, min}
+use Rattle.std.proofs.Common.{Option, Result}
+use Rattle.std.proofs.Common.{Ok, Err, OnOk, refl, sym, ap, ◌∙◌, arith, append_assoc}
 use Rattle.std.specs.List.{concat}
 use Rattle.std.specs.Io.KnownBytes.{Consumes}
 use Rattle.std.proofs.KnownBytes.{Consumes-nil, Consumes-trans}
@@ -113,8 +114,10 @@ module _ (bytes place left : ℕ) (taken : List ℕ) (pieces : List (List ℕ)) 
     | inl some ↦
         (let whole : length taken ≡ 512 * place = omega (arith, h.size, h.left_is, some) in
         chop pieces blocks (drop (length taken) text ++ replicate (512 * blocks_for bytes - length text) 0) h.whole k.whole
-        (all ∙ ap (λ (l : List ℕ). l ++ replicate (512 * blocks_for bytes - length text) 0) parted ∙ append_assoc taken (drop (length taken) text) (replicate (512 * blocks_for bytes - length text) 0)
-        ∙ ap (λ (l : List ℕ). l ++ (drop (length taken) text ++ replicate (512 * blocks_for bytes - length text) 0)) (sym (h.content ∙ no-zeros taken place whole))))
+        (all ∙ ap (λ (l : List ℕ). l ++ replicate (512 * blocks_for bytes - length text) 0) parted
+        ∙ append_assoc taken (drop (length taken) text) (replicate (512 * blocks_for bytes - length text) 0)
+        ∙ ap (λ (l : List ℕ). l ++ (drop (length taken) text ++ replicate (512 * blocks_for bytes - length text) 0))
+        (sym (h.content ∙ no-zeros taken place whole))))
     | inr none ↦
         (let last : place ≡ blocks_for bytes = omega (arith, h.left_is, none, inside) in
         let size' : length text ≤ length taken = omega (arith, h.size, none, size) in

@@ -1,5 +1,5 @@
 -- How a file that is accessed is filled with the bytes of a file of the host, whatever it is that answers, on any device (profile).
-use Rattle.std.specs.Prelude.{◌≡◌, ℕ, suc, ◌<◌, ◌≤◌, List, [], ◌∷◌, ◌++◌, length, take, Option}
+use Rattle.std.specs.Prelude.{◌≡◌, ℕ, suc, ◌<◌, ◌≤◌, List, ◌∷◌, ◌++◌, length, take, Option}
 use Rattle.std.specs.Io.KnownBytes.{Consumes}
 use Rattle.f11_store.specs.declared.refusals.Refusal.{Refusal}
 use Rattle.f11_flx.specs.Asking.{BreaksOffAsking, Denies, FilesService, Granted, Who, writes, writes_of}

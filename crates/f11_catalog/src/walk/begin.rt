@@ -65,8 +65,10 @@ impl AllFiles {
     ) -> Result<AllFiles, WalkFault>
         requires within { IndexLiesWithin (index_kept index.now) (length (D.disk device.old).image) }
         ensures begins { IfOk result (λ files.
-            BeginsWalk (index_kept index.now) master files (D.disk device.old) (D.disk device.new)) }
-        ensures failed { IfErr result (λ fault. FailsToBegin fault (D.disk device.old) (D.disk device.new)) }
+            BeginsWalk (index_kept index.now) master files
+            (D.disk device.old) (D.disk device.new)) }
+        ensures failed { IfErr result (λ fault. FailsToBegin fault
+            (D.disk device.old) (D.disk device.new)) }
     {
         let met = match vec![in alloc; false; 65536] {
             Ok(met) => met,

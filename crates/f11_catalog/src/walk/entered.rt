@@ -35,7 +35,8 @@ fn open_record<D: Device>(
         (D.disk device.old) (D.disk device.new))) }
     ensures none { IfOk result (λ answer. IfNone answer (
         (bytes : List ℕ) → «record».now ≡ record_of_bytes bytes
-        → EntersNone (λ image t. place_entered t user bytes) (index_kept index.now) (D.disk device.old) (D.disk device.new))) }
+        → EntersNone (λ image t. place_entered t user bytes) (index_kept index.now)
+        (D.disk device.old) (D.disk device.new))) }
     ensures failed { OnErr result (Reads (D.disk device.old) (D.disk device.new) 1) }
 {
     let Some(name) = record.name() else {
@@ -104,7 +105,8 @@ fn open_user<D: Device>(
         (D.disk device.old) (D.disk device.new))) }
     ensures none { IfOk result (λ answer. IfNone answer (
         (bytes : List ℕ) → «record».now ≡ record_of_bytes bytes
-        → EntersNone (λ image t. places_under image t bytes) (index_kept index.now) (D.disk device.old) (D.disk device.new))) }
+        → EntersNone (λ image t. places_under image t bytes) (index_kept index.now)
+        (D.disk device.old) (D.disk device.new))) }
     ensures failed { OnErr result (Reads (D.disk device.old) (D.disk device.new) 1) }
 {
     let Some(name) = record.name() else {
@@ -157,7 +159,8 @@ pub(crate) fn next_user<D: Device>(
     requires reading { IsReadingRecords (index_kept index.now) master.old (D.disk device.old) }
     ensures reading { IsReadingRecords (index_kept index.now) master.new (D.disk device.new) }
     ensures comes { IfOk result (λ answer. IfSome answer (λ hand.
-        ComesToUser (index_kept index.now) master.old master.new hand (D.disk device.old) (D.disk device.new))) }
+        ComesToUser (index_kept index.now) master.old master.new hand
+        (D.disk device.old) (D.disk device.new))) }
     ensures none { IfOk result (λ answer. IfNone answer (
         HasNoneLeft (λ image t. places_under image t) (index_kept index.now) master.old
         (D.disk device.old) (D.disk device.new))) }

@@ -88,7 +88,8 @@ impl OtherFiles {
             FindsOther (is_met self.old) (index_kept index.now) self.old self.new found
             (D.disk device.old) (D.disk device.new))) }
         ensures none { IfOk result (λ answer. IfNone answer (
-            FindsNoOther (is_met self.old) (index_kept index.now) self.old (D.disk device.old) (D.disk device.new))) }
+            FindsNoOther (is_met self.old) (index_kept index.now) self.old
+            (D.disk device.old) (D.disk device.new))) }
         ensures met { self.new.met ≡ self.old.met }
         ensures failed { OnErr result (Reads (D.disk device.old) (D.disk device.new) 1) }
     {

@@ -39,7 +39,8 @@ impl AllFiles {
         requires walking { IsWalking (index_kept index.now) self.old (D.disk device.old) }
         ensures walking { IsWalking (index_kept index.now) self.new (D.disk device.new) }
         ensures gives { IfOk result (λ answer. IfSome answer (λ found.
-            GivesFile (index_kept index.now) self.old self.new found (D.disk device.old) (D.disk device.new))) }
+            GivesFile (index_kept index.now) self.old self.new found
+            (D.disk device.old) (D.disk device.new))) }
         ensures ended { IfOk result (λ answer. IfNone answer (
             HasNoFile (index_kept index.now) self.old (D.disk device.old) (D.disk device.new))) }
         ensures failed { OnErr result (Reads (D.disk device.old) (D.disk device.new) 1) }

@@ -26,9 +26,11 @@ impl UserFiles {
         requires walking { IsWalkingUsers (index_kept index.now) self.old (D.disk device.old) }
         ensures walking { IsWalkingUsers (index_kept index.now) self.new (D.disk device.new) }
         ensures enters { IfOk result (λ answer. IfSome answer (λ found.
-            EntersFile (index_kept index.now) self.old self.new found (D.disk device.old) (D.disk device.new))) }
+            EntersFile (index_kept index.now) self.old self.new found
+            (D.disk device.old) (D.disk device.new))) }
         ensures ended { IfOk result (λ answer. IfNone answer (
-            EntersNoMore (index_kept index.now) self.old self.new (D.disk device.old) (D.disk device.new))) }
+            EntersNoMore (index_kept index.now) self.old self.new
+            (D.disk device.old) (D.disk device.new))) }
         ensures failed { OnErr result (Reads (D.disk device.old) (D.disk device.new) 1) }
     {
         loop {
@@ -59,9 +61,11 @@ impl UserFiles {
         requires walking { IsWalkingUsers (index_kept index.now) self.old (D.disk device.old) }
         ensures walking { IsWalkingUsers (index_kept index.now) self.new (D.disk device.new) }
         ensures enters { IfOk result (λ answer. IfSome answer (λ found.
-            EntersFile (index_kept index.now) self.old self.new found (D.disk device.old) (D.disk device.new))) }
+            EntersFile (index_kept index.now) self.old self.new found
+            (D.disk device.old) (D.disk device.new))) }
         ensures ended { IfOk result (λ answer. IfNone answer (
-            StaysToCome (index_kept index.now) self.old self.new (D.disk device.old) (D.disk device.new)
+            StaysToCome (index_kept index.now) self.old self.new
+            (D.disk device.old) (D.disk device.new)
             × (self.new.hand ≡ None))) }
         ensures failed { OnErr result (Reads (D.disk device.old) (D.disk device.new) 1) }
     {

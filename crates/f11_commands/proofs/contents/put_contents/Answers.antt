@@ -1,6 +1,7 @@
 use Rattle.std.proofs.Common.{Ok, [], refl, ap, arith}
 use Rattle.std.proofs.KnownBytes.{Appends-nil, Appends-trans}
-use Rattle.f11_commands.proofs.TakingOutLemmas.{content-part, reads-failed, taken-none, taken-more, reads-one, reads-all, content-all, reads-ended}
+use Rattle.f11_commands.proofs.TakingOutLemmas.{content-part, reads-failed, taken-none, taken-more, reads-one, reads-all, content-all}
+use Rattle.f11_commands.proofs.TakingOutLemmas.{reads-ended}
 use Rattle.f11_commands.proofs.TakingOutLemmas.{content-ended}
 use Rattle.f11_commands.proofs.contents.put_contents.Goals as goal
 

@@ -39,7 +39,8 @@ pub fn begin_all<D: Device, W: Write>(
         × BeginsAll (index_of all) (files_of all) (D.disk device) (D.disk (device_of all))) }
     ensures told { IfErr result (λ told. IfOk told.1 (λ served.
         IsVerified served.faulty (D.disk device)
-        × TellsFault served.answer (D.disk device) (D.disk told.0) W.contents writer.old writer.new)) }
+        × TellsFault served.answer
+        (D.disk device) (D.disk told.0) W.contents writer.old writer.new)) }
     ensures failed { IfErr result (λ told. IfErr told.1 (λ failure.
         FailsToBeginAll failure (D.disk device) (D.disk told.0) writer.old writer.new)) }
 {
@@ -63,7 +64,8 @@ fn begin<D: Device, W: Write>(
         × (has_failed all ≡ false)
         × BeginsAll (index_of all) (files_of all) (D.disk device) (D.disk (device_of all))) }
     ensures told { IfErr result (λ told. IfOk told.1 (λ served. (served.faulty ≡ faulty)
-        × TellsFault served.answer (D.disk device) (D.disk told.0) W.contents writer.old writer.new)) }
+        × TellsFault served.answer
+        (D.disk device) (D.disk told.0) W.contents writer.old writer.new)) }
     ensures failed { IfErr result (λ told. IfErr told.1 (λ failure.
         FailsToBeginAll failure (D.disk device) (D.disk told.0) writer.old writer.new)) }
 {

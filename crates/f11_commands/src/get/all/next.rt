@@ -18,7 +18,8 @@ impl<D: Device> TakingAll<D> {
     /// The next file; `None` behind the last, or where a transfer fails, which [`TakingAll::end`] answers then: files may be left out.
     pub fn next(&mut self) -> Option<FileAt>
         ensures finds { IfSome result (λ found. FindsNext found D.disk self.old self.new) }
-        ensures reading { IfSome result (λ found. IsReading (index_of self.new) (reader_at found) (D.disk (device_of self.new))) }
+        ensures reading { IfSome result (λ found. IsReading (index_of self.new) (reader_at found)
+            (D.disk (device_of self.new))) }
         ensures ended { IfNone result (HasNoNext D.disk self.old self.new) }
     {
         match self.files.next(&mut self.device, &self.index) {
@@ -45,7 +46,8 @@ impl<D: Device> TakingAll<D> {
         host: &mut H,
         writer: &mut W,
     ) -> Result<(), Failure>
-        requires reading { IsReading (index_of self.old) (reader_at found.now) (D.disk (device_of self.old)) }
+        requires reading { IsReading (index_of self.old) (reader_at found.now)
+            (D.disk (device_of self.old)) }
         ensures takes { OnOk result (TakesNext found.now D.disk self.old self.new
             H.contents host.old host.new W.contents writer.old writer.new) }
         ensures failed { IfErr result (λ failure. FailsToTake failure D.disk self.old self.new) }

@@ -48,7 +48,8 @@ returns-in-Ok-clause-host g c =
     made-host who c.args.lun c.args.bytes c.args.dir c.args.to.now c.args.protection (g.R.Read.remaining c.args.host.now)
     (g.R.Read.remaining c.make.new.host) k.0 c.args.vol.now c.make.new.service c.in-Ok.blocks
     (count-as who c.args.lun c.args.bytes c.args.dir c.args.to.now c.args.protection (g.R.Read.remaining c.args.host.now)
-    (g.R.Read.remaining c.make.new.host) k.0 c.args.vol.now c.make.new.service c.in-Ok.blocks _ c.in-Ok.ensures.count (omega (arith, c.if-bytes-gt-MOST_BYTES.false))) h
+    (g.R.Read.remaining c.make.new.host) k.0 c.args.vol.now c.make.new.service c.in-Ok.blocks _ c.in-Ok.ensures.count
+    (omega (arith, c.if-bytes-gt-MOST_BYTES.false))) h
 
 pub returns-in-Ok-clause-spent : goal.returns-in-Ok-clause-spent
 returns-in-Ok-clause-spent g c = λ dead.
@@ -73,7 +74,8 @@ returns-in-Err-clause-files g c =
     let who : Who = who_asks c.args.task c.args.uic in
     let k = c.in-Err.ensures.fails in
     let h = unmade-as who c.args.lun c.args.bytes c.args.dir c.args.to.now c.args.protection (g.R.Read.remaining c.args.host.now)
-    (g.R.Read.remaining c.make.new.host) k.0 c.args.vol.now c.make.new.service c.in-Err.refusal _ k.1 (omega (arith, c.if-bytes-gt-MOST_BYTES.false)) in
+    (g.R.Read.remaining c.make.new.host) k.0 c.args.vol.now c.make.new.service c.in-Err.refusal _ k.1
+    (omega (arith, c.if-bytes-gt-MOST_BYTES.false)) in
     let short : is_too_long c.args.bytes ≡ false = le-ltb 4294967295 c.args.bytes (omega (arith, c.if-bytes-gt-MOST_BYTES.false)) in
     subst (λ (e : HostRefusal). MayMakeFile (copy_result (unmade e)) who c.args.vol.now c.make.new.service) (sym c.told.ensures)
     (unmade-files who c.args.lun c.args.bytes c.args.dir c.args.to.now c.args.protection (g.R.Read.remaining c.args.host.now)
@@ -84,9 +86,11 @@ returns-in-Err-clause-host g c =
     let who : Who = who_asks c.args.task c.args.uic in
     let k = c.in-Err.ensures.fails in
     let h = unmade-as who c.args.lun c.args.bytes c.args.dir c.args.to.now c.args.protection (g.R.Read.remaining c.args.host.now)
-    (g.R.Read.remaining c.make.new.host) k.0 c.args.vol.now c.make.new.service c.in-Err.refusal _ k.1 (omega (arith, c.if-bytes-gt-MOST_BYTES.false)) in
+    (g.R.Read.remaining c.make.new.host) k.0 c.args.vol.now c.make.new.service c.in-Err.refusal _ k.1
+    (omega (arith, c.if-bytes-gt-MOST_BYTES.false)) in
     let short : is_too_long c.args.bytes ≡ false = le-ltb 4294967295 c.args.bytes (omega (arith, c.if-bytes-gt-MOST_BYTES.false)) in
-    subst (λ (e : HostRefusal). ReadsHost c.args.bytes (unmade e) (g.R.Read.remaining c.args.host.now) (g.R.Read.remaining c.make.new.host)) (sym c.told.ensures)
+    subst (λ (e : HostRefusal). ReadsHost c.args.bytes (unmade e) (g.R.Read.remaining c.args.host.now) (g.R.Read.remaining c.make.new.host))
+    (sym c.told.ensures)
     (unmade-host who c.args.lun c.args.bytes c.args.dir c.args.to.now c.args.protection (g.R.Read.remaining c.args.host.now)
     (g.R.Read.remaining c.make.new.host) k.0 c.args.vol.now c.make.new.service c.in-Err.refusal h)
 
@@ -95,7 +99,8 @@ returns-in-Err-clause-spent g c =
     let who : Who = who_asks c.args.task c.args.uic in
     let k = c.in-Err.ensures.fails in
     let h = unmade-as who c.args.lun c.args.bytes c.args.dir c.args.to.now c.args.protection (g.R.Read.remaining c.args.host.now)
-    (g.R.Read.remaining c.make.new.host) k.0 c.args.vol.now c.make.new.service c.in-Err.refusal _ k.1 (omega (arith, c.if-bytes-gt-MOST_BYTES.false)) in
+    (g.R.Read.remaining c.make.new.host) k.0 c.args.vol.now c.make.new.service c.in-Err.refusal _ k.1
+    (omega (arith, c.if-bytes-gt-MOST_BYTES.false)) in
     let short : is_too_long c.args.bytes ≡ false = le-ltb 4294967295 c.args.bytes (omega (arith, c.if-bytes-gt-MOST_BYTES.false)) in
     subst (λ (e : HostRefusal). is_spent c.args.vol.now ≡ true → FailsSpent (is_too_long c.args.bytes) e) (sym c.told.ensures)
     (λ dead. subst (λ b. FailsSpent b (of_copy c.in-Err.refusal)) (sym short)
@@ -107,9 +112,11 @@ returns-in-Err-clause-ended g c =
     let who : Who = who_asks c.args.task c.args.uic in
     let k = c.in-Err.ensures.fails in
     let h = unmade-as who c.args.lun c.args.bytes c.args.dir c.args.to.now c.args.protection (g.R.Read.remaining c.args.host.now)
-    (g.R.Read.remaining c.make.new.host) k.0 c.args.vol.now c.make.new.service c.in-Err.refusal _ k.1 (omega (arith, c.if-bytes-gt-MOST_BYTES.false)) in
+    (g.R.Read.remaining c.make.new.host) k.0 c.args.vol.now c.make.new.service c.in-Err.refusal _ k.1
+    (omega (arith, c.if-bytes-gt-MOST_BYTES.false)) in
     let short : is_too_long c.args.bytes ≡ false = le-ltb 4294967295 c.args.bytes (omega (arith, c.if-bytes-gt-MOST_BYTES.false)) in
-    subst (λ (e : HostRefusal). is_lethal (as_copy e) ≡ true → Ends of_volume who (as_copy e) c.args.vol.now c.make.new.service) (sym c.told.ensures)
+    subst (λ (e : HostRefusal). is_lethal (as_copy e) ≡ true → Ends of_volume who (as_copy e) c.args.vol.now c.make.new.service)
+    (sym c.told.ensures)
     (unmade-ends who c.args.lun c.args.bytes c.args.dir c.args.to.now c.args.protection (g.R.Read.remaining c.args.host.now)
     (g.R.Read.remaining c.make.new.host) k.0 c.args.vol.now c.make.new.service c.in-Err.refusal h)
 
@@ -118,10 +125,13 @@ returns-in-Err-clause-refused g c =
     let who : Who = who_asks c.args.task c.args.uic in
     let k = c.in-Err.ensures.fails in
     let h = unmade-as who c.args.lun c.args.bytes c.args.dir c.args.to.now c.args.protection (g.R.Read.remaining c.args.host.now)
-    (g.R.Read.remaining c.make.new.host) k.0 c.args.vol.now c.make.new.service c.in-Err.refusal _ k.1 (omega (arith, c.if-bytes-gt-MOST_BYTES.false)) in
+    (g.R.Read.remaining c.make.new.host) k.0 c.args.vol.now c.make.new.service c.in-Err.refusal _ k.1
+    (omega (arith, c.if-bytes-gt-MOST_BYTES.false)) in
     let short : is_too_long c.args.bytes ≡ false = le-ltb 4294967295 c.args.bytes (omega (arith, c.if-bytes-gt-MOST_BYTES.false)) in
-    subst (λ (e : HostRefusal). is_whole (copy_result (unmade e)) ≡ true → is_sound c.args.vol.now ≡ true → FailsToCopyFromHost e c.args.bytes
+    subst (λ (e : HostRefusal). is_whole (copy_result (unmade e)) ≡ true → is_sound c.args.vol.now ≡ true
+    → FailsToCopyFromHost e c.args.bytes
     (g.R.Read.remaining c.args.host.now) (g.R.Read.remaining c.make.new.host) who c.args.lun c.args.dir c.args.to.now c.args.protection
     (store_of_volume c.args.vol.now) (store_of_volume c.make.new.service)) (sym c.told.ensures)
-    (λ whole sound. unmade-refused who c.args.lun c.args.bytes c.args.dir c.args.to.now c.args.protection (g.R.Read.remaining c.args.host.now)
+    (λ whole sound. unmade-refused who c.args.lun c.args.bytes c.args.dir c.args.to.now c.args.protection
+    (g.R.Read.remaining c.args.host.now)
     (g.R.Read.remaining c.make.new.host) k.0 c.args.vol.now c.make.new.service c.in-Err.refusal short whole sound h)

@@ -1,4 +1,4 @@
-use Rattle.std.proofs.Common.{◌≡◌, ◌<◌, [], subst, arith, ◌∙◌}
+use Rattle.std.proofs.Common.{◌≡◌, ◌<◌, [], subst, arith}
 use Rattle.f11_flx.specs.Asking.{Who, who_asks}
 use Rattle.f11_host.specs.Pieces.{blocks_for}
 use Rattle.f11_host.proofs.FillLemmas.{written-all, written-lacks, written-more, written-none, written-stops}
@@ -13,8 +13,11 @@ pub returns-in-Err-clause-fails : goal.returns-in-Err-clause-fails
 returns-in-Err-clause-fails g c =
     let l = c.loop-place in
     let who : Who = who_asks c.args.by.now.task c.args.by.now.uic in
-    let inside : l.place < blocks_for c.args.bytes = subst (λ n. l.place < n) c.requires.count c.loop-place-test.true in
-    ([], written-lacks g.S.Asked.service who c.args.by.now.lun c.args.bytes _ c.args.service.now l.place l.left _ l.service l.invariant inside)
+    let inside : l.place < blocks_for c.args.bytes = subst (λ n. l.place < n) c.requires.count c.loop-place-test.true in (
+      [],
+      written-lacks g.S.Asked.service who c.args.by.now.lun c.args.bytes _ c.args.service.now l.place l.left _ l.service l.invariant
+          inside,
+    )
 
 pub returns-in-Err-write-clause-fails : goal.returns-in-Err-write-clause-fails
 returns-in-Err-write-clause-fails g c =

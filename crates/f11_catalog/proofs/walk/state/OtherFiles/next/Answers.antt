@@ -5,14 +5,19 @@ use Rattle.f11_catalog.proofs.walk.state.OtherFiles.next.Goals as goal
 
 pub returns-in-Ok-Some-clause-finds : goal.returns-in-Ok-Some-clause-finds
 returns-in-Ok-Some-clause-finds g c =
-    sees-one _ _ _ _ _ _ c.loop-self.invariant.seen _ (omega (arith, c.loop-self-test.true, c.slots.ensures)) c.take_number-number.ensures.next _ _
-    (met-same c.take_number-number.new.self c.args.self.now (c.take_number-number.ensures.met ∙ c.loop-self.invariant.met)) c.take_number-number.ensures.number _ _
+    sees-one _ _ _ _ _ _ c.loop-self.invariant.seen _ (omega (arith, c.loop-self-test.true, c.slots.ensures))
+    c.take_number-number.ensures.next _ _
+    (met-same c.take_number-number.new.self c.args.self.now (c.take_number-number.ensures.met ∙ c.loop-self.invariant.met))
+    c.take_number-number.ensures.number _ _
     (rw c.in-Ok-Some.field-0-is at c.in-Ok-Some.ensures.one)
 
 pub loop-self-preserved : goal.loop-self-preserved
 loop-self-preserved g c = record {
-  seen = sees-on _ _ _ _ _ _ c.loop-self.invariant.seen _ (omega (arith, c.loop-self-test.true, c.slots.ensures)) c.take_number-number.ensures.next _ _
-      (met-same c.take_number-number.new.self c.args.self.now (c.take_number-number.ensures.met ∙ c.loop-self.invariant.met)) c.take_number-number.ensures.number _
+  seen =
+      sees-on _ _ _ _ _ _ c.loop-self.invariant.seen _ (omega (arith, c.loop-self-test.true, c.slots.ensures))
+      c.take_number-number.ensures.next _ _
+      (met-same c.take_number-number.new.self c.args.self.now (c.take_number-number.ensures.met ∙ c.loop-self.invariant.met))
+      c.take_number-number.ensures.number _
       (rw c.in-Ok-None.field-0-is at c.in-Ok-None.ensures.none);
   met = c.take_number-number.ensures.met ∙ c.loop-self.invariant.met;
 }

@@ -6,7 +6,8 @@ use Rattle.f11_catalog.proofs.walk.state.OtherFiles.open.Goals as goal
 
 pub returns-in-Ok-Some-clause-one : goal.returns-in-Ok-Some-clause-one
 returns-in-Ok-Some-clause-one g c =
-    lost-one (is_met c.args.self.now) _ _ _ _ _ (sym c.has_met.ensures ∙ c.if-has_met.false) (rw c.in-Ok-Some.field-0-is at c.in-Ok-Some.ensures.opens)
+    lost-one (is_met c.args.self.now) _ _ _ _ _ (sym c.has_met.ensures ∙ c.if-has_met.false)
+    (rw c.in-Ok-Some.field-0-is at c.in-Ok-Some.ensures.opens)
     (ap Lost c.id.ensures)
 
 pub returns-in-Ok-None-clause-none : goal.returns-in-Ok-None-clause-none
