@@ -1,11 +1,14 @@
 //! A file taken out of a volume.
-use f11_commands::{Answer, Failure, FoundFile, Served, read_name, seek_file, write_file};
+use f11_commands::{
+    Answer, Failure, FoundFile, Served, TakingAll, begin_all, read_name, seek_file, write_file,
+};
 use f11_dev::{DeviceFault, Memory};
 use f11_fixtures::{Lines, lines, text_of, volumes};
 use f11_flx::CopyMode;
 use f11_rad50::Name;
 use f11_store::Uic;
 use std::alloc::Global;
+use std::io::sink;
 use std::test::Fail;
 
 /// The user whose directory is the master file directory.
@@ -58,5 +61,47 @@ fn a_file_is_taken_out(rt: HostRuntime) -> Result<(), Fail> {
     assert!(rt; text_of(&told) == b"copied 80 bytes\n".as_slice());
     assert!(rt; text_of(&host).len() == 80);
     assert!(rt; text_of(&host).starts_with(&[1, 0, 1, 0, 0, 0]));
+    Ok(())
+}
+
+/// What beginning with all files gives.
+type Begun = Result<TakingAll<Memory>, (Memory, Result<Served, Failure>)>;
+
+/// Begins with all files, once more where there was no memory, and nothing was written.
+fn begun(alloc: Global, device: Memory, lines: &mut Lines) -> Begun {
+    match begin_all(alloc, device, lines) {
+        Err((device, Err(Failure::NoMemory))) if lines.position() == 0 => {
+            begin_all(alloc, device, lines)
+        }
+        done => done,
+    }
+}
+
+#[test]
+fn all_files_are_taken_out(rt: HostRuntime) -> Result<(), Fail> {
+    let device = volumes::fresh(rt.alloc(), volumes::BLOCKS)?;
+    let mut told = lines();
+    let Ok(mut all) = begun(rt.alloc(), device, &mut told) else {
+        return Err(DeviceFault)?;
+    };
+    for _ in 0..5 {
+        let Some(found) = all.next() else {
+            return Err(DeviceFault)?;
+        };
+        assert_eq!(rt; all.write(&found, &mut sink(), &mut told), Ok(()));
+    }
+    assert!(rt; all.next().is_none());
+    let wanted = b"[0,0] INDEXF.SYS;1 copied 9728 bytes\n\
+        [0,0] BITMAP.SYS;1 copied 1024 bytes\n\
+        [0,0] BADBLK.SYS;1 copied 0 bytes\n\
+        [0,0] 000000.DIR;1 copied 80 bytes\n\
+        [0,0] CORIMG.SYS;1 copied 0 bytes\n";
+    assert!(rt; text_of(&told) == wanted.as_slice());
+    let (_, served) = all.end();
+    let wanted = Served {
+        answer: Answer::Done,
+        faulty: false,
+    };
+    assert_eq!(rt; served, Ok(wanted));
     Ok(())
 }
