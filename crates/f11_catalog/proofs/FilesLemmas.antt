@@ -76,6 +76,9 @@ module _ (index : Index) (files : AllFiles) (left : UserFiles) (old mid new : Di
       ap (λ ps. ps ++ others_to_come (table index old) (is_known index old later) others) (ended.ended honest)
       ∙ ap (λ f. others_to_come (table index old) f others) known
 
+  same : table index mid ≡ table index old
+  same = ap (λ (i : Image). table_in i index) ended.reads.1.image
+
   -- the next file is another
   pub gives-other : (others : OtherFiles) (found : FileAt) → FindsOther (is_met files.others) index files.others others found mid new
       → is_met others ≡ is_met files.others → GivesFile index files (record { entered = left; others = others }) found old new
@@ -83,7 +86,6 @@ module _ (index : Index) (files : AllFiles) (left : UserFiles) (old mid new : Di
   gives-other others found finds met = record {
     next = λ honest.
         let known : ℕ → Bool = is_met files.others in
-        let same : table index mid ≡ table index old = ap (λ (i : Image). table_in i index) ended.reads.1.image in
         first-others honest
         ∙ ap (λ t. others_to_come t known files.others) (sym same)
         ∙ finds.next (ended.reads.1.honest ∙ honest)
@@ -95,13 +97,18 @@ module _ (index : Index) (files : AllFiles) (left : UserFiles) (old mid new : Di
   }
 
   -- or none is left
-  pub no-file : FindsNoOther (is_met files.others) index files.others mid new → HasNoFile index files old new
-  no-file none = record {
+  pub no-file : (others : OtherFiles) → FindsNoOther (is_met files.others) index files.others others mid new
+      → is_met others ≡ is_met files.others → HasNoFile index files (record { entered = left; others = others }) old new
+  no-file others none met = record {
     none = λ honest.
-        let same : table index mid ≡ table index old = ap (λ (i : Image). table_in i index) ended.reads.1.image in
         first-others honest
         ∙ ap (λ t. others_to_come t (is_met files.others) files.others) (sym same)
         ∙ none.none (ended.reads.1.honest ∙ honest);
+    ended = λ honest.
+        later-others others honest
+        ∙ ap (λ f. others_to_come (table index old) f others) met
+        ∙ ap (λ t. others_to_come t (is_met files.others) others) (sym same)
+        ∙ none.ended (ended.reads.1.honest ∙ honest);
     reads = reads-then ended.reads none.reads;
   }
 
@@ -119,7 +126,7 @@ files-later index files old now image =
 -- what was read for the next file, found or not
 pub next-reads : (index : Index) (files later : AllFiles) (old new : Disk) (result : Result (Option FileAt) DeviceFault)
     → IfOk result (λ answer. IfSome answer (λ found. GivesFile index files later found old new))
-    → IfOk result (λ answer. IfNone answer (HasNoFile index files old new)) → OnErr result (Reads old new 1)
+    → IfOk result (λ answer. IfNone answer (HasNoFile index files later old new)) → OnErr result (Reads old new 1)
     → (faults : ℕ) × Reads old new faults
 next-reads index files later old new (Ok (Some found)) gives none fails = (0, opens-reads index found old new gives.opens)
 next-reads index files later old new (Ok None) gives none fails = (0, none.reads)

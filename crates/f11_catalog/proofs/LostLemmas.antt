@@ -76,13 +76,14 @@ module _ (known : ℕ → Bool) (index : Index) where
   sees-none first disk = record { rest = λ _. refl; forward = omega arith; reads = reads-none disk }
 
   module _ (first here : OtherFiles) (old now : Disk) (seen : SeesNone known index first here old now) where
-    pub lost-all : slots index < here.next → FindsNoOther known index first old now
-    lost-all past = record {
-      none = λ honest.
+    module _ (past : slots index < here.next) where
+      none-here : others_to_come (table index old) known here ≡ []
+      none-here =
           let none : (table index old).slots + 1 - here.next ≡ 0 = let all = slots-are index old in omega (arith, past, all) in
-          seen.rest honest ∙ ap (lost_files (table index old) known here.next) none;
-      reads = seen.reads;
-    }
+          ap (lost_files (table index old) known here.next) none
+
+      pub lost-all : FindsNoOther known index first here old now
+      lost-all = record { none = λ honest. seen.rest honest ∙ none-here; ended = λ _. none-here; reads = seen.reads }
 
     module _ (later : OtherFiles) (inside : here.next ≤ slots index) (on : later.next ≡ here.next + 1) where
       step : IsTrue old.honest → others_to_come (table index old) known first

@@ -156,8 +156,9 @@ pub record FindsOther (known : ℕ → Bool) (index : Index) (others later : Oth
   pub opens : OpensAt index found old new
 
 -- There is none.
-pub record FindsNoOther (known : ℕ → Bool) (index : Index) (others : OtherFiles) (old new : Disk) : Type 0 where
+pub record FindsNoOther (known : ℕ → Bool) (index : Index) (others later : OtherFiles) (old new : Disk) : Type 0 where
   pub none : IsTrue old.honest → others_to_come (table index old) known others ≡ []
+  pub ended : IsTrue old.honest → others_to_come (table index old) known later ≡ []
   pub reads : Reads old new 0
 
 -- The master file directory is to be read, where it is a directory.
@@ -183,7 +184,8 @@ pub record GivesFile (index : Index) (files later : AllFiles) (found : FileAt) (
   pub fewer : files_left later < files_left files
   pub opens : OpensAt index found old new
 
--- No file is left.
-pub record HasNoFile (index : Index) (files : AllFiles) (old new : Disk) : Type 0 where
+-- No file is left, and none comes any more.
+pub record HasNoFile (index : Index) (files later : AllFiles) (old new : Disk) : Type 0 where
   pub none : IsTrue old.honest → files_to_come index old files ≡ []
+  pub ended : IsTrue old.honest → files_to_come index old later ≡ []
   pub reads : Reads old new 0

@@ -53,8 +53,8 @@ impl OtherFiles {
     ) -> Result<Option<FileAt>, DeviceFault>
         requires within { IndexLiesWithin (index_kept index.now) (length (D.disk device.old).image) }
         ensures one { IfOk result (λ answer. IfSome answer (λ found.
-            EntersOne (λ image t. place_lost t (is_met self.now) number) (index_kept index.now) found
-            (D.disk device.old) (D.disk device.new))) }
+            EntersOne (λ image t. place_lost t (is_met self.now) number) (index_kept index.now)
+            found (D.disk device.old) (D.disk device.new))) }
         ensures none { IfOk result (λ answer. IfNone answer (
             EntersNone (λ image t. place_lost t (is_met self.now) number) (index_kept index.now)
             (D.disk device.old) (D.disk device.new))) }
@@ -88,7 +88,7 @@ impl OtherFiles {
             FindsOther (is_met self.old) (index_kept index.now) self.old self.new found
             (D.disk device.old) (D.disk device.new))) }
         ensures none { IfOk result (λ answer. IfNone answer (
-            FindsNoOther (is_met self.old) (index_kept index.now) self.old
+            FindsNoOther (is_met self.old) (index_kept index.now) self.old self.new
             (D.disk device.old) (D.disk device.new))) }
         ensures met { self.new.met ≡ self.old.met }
         ensures failed { OnErr result (Reads (D.disk device.old) (D.disk device.new) 1) }

@@ -42,7 +42,8 @@ impl AllFiles {
             GivesFile (index_kept index.now) self.old self.new found
             (D.disk device.old) (D.disk device.new))) }
         ensures ended { IfOk result (λ answer. IfNone answer (
-            HasNoFile (index_kept index.now) self.old (D.disk device.old) (D.disk device.new))) }
+            HasNoFile (index_kept index.now) self.old self.new
+            (D.disk device.old) (D.disk device.new))) }
         ensures failed { OnErr result (Reads (D.disk device.old) (D.disk device.new) 1) }
     {
         match self.entered.next(device, index) {

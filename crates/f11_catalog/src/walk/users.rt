@@ -105,8 +105,8 @@ impl UserFiles {
         ensures walking { IsWalkingUsers (index_kept index.now) self.new (D.disk device.new) }
         ensures takes { result ≡ Ok true → TakesUser (index_kept index.now) self.old self.new
             (D.disk device.old) (D.disk device.new) }
-        ensures ended { result ≡ Ok false → EntersNoMore (index_kept index.now) self.old self.new
-            (D.disk device.old) (D.disk device.new) }
+        ensures ended { result ≡ Ok false → EntersNoMore (index_kept index.now)
+            self.old self.new (D.disk device.old) (D.disk device.new) }
         ensures failed { OnErr result (Reads (D.disk device.old) (D.disk device.new) 1) }
     {
         let Some(master) = self.master else {

@@ -18,8 +18,9 @@ returns-in-Ok-Some-next-clause-gives g c =
 
 pub returns-in-Ok-None-next-clause-ended : goal.returns-in-Ok-None-next-clause-ended
 returns-in-Ok-None-next-clause-ended g c =
-    no-file _ _ _ _ _ _ (rw c.in-Ok-None.field-0-is at c.in-Ok-None.ensures.ended)
+    no-file _ _ _ _ _ _ (rw c.in-Ok-None.field-0-is at c.in-Ok-None.ensures.ended) _
     (rw c.in-Ok-None-next.field-0-is at c.in-Ok-None-next.ensures.none)
+    (met-same c.next-in-Ok-None.new.self c.args.self.now.others c.in-Ok-None-next.ensures.met)
 
 pub returns-in-Err-next-clause-failed : goal.returns-in-Err-next-clause-failed
 returns-in-Err-next-clause-failed g c =
