@@ -24,7 +24,7 @@ use Rattle.f11_store.specs.File.{stated_end}
 use Rattle.f11_commands.specs.AnyVolume.{CannotBeRead, IsReadable}
 use Rattle.f11_commands.specs.Copying.{master_directory}
 use Rattle.f11_commands.specs.Output.{WriterTakes}
-use Rattle.f11_commands.specs.TakingOut.{StopsBehind, WritesContent}
+use Rattle.f11_commands.specs.TakingOut.{ReadsBefore, StopsBehind, WritesContent}
 use Rattle.f11_commands.specs.declared.get.all.state.TakingAll.{TakingAll}
 use Rattle.f11_commands.specs.declared.get.all.taking.Taken.{Taken}
 use Rattle.f11_commands.specs.declared.ls.Served.{Served}
@@ -107,7 +107,8 @@ module _ {D : Type 0} {G : Ghosts D} where
   -- None was: none is left, or a transfer failed.
   pub data HasNoNext (disk : D → Disk) (all later : TakingAll D G) : Type 0 where
     has_none : StaysInHand all later → has_failed later ≡ has_failed all
-        → HasNoFile (index_of all) (files_of all) (disk (device_of all)) (disk (device_of later)) → HasNoNext disk all later
+        → HasNoFile (index_of all) (files_of all) (files_of later) (disk (device_of all)) (disk (device_of later))
+        → HasNoNext disk all later
     fails : StaysInHand all later → has_failed later ≡ true → Reads (disk (device_of all)) (disk (device_of later)) 1
         → HasNoNext disk all later
 
@@ -142,19 +143,41 @@ pub data TakesFile {H : Type 0} (index : Index) (file : FileReader) (end : ℕ) 
   unsure : TakesUnsure index file end taken old new held before after → TakesFile index file end taken old new held before after
   part : TakesPart index file end taken old new held before after → TakesFile index file end taken old new held before after
 
--- A file was taken out, and its line says how far.
-pub record TakesNext {D H W : Type 0} {G : Ghosts D} (found : FileAt) (disk : D → Disk) (all later : TakingAll D G)
-    (held : H → Option (List ℕ)) (host host' : H) (contents : W → Option (List ℕ)) (before after : W) : Type 0 where
+-- A file was taken out to the host. The same files are still to come, and it is known if a transfer failed.
+pub record TakesOutNext {D H : Type 0} {G : Ghosts D} (found : FileAt) (taken : Taken) (disk : D → Disk) (all later : TakingAll D G)
+    (held : H → Option (List ℕ)) (host host' : H) : Type 0 where
   pub stays : StaysInHand all later
   pub files : files_of later ≡ files_of all
-  pub taken : Taken
   pub takes : TakesFile (index_of all) (reader_at found) (end_at found) taken (disk (device_of all)) (disk (device_of later)) held host
       host'
   pub failed : has_failed later ≡ (has_failed all || taken.failed)
+
+-- It was, and its line says how far.
+pub record TakesNext {D H W : Type 0} {G : Ghosts D} (found : FileAt) (disk : D → Disk) (all later : TakingAll D G)
+    (held : H → Option (List ℕ)) (host host' : H) (contents : W → Option (List ℕ)) (before after : W) : Type 0 where
+  pub taken : Taken
+  pub takes_out : TakesOutNext found taken disk all later held host host'
   pub line : WriterTakes contents before after (taken_at_line found.place taken.bytes taken.missing)
 
--- The host or the writer takes no more.
-abbrev pub FailsToTake : {D : Type 0} {G : Ghosts D} → Failure → (D → Disk) → TakingAll D G → TakingAll D G → Type 0
-FailsToTake DeviceFault disk all later = ⊥
-FailsToTake NoMemory disk all later = ⊥
-FailsToTake CannotWrite disk all later = (faults : ℕ) × Reads (disk (device_of all)) (disk (device_of later)) faults
+-- The host took no more, and no transfer failed: no line was begun. The same files are still to come.
+pub record FillsHost {D W : Type 0} {G : Ghosts D} (found : FileAt) (disk : D → Disk) (all later : TakingAll D G) (before after : W)
+    : Type 0 where
+  pub stays : StaysInHand all later
+  pub files : files_of later ≡ files_of all
+  pub failed : has_failed later ≡ has_failed all
+  pub reads : ReadsBefore (index_of all) (reader_at found) (end_at found) (disk (device_of all)) (disk (device_of later)) 0
+  pub untold : after ≡ before
+
+-- The host took no more, or it has all that was to be taken out and the writer took no more of the line.
+pub data CannotTake {D H W : Type 0} {G : Ghosts D} (found : FileAt) (disk : D → Disk) (all later : TakingAll D G)
+    (held : H → Option (List ℕ)) (host host' : H) (before after : W) : Type 0 where
+  host_full : FillsHost found disk all later before after → CannotTake found disk all later held host host' before after
+  line_lost : (taken : Taken) → TakesOutNext found taken disk all later held host host'
+      → CannotTake found disk all later held host host' before after
+
+-- A file couldn't be taken out, or its line not be written.
+abbrev pub FailsToTake : {D H W : Type 0} {G : Ghosts D} → Failure → FileAt → (D → Disk) → TakingAll D G → TakingAll D G
+    → (H → Option (List ℕ)) → H → H → W → W → Type 0
+FailsToTake DeviceFault found disk all later held host host' before after = ⊥
+FailsToTake NoMemory found disk all later held host host' before after = ⊥
+FailsToTake CannotWrite found disk all later held host host' before after = CannotTake found disk all later held host host' before after

@@ -4,7 +4,7 @@ ghost use Rattle.f11_reader.specs.Reading.{IsReading};
 
 use crate::get::all::line::write_line;
 use crate::get::all::state::TakingAll;
-use crate::get::all::taking::take_out;
+use crate::get::all::taking::{HostFull, take_out};
 use crate::ls::Served;
 use crate::outcome::{Answer, Failure};
 use f11_catalog::{FileAt, stated_end};
@@ -13,7 +13,8 @@ use f11_header::Header;
 use std::io::Write;
 
 impl<D: Device> TakingAll<D> {
-    ghost use Rattle.f11_commands.specs.AllCommand.{FindsNext, HasNoNext, TakesNext, FailsToTake, all_answered, device_of, index_of, reader_at};
+    ghost use Rattle.f11_commands.specs.AllCommand.{FindsNext, HasNoNext, TakesNext, FailsToTake};
+    ghost use Rattle.f11_commands.specs.AllCommand.{all_answered, device_of, index_of, reader_at};
 
     /// The next file; `None` behind the last, or where a transfer fails, which [`TakingAll::end`] answers then: files may be left out.
     pub fn next(&mut self) -> Option<FileAt>
@@ -39,7 +40,8 @@ impl<D: Device> TakingAll<D> {
     ///
     /// # Errors
     ///
-    /// [`Failure::CannotWrite`] where the host or the writer takes no more: either may hold a part then.
+    /// [`Failure::CannotWrite`] where the host takes no more, which may hold a part then, and nothing of the line is written; or where the
+    /// writer takes no more, which may hold a part of the line, and the host has all.
     pub fn write<H: Write, W: Write>(
         &mut self,
         found: &FileAt,
@@ -50,7 +52,8 @@ impl<D: Device> TakingAll<D> {
             (D.disk (device_of self.old)) }
         ensures takes { OnOk result (TakesNext found.now D.disk self.old self.new
             H.contents host.old host.new W.contents writer.old writer.new) }
-        ensures failed { IfErr result (λ failure. FailsToTake failure D.disk self.old self.new) }
+        ensures failed { IfErr result (λ failure. FailsToTake failure found.now D.disk
+            self.old self.new H.contents host.old host.new writer.old writer.new) }
     {
         let end = stated_end(&Header::new(found.file.header()).attributes());
         match take_out(&mut self.device, &self.index, found.file, end, host) {
@@ -61,7 +64,7 @@ impl<D: Device> TakingAll<D> {
                     Err(_) => Err(Failure::CannotWrite),
                 }
             }
-            Err(_) => Err(Failure::CannotWrite),
+            Err(HostFull) => Err(Failure::CannotWrite),
         }
     }
 

@@ -1,3 +1,5 @@
+use Rattle.std.proofs.Common.{rules}
+use Rattle.f11_commands.specs.AllCommand.{line_lost}
 use Rattle.f11_commands.proofs.AllLemmas.{takes-reads, walking-on, within-on}
 use Rattle.f11_commands.proofs.get.all.state.TakingAll.write.Goals as goal
 
@@ -10,4 +12,4 @@ invariant_of-self g c =
     }
 
 pub returns-in-Err-write_line-clause-failed : goal.returns-in-Err-write_line-clause-failed
-returns-in-Err-write_line-clause-failed g c = takes-reads _ _ _ _ _ _ _ _ _ c.in-Ok.ensures.takes
+returns-in-Err-write_line-clause-failed g c = line_lost c.in-Ok.taken (search rules)
