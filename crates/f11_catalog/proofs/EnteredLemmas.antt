@@ -63,7 +63,7 @@ user-comes index first here old now passed later r mid read next hand opens = re
       (λ honest. opens.come honest
       ∙ hand-later index old mid (before-mid (λ image t. places_under image t) index first here old now passed later r mid read).1.image
       (Some hand))
-      opens.reads;
+      (_, opens.looked);
 }
 
 -- What is to come stays.

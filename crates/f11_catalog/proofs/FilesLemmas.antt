@@ -158,7 +158,7 @@ begins-walk index id files old new opens empty met next = record {
       ∙ ap (λ f. entered_files old.image t id ++ others_to_come t f files.others) known
       ∙ ap (λ k. entered_files old.image t id ++ lost_files t (is_among (entered_files old.image t id)) k (t.slots + 1 - k)) next
       ∙ ap (λ c. entered_files old.image t id ++ lost_files t (is_among (entered_files old.image t id)) 1 c) count;
-  reads = opens.reads;
+  looked = opens.looked;
 }
 
 -- A file that isn't known is among those from a number on, if its own is one of these.

@@ -5,6 +5,7 @@ use Rattle.std.specs.List.{flat_map}
 use Rattle.f11_chain.specs.Calls.{table}
 use Rattle.f11_dev.specs.Disk.{Disk}
 use Rattle.f11_dev.specs.Image.{Image}
+use Rattle.f11_dev.specs.Looked.{Looked}
 use Rattle.f11_index.specs.IndexFile.{Index}
 use Rattle.f11_index.specs.Table.{Table}
 use Rattle.f11_reader.specs.Reading.{OpensFile}
@@ -98,7 +99,7 @@ pub record EntersOne (places : Image → Table → List Place) (index : Index) (
 pub record OpensUser (places : Image → Table → List Place) (index : Index) (hand : UserDirectory) (old new : Disk) : Type 0 where
   pub reading : IsReadingRecords index hand.directory new
   pub come : IsTrue old.honest → places old.image (table index old) ≡ hand_to_come index old (Some hand)
-  pub reads : Reads old new 0
+  pub looked : Looked old new 1 0
 
 -- Records were read of a directory: these places come first, and those of the rest behind.
 pub record ComesTo (places : Image → Table → List ℕ → List Place) (index : Index) (front : List Place) (directory later : DirectoryReader)
@@ -165,17 +166,17 @@ pub record FindsNoOther (known : ℕ → Bool) (index : Index) (others later : O
 pub record OpensMaster (index : Index) (id : FileId) (master : Option DirectoryReader) (old new : Disk) : Type 0 where
   pub reading : IfSome master (λ directory. IsReadingRecords index directory new)
   pub come : IsTrue old.honest → master_to_come index old master ≡ entered_files old.image (table index old) id
-  pub reads : Reads old new 0
+  pub looked : Looked old new 1 0
 
 -- A walk has begun: all files are to come.
 pub record BeginsWalk (index : Index) (master : FileId) (files : AllFiles) (old new : Disk) : Type 0 where
   pub walking : IsWalking index files new
   pub all : IsTrue old.honest → files_to_come index old files ≡ all_files old.image (table index old) master
-  pub reads : Reads old new 0
+  pub looked : Looked old new 1 0
 
 -- It hasn't: a transfer failed, or there was no memory.
 abbrev pub FailsToBegin : WalkFault → Disk → Disk → Type 0
-FailsToBegin DeviceFault old new = Reads old new 1
+FailsToBegin DeviceFault old new = Looked old new 1 1
 FailsToBegin NoMemory old new = new ≡ old
 
 -- The next file was found.

@@ -50,14 +50,14 @@ module _ (home : HomeFields) (index : Index) (old mid : Disk) (found : FindsVolu
     home = home;
     readable = found.readable;
     all = λ honest.
-        files-later index files mid new begins.reads.1.image
+        files-later index files mid new begins.looked.image
         ∙ begins.all (found.looked.honest ∙ honest)
         ∙ said-of-volume home index old mid found (λ image t. all_files image t master_directory) honest;
-    reads = reads-then (_, found.looked) begins.reads;
+    reads = reads-then (_, found.looked) (_, begins.looked);
   }
 
   pub lies-within : IndexLiesWithin index (length new.image)
-  lies-within = within-on index mid new 0 begins.reads found.is_for.within
+  lies-within = within-on index mid new 0 (_, begins.looked) found.is_for.within
 
 -- the volume was verified before
 module _ (old mid new : Disk) (reads : Reads old mid 0) where

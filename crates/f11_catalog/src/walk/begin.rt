@@ -1,7 +1,7 @@
 //! The beginning of a walk over all files.
 ghost use Rattle.std.specs.Prelude.{◌≡◌, IfOk, IfErr, IfSome, None, OnErr, length, vec_len};
+ghost use Rattle.f11_dev.specs.Looked.{Looked};
 ghost use Rattle.f11_index.specs.Kept.{index_kept, IndexLiesWithin};
-ghost use Rattle.f11_catalog.specs.Records.{Reads};
 ghost use Rattle.f11_catalog.specs.Walking.{OpensMaster};
 
 use crate::directory::DirectoryReader;
@@ -25,7 +25,7 @@ fn open_master<D: Device>(
     requires within { IndexLiesWithin (index_kept index.now) (length (D.disk device.old).image) }
     ensures opens { IfOk result (λ answer.
         OpensMaster (index_kept index.now) master answer (D.disk device.old) (D.disk device.new)) }
-    ensures failed { OnErr result (Reads (D.disk device.old) (D.disk device.new) 1) }
+    ensures failed { OnErr result (Looked (D.disk device.old) (D.disk device.new) 1 1) }
 {
     match DirectoryReader::open(device, index, master) {
         Ok(Ok(directory)) => Ok(Some(directory)),

@@ -1,5 +1,6 @@
 //! The files that users' directories name, one after another.
 ghost use Rattle.std.specs.Prelude.{◌≡◌, IfOk, IfSome, IfNone, OnErr, length, List, ℕ};
+ghost use Rattle.f11_dev.specs.Looked.{Looked};
 ghost use Rattle.f11_dir.specs.Records.{record_of_bytes};
 ghost use Rattle.f11_index.specs.Kept.{index_kept, IndexLiesWithin};
 ghost use Rattle.f11_catalog.specs.AllFiles.{place_entered, places_in, places_under};
@@ -37,7 +38,7 @@ fn open_record<D: Device>(
         (bytes : List ℕ) → «record».now ≡ record_of_bytes bytes
         → EntersNone (λ image t. place_entered t user bytes) (index_kept index.now)
         (D.disk device.old) (D.disk device.new))) }
-    ensures failed { OnErr result (Reads (D.disk device.old) (D.disk device.new) 1) }
+    ensures failed { OnErr result (Looked (D.disk device.old) (D.disk device.new) 1 1) }
 {
     let Some(name) = record.name() else {
         return Ok(None);
@@ -107,7 +108,7 @@ fn open_user<D: Device>(
         (bytes : List ℕ) → «record».now ≡ record_of_bytes bytes
         → EntersNone (λ image t. places_under image t bytes) (index_kept index.now)
         (D.disk device.old) (D.disk device.new))) }
-    ensures failed { OnErr result (Reads (D.disk device.old) (D.disk device.new) 1) }
+    ensures failed { OnErr result (Looked (D.disk device.old) (D.disk device.new) 1 1) }
 {
     let Some(name) = record.name() else {
         return Ok(None);
@@ -136,7 +137,7 @@ fn open_directory_of<D: Device>(
     ensures none { IfOk result (λ answer. IfNone answer (
         EntersNone (λ image t. places_in image t id (Some user)) (index_kept index.now)
         (D.disk device.old) (D.disk device.new))) }
-    ensures failed { OnErr result (Reads (D.disk device.old) (D.disk device.new) 1) }
+    ensures failed { OnErr result (Looked (D.disk device.old) (D.disk device.new) 1 1) }
 {
     match DirectoryReader::open(device, index, id) {
         Ok(Ok(directory)) => Ok(Some(UserDirectory { user, directory })),

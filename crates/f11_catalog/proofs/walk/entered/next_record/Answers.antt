@@ -35,7 +35,7 @@ returns-in-Ok-Some-open_record-clause-reading g c =
 pub returns-in-Err-open_record-clause-failed : goal.returns-in-Err-open_record-clause-failed
 returns-in-Err-open_record-clause-failed g c =
     let read = rw c.in-Ok-Some.field-0-is at c.in-Ok-Some.ensures.reads in
-    reads-then (before-mid _ _ _ _ _ _ c.loop-record.invariant.passed _ _ _ read) c.in-Err-open_record.ensures.failed
+    reads-then (before-mid _ _ _ _ _ _ c.loop-record.invariant.passed _ _ _ read) (_, c.in-Err-open_record.ensures.failed)
 
 pub returns-in-Ok-None-clause-none : goal.returns-in-Ok-None-clause-none
 returns-in-Ok-None-clause-none g c =

@@ -26,12 +26,12 @@ pub returns-in-Ok-Some-open_user-clause-reading : goal.returns-in-Ok-Some-open_u
 returns-in-Ok-Some-open_user-clause-reading g c =
     let read = rw c.in-Ok-Some.field-0-is at c.in-Ok-Some.ensures.reads in
     let opens = (rw c.in-Ok-Some-open_user.field-0-is at c.in-Ok-Some-open_user.ensures.opens) read.bytes read.record_is in
-    holds-on opens.reads.1 c.in-Ok-Some.ensures.reading
+    holds-on opens.looked c.in-Ok-Some.ensures.reading
 
 pub returns-in-Err-open_user-clause-failed : goal.returns-in-Err-open_user-clause-failed
 returns-in-Err-open_user-clause-failed g c =
     let read = rw c.in-Ok-Some.field-0-is at c.in-Ok-Some.ensures.reads in
-    reads-then (before-mid _ _ _ _ _ _ c.loop-record.invariant.passed _ _ _ read) c.in-Err-open_user.ensures.failed
+    reads-then (before-mid _ _ _ _ _ _ c.loop-record.invariant.passed _ _ _ read) (_, c.in-Err-open_user.ensures.failed)
 
 pub returns-in-Ok-None-clause-none : goal.returns-in-Ok-None-clause-none
 returns-in-Ok-None-clause-none g c =

@@ -12,4 +12,4 @@ returns-in-Ok-clause-begins g c =
 pub returns-in-Err-DeviceFault-clause-failed : goal.returns-in-Err-DeviceFault-clause-failed
 returns-in-Err-DeviceFault-clause-failed g c =
     let found = rw c.in-Ok-Ok.field-0-is at c.in-Ok-Ok.ensures.found in
-    (reads-then (_, found.looked) (rw c.in-Err-DeviceFault.field-0-is at c.in-Err-DeviceFault.ensures.failed), refl)
+    (reads-then (_, found.looked) (_, rw c.in-Err-DeviceFault.field-0-is at c.in-Err-DeviceFault.ensures.failed), refl)
