@@ -8,7 +8,8 @@
 //! of a file as it is takes. None of them takes memory, but [`copy_from_rt`] where the index file gets slots first.
 //!
 //! A copy asks requests of a volume, or of whatever else answers them ([`Asked`]). What makes a file from another source asks them by the
-//! same steps: [`create`], [`extend`], [`write`], [`enter`], and [`undo`].
+//! same steps: [`create`], [`extend`], [`write`], [`enter`], and [`undo`]. The blocks of a text are written by [`write_lines`] and
+//! [`end_lines`], of which [`Dry`] counts them before a file is made.
 #![tactic(auto)]
 
 mod asked;
@@ -51,10 +52,13 @@ pub use asked::{Asked, Asker, ask};
 pub use attributes::{
     MOST_BLOCKS, image_attributes, image_attributes_to, image_blocks, text_attributes,
 };
+pub use dry::Dry;
+pub use filling::Filling;
 pub use from_rt::copy_from_rt;
 pub use into_rt::copy_to_rt;
 pub use layout::Layout;
 pub use line_end::LineEnd;
+pub use lines::{Extent, end_lines};
 pub use making::{Entry, create, enter, extend};
 pub use mode::CopyMode;
 pub use records::{BadRecord, Records};
@@ -62,4 +66,4 @@ pub use refusal::FlxRefusal;
 pub use to_records::{LONGEST_LINE, LineTooLong, ToRecords};
 pub use to_text::ToText;
 pub use undoing::undo;
-pub use writing::write;
+pub use writing::{write, write_lines};
