@@ -1,3 +1,5 @@
+pub mod CrsLemmas
 pub mod FillLemmas
 pub mod HostLemmas
 pub mod PieceLemmas
+pub mod TextLemmas

@@ -4,10 +4,12 @@
 #![tactic(auto)]
 
 mod copy;
+mod crs;
 mod filling;
 mod making;
 mod piece;
 mod refusal;
+mod text;
 
 pub use copy::copy_from_host;
 pub use piece::read_piece;

@@ -1,0 +1,6 @@
+use Rattle.f11_host.proofs.CrsLemmas.{Expands}
+use Rattle.f11_host.proofs.crs.expand.Given as goal
+
+-- so many bytes were gone over
+abbrev pub invariant-loop-at : goal.invariant-loop-at
+invariant-loop-at l = Expands l.source l.fn.cr l.at l.text.items l.behind
