@@ -44,10 +44,10 @@ use Rattle.f11_host.proofs.FillLemmas.{asks-to-fill, same-pieces, same-text}
 use Rattle.f11_host.proofs.PieceLemmas.{blocks-count}
 
 -- a refusal of the volume, or an unread file
-abbrev IsTold : FlxRefusal → Type 0
+abbrev pub IsTold : FlxRefusal → Type 0
 IsTold f = as_copy (of_copy f) ≡ f
 
-told-undoing : {V : Type 0} (S : FilesService V) (who : Who) (r : Request) (f f' : FlxRefusal) (v w : V) → IsTold f
+pub told-undoing : {V : Type 0} (S : FilesService V) (who : Who) (r : Request) (f f' : FlxRefusal) (v w : V) → IsTold f
     → Undoing S who r f f' v w → IsTold f'
 told-undoing S who r f f' v w t h = by (is_lethal f) h
   where
@@ -128,7 +128,7 @@ module _ {V : Type 0} (S : FilesService V) (who : Who) (lun bytes : ℕ) where
       subst (λ n. Granted S who (filling_of lun n blocks) v w) (sym n)
       (subst (λ l. Granted S who (filling_of lun (blocks_for bytes) l) v w) same h.granted)
 
-no-rt : (e : RtRefusal) → IsTold (Rt e) → ⊥
+pub no-rt : (e : RtRefusal) → IsTold (Rt e) → ⊥
 no-rt e is = cc
 
 abbrev pub unmade : HostRefusal → Result ℕ HostRefusal

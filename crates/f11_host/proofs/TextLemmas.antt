@@ -22,6 +22,7 @@ use Rattle.f11_flx.specs.Writing.{FailsToWritePieces, MeetsLongLine, StopsAtPiec
 use Rattle.f11_flx.specs.declared.refusal.FlxRefusal.{FlxRefusal}
 use Rattle.f11_flx.specs.declared.refusal.FlxRefusal.TheVariants.{BadRecord, Files, LineTooLong, Rt}
 use Rattle.f11_flx.specs.declared.to_records.ToRecords.{ToRecords}
+use Rattle.f11_flx.proofs.MakingLemmas.{same-blocks}
 use Rattle.f11_flx.proofs.PassedLemmas.{chop, some-of}
 use Rattle.f11_flx.proofs.PassLemmas.{few-to-come, granted-writes, in-whole-behind, to-come, writes-then, writes-then-long, writes-then-stops}
 use Rattle.f11_flx.proofs.PlanLemmas.{dry-takes}
@@ -161,6 +162,12 @@ copied-is text full attr h =
     let is = some-of (has_long_line (lines_of (without_zeros all))) (copied_lines (lines_of (without_zeros all))) h.copy h.converted in
     h.content_is ∙ ap (λ (c : Copy). c.content) (sym is.1)
     ∙ ap (λ (l : List ℕ). in_whole_blocks (records-in l)) (append-nil (with_crs text))
+
+-- there is one
+pub same-copies : (text : List ℕ) (full full' : List (List ℕ)) (attr attr' : List ℕ) → IsCopiedText text full attr
+    → IsCopiedText text full' attr' → full ≡ full'
+same-copies text full full' attr attr' h k =
+    same-blocks full' full k.whole h.whole (copied-is text full attr h ∙ sym (copied-is text full' attr' k))
 
 not-copied : (text : List ℕ) → has_long_line (lines_of (without_zeros (with_crs text))) ≡ true → copied_text text ≡ None
 not-copied text long =

@@ -13,7 +13,7 @@ use Rattle.f11_flx.specs.Spelled.{image_attributes_to}
 use Rattle.f11_host.specs.Filling.{OfEachText}
 use Rattle.f11_host.specs.Pieces.{IsInBlocks, blocks_for}
 use Rattle.f11_host.specs.declared.refusal.HostRefusal.{HostRefusal}
-use Rattle.f11_host.specs.declared.refusal.HostRefusal.TheVariants.{Files, Unread}
+use Rattle.f11_host.specs.declared.refusal.HostRefusal.TheVariants.{Files, LineTooLong, Unread}
 
 -- more bytes than 256 headers can name blocks for, whatever the volume is
 abbrev pub is_too_long : ℕ → Bool
@@ -42,6 +42,7 @@ abbrev pub ReadsHost : ℕ → Result ℕ HostRefusal → Option (List ℕ) → 
 ReadsHost bytes (Ok blocks) unread unread' = ReadsAll bytes blocks unread unread'
 ReadsHost bytes (Err (Files e)) unread unread' = is_fatal e ≡ false → ReadsSome bytes unread unread'
 ReadsHost bytes (Err Unread) unread unread' = 0 < bytes
+ReadsHost bytes (Err LineTooLong) unread unread' = ⊥
 
 -- The file was made: of the bytes that were taken, in blocks.
 pub record CopiesFromHost (bytes : ℕ) (unread unread' : Option (List ℕ)) (who : Who) (lun : ℕ) (dir : FileId) (to : List ℕ)
@@ -79,9 +80,11 @@ abbrev pub FailsToCopyFromHost : HostRefusal → ℕ → Option (List ℕ) → O
 FailsToCopyFromHost (Files e) bytes unread unread' who lun dir to protection s s' =
     IsRefusedIf (is_too_long bytes) bytes unread unread' who lun dir to protection e s s'
 FailsToCopyFromHost Unread bytes unread unread' who lun dir to protection s s' = IsUnread bytes who lun dir to protection s s'
+FailsToCopyFromHost LineTooLong bytes unread unread' who lun dir to protection s s' = ⊥
 
 -- how it is refused where a request had failed the volume before: as VolumeFailed, unless it is too long
 abbrev pub FailsSpent : Bool → HostRefusal → Type 0
 FailsSpent true (Files e) = e ≡ TooManySegments
 FailsSpent false (Files e) = e ≡ VolumeFailed
 FailsSpent b Unread = ⊥
+FailsSpent b LineTooLong = ⊥

@@ -10,7 +10,10 @@ mod making;
 mod piece;
 mod refusal;
 mod text;
+mod text_copy;
+mod text_making;
 
 pub use copy::copy_from_host;
 pub use piece::read_piece;
 pub use refusal::HostRefusal;
+pub use text_copy::copy_text_from_host;

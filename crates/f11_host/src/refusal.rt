@@ -10,11 +10,13 @@ use f11_store::Refusal;
 pub enum HostRefusal {
     /// The volume refused something.
     Files(Refusal),
-    /// The host's file couldn't be read to its length.
+    /// The host's file couldn't be read to its length, or as a text twice alike.
     Unread,
+    /// A line of a text has more than 2,048 bytes.
+    LineTooLong,
 }
 
-/// As which refusal one is told: one of the volume as it is, and any other as a file that couldn't be read.
+/// As which refusal one is told: one of the volume as it is, a line that is too long as such, and any other as a file that couldn't be read.
 pub fn told(refusal: FlxRefusal) -> HostRefusal
     ensures { result ≡ of_copy refusal }
 {
@@ -22,6 +24,6 @@ pub fn told(refusal: FlxRefusal) -> HostRefusal
         FlxRefusal::Files(refusal) => HostRefusal::Files(refusal),
         FlxRefusal::Rt(_) => HostRefusal::Unread,
         FlxRefusal::BadRecord => HostRefusal::Unread,
-        FlxRefusal::LineTooLong => HostRefusal::Unread,
+        FlxRefusal::LineTooLong => HostRefusal::LineTooLong,
     }
 }
