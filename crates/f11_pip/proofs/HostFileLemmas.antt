@@ -8,74 +8,13 @@ use Rattle.clap.specs.Words.{Row, first_value, found_of, rows_of, subcommand_of,
 use Rattle.clap.specs.declared.parser.matches.ArgMatches.{ArgMatches}
 use Rattle.clap.proofs.WalkLemmas.{first_value-rows, one_text-rows}
 use Rattle.clap.proofs.OnLiterals.{clap_on_literals}
-use Rattle.f11_pip.specs.Commands.{HasGetWords, MeetsGet, MeetsPut, command_and_words, get_app, get_names, program_app}
-use Rattle.f11_pip.specs.Commands.{put_app, put_names, words_in}
+use Rattle.f11_pip.specs.Commands.{HasGetWords, MeetsGet, MeetsPut, command_and_words, get_app, host_names, program_app}
+use Rattle.f11_pip.specs.Commands.{put_app, words_in}
 use Rattle.f11_pip.specs.Words.{get_all_line, get_line, is_option, mode_words, put_line, texts_of, words_given}
 use Rattle.f11_pip.proofs.CopyLemmas.{ArePlain, mode_met, passes-none}
 use Rattle.f11_pip.proofs.PlainLemmas.{fold-plain, fold-value, passes-plain, passes-value, standing, takes-command, walk-command}
 use Rattle.f11_pip.proofs.PlainLemmas.{with_option_value, with_positional}
 use Rattle.f11_pip.proofs.WordsLemmas.{is_simple-program, one_of-met, words_met}
-
-abbrev put_shape : Shape
-put_shape = built_leaf put_app.top
-
--- the walk after each word
-abbrev put-1 : Text → Walk
-put-1 image = with_positional put_shape.rules nothing_held 1 image
-
-abbrev put-2 : Text → Text → Walk
-put-2 image uic = with_positional put_shape.rules (put-1 image).held 2 uic
-
-abbrev put-3 : Text → Text → Text → Walk
-put-3 image uic name = with_positional put_shape.rules (put-2 image uic).held 3 name
-
-abbrev put-4 : Text → Text → Text → Text → Walk
-put-4 image uic name host = with_positional put_shape.rules (put-3 image uic name).held 4 host
-
-walk-put : (image uic name host : Text) → ArePlain (image ∷ uic ∷ name ∷ host ∷ [])
-    → walk put_shape.rules [] nothing_held (image ∷ uic ∷ name ∷ host ∷ []) ≡ put-4 image uic name host
-walk-put image uic name host plain =
-    fold-plain put_shape.rules nothing_held 1 image (uic ∷ name ∷ host ∷ []) (plain 0 [] (omega arith))
-    ∙ fold-plain put_shape.rules (put-1 image).held 2 uic (name ∷ host ∷ []) (plain 1 [] (omega arith))
-    ∙ fold-plain put_shape.rules (put-2 image uic).held 3 name (host ∷ []) (plain 2 [] (omega arith))
-    ∙ fold-plain put_shape.rules (put-3 image uic name).held 4 host ([]) (plain 3 [] (omega arith))
-
-passes-put : (image uic name host : Text) → ArePlain (image ∷ uic ∷ name ∷ host ∷ [])
-    → walk_passes put_shape [] (walk_from nothing_held) (image ∷ uic ∷ name ∷ host ∷ []) ≡ true
-passes-put image uic name host plain =
-    passes-plain put_shape nothing_held 1 image (uic ∷ name ∷ host ∷ []) (plain 0 [] (omega arith))
-    ∙ passes-plain put_shape (put-1 image).held 2 uic (name ∷ host ∷ []) (plain 1 [] (omega arith))
-    ∙ passes-plain put_shape (put-2 image uic).held 3 name (host ∷ []) (plain 2 [] (omega arith))
-    ∙ passes-plain put_shape (put-3 image uic name).held 4 host ([]) (plain 3 [] (omega arith))
-    ∙ passes-none put_shape (put-4 image uic name host)
-
-level-put : (image uic name host : Text) → ArePlain (image ∷ uic ∷ name ∷ host ∷ [])
-    → level_passes put_shape [] nothing_held (image ∷ uic ∷ name ∷ host ∷ []) false ≡ true
-level-put image uic name host plain =
-    ap (λ (w : Walk). walk_passes put_shape [] (walk_from nothing_held) (image ∷ uic ∷ name ∷ host ∷ [])
-    && (settle_passes put_shape.rules put_shape.args_override_self w.held && (list_all default_passes put_shape.rules
-    && is_valid put_shape (finished put_shape.rules w.held) false))) (walk-put image uic name host plain)
-    ∙ ap (λ (p : Bool). p && (settle_passes put_shape.rules put_shape.args_override_self (put-4 image uic name host).held
-    && (list_all default_passes put_shape.rules
-    && is_valid put_shape (finished put_shape.rules (put-4 image uic name host).held) false)))
-    (passes-put image uic name host plain)
-
-pub takes-put : (program image uic name host : Text) → ArePlain (texts_of (put_line image uic name host))
-    → takes program_app (program ∷ words_given (put_line image uic name host)) ≡ true
-takes-put program image uic name host plain =
-    ap (λ (p : Bool). p && built_takes (built program_app) nothing_held (words_given (put_line image uic name host)))
-    is_simple-program
-    ∙ takes-command (built program_app) (codes "put") (image ∷ uic ∷ name ∷ host ∷ [])
-    refl refl (level-put image uic name host plain) refl
-
-pub subcommand_of-put : (program image uic name host : Text) → ArePlain (texts_of (put_line image uic name host))
-    → MeetsPut image uic name host (subcommand_of program_app (program ∷ words_given (put_line image uic name host)))
-subcommand_of-put program image uic name host plain =
-    ap (λ (w : Walk). command_and_words put_names (entered (built program_app) w.stopped))
-    (walk-command (built program_app).top.rules (names_of (built program_app)) nothing_held (codes "put")
-    (image ∷ uic ∷ name ∷ host ∷ []) refl)
-    ∙ ap (λ (w : Walk). Some (codes "put", words_in put_names (finished put_shape.rules w.held)))
-    (walk-put image uic name host plain)
 
 abbrev get_shape : Shape
 get_shape = built_leaf get_app.top
@@ -91,13 +30,13 @@ unfolding clap_on_literals
 passes-mode-get rest = refl
 
 -- what is held behind the mode, where there is one
-abbrev mode_held : Option Text → Held
-mode_held None = nothing_held
-mode_held (Some mode) = (with_option_value get_shape.rules (codes "mode") mode_met 1 mode).held
+abbrev get_held : Option Text → Held
+get_held None = nothing_held
+get_held (Some mode) = (with_option_value get_shape.rules (codes "mode") mode_met 1 mode).held
 
 -- the walk after each word behind it
 abbrev get-1 : Option Text → Text → Walk
-get-1 mode image = with_positional get_shape.rules (mode_held mode) 1 image
+get-1 mode image = with_positional get_shape.rules (get_held mode) 1 image
 
 abbrev get-2 : Option Text → Text → Text → Walk
 get-2 mode image uic = with_positional get_shape.rules (get-1 mode image).held 2 uic
@@ -109,9 +48,9 @@ abbrev get-4 : Option Text → Text → Text → Text → Text → Walk
 get-4 mode image uic name host = with_positional get_shape.rules (get-3 mode image uic name).held 4 host
 
 fold-get : (mode : Option Text) (image uic name host : Text) → ArePlain (image ∷ uic ∷ name ∷ host ∷ [])
-    → fold (walked get_shape.rules []) (walk_from (mode_held mode)) (image ∷ uic ∷ name ∷ host ∷ []) ≡ get-4 mode image uic name host
+    → fold (walked get_shape.rules []) (walk_from (get_held mode)) (image ∷ uic ∷ name ∷ host ∷ []) ≡ get-4 mode image uic name host
 fold-get mode image uic name host plain =
-    fold-plain get_shape.rules (mode_held mode) 1 image (uic ∷ name ∷ host ∷ []) (plain 0 [] (omega arith))
+    fold-plain get_shape.rules (get_held mode) 1 image (uic ∷ name ∷ host ∷ []) (plain 0 [] (omega arith))
     ∙ fold-plain get_shape.rules (get-1 mode image).held 2 uic (name ∷ host ∷ []) (plain 1 [] (omega arith))
     ∙ fold-plain get_shape.rules (get-2 mode image uic).held 3 name (host ∷ []) (plain 2 [] (omega arith))
     ∙ fold-plain get_shape.rules (get-3 mode image uic name).held 4 host ([]) (plain 3 [] (omega arith))
@@ -133,7 +72,7 @@ passes-get None image uic name host plain =
     ∙ passes-none get_shape (get-4 None image uic name host)
 passes-get (Some mode) image uic name host plain = passes-mode-get (mode ∷ image ∷ uic ∷ name ∷ host ∷ [])
     ∙ passes-value get_shape (codes "mode") mode_met 1 mode (image ∷ uic ∷ name ∷ host ∷ []) (plain 0 [] (omega arith))
-    ∙ passes-plain get_shape (mode_held (Some mode)) 1 image (uic ∷ name ∷ host ∷ []) (plain 1 [] (omega arith))
+    ∙ passes-plain get_shape (get_held (Some mode)) 1 image (uic ∷ name ∷ host ∷ []) (plain 1 [] (omega arith))
     ∙ passes-plain get_shape (get-1 (Some mode) image).held 2 uic (name ∷ host ∷ []) (plain 2 [] (omega arith))
     ∙ passes-plain get_shape (get-2 (Some mode) image uic).held 3 name (host ∷ []) (plain 3 [] (omega arith))
     ∙ passes-plain get_shape (get-3 (Some mode) image uic name).held 4 host ([]) (plain 4 [] (omega arith))
@@ -193,6 +132,122 @@ subcommand_of-get program mode image uic name host plain =
     subst (MeetsGet false mode image uic (Some name) (Some host)) (sym (entered-get program mode image uic name host plain))
     (read-get mode image uic name host)
 
+abbrev put_shape : Shape
+put_shape = built_leaf put_app.top
+
+mode-put : (rest : List Text) → fold (walked put_shape.rules []) (walk_from nothing_held) (codes "--mode" ∷ rest)
+    ≡ fold (walked put_shape.rules []) (standing (option (codes "mode")) mode_met 1) rest
+unfolding clap_on_literals
+mode-put rest = refl
+
+passes-mode-put : (rest : List Text) → walk_passes put_shape [] (walk_from nothing_held) (codes "--mode" ∷ rest)
+    ≡ walk_passes put_shape [] (standing (option (codes "mode")) mode_met 1) rest
+unfolding clap_on_literals
+passes-mode-put rest = refl
+
+-- what is held behind the mode, where there is one
+abbrev put_held : Option Text → Held
+put_held None = nothing_held
+put_held (Some mode) = (with_option_value put_shape.rules (codes "mode") mode_met 1 mode).held
+
+-- the walk after each word behind it
+abbrev put-1 : Option Text → Text → Walk
+put-1 mode image = with_positional put_shape.rules (put_held mode) 1 image
+
+abbrev put-2 : Option Text → Text → Text → Walk
+put-2 mode image uic = with_positional put_shape.rules (put-1 mode image).held 2 uic
+
+abbrev put-3 : Option Text → Text → Text → Text → Walk
+put-3 mode image uic name = with_positional put_shape.rules (put-2 mode image uic).held 3 name
+
+abbrev put-4 : Option Text → Text → Text → Text → Text → Walk
+put-4 mode image uic name host = with_positional put_shape.rules (put-3 mode image uic name).held 4 host
+
+fold-put : (mode : Option Text) (image uic name host : Text) → ArePlain (image ∷ uic ∷ name ∷ host ∷ [])
+    → fold (walked put_shape.rules []) (walk_from (put_held mode)) (image ∷ uic ∷ name ∷ host ∷ []) ≡ put-4 mode image uic name host
+fold-put mode image uic name host plain =
+    fold-plain put_shape.rules (put_held mode) 1 image (uic ∷ name ∷ host ∷ []) (plain 0 [] (omega arith))
+    ∙ fold-plain put_shape.rules (put-1 mode image).held 2 uic (name ∷ host ∷ []) (plain 1 [] (omega arith))
+    ∙ fold-plain put_shape.rules (put-2 mode image uic).held 3 name (host ∷ []) (plain 2 [] (omega arith))
+    ∙ fold-plain put_shape.rules (put-3 mode image uic name).held 4 host ([]) (plain 3 [] (omega arith))
+
+walk-put : (mode : Option Text) (image uic name host : Text) → ArePlain (texts_of (put_line mode image uic name host))
+    → walk put_shape.rules [] nothing_held (mode_words mode ++ (image ∷ uic ∷ name ∷ host ∷ [])) ≡ put-4 mode image uic name host
+walk-put None image uic name host plain = fold-put None image uic name host plain
+walk-put (Some mode) image uic name host plain = mode-put (mode ∷ image ∷ uic ∷ name ∷ host ∷ [])
+    ∙ fold-value put_shape.rules (codes "mode") mode_met 1 mode (image ∷ uic ∷ name ∷ host ∷ []) (plain 0 [] (omega arith))
+    ∙ fold-put (Some mode) image uic name host (λ n d few. plain (suc n) d (omega (arith, few)))
+
+passes-put : (mode : Option Text) (image uic name host : Text) → ArePlain (texts_of (put_line mode image uic name host))
+    → walk_passes put_shape [] (walk_from nothing_held) (mode_words mode ++ (image ∷ uic ∷ name ∷ host ∷ [])) ≡ true
+passes-put None image uic name host plain =
+    passes-plain put_shape nothing_held 1 image (uic ∷ name ∷ host ∷ []) (plain 0 [] (omega arith))
+    ∙ passes-plain put_shape (put-1 None image).held 2 uic (name ∷ host ∷ []) (plain 1 [] (omega arith))
+    ∙ passes-plain put_shape (put-2 None image uic).held 3 name (host ∷ []) (plain 2 [] (omega arith))
+    ∙ passes-plain put_shape (put-3 None image uic name).held 4 host ([]) (plain 3 [] (omega arith))
+    ∙ passes-none put_shape (put-4 None image uic name host)
+passes-put (Some mode) image uic name host plain = passes-mode-put (mode ∷ image ∷ uic ∷ name ∷ host ∷ [])
+    ∙ passes-value put_shape (codes "mode") mode_met 1 mode (image ∷ uic ∷ name ∷ host ∷ []) (plain 0 [] (omega arith))
+    ∙ passes-plain put_shape (put_held (Some mode)) 1 image (uic ∷ name ∷ host ∷ []) (plain 1 [] (omega arith))
+    ∙ passes-plain put_shape (put-1 (Some mode) image).held 2 uic (name ∷ host ∷ []) (plain 2 [] (omega arith))
+    ∙ passes-plain put_shape (put-2 (Some mode) image uic).held 3 name (host ∷ []) (plain 3 [] (omega arith))
+    ∙ passes-plain put_shape (put-3 (Some mode) image uic name).held 4 host ([]) (plain 4 [] (omega arith))
+    ∙ passes-none put_shape (put-4 (Some mode) image uic name host)
+
+-- what clap asks of the words behind the walk
+ends-put : (mode : Option Text) (image uic name host : Text)
+    → (settle_passes put_shape.rules put_shape.args_override_self (put-4 mode image uic name host).held
+    && (list_all default_passes put_shape.rules
+    && is_valid put_shape (finished put_shape.rules (put-4 mode image uic name host).held) false)) ≡ true
+ends-put None image uic name host = refl
+ends-put (Some mode) image uic name host = refl
+
+level-put : (mode : Option Text) (image uic name host : Text) → ArePlain (texts_of (put_line mode image uic name host))
+    → level_passes put_shape [] nothing_held (mode_words mode ++ (image ∷ uic ∷ name ∷ host ∷ [])) false ≡ true
+level-put mode image uic name host plain =
+    ap (λ (w : Walk). walk_passes put_shape [] (walk_from nothing_held) (mode_words mode ++ (image ∷ uic ∷ name ∷ host ∷ []))
+    && (settle_passes put_shape.rules put_shape.args_override_self w.held && (list_all default_passes put_shape.rules
+    && is_valid put_shape (finished put_shape.rules w.held) false))) (walk-put mode image uic name host plain)
+    ∙ ap (λ (p : Bool). p && (settle_passes put_shape.rules put_shape.args_override_self (put-4 mode image uic name host).held
+    && (list_all default_passes put_shape.rules
+    && is_valid put_shape (finished put_shape.rules (put-4 mode image uic name host).held) false)))
+    (passes-put mode image uic name host plain)
+    ∙ ends-put mode image uic name host
+
+pub takes-put : (program : Text) (mode : Option Text) (image uic name host : Text)
+    → ArePlain (texts_of (put_line mode image uic name host))
+    → takes program_app (program ∷ words_given (put_line mode image uic name host)) ≡ true
+takes-put program mode image uic name host plain =
+    ap (λ (p : Bool). p && built_takes (built program_app) nothing_held (words_given (put_line mode image uic name host)))
+    is_simple-program
+    ∙ takes-command (built program_app) (codes "put") (mode_words mode ++ (image ∷ uic ∷ name ∷ host ∷ []))
+    refl refl (level-put mode image uic name host plain) refl
+
+-- what is read of the words
+read-put : (mode : Option Text) (image uic name host : Text)
+    → MeetsPut mode image uic name host (Some (codes "put", finished put_shape.rules (put-4 mode image uic name host).held))
+read-put None image uic name host = refl
+read-put (Some mode) image uic name host = refl
+
+-- the command that clap met, and the rows of its words
+entered-put : (program : Text) (mode : Option Text) (image uic name host : Text)
+    → ArePlain (texts_of (put_line mode image uic name host))
+    → subcommand_of program_app (program ∷ words_given (put_line mode image uic name host))
+    ≡ Some (codes "put", finished put_shape.rules (put-4 mode image uic name host).held)
+entered-put program mode image uic name host plain =
+    ap (λ (w : Walk). entered (built program_app) w.stopped)
+    (walk-command (built program_app).top.rules (names_of (built program_app)) nothing_held (codes "put")
+    (mode_words mode ++ (image ∷ uic ∷ name ∷ host ∷ [])) refl)
+    ∙ ap (λ (w : Walk). Some (codes "put", finished put_shape.rules w.held)) (walk-put mode image uic name host plain)
+
+pub subcommand_of-put : (program : Text) (mode : Option Text) (image uic name host : Text)
+    → ArePlain (texts_of (put_line mode image uic name host))
+    → MeetsPut mode image uic name host
+    (subcommand_of program_app (program ∷ words_given (put_line mode image uic name host)))
+subcommand_of-put program mode image uic name host plain =
+    subst (MeetsPut mode image uic name host) (sym (entered-put program mode image uic name host plain))
+    (read-put mode image uic name host)
+
 pub takes-get_all : (program image folder : Text) → is_option image ≡ false → is_option folder ≡ false
     → takes program_app (program ∷ codes "get" ∷ codes "--all" ∷ image ∷ folder ∷ []) ≡ true
 unfolding clap_on_literals
@@ -214,7 +269,7 @@ pub has-get : (met : Option (Text × List Row)) (given : ArgMatches) (all : Bool
     (name host : Option Text) → Some (rows_of (found_of given)) ≡ option_map (λ p. p.1) met
     → MeetsGet all mode image uic name host met → HasGetWords all mode image uic name host given
 has-get met given all mode image uic name host rows meets =
-    let words = words_met met _ _ get_names _ rows meets.0 in
+    let words = words_met met _ _ host_names _ rows meets.0 in
     record {
       all_is = one_text-rows (found_of given) (codes "all") ∙ one_of-met met _ _ _ _ rows meets.1;
       mode_is = first_value-rows (found_of given) (codes "mode") ∙ ap (λ (l : List (Option Text)). slice_index_or l 0 None) words;

@@ -83,7 +83,7 @@ takes-line (home_line image) program plain = takes-home program image (plain 0 [
 takes-line (ls_line image) program plain = takes-ls program image (plain 0 [] (omega arith))
 takes-line (user_line image uic) program plain = takes-user program image uic (plain 0 [] (omega arith)) (plain 1 [] (omega arith))
 takes-line (name_line text) program plain = takes-name program text (plain 0 [] (omega arith))
-takes-line (put_line image uic name host) program plain = takes-put program image uic name host plain
+takes-line (put_line mode image uic name host) program plain = takes-put program mode image uic name host plain
 takes-line (rights_line caller owner word) program plain =
     takes-rights program caller owner word (plain 0 [] (omega arith)) (plain 1 [] (omega arith)) (plain 2 [] (omega arith))
 takes-line (rt_init_line blocks segments image) program plain =

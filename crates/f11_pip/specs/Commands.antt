@@ -83,9 +83,9 @@ with_file_words app = with_rule (with_rule (with_rule app (needed_rule (codes "i
 abbrev pub with_rt_words : App → App
 with_rt_words app = with_rule (with_rule app (needed_rule (codes "rt"))) (needed_rule (codes "rt-name"))
 
--- `put IMAGE UIC NAME HOST`
+-- `put [--mode M] IMAGE UIC NAME HOST`
 abbrev pub put_app : App
-put_app = with_rule (with_file_words (new_app (codes "put"))) (needed_rule (codes "host"))
+put_app = with_rule (with_file_words (with_rule (new_app (codes "put")) (option_rule (codes "mode") false))) (needed_rule (codes "host"))
 
 -- `flx-from-rt --mode M RT RTNAME IMAGE UIC NAME`
 abbrev pub from_rt_app : App
@@ -200,15 +200,12 @@ words_in ids rows = map (λ id. first_of id rows) ids
 abbrev pub command_and_words : List Text → Option (Text × List Row) → Option (Text × List (Option Text))
 command_and_words ids = option_map (λ p. (p.0, words_in ids p.1))
 
--- the names of the words of a copy, of those of `get`, `put`, `init`, `ls` and `rt-init`, and of a file of an RT-11 volume
+-- the names of the words of a copy, of those of `get` and `put`, of `init`, `ls` and `rt-init`, and of a file of an RT-11 volume
 abbrev pub copy_names : List Text
 copy_names = codes "mode" ∷ codes "image" ∷ codes "uic" ∷ codes "name" ∷ codes "rt" ∷ codes "rt-name" ∷ []
 
-abbrev pub get_names : List Text
-get_names = codes "mode" ∷ codes "image" ∷ codes "uic" ∷ codes "name" ∷ codes "host" ∷ []
-
-abbrev pub put_names : List Text
-put_names = codes "image" ∷ codes "uic" ∷ codes "name" ∷ codes "host" ∷ []
+abbrev pub host_names : List Text
+host_names = codes "mode" ∷ codes "image" ∷ codes "uic" ∷ codes "name" ∷ codes "host" ∷ []
 
 abbrev pub init_names : List Text
 init_names = codes "blocks" ∷ codes "slots" ∷ codes "label" ∷ codes "max" ∷ codes "image" ∷ []
@@ -240,13 +237,13 @@ MeetsCopy command mode image uic name rt rt_name met = command_and_words copy_na
 -- `get` was met, with `--all` or without, and with these words: the mode, the name and the host's file among them or not
 abbrev pub MeetsGet : Bool → Option Text → Text → Text → Option Text → Option Text → Option (Text × List Row) → Type 0
 MeetsGet all mode image uic name host met =
-    (command_and_words get_names met ≡ Some (codes "get", mode ∷ Some image ∷ Some uic ∷ name ∷ host ∷ []))
+    (command_and_words host_names met ≡ Some (codes "get", mode ∷ Some image ∷ Some uic ∷ name ∷ host ∷ []))
     × (command_and_flag (codes "all") met ≡ Some (codes "get", Some (flag_text all)))
 
--- `put` was met, with these words
-abbrev pub MeetsPut : Text → Text → Text → Text → Option (Text × List Row) → Type 0
-MeetsPut image uic name host met =
-    command_and_words put_names met ≡ Some (codes "put", Some image ∷ Some uic ∷ Some name ∷ Some host ∷ [])
+-- `put` was met, with these words, the mode among them or not
+abbrev pub MeetsPut : Option Text → Text → Text → Text → Text → Option (Text × List Row) → Type 0
+MeetsPut mode image uic name host met =
+    command_and_words host_names met ≡ Some (codes "put", mode ∷ Some image ∷ Some uic ∷ Some name ∷ Some host ∷ [])
 
 -- `init` was met, with these words, the greatest number of files among them or not
 abbrev pub MeetsInit : Text → Text → Text → Option Text → Text → Option (Text × List Row) → Type 0
@@ -302,8 +299,9 @@ pub record HasGetWords (all : Bool) (mode : Option Text) (image uic : Text) (nam
   pub name_is : first_value (found_of given) (codes "name") ≡ name
   pub host_is : first_value (found_of given) (codes "host") ≡ host
 
--- `put` has these words
-pub record HasPutWords (image uic name host : Text) (given : ArgMatches) : Type 0 where
+-- `put` has these words, the mode among them or not
+pub record HasPutWords (mode : Option Text) (image uic name host : Text) (given : ArgMatches) : Type 0 where
+  pub mode_is : first_value (found_of given) (codes "mode") ≡ mode
   pub image_is : HasWord (codes "image") image given
   pub uic_is : HasWord (codes "uic") uic given
   pub name_is : HasWord (codes "name") name given

@@ -47,7 +47,7 @@ pub data CommandLine : Type 0 where
   ls_line : (image : List ℕ) → CommandLine
   user_line : (image uic : List ℕ) → CommandLine
   name_line : (text : List ℕ) → CommandLine
-  put_line : (image uic name host : List ℕ) → CommandLine
+  put_line : (mode : Option (List ℕ)) → (image uic name host : List ℕ) → CommandLine
   rights_line : (caller owner word : List ℕ) → CommandLine
   rt_del_line : (rt name : List ℕ) → CommandLine
   rt_get_line : (rt name host : List ℕ) → CommandLine
@@ -77,7 +77,7 @@ words_given (home_line image) = codes "home" ∷ image ∷ []
 words_given (ls_line image) = codes "ls" ∷ image ∷ []
 words_given (user_line image uic) = codes "ls" ∷ image ∷ uic ∷ []
 words_given (name_line text) = codes "name" ∷ text ∷ []
-words_given (put_line image uic name host) = codes "put" ∷ image ∷ uic ∷ name ∷ host ∷ []
+words_given (put_line mode image uic name host) = codes "put" ∷ (mode_words mode ++ (image ∷ uic ∷ name ∷ host ∷ []))
 words_given (rights_line caller owner word) = codes "rights" ∷ caller ∷ owner ∷ word ∷ []
 words_given (rt_del_line rt name) = codes "rt-del" ∷ rt ∷ name ∷ []
 words_given (rt_get_line rt name host) = codes "rt-get" ∷ rt ∷ name ∷ host ∷ []
@@ -100,7 +100,7 @@ texts_of (home_line image) = image ∷ []
 texts_of (ls_line image) = image ∷ []
 texts_of (user_line image uic) = image ∷ uic ∷ []
 texts_of (name_line text) = text ∷ []
-texts_of (put_line image uic name host) = image ∷ uic ∷ name ∷ host ∷ []
+texts_of (put_line mode image uic name host) = option_to_list mode ++ (image ∷ uic ∷ name ∷ host ∷ [])
 texts_of (rights_line caller owner word) = caller ∷ owner ∷ word ∷ []
 texts_of (rt_del_line rt name) = rt ∷ name ∷ []
 texts_of (rt_get_line rt name host) = rt ∷ name ∷ host ∷ []
@@ -160,11 +160,11 @@ abbrev pub AsksGetAll : List ℕ → List ℕ → Words → Type 0
 AsksGetAll name text (GetAll image folder) = (image.now ≡ name) × (folder.now ≡ text)
 AsksGetAll name text _ = ⊥
 
--- the words ask that this file of the host become the file of this name in this directory of this image
-abbrev pub AsksPut : List ℕ → List ℕ → List ℕ → List ℕ → Words → Type 0
-AsksPut image uic name host (Put to directory file from) =
-    (to.now ≡ image) × SpellsUic uic directory × (file.now ≡ name) × (from.now ≡ host)
-AsksPut image uic name host _ = ⊥
+-- the words ask that this file of the host become, in this mode, the file of this name in this directory of this image
+abbrev pub AsksPut : Option (List ℕ) → List ℕ → List ℕ → List ℕ → List ℕ → Words → Type 0
+AsksPut mode image uic name host (Put in_mode to directory file from) =
+    SpellsModeOrNone mode in_mode × (to.now ≡ image) × SpellsUic uic directory × (file.now ≡ name) × (from.now ≡ host)
+AsksPut mode image uic name host _ = ⊥
 
 -- the words ask for the home block of this image
 abbrev pub AsksHome : List ℕ → Words → Type 0
@@ -254,7 +254,7 @@ Asks (home_line image) words = AsksHome image words
 Asks (ls_line image) words = AsksLs image None words
 Asks (user_line image uic) words = AsksLs image (Some uic) words
 Asks (name_line text) words = AsksName text words
-Asks (put_line image uic name host) words = AsksPut image uic name host words
+Asks (put_line mode image uic name host) words = AsksPut mode image uic name host words
 Asks (rights_line caller owner word) words = AsksRights caller owner word words
 Asks (rt_del_line rt name) words = AsksRtDel rt name words
 Asks (rt_get_line rt name host) words = AsksRtGet rt name host words
@@ -290,8 +290,8 @@ IsNoModeOrNone None = ⊥
 IsNoModeOrNone (Some text) = ¬ IsMode text
 
 -- a mode is there that isn't one, or the user's code isn't
-abbrev pub IsNoGet : Option (List ℕ) → List ℕ → Type 0
-IsNoGet mode uic = IsNoModeOrNone mode ⊎ IsNoUic uic
+abbrev pub IsNoMove : Option (List ℕ) → List ℕ → Type 0
+IsNoMove mode uic = IsNoModeOrNone mode ⊎ IsNoUic uic
 
 -- a copy's mode isn't one, or its user's code
 abbrev pub IsNoCopy : List ℕ → List ℕ → Type 0
@@ -302,13 +302,13 @@ abbrev pub IsUnreadable : CommandLine → Type 0
 IsUnreadable (dump_line image number) = ¬ IsNumber number
 IsUnreadable (from_rt_line mode rt rt_name image uic name) = IsNoCopy mode uic
 IsUnreadable (to_rt_line mode image uic name rt rt_name) = IsNoCopy mode uic
-IsUnreadable (get_line mode image uic name host) = IsNoGet mode uic
+IsUnreadable (get_line mode image uic name host) = IsNoMove mode uic
 IsUnreadable (get_all_line image folder) = ⊥
 IsUnreadable (home_line image) = ⊥
 IsUnreadable (ls_line image) = ⊥
 IsUnreadable (user_line image uic) = IsNoUic uic
 IsUnreadable (name_line text) = ⊥
-IsUnreadable (put_line image uic name host) = IsNoUic uic
+IsUnreadable (put_line mode image uic name host) = IsNoMove mode uic
 IsUnreadable (rights_line caller owner word) = IsNoUic caller ⊎ (IsNoUic owner ⊎ ¬ IsProtection word)
 IsUnreadable (rt_del_line rt name) = ⊥
 IsUnreadable (rt_get_line rt name host) = ⊥

@@ -54,8 +54,8 @@ const COMMANDS: [Synopsis; 18] = [
     },
     Synopsis {
         name: "put",
-        words: "f11_pip put IMAGE UIC NAME HOST",
-        does: "makes a file on a Files-11 volume with the bytes of a file of the host, HOST: UIC names the directory",
+        words: "f11_pip put [--mode M] IMAGE UIC NAME HOST",
+        does: "makes a file on a Files-11 volume with the bytes of a file of the host, HOST, or with its lines: M is image or text, UIC names the directory",
     },
     Synopsis {
         name: "rights",

@@ -64,10 +64,12 @@ pub fn made(rt: &HostRuntime, path: &str) -> Result<File, CannotOpen> {
         .map_err(CannotOpen::from)
 }
 
-/// Makes a file on a volume with the bytes of a file of the host, which is opened first.
+/// Makes a file on a volume with the bytes or the lines of a file of the host, which is opened first, twice: a text is read to its end before
+/// the file is made.
 pub fn put<'a, W: Write>(
     rt: &HostRuntime,
     file: &Named<'a>,
+    mode: CopyMode,
     host: &'a str,
     writer: &mut W,
     remark: &mut Option<Remark<'a>>,
@@ -75,11 +77,24 @@ pub fn put<'a, W: Write>(
     let Some(name) = read_name(rt.alloc(), file.name)? else {
         return Ok(refuse_names(writer)?);
     };
-    let directory = file.directory;
-    let (mut bytes_of, bytes) = opened(with_length(rt, host), host, remark)?;
+    let putting = Putting {
+        directory: file.directory,
+        name,
+        mode,
+    };
+    let (mut first, bytes) = opened(with_length(rt, host), host, remark)?;
+    let again = File::open(rt, host).map_err(CannotOpen::from);
+    let mut again = opened(again, host, remark)?;
     let device = opened(FileImage::open(rt, file.image), file.image, remark)?;
-    let putting = Putting { directory, name };
-    let (_, told) = print_put(rt.alloc(), device, &putting, &mut bytes_of, bytes, writer);
+    let (_, told) = print_put(
+        rt.alloc(),
+        device,
+        &putting,
+        &mut first,
+        &mut again,
+        bytes,
+        writer,
+    );
     put_answer(rt, file.image, host, told, remark)
 }
 

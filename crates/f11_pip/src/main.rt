@@ -222,6 +222,7 @@ fn run<'a, W: Write>(
         }
         Words::Name { text } => Ok(print_name(text, writer)?),
         Words::Put {
+            mode,
             image,
             directory,
             name,
@@ -232,7 +233,7 @@ fn run<'a, W: Write>(
                 directory,
                 name,
             };
-            host_files::put(rt, &file, host, writer, remark)
+            host_files::put(rt, &file, mode, host, writer, remark)
         }
         Words::Rights {
             caller,

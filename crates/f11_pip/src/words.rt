@@ -1,7 +1,7 @@
 //! The words of the command line.
 ghost use Rattle.std.specs.Prelude.{◌≡◌, ◌≤◌, ◌⊎◌, length, ℕ, Bool, true, false, List, codes, map, Option, None, Some, IfOk, IfErr, IsErr, IsOkAnd, MatchResult};
 ghost use Rattle.clap.specs.Words.{app_of, subcommand_rows_of};
-ghost use Rattle.f11_pip.specs.Words.{Asks, AsksDump, AsksFromRt, AsksGet, AsksGetAll, AsksHome, AsksInit, AsksLs, AsksName, AsksPut, AsksRights, AsksRtDel, AsksRtGet, AsksRtInit, AsksRtList, AsksRtPut, AsksRtVfy, AsksRun, AsksToRt, AsksVfy, CommandLine, FailsToAsk, IsLineOf, IsNoCopy, IsNoGet, IsNoInit, IsNoUic, IsNoUser, IsUnreadable, rights_line, rt_init_line};
+ghost use Rattle.f11_pip.specs.Words.{Asks, AsksDump, AsksFromRt, AsksGet, AsksGetAll, AsksHome, AsksInit, AsksLs, AsksName, AsksPut, AsksRights, AsksRtDel, AsksRtGet, AsksRtInit, AsksRtList, AsksRtPut, AsksRtVfy, AsksRun, AsksToRt, AsksVfy, CommandLine, FailsToAsk, IsLineOf, IsNoCopy, IsNoInit, IsNoMove, IsNoUser, IsUnreadable, rights_line, rt_init_line};
 ghost use Rattle.f11_pip.specs.Commands.{MeetsCopy, MeetsDump, MeetsGet, MeetsInit, MeetsLs, MeetsPut, MeetsRights, MeetsRtFile, MeetsRtHost, MeetsRtInit, MeetsRun, MeetsVfy, MeetsWord, files_app, program_app, volumes_app};
 ghost use Rattle.f11_numbers.specs.Decimal.{IsNumber};
 
@@ -88,8 +88,9 @@ pub enum Words<'a> {
     Name {
         text: &'a str,
     },
-    /// `put IMAGE UIC NAME HOST`: the file in which directory that is made, and one of the host
+    /// `put [--mode M] IMAGE UIC NAME HOST`: how the file in which directory is made, and one of the host
     Put {
+        mode: CopyMode,
         image: &'a str,
         directory: Uic,
         name: &'a str,
@@ -210,13 +211,13 @@ fn command_of<'a>(matches: &ArgMatches<'a>) -> Result<Words<'a>, Failure>
         (λ _. IsNoCopy mode uic) }
     ensures get { (mode : Option (List ℕ)) → (image uic name host : List ℕ)
         → MeetsGet false mode image uic (Some name) (Some host) (subcommand_rows_of matches.now)
-        → MatchResult result (AsksGet mode image uic name host) (λ _. IsNoGet mode uic) }
+        → MatchResult result (AsksGet mode image uic name host) (λ _. IsNoMove mode uic) }
     ensures get_all { (image folder : List ℕ)
         → MeetsGet true None image folder None None (subcommand_rows_of matches.now)
         → IsOkAnd result (AsksGetAll image folder) }
-    ensures put { (image uic name host : List ℕ)
-        → MeetsPut image uic name host (subcommand_rows_of matches.now)
-        → MatchResult result (AsksPut image uic name host) (λ _. IsNoUic uic) }
+    ensures put { (mode : Option (List ℕ)) → (image uic name host : List ℕ)
+        → MeetsPut mode image uic name host (subcommand_rows_of matches.now)
+        → MatchResult result (AsksPut mode image uic name host) (λ _. IsNoMove mode uic) }
     ensures home { (image : List ℕ)
         → MeetsWord (codes "home") (codes "image") image (subcommand_rows_of matches.now)
         → IsOkAnd result (AsksHome image) }

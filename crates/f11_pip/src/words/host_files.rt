@@ -1,7 +1,7 @@
 //! The words of the commands on files of the host.
 ghost use Rattle.std.specs.Prelude.{◌≡◌, ℕ, List, Bool, Option, None, Some, codes, false, true, is_some, IfOk, IfErr, IsOkAnd, MatchResult};
 ghost use Rattle.clap.specs.Words.{app_of, first_value, found_of};
-ghost use Rattle.f11_pip.specs.Words.{AsksGet, AsksGetAll, AsksPut, IsNoGet, IsNoModeOrNone, IsNoUic, SpellsModeOrNone};
+ghost use Rattle.f11_pip.specs.Words.{AsksGet, AsksGetAll, AsksPut, IsNoModeOrNone, IsNoMove, SpellsModeOrNone};
 ghost use Rattle.f11_pip.specs.Commands.{HasGetWords, HasPutWords, get_app, get_options, put_app, with_host_files};
 
 use crate::outcome::Failure;
@@ -44,7 +44,7 @@ fn get_options<'a>(alloc: Global) -> Result<Command<'a>, AllocError>
 pub fn get_of<'a>(given: &ArgMatches<'a>) -> Result<Words<'a>, Failure>
     ensures get { (mode : Option (List ℕ)) → (image uic name host : List ℕ)
         → HasGetWords false mode image uic (Some name) (Some host) given.now
-        → MatchResult result (AsksGet mode image uic name host) (λ _. IsNoGet mode uic) }
+        → MatchResult result (AsksGet mode image uic name host) (λ _. IsNoMove mode uic) }
     ensures all { (image folder : List ℕ)
         → HasGetWords true None image folder None None given.now
         → IsOkAnd result (AsksGetAll image folder) }
@@ -61,7 +61,7 @@ pub fn get_of<'a>(given: &ArgMatches<'a>) -> Result<Words<'a>, Failure>
 fn get_file_of<'a>(given: &ArgMatches<'a>) -> Result<Words<'a>, Failure>
     ensures get { (all : Bool) → (mode : Option (List ℕ)) → (image uic name host : List ℕ)
         → HasGetWords all mode image uic (Some name) (Some host) given.now
-        → MatchResult result (AsksGet mode image uic name host) (λ _. IsNoGet mode uic) }
+        → MatchResult result (AsksGet mode image uic name host) (λ _. IsNoMove mode uic) }
     ensures usage { IfErr result (λ failure. failure ≡ Failure.Usage) }
 {
     Ok(Words::Get {
@@ -110,15 +110,18 @@ fn has(given: &ArgMatches<'_>, name: &str) -> bool
 fn put<'a>(alloc: Global) -> Result<Command<'a>, AllocError>
     ensures { IfOk result (λ command. app_of command ≡ put_app) }
 {
-    with_file(alloc, Command::new(alloc, "put"))?.arg(needed(alloc, "host"))
+    let command = Command::new(alloc, "put").arg(option(alloc, "mode", false))?;
+    with_file(alloc, command)?.arg(needed(alloc, "host"))
 }
 
 pub fn put_of<'a>(given: &ArgMatches<'a>) -> Result<Words<'a>, Failure>
-    ensures put { (image uic name host : List ℕ) → HasPutWords image uic name host given.now
-        → MatchResult result (AsksPut image uic name host) (λ _. IsNoUic uic) }
+    ensures put { (mode : Option (List ℕ)) → (image uic name host : List ℕ)
+        → HasPutWords mode image uic name host given.now
+        → MatchResult result (AsksPut mode image uic name host) (λ _. IsNoMove mode uic) }
     ensures usage { IfErr result (λ failure. failure ≡ Failure.Usage) }
 {
     Ok(Words::Put {
+        mode: mode_or_image(given)?,
         image: word_of(given, "image")?,
         directory: uic_of(given, "uic")?,
         name: word_of(given, "name")?,

@@ -1,8 +1,8 @@
 //! The words of the commands on one file of an RT-11 volume.
-ghost use Rattle.std.specs.Prelude.{◌≡◌, List, None, ℕ, codes, IfErr, IfOk, IsErr, IsOkAnd, MatchResult};
+ghost use Rattle.std.specs.Prelude.{◌≡◌, List, Option, None, ℕ, codes, IfErr, IfOk, IsErr, IsOkAnd, MatchResult};
 ghost use Rattle.clap.specs.Words.{app_of, subcommand_rows_of};
 ghost use Rattle.f11_pip.specs.Commands.{HasRtFileWords, HasRtHostWords, MeetsCopy, MeetsPut, MeetsRtFile, MeetsRtHost, rt_del_app, rt_get_app, rt_put_app, rt_file_app, with_rt_files};
-ghost use Rattle.f11_pip.specs.Words.{AsksFromRt, AsksPut, AsksRtDel, AsksRtGet, AsksRtPut, AsksToRt, IsNoCopy, IsNoUic};
+ghost use Rattle.f11_pip.specs.Words.{AsksFromRt, AsksPut, AsksRtDel, AsksRtGet, AsksRtPut, AsksToRt, IsNoCopy, IsNoMove};
 
 use crate::outcome::Failure;
 use crate::words::Words;
@@ -99,9 +99,9 @@ pub(crate) fn moving_of<'a>(matches: &ArgMatches<'a>) -> Result<Words<'a>, Failu
         (subcommand_rows_of matches.now)
         → MatchResult result (AsksToRt mode image uic name rt rt_name)
         (λ _. IsNoCopy mode uic) }
-    ensures put { (image uic name host : List ℕ)
-        → MeetsPut image uic name host (subcommand_rows_of matches.now)
-        → MatchResult result (AsksPut image uic name host) (λ _. IsNoUic uic) }
+    ensures put { (mode : Option (List ℕ)) → (image uic name host : List ℕ)
+        → MeetsPut mode image uic name host (subcommand_rows_of matches.now)
+        → MatchResult result (AsksPut mode image uic name host) (λ _. IsNoMove mode uic) }
     ensures rt_del { (rt name : List ℕ)
         → MeetsRtFile (codes "rt-del") rt name (subcommand_rows_of matches.now)
         → IsOkAnd result (AsksRtDel rt name) }

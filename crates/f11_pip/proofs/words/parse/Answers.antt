@@ -1,6 +1,6 @@
 use Rattle.std.proofs.Common.{[], arith, ◌∙◌, None, Some, ap, ap₂, codes, false, map, true}
 use Rattle.clap.specs.Words.{is_simple, subcommand_of, takes}
-use Rattle.f11_pip.specs.Commands.{command_and_flag, command_and_word, command_and_words, copy_names, get_names, ls_names, put_names}
+use Rattle.f11_pip.specs.Commands.{command_and_flag, command_and_word, command_and_words, copy_names, host_names, ls_names}
 use Rattle.f11_pip.specs.Commands.{rt_file_names, rt_host_names, rt_init_names}
 use Rattle.f11_pip.specs.Words.{
   Asks,
@@ -56,7 +56,7 @@ returns-clause-asks g c (get_line mode image uic name host) line =
     none_or_no_memory (Asks (get_line mode image uic name host)) (IsUnreadable (get_line mode image uic name host)) c.command_of.result
     (let these = subcommand_of-get line.program mode image uic name host line.plain in
     c.command_of.ensures.get mode image uic name host
-    (ap (command_and_words get_names) met ∙ these.0, ap (command_and_flag (codes "all")) met ∙ these.1))
+    (ap (command_and_words host_names) met ∙ these.0, ap (command_and_flag (codes "all")) met ∙ these.1))
 returns-clause-asks g c (get_all_line image folder) line =
     let simple = ap is_simple c.in_ok-program.ensures ∙ is_simple-program in
     let met = (c.in_ok-matches.ensures.matches simple).1 ∙ ap₂ subcommand_of c.in_ok-program.ensures line.is_line in
@@ -64,13 +64,13 @@ returns-clause-asks g c (get_all_line image folder) line =
     (let these = subcommand_of-get_all line.program image folder (line.plain 0 [] (omega arith)) (line.plain 1 [] (omega arith)) in
     match_ok _ _ c.command_of.result
     (c.command_of.ensures.get_all image folder
-    (ap (command_and_words get_names) met ∙ these.0, ap (command_and_flag (codes "all")) met ∙ these.1)))
-returns-clause-asks g c (put_line image uic name host) line =
+    (ap (command_and_words host_names) met ∙ these.0, ap (command_and_flag (codes "all")) met ∙ these.1)))
+returns-clause-asks g c (put_line mode image uic name host) line =
     let simple = ap is_simple c.in_ok-program.ensures ∙ is_simple-program in
     let met = (c.in_ok-matches.ensures.matches simple).1 ∙ ap₂ subcommand_of c.in_ok-program.ensures line.is_line in
-    none_or_no_memory (Asks (put_line image uic name host)) (IsUnreadable (put_line image uic name host)) c.command_of.result
-    (c.command_of.ensures.put image uic name host
-    (ap (command_and_words put_names) met ∙ subcommand_of-put line.program image uic name host line.plain))
+    none_or_no_memory (Asks (put_line mode image uic name host)) (IsUnreadable (put_line mode image uic name host)) c.command_of.result
+    (c.command_of.ensures.put mode image uic name host
+    (ap (command_and_words host_names) met ∙ subcommand_of-put line.program mode image uic name host line.plain))
 returns-clause-asks g c (name_line word) line =
     let simple = ap is_simple c.in_ok-program.ensures ∙ is_simple-program in
     let met = (c.in_ok-matches.ensures.matches simple).1 ∙ ap₂ subcommand_of c.in_ok-program.ensures line.is_line in

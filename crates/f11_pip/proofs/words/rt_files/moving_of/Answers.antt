@@ -1,6 +1,6 @@
 use Rattle.std.proofs.Common.{◌∙◌, ap, codes, List, Option, None, slice_index_or}
 use Rattle.clap.specs.Words.{Text, found_of}
-use Rattle.f11_pip.specs.Commands.{put_names, rt_file_names, rt_host_names}
+use Rattle.f11_pip.specs.Commands.{host_names, rt_file_names, rt_host_names}
 use Rattle.clap.proofs.WalkLemmas.{first_value-rows}
 use Rattle.f11_pip.proofs.WordsLemmas.{words_met}
 use Rattle.f11_pip.proofs.words.rt_files.moving_of.Goals as goal
@@ -35,12 +35,13 @@ returns-in-Some-text-default-3-clause-rt_put c rt name host met =
     })
 
 pub returns-in-Some-put-default-clause-put : goal.returns-in-Some-put-default-clause-put
-returns-in-Some-put-default-clause-put c image uic name host met =
+returns-in-Some-put-default-clause-put c mode image uic name host met =
     let given = c.in-Some-put-default.given.now in
-    let words = words_met _ _ _ put_names _ c.in-Some-put-default.ensures.rows met in
-    c.put_of.ensures.put image uic name host (record {
-      image_is = first_value-rows (found_of given) (codes "image") ∙ ap (λ (l : List (Option Text)). slice_index_or l 0 None) words;
-      uic_is = first_value-rows (found_of given) (codes "uic") ∙ ap (λ (l : List (Option Text)). slice_index_or l 1 None) words;
-      name_is = first_value-rows (found_of given) (codes "name") ∙ ap (λ (l : List (Option Text)). slice_index_or l 2 None) words;
-      host_is = first_value-rows (found_of given) (codes "host") ∙ ap (λ (l : List (Option Text)). slice_index_or l 3 None) words;
+    let words = words_met _ _ _ host_names _ c.in-Some-put-default.ensures.rows met in
+    c.put_of.ensures.put mode image uic name host (record {
+      mode_is = first_value-rows (found_of given) (codes "mode") ∙ ap (λ (l : List (Option Text)). slice_index_or l 0 None) words;
+      image_is = first_value-rows (found_of given) (codes "image") ∙ ap (λ (l : List (Option Text)). slice_index_or l 1 None) words;
+      uic_is = first_value-rows (found_of given) (codes "uic") ∙ ap (λ (l : List (Option Text)). slice_index_or l 2 None) words;
+      name_is = first_value-rows (found_of given) (codes "name") ∙ ap (λ (l : List (Option Text)). slice_index_or l 3 None) words;
+      host_is = first_value-rows (found_of given) (codes "host") ∙ ap (λ (l : List (Option Text)). slice_index_or l 4 None) words;
     })
