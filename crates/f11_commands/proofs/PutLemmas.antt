@@ -1,5 +1,5 @@
 -- A file of the host that is put on a volume by its name.
-use Rattle.std.proofs.Common.{◌≡◌, inl, inr, ℕ, true, List, [], Option, Result, Ok, Err, IfOk, IfErr, refl, sym, ◌∙◌, subst, arith}
+use Rattle.std.proofs.Common.{◌≡◌, inl, inr, ℕ, true, IsTrue, List, [], Option, Result, Ok, Err, IfOk, IfErr, refl, sym, ◌∙◌, subst, arith}
 use Rattle.std.proofs.KnownBytes.{Consumes-nil}
 use Rattle.f11_dev.specs.Disk.{Disk}
 use Rattle.f11_dev.specs.declared.device.Device.{Ghosts}
@@ -9,12 +9,15 @@ use Rattle.f11_fcp.specs.Mounting.{Mounts}
 use Rattle.f11_fcp.specs.Serving.{state_in}
 use Rattle.f11_fcp.specs.declared.volume.Volume.{Volume}
 use Rattle.f11_flx.proofs.VolumeLemmas.{volume-seen}
-use Rattle.f11_flx.specs.Asking.{Fails, Grants, told, who_asks}
+use Rattle.f11_flx.specs.Asking.{Fails, Grants, Who, told, who_asks}
 use Rattle.f11_flx.specs.Copying.{MayMakeFile, is_whole, of_volume}
+use Rattle.f11_flx.specs.declared.mode.CopyMode.{CopyMode}
+use Rattle.f11_flx.specs.declared.mode.CopyMode.TheVariants as mode
 use Rattle.f11_host.specs.CopyFromHost.{CopiesFromHost, FailsToCopyFromHost, ReadsHost}
+use Rattle.f11_host.specs.CopyTextFromHost.{CopiesTextFromHost, FailsToCopyTextFromHost, ReadsTexts}
 use Rattle.f11_host.specs.Refusal.{as_copy, copy_result}
 use Rattle.f11_host.specs.declared.refusal.HostRefusal.{HostRefusal}
-use Rattle.f11_host.specs.declared.refusal.HostRefusal.TheVariants.{Files}
+use Rattle.f11_host.specs.declared.refusal.HostRefusal.TheVariants.{Files, LineTooLong, Unread}
 use Rattle.f11_image_store.specs.StoreOf.{store_of}
 use Rattle.f11_store.specs.Store.{Store}
 use Rattle.f11_store.specs.declared.files.FileId.{FileId}
@@ -27,21 +30,22 @@ use Rattle.f11_commands.proofs.NamedLemmas.{alone-behind, alone-not-found, not-f
 use Rattle.f11_commands.specs.CopyCommand.{VerifiesFiles}
 use Rattle.f11_commands.specs.Copying.{directory_name, master_directory, operator}
 use Rattle.f11_commands.specs.Finding.{is_found}
+use Rattle.f11_commands.specs.PutCommand.{FailsFor, Hosts, MakesFor, ReadsFor}
 use Rattle.f11_commands.specs.PutCommand.{EndsAccepted, EndsPutting, PutsByName, PutsInto, PutsNamed, PutsOnImage, TellsOnImage}
 use Rattle.f11_commands.specs.PutCommand.{TellsPutting}
 use Rattle.f11_commands.specs.declared.copy.FileAnswer.{FileAnswer}
 use Rattle.f11_commands.specs.declared.put.Putting.{Putting}
 use Rattle.f11_commands.specs.declared.rt_put.PutFailure.{PutFailure}
 
-module _ {D : Type 0} {met : Ghosts D} (p : Putting) (bytes : ℕ) (u : Option (List ℕ)) where
+module _ {D : Type 0} {met : Ghosts D} (p : Putting) (bytes : ℕ) (u : Hosts) where
   -- the file was to be made in a directory
-  made-in : (dir : FileId) (result : Result ℕ HostRefusal) (u' : Option (List ℕ)) (v w : Volume D met)
-      → MayMakeFile (copy_result result) operator v w → ReadsHost bytes result u u'
+  made-in : (dir : FileId) (result : Result ℕ HostRefusal) (u' : Hosts) (v w : Volume D met)
+      → MayMakeFile (copy_result result) operator v w → ReadsFor p.mode bytes result u u'
       → IfOk result (λ blocks. is_sound v ≡ true
-      → CopiesFromHost bytes u u' operator 0 dir p.name 0 (store_of_volume v) (store_of_volume w))
+      → MakesFor p.mode bytes blocks u u' dir p.name (store_of_volume v) (store_of_volume w))
       → IfErr result (λ e. is_whole (copy_result result) ≡ true → is_sound v ≡ true
-      → FailsToCopyFromHost e bytes u u' operator 0 dir p.name 0 (store_of_volume v) (store_of_volume w))
-      → PutsNamed bytes result u u' (PutsInto p bytes dir result u u') v w
+      → FailsFor p.mode e bytes u u' dir p.name (store_of_volume v) (store_of_volume w))
+      → PutsNamed p.mode bytes result u u' (PutsInto p bytes dir result u u') v w
   made-in dir result u' v w files host copied refused = record {
     fares = record {
       fares = files.fares;
@@ -55,40 +59,81 @@ module _ {D : Type 0} {met : Ghosts D} (p : Putting) (bytes : ℕ) (u : Option (
     where
       by : (r : Result ℕ HostRefusal) → MayMakeFile (copy_result r) operator v w
           → IfOk r (λ blocks. is_sound v ≡ true
-          → CopiesFromHost bytes u u' operator 0 dir p.name 0 (store_of_volume v) (store_of_volume w))
+          → MakesFor p.mode bytes blocks u u' dir p.name (store_of_volume v) (store_of_volume w))
           → IfErr r (λ e. is_whole (copy_result r) ≡ true → is_sound v ≡ true
-          → FailsToCopyFromHost e bytes u u' operator 0 dir p.name 0 (store_of_volume v) (store_of_volume w))
+          → FailsFor p.mode e bytes u u' dir p.name (store_of_volume v) (store_of_volume w))
           → is_sound v ≡ true → is_whole (copy_result r) ≡ true
           → PutsInto p bytes dir r u u' (store_of_volume v) (store_of_volume w)
       by (Ok blocks) files copied refused sound whole = copied sound
       by (Err e) files copied refused sound whole =
           record { refused = refused whole sound; undone = files.undone (as_copy e) refl sound whole }
 
-  pub put-into : (task lun : ℕ) → task ≡ 0 → lun ≡ 0 → (dir : FileId) (result : Result ℕ HostRefusal) (u' : Option (List ℕ))
-      (v w : Volume D met) → MayMakeFile (copy_result result) (who_asks task operator.caller) v w → ReadsHost bytes result u u'
-      → IfOk result (λ blocks. is_sound v ≡ true → CopiesFromHost bytes u u' (who_asks task operator.caller) lun dir p.name 0
+  -- by the first task and its first lun
+  by-first : (task lun : ℕ) → task ≡ 0 → lun ≡ 0 → (By : Who → ℕ → Type 0) → By (who_asks task operator.caller) lun → By operator 0
+  by-first task lun task-is lun-is By h =
+      subst (λ l. By operator l) lun-is (subst (λ t. By (who_asks t operator.caller) lun) task-is h)
+
+  pub put-image : p.mode ≡ mode.Image → (task lun : ℕ) → task ≡ 0 → lun ≡ 0 → (dir : FileId) (result : Result ℕ HostRefusal)
+      (u' : Hosts) (v w : Volume D met) → MayMakeFile (copy_result result) (who_asks task operator.caller) v w
+      → ReadsHost bytes result u.first u'.first → u'.again ≡ u.again
+      → IfOk result (λ blocks. is_sound v ≡ true → CopiesFromHost bytes u.first u'.first (who_asks task operator.caller) lun dir p.name 0
       (store_of_volume v) (store_of_volume w))
       → IfErr result (λ e. is_whole (copy_result result) ≡ true → is_sound v ≡ true
-      → FailsToCopyFromHost e bytes u u' (who_asks task operator.caller) lun dir p.name 0 (store_of_volume v) (store_of_volume w))
-      → PutsNamed bytes result u u' (PutsInto p bytes dir result u u') v w
-  put-into task lun task-is lun-is dir result u' v w =
-      subst (λ t. By t lun) (sym task-is) (subst (λ l. By 0 l) (sym lun-is) (made-in dir result u' v w))
-    where
-      By : ℕ → ℕ → Type 0
-      By t l =
-          MayMakeFile (copy_result result) (who_asks t operator.caller) v w → ReadsHost bytes result u u'
-          → IfOk result (λ blocks. is_sound v ≡ true → CopiesFromHost bytes u u' (who_asks t operator.caller) l dir p.name 0
-          (store_of_volume v) (store_of_volume w))
-          → IfErr result (λ e. is_whole (copy_result result) ≡ true → is_sound v ≡ true
-          → FailsToCopyFromHost e bytes u u' (who_asks t operator.caller) l dir p.name 0 (store_of_volume v) (store_of_volume w))
-          → PutsNamed bytes result u u' (PutsInto p bytes dir result u u') v w
+      → FailsToCopyFromHost e bytes u.first u'.first (who_asks task operator.caller) lun dir p.name 0 (store_of_volume v)
+      (store_of_volume w))
+      → PutsNamed p.mode bytes result u u' (PutsInto p bytes dir result u u') v w
+  put-image is task lun task-is lun-is dir result u' v w files host stays copied refused =
+      made-in dir result u' v w
+      (by-first task lun task-is lun-is (λ who l. MayMakeFile (copy_result result) who v w) files)
+      (subst (λ m. ReadsFor m bytes result u u') (sym is) (host, stays))
+      (subst (λ m. IfOk result (λ blocks. is_sound v ≡ true → MakesFor m bytes blocks u u' dir p.name (store_of_volume v)
+      (store_of_volume w))) (sym is)
+      (by-first task lun task-is lun-is (λ who l. IfOk result (λ blocks. is_sound v ≡ true
+      → CopiesFromHost bytes u.first u'.first who l dir p.name 0 (store_of_volume v) (store_of_volume w))) copied))
+      (subst (λ m. IfErr result (λ e. is_whole (copy_result result) ≡ true → is_sound v ≡ true
+      → FailsFor m e bytes u u' dir p.name (store_of_volume v) (store_of_volume w))) (sym is)
+      (by-first task lun task-is lun-is (λ who l. IfErr result (λ e. is_whole (copy_result result) ≡ true → is_sound v ≡ true
+      → FailsToCopyFromHost e bytes u.first u'.first who l dir p.name 0 (store_of_volume v) (store_of_volume w))) refused))
+
+  texts-for : (result : Result ℕ HostRefusal) (u' : Hosts) → ReadsTexts bytes result u.first u'.first u.again u'.again
+      → ReadsFor mode.Text bytes result u u'
+  texts-for (Ok blocks) u' h = h
+  texts-for (Err (Files e)) u' h = inr h
+  texts-for (Err Unread) u' h = h
+  texts-for (Err LineTooLong) u' h = h
+
+  pub put-text : p.mode ≡ mode.Text → (task lun : ℕ) → task ≡ 0 → lun ≡ 0 → (dir : FileId) (result : Result ℕ HostRefusal)
+      (u' : Hosts) (v w : Volume D met) → MayMakeFile (copy_result result) (who_asks task operator.caller) v w
+      → ReadsTexts bytes result u.first u'.first u.again u'.again
+      → IfOk result (λ blocks. is_sound v ≡ true → CopiesTextFromHost bytes blocks u.again u'.again (who_asks task operator.caller) lun dir
+      p.name 0 (store_of_volume v) (store_of_volume w))
+      → IfErr result (λ e. is_whole (copy_result result) ≡ true → is_sound v ≡ true
+      → FailsToCopyTextFromHost e bytes u.first u'.first u.again u'.again (who_asks task operator.caller) lun dir p.name 0
+      (store_of_volume v) (store_of_volume w))
+      → PutsNamed p.mode bytes result u u' (PutsInto p bytes dir result u u') v w
+  put-text is task lun task-is lun-is dir result u' v w files host copied refused =
+      made-in dir result u' v w
+      (by-first task lun task-is lun-is (λ who l. MayMakeFile (copy_result result) who v w) files)
+      (subst (λ m. ReadsFor m bytes result u u') (sym is) (texts-for result u' host))
+      (subst (λ m. IfOk result (λ blocks. is_sound v ≡ true → MakesFor m bytes blocks u u' dir p.name (store_of_volume v)
+      (store_of_volume w))) (sym is)
+      (by-first task lun task-is lun-is (λ who l. IfOk result (λ blocks. is_sound v ≡ true
+      → CopiesTextFromHost bytes blocks u.again u'.again who l dir p.name 0 (store_of_volume v) (store_of_volume w))) copied))
+      (subst (λ m. IfErr result (λ e. is_whole (copy_result result) ≡ true → is_sound v ≡ true
+      → FailsFor m e bytes u u' dir p.name (store_of_volume v) (store_of_volume w))) (sym is)
+      (by-first task lun task-is lun-is (λ who l. IfErr result (λ e. is_whole (copy_result result) ≡ true → is_sound v ≡ true
+      → FailsToCopyTextFromHost e bytes u.first u'.first u.again u'.again who l dir p.name 0 (store_of_volume v) (store_of_volume w)))
+      refused))
+
+  unread-for : (m : CopyMode) (e : Refusal) → ReadsFor m bytes (Err (Files e)) u u
+  unread-for mode.Image e = ((λ clean. record { taken = []; few = omega arith; takes = Consumes-nil u.first }), refl)
+  unread-for mode.Text e = inl refl
 
   -- the user's directory was found
   pub put-found : (name : List ℕ) → name ≡ directory_name p.directory → (dir : FileId) (result : Result ℕ HostRefusal)
-      (u' : Option (List ℕ)) (v m w : Volume D met)
-      → Grants of_volume operator (told (request.Find master_directory name) (reply.Found dir)) v m
-      → PutsNamed bytes result u u' (PutsInto p bytes dir result u u') m w
-      → PutsNamed bytes result u u' (PutsByName p bytes result u u') v w
+      (u' : Hosts) (v m w : Volume D met) → Grants of_volume operator (told (request.Find master_directory name) (reply.Found dir)) v m
+      → PutsNamed p.mode bytes result u u' (PutsInto p bytes dir result u u') m w
+      → PutsNamed p.mode bytes result u u' (PutsByName p bytes result u u') v w
   put-found name name-is dir result u' v m w grants' a = record {
     fares = alone-behind (copy_result result) (told (request.Find master_directory (directory_name p.directory)) (reply.Found dir)) v m w
         grants a.fares;
@@ -110,15 +155,15 @@ module _ {D : Type 0} {met : Ghosts D} (p : Putting) (bytes : ℕ) (u : Option (
   -- it isn't there
   pub put-nowhere : (name : List ℕ) → name ≡ directory_name p.directory → (e : Refusal) (v w : Volume D met)
       → Fails of_volume operator is_found (request.Find master_directory name) e v w
-      → PutsNamed bytes (Err (Files e)) u u (PutsByName p bytes (Err (Files e)) u u) v w
+      → PutsNamed p.mode bytes (Err (Files e)) u u (PutsByName p bytes (Err (Files e)) u u) v w
   put-nowhere name name-is e v w fails' = record {
     fares = alone-not-found master_directory (directory_name p.directory) e v w fails;
-    host = λ clean. record { taken = []; few = omega arith; takes = Consumes-nil u };
+    host = unread-for p.mode e;
     outcome = λ sound whole. inr (record {
       refusal = e;
       is = refl;
       not_found = not-found-seen master_directory (directory_name p.directory) e v w sound whole fails;
-      unread_is = refl;
+      unread = refl;
     });
   }
     where
@@ -126,8 +171,8 @@ module _ {D : Type 0} {met : Ghosts D} (p : Putting) (bytes : ℕ) (u : Option (
       fails = subst (λ n. Fails of_volume operator is_found (request.Find master_directory n) e v w) name-is fails'
 
   -- on the volume of an image
-  module _ (result : Result ℕ HostRefusal) (u' : Option (List ℕ)) (old : Disk) (first last : Volume D met) (mounts : Mounts old first)
-      (puts : PutsNamed bytes result u u' (PutsByName p bytes result u u') first last) where
+  module _ (result : Result ℕ HostRefusal) (u' : Hosts) (old : Disk) (first last : Volume D met) (mounts : Mounts old first)
+      (puts : PutsNamed p.mode bytes result u u' (PutsByName p bytes result u u') first last) where
     pub puts-on-image : PutsOnImage p bytes result u u' old (state_in last).disk
     puts-on-image = record {
       home = (state_in first).home;
@@ -156,7 +201,7 @@ module _ {D : Type 0} {met : Ghosts D} (p : Putting) (bytes : ℕ) (u : Option (
         (record { result = result; puts = puts-on-image; tells = tells }))
 
 -- behind a verified image
-pub ends-putting : {W : Type 0} (p : Putting) (bytes : ℕ) (u u' : Option (List ℕ)) (answer : Result FileAnswer PutFailure)
+pub ends-putting : {W : Type 0} (p : Putting) (bytes : ℕ) (u u' : Hosts) (answer : Result FileAnswer PutFailure)
     (contents : W → Option (List ℕ)) (before now after : W) (image read new : Disk) → VerifiesFiles image read × (now ≡ before)
     → EndsAccepted p bytes answer u u' read new contents now after → EndsPutting p bytes answer u u' image new contents before after
 ends-putting {W} p bytes u u' answer contents before now after image read new verified ends =

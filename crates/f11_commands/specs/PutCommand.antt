@@ -11,10 +11,13 @@ use Rattle.f11_flx.specs.Copying.{is_whole, of_files}
 use Rattle.f11_flx.specs.CopyFromRt.{IsAsBefore}
 use Rattle.f11_flx.specs.declared.refusal.FlxRefusal.TheVariants as copy
 use Rattle.f11_home.specs.Home.{HomeFields, IsHomeOf}
+use Rattle.f11_flx.specs.declared.mode.CopyMode.{CopyMode}
+use Rattle.f11_flx.specs.declared.mode.CopyMode.TheVariants as mode
 use Rattle.f11_host.specs.CopyFromHost.{CopiesFromHost, FailsToCopyFromHost, ReadsHost}
+use Rattle.f11_host.specs.CopyTextFromHost.{CopiesTextFromHost, FailsToCopyTextFromHost, ReadsTexts}
 use Rattle.f11_host.specs.Refusal.{copy_result}
 use Rattle.f11_host.specs.declared.refusal.HostRefusal.{HostRefusal}
-use Rattle.f11_host.specs.declared.refusal.HostRefusal.TheVariants.{Files, Unread}
+use Rattle.f11_host.specs.declared.refusal.HostRefusal.TheVariants.{Files, LineTooLong, Unread}
 use Rattle.f11_image_store.specs.StoreOf.{store_of}
 use Rattle.f11_store.specs.Store.{Store}
 use Rattle.f11_store.specs.declared.files.FileId.{FileId}
@@ -31,54 +34,81 @@ use Rattle.f11_commands.specs.declared.put.Putting.{Putting}
 use Rattle.f11_commands.specs.declared.rt_put.PutFailure.{PutFailure}
 use Rattle.f11_commands.specs.declared.rt_put.PutFailure.TheVariants as failure
 
+-- What is known of the two readers of a file of the host: the bytes that they have still.
+pub record Hosts : Type 0 where
+  pub first : Option (List ℕ)
+  pub again : Option (List ℕ)
+
+abbrev pub hosts : Option (List ℕ) → Option (List ℕ) → Hosts
+hosts first again = record { first = first; again = again }
+
+-- how they are read: as it is, of one of them; or as a text, which is walked over first
+abbrev pub ReadsFor : CopyMode → ℕ → Result ℕ HostRefusal → Hosts → Hosts → Type 0
+ReadsFor mode.Image bytes result h h' = ReadsHost bytes result h.first h'.first × (h'.again ≡ h.again)
+ReadsFor mode.Text bytes (Ok blocks) h h' = ReadsTexts bytes (Ok blocks) h.first h'.first h.again h'.again
+ReadsFor mode.Text bytes (Err (Files e)) h h' = (h' ≡ h) ⊎ (ReadsTexts bytes (Err (Files e)) h.first h'.first h.again h'.again)
+ReadsFor mode.Text bytes (Err Unread) h h' = ReadsTexts bytes (Err Unread) h.first h'.first h.again h'.again
+ReadsFor mode.Text bytes (Err LineTooLong) h h' = ReadsTexts bytes (Err LineTooLong) h.first h'.first h.again h'.again
+
+-- the file was made of them, of so many blocks,
+abbrev pub MakesFor : CopyMode → ℕ → ℕ → Hosts → Hosts → FileId → List ℕ → Store → Store → Type 0
+MakesFor mode.Image bytes blocks h h' dir name s s' = CopiesFromHost bytes h.first h'.first operator 0 dir name 0 s s'
+MakesFor mode.Text bytes blocks h h' dir name s s' = CopiesTextFromHost bytes blocks h.again h'.again operator 0 dir name 0 s s'
+
+-- or not
+abbrev pub FailsFor : CopyMode → HostRefusal → ℕ → Hosts → Hosts → FileId → List ℕ → Store → Store → Type 0
+FailsFor mode.Image e bytes h h' dir name s s' = FailsToCopyFromHost e bytes h.first h'.first operator 0 dir name 0 s s'
+FailsFor mode.Text e bytes h h' dir name s s' =
+    FailsToCopyTextFromHost e bytes h.first h'.first h.again h'.again operator 0 dir name 0 s s'
+
 -- No file was made, and what was made for it was undone.
-pub record LeavesAll (p : Putting) (bytes : ℕ) (dir : FileId) (e : HostRefusal) (unread unread' : Option (List ℕ)) (s s' : Store)
+pub record LeavesAll (p : Putting) (bytes : ℕ) (dir : FileId) (e : HostRefusal) (h h' : Hosts) (s s' : Store)
     : Type 0 where
-  pub refused : FailsToCopyFromHost e bytes unread unread' operator 0 dir p.name 0 s s'
+  pub refused : FailsFor p.mode e bytes h h' dir p.name s s'
   pub undone : IsAsBefore s s'
 
 -- what is so behind the answer, where the file was to stand in a directory
-abbrev pub PutsInto : Putting → ℕ → FileId → Result ℕ HostRefusal → Option (List ℕ) → Option (List ℕ) → Store → Store → Type 0
-PutsInto p bytes dir (Ok blocks) unread unread' s s' = CopiesFromHost bytes unread unread' operator 0 dir p.name 0 s s'
-PutsInto p bytes dir (Err e) unread unread' s s' = LeavesAll p bytes dir e unread unread' s s'
+abbrev pub PutsInto : Putting → ℕ → FileId → Result ℕ HostRefusal → Hosts → Hosts → Store → Store → Type 0
+PutsInto p bytes dir (Ok blocks) h h' s s' = MakesFor p.mode bytes blocks h h' dir p.name s s'
+PutsInto p bytes dir (Err e) h h' s s' = LeavesAll p bytes dir e h h' s s'
 
 -- The user's directory was found, and then it is so.
-pub record FindsAndPuts (p : Putting) (bytes : ℕ) (result : Result ℕ HostRefusal) (unread unread' : Option (List ℕ)) (s s' : Store)
+pub record FindsAndPuts (p : Putting) (bytes : ℕ) (result : Result ℕ HostRefusal) (h h' : Hosts) (s s' : Store)
     : Type 0 where
   pub dir : FileId
   pub found : Store
   pub finds : FindsName master_directory (directory_name p.directory) dir s found
-  pub puts : PutsInto p bytes dir result unread unread' found s'
+  pub puts : PutsInto p bytes dir result h h' found s'
 
 -- It isn't there, and nothing was read of the host's file.
-pub record HasNoDirectory (p : Putting) (result : Result ℕ HostRefusal) (unread unread' : Option (List ℕ)) (s s' : Store) : Type 0 where
+pub record HasNoDirectory (p : Putting) (result : Result ℕ HostRefusal) (h h' : Hosts) (s s' : Store) : Type 0 where
   pub refusal : Refusal
   pub is : result ≡ Err (Files refusal)
   pub not_found : FindsNoName master_directory (directory_name p.directory) refusal s s'
-  pub unread_is : unread' ≡ unread
+  pub unread : h' ≡ h
 
-abbrev pub PutsByName : Putting → ℕ → Result ℕ HostRefusal → Option (List ℕ) → Option (List ℕ) → Store → Store → Type 0
-PutsByName p bytes result unread unread' s s' =
-    (FindsAndPuts p bytes result unread unread' s s') ⊎ (HasNoDirectory p result unread unread' s s')
+abbrev pub PutsByName : Putting → ℕ → Result ℕ HostRefusal → Hosts → Hosts → Store → Store → Type 0
+PutsByName p bytes result h h' s s' =
+    (FindsAndPuts p bytes result h h' s s') ⊎ (HasNoDirectory p result h h' s s')
 
 -- A file was to be made on a volume: it fared as the answer says, and where it is sound this holds of its stores.
-pub record PutsNamed {D : Type 0} {met : Ghosts D} (bytes : ℕ) (result : Result ℕ HostRefusal) (unread unread' : Option (List ℕ))
+pub record PutsNamed {D : Type 0} {met : Ghosts D} (m : CopyMode) (bytes : ℕ) (result : Result ℕ HostRefusal) (h h' : Hosts)
     (Holds : Store → Store → Type 0) (old new : Volume D met) : Type 0 where
   pub fares : FaresAlone (copy_result result) old new
-  pub host : ReadsHost bytes result unread unread'
+  pub host : ReadsFor m bytes result h h'
   pub outcome : is_sound old ≡ true → is_whole (copy_result result) ≡ true → Holds (store_of_volume old) (store_of_volume new)
 
 -- A file was to be made on the volume of an image that has no fault. Where the disk is honest it is what the answer says of the plain
 -- store, from that of the image, in which nobody holds an access; and the image has no fault then. A transfer failed exactly where that is
 -- the answer, and no other followed.
-pub record PutsOnImage (p : Putting) (bytes : ℕ) (result : Result ℕ HostRefusal) (unread unread' : Option (List ℕ)) (old new : Disk)
+pub record PutsOnImage (p : Putting) (bytes : ℕ) (result : Result ℕ HostRefusal) (h h' : Hosts) (old new : Disk)
     : Type 0 where
   pub home : HomeFields
   pub held : AccessTable
   pub home_is : IsTrue old.honest → IsHomeOf old.image home
   pub outcome : IsTrue old.honest → is_whole (copy_result result) ≡ true →
-      PutsByName p bytes result unread unread' (held_in no_entries (store_of old.image home)) (held_in held (store_of new.image home))
-  pub host : ReadsHost bytes result unread unread'
+      PutsByName p bytes result h h' (held_in no_entries (store_of old.image home)) (held_in held (store_of new.image home))
+  pub host : ReadsFor p.mode bytes result h h'
   pub failures : new.failures ≡ old.failures + (if of_files is_fault (copy_result result) then 1 else 0)
   pub quiet : of_files is_fault (copy_result result) ≡ true → new.calm ≡ 0
   pub alive : copy_result result ≢ Err (copy.Files VolumeFailed)
@@ -92,12 +122,14 @@ TellsPutting (Ok blocks) told contents before after =
 TellsPutting (Err (Files e)) told contents before after =
     (t : Result FileAnswer Failure) × (told ≡ put_told t) × TellsCopy (Err (copy.Files e)) t contents before after
 TellsPutting (Err Unread) told contents before after = (told ≡ Err failure.Unread) × Keeps (contents before) (contents after)
+TellsPutting (Err LineTooLong) told contents before after =
+    (t : Result FileAnswer Failure) × (told ≡ put_told t) × TellsCopy (Err copy.LineTooLong) t contents before after
 
 -- The file was to be made on the volume of an accepted image, and what came of it was told.
-pub record TellsOnImage {W : Type 0} (p : Putting) (bytes : ℕ) (told : Result FileAnswer PutFailure) (unread unread' : Option (List ℕ))
-    (old new : Disk) (contents : W → Option (List ℕ)) (before after : W) : Type 0 where
+pub record TellsOnImage {W : Type 0} (p : Putting) (bytes : ℕ) (told : Result FileAnswer PutFailure) (h h' : Hosts) (old new : Disk)
+    (contents : W → Option (List ℕ)) (before after : W) : Type 0 where
   pub result : Result ℕ HostRefusal
-  pub puts : PutsOnImage p bytes result unread unread' old new
+  pub puts : PutsOnImage p bytes result h h' old new
   pub tells : TellsPutting result told contents before after
 
 -- The volume couldn't be mounted.
@@ -107,30 +139,30 @@ FailsToMountIt (Err (failure.Command f)) old new contents before after = FailsTo
 FailsToMountIt (Err failure.Unread) old new contents before after = ⊥
 
 -- how it ends with an accepted volume: the file was to be made, or the volume couldn't be mounted, and nothing was read of the host's file
-abbrev pub EndsAccepted : {W : Type 0} → Putting → ℕ → Result FileAnswer PutFailure → Option (List ℕ) → Option (List ℕ) → Disk → Disk →
+abbrev pub EndsAccepted : {W : Type 0} → Putting → ℕ → Result FileAnswer PutFailure → Hosts → Hosts → Disk → Disk →
     (W → Option (List ℕ)) → W → W → Type 0
-EndsAccepted p bytes told unread unread' old new contents before after =
-    (TellsOnImage p bytes told unread unread' old new contents before after)
-    ⊎ ((FailsToMountIt told old new contents before after) × (unread' ≡ unread))
+EndsAccepted p bytes told h h' old new contents before after =
+    (TellsOnImage p bytes told h h' old new contents before after)
+    ⊎ ((FailsToMountIt told old new contents before after) × (h' ≡ h))
 
 -- An image was verified and has no fault, and then it ended so.
-pub record AnswersPutting {W : Type 0} (p : Putting) (bytes : ℕ) (told : Result FileAnswer PutFailure) (unread unread' : Option (List ℕ))
-    (old new : Disk) (contents : W → Option (List ℕ)) (before after : W) : Type 0 where
+pub record AnswersPutting {W : Type 0} (p : Putting) (bytes : ℕ) (told : Result FileAnswer PutFailure) (h h' : Hosts) (old new : Disk)
+    (contents : W → Option (List ℕ)) (before after : W) : Type 0 where
   pub read : Disk
   pub verified : VerifiesFiles old read
-  pub ends : EndsAccepted p bytes told unread unread' read new contents before after
+  pub ends : EndsAccepted p bytes told h h' read new contents before after
 
 -- The image isn't accepted, and nothing was read of the host's file.
-pub record EndsUnasked {W : Type 0} (told : Result FileAnswer PutFailure) (unread unread' : Option (List ℕ)) (old new : Disk)
+pub record EndsUnasked {W : Type 0} (told : Result FileAnswer PutFailure) (h h' : Hosts) (old new : Disk)
     (contents : W → Option (List ℕ)) (before after : W) : Type 0 where
   pub answer : Result FileAnswer Failure
   pub told_is : told ≡ put_told answer
   pub ends : EndsFiles answer old new contents before after
-  pub unread_is : unread' ≡ unread
+  pub unread : h' ≡ h
 
 -- how the command ends
-abbrev pub EndsPutting : {W : Type 0} → Putting → ℕ → Result FileAnswer PutFailure → Option (List ℕ) → Option (List ℕ) → Disk → Disk →
+abbrev pub EndsPutting : {W : Type 0} → Putting → ℕ → Result FileAnswer PutFailure → Hosts → Hosts → Disk → Disk →
     (W → Option (List ℕ)) → W → W → Type 0
-EndsPutting p bytes told unread unread' old new contents before after =
-    (EndsUnasked told unread unread' old new contents before after)
-    ⊎ (AnswersPutting p bytes told unread unread' old new contents before after)
+EndsPutting p bytes told h h' old new contents before after =
+    (EndsUnasked told h h' old new contents before after)
+    ⊎ (AnswersPutting p bytes told h h' old new contents before after)

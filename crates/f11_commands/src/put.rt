@@ -2,7 +2,7 @@
 
 ghost use Rattle.std.specs.Prelude.{◌≡◌};
 ghost use Rattle.f11_vfy.specs.Accepted.{device_of};
-ghost use Rattle.f11_commands.specs.PutCommand.{EndsAccepted, EndsPutting, PutsByName, PutsInto, PutsNamed, TellsPutting};
+ghost use Rattle.f11_commands.specs.PutCommand.{EndsAccepted, EndsPutting, PutsByName, PutsInto, PutsNamed, TellsPutting, hosts};
 
 use crate::copy::FileAnswer;
 use crate::copy::finding::{
@@ -16,8 +16,8 @@ use crate::rt_put::{PutFailure, as_put};
 use f11_dev::Device;
 use f11_fcp::Volume;
 use f11_files::OpenFault;
-use f11_flx::FlxRefusal;
-use f11_host::{HostRefusal, copy_from_host};
+use f11_flx::{CopyMode, FlxRefusal};
+use f11_host::{HostRefusal, copy_from_host, copy_text_from_host};
 use f11_rad50::Name;
 use f11_store::{FileId, Uic};
 use f11_vfy::Accepted;
@@ -31,18 +31,23 @@ pub struct Putting {
     pub directory: Uic,
     /// Its name there.
     pub name: Name,
+    /// As it is, or as a text's records.
+    pub mode: CopyMode,
 }
 
 /// Verifies the Files-11 volume on a device, and makes a file of so many bytes that `host` gives, as
-/// [`copy_from_host`](f11_host::copy_from_host) does. It writes the line `copied N`, N being how many blocks the file has, or `no` and the
-/// refusal's name; where the volume has faults nothing is read of `host`, and it writes the lines of `vfy`. The device comes back.
+/// [`copy_from_host`](f11_host::copy_from_host) does, or in mode `Text` as [`copy_text_from_host`](f11_host::copy_text_from_host): then `host`
+/// is walked over first, and `again` is a second reader of the same file, of which mode `Image` reads nothing. It writes the line `copied N`,
+/// N being how many blocks the file has, or `no` and the refusal's name; where the volume has faults nothing is read of either, and it writes
+/// the lines of `vfy`. The device comes back.
 ///
 /// The directory is the one that [4,4]'s file has under the name of the user's code, as `200001.DIR;1`. The operator, [1,1], asks; the file
 /// has the protection 0.
 ///
 /// # Errors
 ///
-/// [`PutFailure::Unread`] where `host` couldn't be read to that length, and what was made was deleted again; else of [`PutFailure::Command`]
+/// [`PutFailure::Unread`] where `host` or `again` couldn't be read to that length, or another text came of `again`, and what was made was
+/// deleted again; else of [`PutFailure::Command`]
 /// [`Failure::DeviceFault`] where a transfer failed, [`Failure::NoMemory`] where there was no memory, and [`Failure::CannotWrite`] where the
 /// writer takes no more: then the file may be made.
 pub fn print_put<D: Device, R: Read, W: Write>(
@@ -50,14 +55,17 @@ pub fn print_put<D: Device, R: Read, W: Write>(
     device: D,
     put: &Putting,
     host: &mut R,
+    again: &mut R,
     bytes: u64,
     writer: &mut W,
 ) -> (D, Result<FileAnswer, PutFailure>)
-    ensures ends { EndsPutting put.now bytes result.1 (R.remaining host.old) (R.remaining host.new)
-        (D.disk device) (D.disk result.0) W.contents writer.old writer.new }
+    ensures ends { EndsPutting put.now bytes result.1
+        (hosts (R.remaining host.old) (R.remaining again.old))
+        (hosts (R.remaining host.new) (R.remaining again.new)) (D.disk device) (D.disk result.0)
+        W.contents writer.old writer.new }
 {
     match accept_files(alloc, device, writer) {
-        Ok(accepted) => put_accepted(alloc, accepted, put, host, bytes, writer),
+        Ok(accepted) => put_accepted(alloc, accepted, put, host, again, bytes, writer),
         Err((device, told)) => (device, as_put(told)),
     }
 }
@@ -68,15 +76,18 @@ fn put_accepted<D: Device, R: Read, W: Write>(
     accepted: Accepted<D>,
     put: &Putting,
     host: &mut R,
+    again: &mut R,
     bytes: u64,
     writer: &mut W,
 ) -> (D, Result<FileAnswer, PutFailure>)
-    ensures ends { EndsAccepted put.now bytes result.1 (R.remaining host.old) (R.remaining host.new)
+    ensures ends { EndsAccepted put.now bytes result.1
+        (hosts (R.remaining host.old) (R.remaining again.old))
+        (hosts (R.remaining host.new) (R.remaining again.new))
         (D.disk (device_of accepted)) (D.disk result.0) W.contents writer.old writer.new }
 {
     match Volume::mount(alloc, accepted) {
         Ok(mut volume) => {
-            let made = put_by_name(&mut volume, put, host, bytes);
+            let made = put_by_name(&mut volume, put, host, again, bytes);
             let told = tell_put(made, writer);
             (dismount(volume), told)
         }
@@ -88,7 +99,7 @@ fn put_accepted<D: Device, R: Read, W: Write>(
                 accepted.device(),
                 Err(PutFailure::Command(Failure::NoMemory)),
             )
-        },
+        }
     }
 }
 
@@ -97,15 +108,18 @@ fn put_by_name<D: Device, R: Read>(
     volume: &mut Volume<D>,
     put: &Putting,
     host: &mut R,
+    again: &mut R,
     bytes: u64,
 ) -> Result<u32, HostRefusal>
-    ensures puts { PutsNamed bytes result (R.remaining host.old) (R.remaining host.new)
-        (PutsByName put.now bytes result (R.remaining host.old) (R.remaining host.new))
-        volume.old volume.new }
+    ensures puts { PutsNamed put.now.mode bytes result
+        (hosts (R.remaining host.old) (R.remaining again.old))
+        (hosts (R.remaining host.new) (R.remaining again.new))
+        (PutsByName put.now bytes result (hosts (R.remaining host.old) (R.remaining again.old))
+        (hosts (R.remaining host.new) (R.remaining again.new))) volume.old volume.new }
 {
     let directory = directory_name(put.directory);
     match find(volume, MASTER_DIRECTORY, &directory) {
-        Ok(dir) => put_into(volume, dir, put, host, bytes),
+        Ok(dir) => put_into(volume, dir, put, host, again, bytes),
         Err(refusal) => Err(HostRefusal::Files(refusal)),
     }
 }
@@ -116,15 +130,26 @@ fn put_into<D: Device, R: Read>(
     dir: FileId,
     put: &Putting,
     host: &mut R,
+    again: &mut R,
     bytes: u64,
 ) -> Result<u32, HostRefusal>
-    ensures puts { PutsNamed bytes result (R.remaining host.old) (R.remaining host.new)
-        (PutsInto put.now bytes dir result (R.remaining host.old) (R.remaining host.new))
-        volume.old volume.new }
+    ensures puts { PutsNamed put.now.mode bytes result
+        (hosts (R.remaining host.old) (R.remaining again.old))
+        (hosts (R.remaining host.new) (R.remaining again.new))
+        (PutsInto put.now bytes dir result (hosts (R.remaining host.old) (R.remaining again.old))
+        (hosts (R.remaining host.new) (R.remaining again.new))) volume.old volume.new }
 {
     let task = first_task();
     let lun = first_lun();
-    copy_from_host(host, bytes, volume, task, lun, OPERATOR, dir, &put.name, 0)
+    let name = &put.name;
+    match put.mode {
+        CopyMode::Image => copy_from_host(host, bytes, volume, task, lun, OPERATOR, dir, name, 0),
+        CopyMode::Text => {
+            copy_text_from_host(
+                host, again, bytes, volume, task, lun, OPERATOR, dir, name, 0,
+            )
+        }
+    }
 }
 
 /// Writes the line of what came of it, if it has one.
@@ -138,5 +163,6 @@ fn tell_put<W: Write>(
         Ok(blocks) => as_put(tell(Ok(blocks), writer)),
         Err(HostRefusal::Files(refusal)) => as_put(tell(Err(FlxRefusal::Files(refusal)), writer)),
         Err(HostRefusal::Unread) => Err(PutFailure::Unread),
+        Err(HostRefusal::LineTooLong) => as_put(tell(Err(FlxRefusal::LineTooLong), writer)),
     }
 }

@@ -38,7 +38,8 @@ use Rattle.f11_host.specs.CopyTextFromHost.{CopiesTextFromHost, FailsTextSpent, 
 use Rattle.f11_host.specs.CopyTextFromHost.{Judges, ReadsIf, ReadsTexts, is_text_too_long}
 use Rattle.f11_host.specs.Filling.{HostFile, host_file}
 use Rattle.f11_host.specs.Refusal.{as_copy, copy_result, of_copy}
-use Rattle.f11_host.specs.TextFilling.{FailsToFillFromText, FailsToMakeFromText, FillsFromText, IsNotText, MakesFromText, as_text, attributes_of}
+use Rattle.f11_host.specs.TextFilling.{FailsToFillFromText, FailsToMakeFromText, FillsFromText, IsNotText, MakesFromText, as_text}
+use Rattle.f11_host.specs.TextFilling.{attributes_of}
 use Rattle.f11_host.specs.TextPasses.{FailsToPlanText}
 use Rattle.f11_host.specs.Texts.{IsCopiedText}
 use Rattle.f11_host.specs.declared.refusal.HostRefusal.{HostRefusal}
@@ -150,15 +151,18 @@ module _ {D : Type 0} {met : Ghosts D} (who : Who) (lun bytes : ℕ) (plan : Ext
       subst (λ x. MayMakeFile (refused x) who v w) (sym (told f h))
       (may-not-make who v w f
       (unmade-fares who lun plan.blocks (FillsFromText of_volume who lun bytes plan) (FailsToFillFromText of_volume who lun bytes plan)
-      (asks-to-fill-text of_volume who lun bytes plan) f (as_text to dir protection plan []) (host_file u []) (host_file u' taken) v w (h []))
+      (asks-to-fill-text of_volume who lun bytes plan) f (as_text to dir protection plan []) (host_file u []) (host_file u' taken) v w
+      (h []))
       (unmade-keeps who lun plan.blocks (FillsFromText of_volume who lun bytes plan) (FailsToFillFromText of_volume who lun bytes plan)
-      (asks-to-fill-text of_volume who lun bytes plan) f (as_text to dir protection plan []) (host_file u []) (host_file u' taken) v w (h []))
+      (asks-to-fill-text of_volume who lun bytes plan) f (as_text to dir protection plan []) (host_file u []) (host_file u' taken) v w
+      (h []))
       (unmade-tries of_volume who lun plan.blocks (FillsFromText of_volume who lun bytes plan)
       (FailsToFillFromText of_volume who lun bytes plan) (asks-to-fill-text of_volume who lun bytes plan) is_making making-requests f
       (as_text to dir protection plan []) (host_file u []) (host_file u' taken) v w (h []))
       (λ is. absurd (no-rt Failed (subst (λ x. IsTold x) (same-refusal f (Rt Failed) is) (told f h))))
       (λ sound clean. making-undone of_volume who lun plan.blocks (FillsFromText of_volume who lun bytes plan)
-      (FailsToFillFromText of_volume who lun bytes plan) (asks-to-fill-text of_volume who lun bytes plan) store_of_volume is_sound volume-seen f
+      (FailsToFillFromText of_volume who lun bytes plan) (asks-to-fill-text of_volume who lun bytes plan) store_of_volume is_sound
+      volume-seen f
       (as_text to dir protection plan []) (host_file u []) (host_file u' taken) v w clean sound (unused v) (standing v sound) (h [])))
 
   pub text-made-spent : is_spent v ≡ true → Made → ⊥
@@ -179,7 +183,8 @@ module _ {D : Type 0} {met : Ghosts D} (who : Who) (lun bytes : ℕ) (plan : Ext
   text-unmade-ends f h lethal =
       subst (λ x. Ends of_volume who x v w) (sym (told f h))
       (making-ends of_volume who lun plan.blocks (FillsFromText of_volume who lun bytes plan)
-      (FailsToFillFromText of_volume who lun bytes plan) (asks-to-fill-text of_volume who lun bytes plan) f (as_text to dir protection plan [])
+      (FailsToFillFromText of_volume who lun bytes plan) (asks-to-fill-text of_volume who lun bytes plan) f
+      (as_text to dir protection plan [])
       (host_file u []) (host_file u' taken) v w (h []) (ap is_lethal (sym (told f h)) ∙ lethal))
 
   pub text-made-copied : is_sound v ≡ true → Made
@@ -203,16 +208,19 @@ module _ {D : Type 0} {met : Ghosts D} (who : Who) (lun bytes : ℕ) (plan : Ext
   -- how a making of these blocks is refused
   made-of : (f : FlxRefusal) (blocks : List (List ℕ)) → is_lethal f ≡ false → is_sound v ≡ true
       → ((e : Refusal) → f ≡ Files e → (x y : Volume D met)
-      → FillsFromText of_volume who lun bytes plan (host_file u []) (host_file u' taken) x y → Granted of_volume who (filling lun blocks) x y)
+      → FillsFromText of_volume who lun bytes plan (host_file u []) (host_file u' taken) x y
+      → Granted of_volume who (filling lun blocks) x y)
       → ((e : Refusal) → f ≡ Files e → (x y : Volume D met)
       → FailsToFillFromText of_volume who lun bytes plan (Files e) (host_file u []) (host_file u' taken) x y
       → BreaksOffAsking of_volume who (filling lun blocks) e x y) → Unmade f →
       (IsRefusal (as_text to dir protection plan blocks) who lun f (store_of_volume v) (store_of_volume w))
-      ⊎ (IsShort (FailsToFillFromText (of_volume {met = met}) who lun bytes plan) (as_text to dir protection plan blocks) who lun plan.blocks f
+      ⊎ (IsShort (FailsToFillFromText (of_volume {met = met}) who lun bytes plan) (as_text to dir protection plan blocks) who lun
+      plan.blocks f
       (host_file u []) (host_file u' taken) (store_of_volume v) (store_of_volume w))
   made-of f blocks clean sound filled broken h =
       making-refused of_volume who lun plan.blocks (FillsFromText of_volume who lun bytes plan)
-      (FailsToFillFromText of_volume who lun bytes plan) (asks-to-fill-text of_volume who lun bytes plan) store_of_volume is_sound volume-seen f
+      (FailsToFillFromText of_volume who lun bytes plan) (asks-to-fill-text of_volume who lun bytes plan) store_of_volume is_sound
+      volume-seen f
       (as_text to dir protection plan blocks) (host_file u []) (host_file u' taken) v w clean sound (unused v) (standing v sound) filled
       broken (h blocks)
 
@@ -268,7 +276,8 @@ module _ {D : Type 0} {met : Ghosts D} (who : Who) (lun bytes : ℕ) (plan : Ext
 
         by : (blocks : List (List ℕ)) →
             (IsRefusal (as_text to dir protection plan blocks) who lun (Files e) (store_of_volume v) (store_of_volume w))
-            ⊎ (IsShort (FailsToFillFromText (of_volume {met = met}) who lun bytes plan) (as_text to dir protection plan blocks) who lun plan.blocks
+            ⊎ (IsShort (FailsToFillFromText (of_volume {met = met}) who lun bytes plan) (as_text to dir protection plan blocks) who lun
+            plan.blocks
             (Files e) (host_file u []) (host_file u' taken) (store_of_volume v) (store_of_volume w)) →
             FailsToMakeFile (as_text to dir protection plan blocks) who lun (new_id (store_of_volume v)) e (store_of_volume v)
             (store_of_volume w)
@@ -284,7 +293,8 @@ module _ {D : Type 0} {met : Ghosts D} (who : Who) (lun bytes : ℕ) (plan : Ext
         (made-of BadRecord blocks refl sound (λ e is. absurd (bad-no-files e is)) (λ e is. absurd (bad-no-files e is)) h)
       where
         by : (IsRefusal (as_text to dir protection plan blocks) who lun BadRecord (store_of_volume v) (store_of_volume w))
-            ⊎ (IsShort (FailsToFillFromText (of_volume {met = met}) who lun bytes plan) (as_text to dir protection plan blocks) who lun plan.blocks
+            ⊎ (IsShort (FailsToFillFromText (of_volume {met = met}) who lun bytes plan) (as_text to dir protection plan blocks) who lun
+            plan.blocks
             BadRecord (host_file u []) (host_file u' taken) (store_of_volume v) (store_of_volume w)) →
             IsCutShort (as_text to dir protection plan blocks) who lun plan.blocks (new_id (store_of_volume v)) (store_of_volume v)
             (store_of_volume w)
@@ -295,7 +305,8 @@ module _ {D : Type 0} {met : Ghosts D} (who : Who) (lun bytes : ℕ) (plan : Ext
         → is_sound v ≡ true → Unmade f →
         FailsToCopyTextFromHost (of_copy f) bytes first first' u u' who lun dir to protection (store_of_volume v) (store_of_volume w)
     text-unmade-refused (Files e) short whole sound h =
-        subst (λ b. IsTextRefusedIf b bytes first first' u u' who lun dir to protection e (store_of_volume v) (store_of_volume w)) (sym short)
+        subst (λ b. IsTextRefusedIf b bytes first first' u u' who lun dir to protection e (store_of_volume v) (store_of_volume w))
+        (sym short)
         (not-copied e (not-true (is_lethal (Files e)) whole) sound h)
     text-unmade-refused (Rt e) short whole sound h = absurd (no-rt e (told (Rt e) h))
     text-unmade-refused BadRecord short whole sound h = record {

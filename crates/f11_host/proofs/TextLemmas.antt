@@ -1,6 +1,8 @@
 -- A pass over a text of the host, a step at a time, and what it makes of it.
-use Rattle.std.proofs.Common.{◌≡◌, ℕ, suc, ◌+◌, ◌-◌, ◌*◌, ◌/◌, ◌<◌, ◌≤◌, Bool, true, false, if◌then◌else◌, List, [], ◌∷◌, ◌++◌, length, take, drop}
-use Rattle.std.proofs.Common.{All, Option, Some, None, min, replicate, refl, sym, ap, ◌∙◌, subst, append_assoc, append-nil, length-append, arith}
+use Rattle.std.proofs.Common.{◌≡◌, ℕ, suc, ◌+◌, ◌-◌, ◌*◌, ◌/◌, ◌<◌, ◌≤◌, Bool, true, false, if◌then◌else◌, List, [], ◌∷◌, ◌++◌, length}
+use Rattle.std.proofs.Common.{take, drop}
+use Rattle.std.proofs.Common.{All, Option, Some, None, min, replicate, refl, sym, ap, ◌∙◌, subst, append_assoc, append-nil, length-append}
+use Rattle.std.proofs.Common.{arith}
 use Rattle.std.specs.Io.KnownBytes.{Consumes}
 use Rattle.std.specs.List.{concat}
 use Rattle.std.proofs.KnownBytes.{Consumes-nil, Consumes-trans}
@@ -24,7 +26,8 @@ use Rattle.f11_flx.specs.declared.refusal.FlxRefusal.TheVariants.{BadRecord, Fil
 use Rattle.f11_flx.specs.declared.to_records.ToRecords.{ToRecords}
 use Rattle.f11_flx.proofs.MakingLemmas.{same-blocks}
 use Rattle.f11_flx.proofs.PassedLemmas.{chop, some-of}
-use Rattle.f11_flx.proofs.PassLemmas.{few-to-come, granted-writes, in-whole-behind, to-come, writes-then, writes-then-long, writes-then-stops}
+use Rattle.f11_flx.proofs.PassLemmas.{few-to-come, granted-writes, in-whole-behind, to-come, writes-then, writes-then-long}
+use Rattle.f11_flx.proofs.PassLemmas.{writes-then-stops}
 use Rattle.f11_flx.proofs.PlanLemmas.{dry-takes}
 use Rattle.f11_flx.proofs.PourLemmas.{whole-length}
 use Rattle.f11_flx.proofs.WritingLemmas.{is-whole, writes-start}
@@ -302,7 +305,8 @@ module _ {V : Type 0} (S : FilesService V) (who : Who) (lun bytes : ℕ) (taken 
           pieces = h.writes.pieces ++ k.pieces;
           granted = both k.pieces x k.granted;
           count = sym count;
-          copied = is-copied taken (h.writes.pieces ++ k.pieces) (text_attributes longest blocks end) (sym text-lines ∙ k.short) content whole
+          copied =
+              is-copied taken (h.writes.pieces ++ k.pieces) (text_attributes longest blocks end) (sym text-lines ∙ k.short) content whole
               (ap (λ n. text_attributes n blocks end) longest-is ∙ ap (λ n. text_attributes (longest_of lines) n end) many-blocks
               ∙ ap (λ n. text_attributes (longest_of lines) (length (in_whole_blocks (records-in (with_crs taken))) / 512) n) end-is);
         }

@@ -51,8 +51,8 @@ pub record ReadsTwo (bytes : ℕ) (first first' again again' : Option (List ℕ)
   pub taken : List ℕ
   pub another : IsAnotherText bytes plan taken again again'
 
--- how a text of the host is read by two readers, of which so many bytes are to come; what becomes of them isn't known where one gave no more,
--- or before a device fault or Damaged was met
+-- how a text of the host is read by two readers, of which so many bytes are to come; what becomes of them isn't known where one gave no
+-- more, or before a device fault or Damaged was met
 abbrev pub ReadsTexts : ℕ → Result ℕ HostRefusal → Option (List ℕ) → Option (List ℕ) → Option (List ℕ) → Option (List ℕ) → Type 0
 ReadsTexts bytes (Ok blocks) first first' again again' = ReadsBoth bytes blocks first first' again again'
 ReadsTexts bytes (Err (Files e)) first first' again again' =
@@ -73,8 +73,8 @@ pub record CopiesTextFromHost (bytes blocks : ℕ) (again again' : Option (List 
   pub count : length pieces ≡ blocks
   pub asked : Granted plain who (making_of (as_text to dir protection plan pieces) lun (new_id s)) s s'
 
--- It wasn't: the first request that is refused was so, whatever text with the copy that was judged follows the bytes that were taken, and what
--- was made was undone.
+-- It wasn't: the first request that is refused was so, whatever text with the copy that was judged follows the bytes that were taken, and
+-- what was made was undone.
 pub record IsTextNotCopied (bytes : ℕ) (first first' again again' : Option (List ℕ)) (who : Who) (lun : ℕ) (dir : FileId) (to : List ℕ)
     (protection : ℕ) (e : Refusal) (s s' : Store) : Type 0 where
   pub plan : Extent
@@ -86,7 +86,8 @@ pub record IsTextNotCopied (bytes : ℕ) (first first' again again' : Option (Li
       length blocks ≡ plan.blocks → FailsToMakeFile (as_text to dir protection plan blocks) who lun (new_id s) e s s')
 
 -- or it is too long, and nothing was asked
-abbrev pub IsTextRefusedIf : Bool → ℕ → Option (List ℕ) → Option (List ℕ) → Option (List ℕ) → Option (List ℕ) → Who → ℕ → FileId → List ℕ → ℕ
+abbrev pub IsTextRefusedIf : Bool → ℕ → Option (List ℕ) → Option (List ℕ) → Option (List ℕ) → Option (List ℕ) → Who → ℕ → FileId → List ℕ
+    → ℕ
     → Refusal → Store → Store → Type 0
 IsTextRefusedIf true bytes first first' again again' who lun dir to protection e s s' = (e ≡ TooManySegments) × (s' ≡ s)
 IsTextRefusedIf false bytes first first' again again' who lun dir to protection e s s' =

@@ -23,7 +23,8 @@ pub write_lines-requires-clause-few : goal.write_lines-requires-clause-few
 write_lines-requires-clause-few g c =
     let l = c.loop-left in
     let who : Who = who_asks c.args.by.now.task c.args.by.now.uic in
-    reading-few g.S.Asked.service who c.args.by.now.lun c.args.bytes c.args.lines.now (out_of c.args.out.now) _ c.args.service.now l.left l.cr
+    reading-few g.S.Asked.service who c.args.by.now.lun c.args.bytes c.args.lines.now (out_of c.args.out.now) _ c.args.service.now l.left
+    l.cr
     l.lines (out_of l.out) _ l.service l.invariant c.min-count.result c.read_piece.new.block c.deref.result.now _ c.in-Ok.ensures.read
     c.min-count.ensures (c.deref.ensures.0 ∙ c.expand-cr.ensures.bytes) c.requires.few c.requires.begins c.requires.to c.requires.place
 
@@ -32,7 +33,8 @@ returns-in-Err-write_lines-clause-fails g c =
     let l = c.loop-left in
     let who : Who = who_asks c.args.by.now.task c.args.by.now.uic in (
       _,
-      reading-fails g.S.Asked.service who c.args.by.now.lun c.args.bytes c.args.lines.now (out_of c.args.out.now) _ c.args.service.now l.left
+      reading-fails g.S.Asked.service who c.args.by.now.lun c.args.bytes c.args.lines.now (out_of c.args.out.now) _ c.args.service.now
+          l.left
           l.cr l.lines (out_of l.out) _ l.service l.invariant c.min-count.result c.read_piece.new.block c.deref.result.now _
           c.in-Ok.ensures.read c.min-count.ensures (c.deref.ensures.0 ∙ c.expand-cr.ensures.bytes) c.in-Err-write_lines.refusal
           c.write_lines.new.service c.in-Err-write_lines.ensures.fails,

@@ -17,7 +17,8 @@ use Rattle.f11_host.proofs.text_copy.copy_judged.Goals as goal
 pub returns-in-Err-clause-hosts : goal.returns-in-Err-clause-hosts
 returns-in-Err-clause-hosts g c =
     subst (λ (e : HostRefusal). ReadsTexts c.args.bytes (unmade e) (g.R.Read.remaining c.args.first.now)
-    (g.R.Read.remaining c.judge_text.new.host) (g.R.Read.remaining c.args.again.now) (g.R.Read.remaining c.args.again.now)) (sym c.told.ensures)
+    (g.R.Read.remaining c.judge_text.new.host) (g.R.Read.remaining c.args.again.now) (g.R.Read.remaining c.args.again.now))
+    (sym c.told.ensures)
     (unplanned-host c.args.bytes (g.R.Read.remaining c.args.first.now) (g.R.Read.remaining c.judge_text.new.host)
     (g.R.Read.remaining c.args.again.now) c.in-Err.refusal c.in-Err.ensures.fails)
 
