@@ -1,7 +1,8 @@
-use Rattle.std.proofs.Common.{◌∙◌, [], arith, refl}
+use Rattle.std.proofs.Common.{◌≡◌, ◌∙◌, [], arith, refl, take}
 use Rattle.f11_flx.specs.Asking.{Who, who_asks}
 use Rattle.f11_flx.specs.Filling.{out_of}
 use Rattle.f11_host.proofs.TextLemmas.{reading-all, reading-fails, reading-few, reading-lacks, reading-more, reading-none}
+use Rattle.f11_host.specs.Texts.{crs_behind}
 use Rattle.f11_host.proofs.text.read_text.Goals as goal
 
 pub loop-left-init : goal.loop-left-init
@@ -22,31 +23,37 @@ returns-in-Err-clause-fails g c =
 pub write_lines-requires-clause-few : goal.write_lines-requires-clause-few
 write_lines-requires-clause-few g c =
     let l = c.loop-left in
+    let is : c.deref.result.now ≡ crs_behind l.cr (take c.min-count.result c.read_piece.new.block) =
+    c.deref.ensures.0 ∙ c.expand-cr.ensures.bytes in
     let who : Who = who_asks c.args.by.now.task c.args.by.now.uic in
     reading-few g.S.Asked.service who c.args.by.now.lun c.args.bytes c.args.lines.now (out_of c.args.out.now) _ c.args.service.now l.left
     l.cr
     l.lines (out_of l.out) _ l.service l.invariant c.min-count.result c.read_piece.new.block c.deref.result.now _ c.in-Ok.ensures.read
-    c.min-count.ensures (c.deref.ensures.0 ∙ c.expand-cr.ensures.bytes) c.requires.few c.requires.begins c.requires.to c.requires.place
+    c.min-count.ensures is c.requires.few c.requires.begins c.requires.to c.requires.place
 
 pub returns-in-Err-write_lines-clause-fails : goal.returns-in-Err-write_lines-clause-fails
 returns-in-Err-write_lines-clause-fails g c =
     let l = c.loop-left in
+    let is : c.deref.result.now ≡ crs_behind l.cr (take c.min-count.result c.read_piece.new.block) =
+    c.deref.ensures.0 ∙ c.expand-cr.ensures.bytes in
     let who : Who = who_asks c.args.by.now.task c.args.by.now.uic in (
       _,
       reading-fails g.S.Asked.service who c.args.by.now.lun c.args.bytes c.args.lines.now (out_of c.args.out.now) _ c.args.service.now
           l.left
           l.cr l.lines (out_of l.out) _ l.service l.invariant c.min-count.result c.read_piece.new.block c.deref.result.now _
-          c.in-Ok.ensures.read c.min-count.ensures (c.deref.ensures.0 ∙ c.expand-cr.ensures.bytes) c.in-Err-write_lines.refusal
+          c.in-Ok.ensures.read c.min-count.ensures is c.in-Err-write_lines.refusal
           c.write_lines.new.service c.in-Err-write_lines.ensures.fails,
     )
 
 pub loop-left-preserved : goal.loop-left-preserved
 loop-left-preserved g c =
     let l = c.loop-left in
+    let is : c.deref.result.now ≡ crs_behind l.cr (take c.min-count.result c.read_piece.new.block) =
+    c.deref.ensures.0 ∙ c.expand-cr.ensures.bytes in
     let who : Who = who_asks c.args.by.now.task c.args.by.now.uic in
     reading-more g.S.Asked.service who c.args.by.now.lun c.args.bytes c.args.lines.now (out_of c.args.out.now) _ c.args.service.now l.left
     l.cr l.lines (out_of l.out) _ l.service l.invariant c.min-count.result c.read_piece.new.block c.deref.result.now _ c.in-Ok.ensures.read
-    c.min-count.ensures (c.deref.ensures.0 ∙ c.expand-cr.ensures.bytes) c.expand-cr.result c.write_lines.new.lines
+    c.min-count.ensures is c.expand-cr.result c.write_lines.new.lines
     (out_of c.write_lines.new.out) c.write_lines.new.service c.expand-cr.ensures.behind c.in-Ok-write_lines.ensures.writes
     c.in-Ok-write_lines.ensures.room
 
