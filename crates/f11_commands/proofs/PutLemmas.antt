@@ -37,6 +37,24 @@ use Rattle.f11_commands.specs.declared.copy.FileAnswer.{FileAnswer}
 use Rattle.f11_commands.specs.declared.put.Putting.{Putting}
 use Rattle.f11_commands.specs.declared.rt_put.PutFailure.{PutFailure}
 
+-- by the first task and its first lun
+by-first : (task lun : ℕ) → task ≡ 0 → lun ≡ 0 → (By : Who → ℕ → Type 0) → By (who_asks task operator.caller) lun → By operator 0
+by-first task lun task-is lun-is By h =
+    subst (λ l. By operator l) lun-is (subst (λ t. By (who_asks t operator.caller) lun) task-is h)
+
+-- how a text was read
+texts-for : (bytes : ℕ) (u u' : Hosts) (result : Result ℕ HostRefusal) → ReadsTexts bytes result u.first u'.first u.again u'.again
+    → ReadsFor mode.Text bytes result u u'
+texts-for bytes u u' (Ok blocks) h = h
+texts-for bytes u u' (Err (Files e)) h = inr h
+texts-for bytes u u' (Err Unread) h = h
+texts-for bytes u u' (Err LineTooLong) h = h
+
+-- nothing was read
+unread-for : (bytes : ℕ) (u : Hosts) (m : CopyMode) (e : Refusal) → ReadsFor m bytes (Err (Files e)) u u
+unread-for bytes u mode.Image e = ((λ clean. record { taken = []; few = omega arith; takes = Consumes-nil u.first }), refl)
+unread-for bytes u mode.Text e = inl refl
+
 module _ {D : Type 0} {met : Ghosts D} (p : Putting) (bytes : ℕ) (u : Hosts) where
   -- the file was to be made in a directory
   made-in : (dir : FileId) (result : Result ℕ HostRefusal) (u' : Hosts) (v w : Volume D met)
@@ -68,11 +86,6 @@ module _ {D : Type 0} {met : Ghosts D} (p : Putting) (bytes : ℕ) (u : Hosts) w
       by (Err e) files copied refused sound whole =
           record { refused = refused whole sound; undone = files.undone (as_copy e) refl sound whole }
 
-  -- by the first task and its first lun
-  by-first : (task lun : ℕ) → task ≡ 0 → lun ≡ 0 → (By : Who → ℕ → Type 0) → By (who_asks task operator.caller) lun → By operator 0
-  by-first task lun task-is lun-is By h =
-      subst (λ l. By operator l) lun-is (subst (λ t. By (who_asks t operator.caller) lun) task-is h)
-
   pub put-image : p.mode ≡ mode.Image → (task lun : ℕ) → task ≡ 0 → lun ≡ 0 → (dir : FileId) (result : Result ℕ HostRefusal)
       (u' : Hosts) (v w : Volume D met) → MayMakeFile (copy_result result) (who_asks task operator.caller) v w
       → ReadsHost bytes result u.first u'.first → u'.again ≡ u.again
@@ -95,13 +108,6 @@ module _ {D : Type 0} {met : Ghosts D} (p : Putting) (bytes : ℕ) (u : Hosts) w
       (by-first task lun task-is lun-is (λ who l. IfErr result (λ e. is_whole (copy_result result) ≡ true → is_sound v ≡ true
       → FailsToCopyFromHost e bytes u.first u'.first who l dir p.name 0 (store_of_volume v) (store_of_volume w))) refused))
 
-  texts-for : (result : Result ℕ HostRefusal) (u' : Hosts) → ReadsTexts bytes result u.first u'.first u.again u'.again
-      → ReadsFor mode.Text bytes result u u'
-  texts-for (Ok blocks) u' h = h
-  texts-for (Err (Files e)) u' h = inr h
-  texts-for (Err Unread) u' h = h
-  texts-for (Err LineTooLong) u' h = h
-
   pub put-text : p.mode ≡ mode.Text → (task lun : ℕ) → task ≡ 0 → lun ≡ 0 → (dir : FileId) (result : Result ℕ HostRefusal)
       (u' : Hosts) (v w : Volume D met) → MayMakeFile (copy_result result) (who_asks task operator.caller) v w
       → ReadsTexts bytes result u.first u'.first u.again u'.again
@@ -114,7 +120,7 @@ module _ {D : Type 0} {met : Ghosts D} (p : Putting) (bytes : ℕ) (u : Hosts) w
   put-text is task lun task-is lun-is dir result u' v w files host copied refused =
       made-in dir result u' v w
       (by-first task lun task-is lun-is (λ who l. MayMakeFile (copy_result result) who v w) files)
-      (subst (λ m. ReadsFor m bytes result u u') (sym is) (texts-for result u' host))
+      (subst (λ m. ReadsFor m bytes result u u') (sym is) (texts-for bytes u u' result host))
       (subst (λ m. IfOk result (λ blocks. is_sound v ≡ true → MakesFor m bytes blocks u u' dir p.name (store_of_volume v)
       (store_of_volume w))) (sym is)
       (by-first task lun task-is lun-is (λ who l. IfOk result (λ blocks. is_sound v ≡ true
@@ -124,10 +130,6 @@ module _ {D : Type 0} {met : Ghosts D} (p : Putting) (bytes : ℕ) (u : Hosts) w
       (by-first task lun task-is lun-is (λ who l. IfErr result (λ e. is_whole (copy_result result) ≡ true → is_sound v ≡ true
       → FailsToCopyTextFromHost e bytes u.first u'.first u.again u'.again who l dir p.name 0 (store_of_volume v) (store_of_volume w)))
       refused))
-
-  unread-for : (m : CopyMode) (e : Refusal) → ReadsFor m bytes (Err (Files e)) u u
-  unread-for mode.Image e = ((λ clean. record { taken = []; few = omega arith; takes = Consumes-nil u.first }), refl)
-  unread-for mode.Text e = inl refl
 
   -- the user's directory was found
   pub put-found : (name : List ℕ) → name ≡ directory_name p.directory → (dir : FileId) (result : Result ℕ HostRefusal)
@@ -158,7 +160,7 @@ module _ {D : Type 0} {met : Ghosts D} (p : Putting) (bytes : ℕ) (u : Hosts) w
       → PutsNamed p.mode bytes (Err (Files e)) u u (PutsByName p bytes (Err (Files e)) u u) v w
   put-nowhere name name-is e v w fails' = record {
     fares = alone-not-found master_directory (directory_name p.directory) e v w fails;
-    host = unread-for p.mode e;
+    host = unread-for bytes u p.mode e;
     outcome = λ sound whole. inr (record {
       refusal = e;
       is = refl;
