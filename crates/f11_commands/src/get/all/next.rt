@@ -41,7 +41,7 @@ impl<D: Device> TakingAll<D> {
     /// # Errors
     ///
     /// [`Failure::CannotWrite`] where the host takes no more, which may hold a part then, and nothing of the line is written; or where the
-    /// writer takes no more, which may hold a part of the line, and the host has all.
+    /// writer takes no more, which may hold a part of the line, and the host has the bytes that it tells.
     pub fn write<H: Write, W: Write>(
         &mut self,
         found: &FileAt,
