@@ -1,7 +1,7 @@
 -- A pass over a text of the host, a step at a time, and what it makes of it.
 use Rattle.std.proofs.Common.{◌≡◌, ℕ, suc, ◌+◌, ◌-◌, ◌*◌, ◌/◌, ◌<◌, ◌≤◌, Bool, true, false, if◌then◌else◌, List, [], ◌∷◌, ◌++◌, length}
 use Rattle.std.proofs.Common.{take, drop}
-use Rattle.std.proofs.Common.{All, Option, Some, None, min, replicate, refl, sym, ap, ◌∙◌, subst, append_assoc, append-nil, length-append}
+use Rattle.std.proofs.Common.{All, Option, Some, None, min, replicate, sym, ap, ◌∙◌, subst, append_assoc, append-nil, length-append}
 use Rattle.std.proofs.Common.{arith}
 use Rattle.std.specs.Io.KnownBytes.{Consumes}
 use Rattle.std.specs.List.{concat}
@@ -11,7 +11,6 @@ use Rattle.std.proofs.lemmas.Bool.{cond-false, cond-true}
 use Rattle.std.proofs.lemmas.List.{take-append-drop, take_all}
 use Rattle.std.proofs.lemmas.List.Elements.{All-append}
 use Rattle.std.proofs.lemmas.List.Folds.{concat-append}
-use Rattle.f11_store.specs.declared.refusals.Refusal.{Refusal}
 use Rattle.f11_flx.specs.Asking.{Denies, FilesService, Granted, Who, writes, writes_of}
 use Rattle.f11_flx.specs.Conversion.{Copy, copied_lines}
 use Rattle.f11_flx.specs.Dry.{dry}

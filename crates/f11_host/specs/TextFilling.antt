@@ -11,7 +11,7 @@ use Rattle.f11_flx.specs.declared.lines.Extent.{Extent}
 use Rattle.f11_flx.specs.declared.refusal.FlxRefusal.{FlxRefusal}
 use Rattle.f11_flx.specs.declared.refusal.FlxRefusal.TheVariants as refusal
 use Rattle.f11_host.specs.Filling.{HostFile, OfEachText}
-use Rattle.f11_host.specs.TextPasses.{CopiesText, HasNoCopy, StopsCopyingText}
+use Rattle.f11_host.specs.TextPasses.{CopiesText, StopsCopyingText}
 use Rattle.f11_host.specs.Texts.{IsCopiedText}
 
 -- the attributes of a copy

@@ -1,6 +1,7 @@
 //! Files of the host, made files on a Files-11 volume.
 //!
-//! [`copy_from_host`] makes a file of the bytes that a reader gives, as they are. [`read_piece`] reads the bytes of one block.
+//! [`copy_from_host`] makes a file of the bytes that a reader gives, as they are, and [`copy_text_from_host`] one of the lines of a text.
+//! [`read_piece`] reads the bytes of one block.
 #![tactic(auto)]
 
 mod copy;

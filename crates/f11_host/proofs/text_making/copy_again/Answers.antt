@@ -1,8 +1,8 @@
-use Rattle.std.proofs.Common.{subst, sym, ◌∙◌}
+use Rattle.std.proofs.Common.{subst, sym}
 use Rattle.f11_flx.specs.Asking.{Who, who_asks}
 use Rattle.f11_flx.specs.declared.refusal.FlxRefusal.{FlxRefusal}
 use Rattle.f11_host.specs.TextFilling.{FailsToCopyAgain}
-use Rattle.f11_host.proofs.TextFillLemmas.{again-fails, again-other}
+use Rattle.f11_host.proofs.TextFillLemmas.{again-fails}
 use Rattle.f11_host.proofs.text_making.copy_again.Goals as goal
 
 pub returns-in-Err-clause-fails : goal.returns-in-Err-clause-fails
