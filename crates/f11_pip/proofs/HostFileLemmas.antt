@@ -1,5 +1,6 @@
 -- What clap makes of the words of the commands on files of the host.
-use Rattle.std.proofs.Common.{arith, ap, subst, sym, suc, ◌∙◌, ◌≡◌, ◌&&◌, ◌++◌, List, [], ◌∷◌, Bool, Option, Some, None, true, false, codes, fold, option_map, slice_index_or, refl}
+use Rattle.std.proofs.Common.{arith, ap, subst, sym, suc, ◌∙◌, ◌≡◌, ◌&&◌, ◌++◌, List, [], ◌∷◌, Bool, Option, Some, None, true, false, codes}
+use Rattle.std.proofs.Common.{fold, option_map, slice_index_or, refl}
 use Rattle.std.specs.List.{list_all}
 use Rattle.clap.specs.Simple.{Shape, built, built_leaf, entered, names_of}
 use Rattle.clap.specs.Takes.{built_takes, default_passes, is_valid, level_passes, settle_passes, walk_passes}
@@ -109,7 +110,8 @@ takes-get program mode image uic name host plain =
 
 -- what is read of the words
 read-get : (mode : Option Text) (image uic name host : Text)
-    → MeetsGet false mode image uic (Some name) (Some host) (Some (codes "get", finished get_shape.rules (get-4 mode image uic name host).held))
+    → MeetsGet false mode image uic (Some name) (Some host)
+    (Some (codes "get", finished get_shape.rules (get-4 mode image uic name host).held))
 read-get None image uic name host = (refl, refl)
 read-get (Some mode) image uic name host = (refl, refl)
 

@@ -5,7 +5,8 @@ use Rattle.f11_flx.specs.ToText.{rest_of}
 use Rattle.f11_index.specs.Kept.{index_kept}
 use Rattle.f11_commands.specs.TakingText.{FailsToPour}
 use Rattle.f11_commands.proofs.TakingOutLemmas.{reads-all, reads-ended, reads-one, taken-more, taken-none}
-use Rattle.f11_commands.proofs.TakingTextLemmas.{bad-text, begun-text, ended-text, error-is, gives-bad, gives-more, gives-none, reads-broken}
+use Rattle.f11_commands.proofs.TakingTextLemmas.{bad-text, begun-text, ended-text, error-is, gives-bad, gives-more, gives-none}
+use Rattle.f11_commands.proofs.TakingTextLemmas.{reads-broken}
 use Rattle.f11_commands.proofs.TakingTextLemmas.{taken-poured, whole-text}
 use Rattle.f11_commands.proofs.text.write_lines.Goals as goal
 
