@@ -13,6 +13,8 @@ mod index;
 #[cfg(test)]
 mod names;
 #[cfg(test)]
+mod putting;
+#[cfg(test)]
 mod taking_out;
 #[cfg(test)]
 mod tasks;

@@ -12,7 +12,7 @@ use std::io::sink;
 use std::test::Fail;
 
 /// The user whose directory is the master file directory.
-const NOBODY: Uic = Uic {
+pub const NOBODY: Uic = Uic {
     group: 0,
     member: 0,
 };
@@ -35,7 +35,7 @@ fn sought(alloc: Global, device: Memory, lines: &mut Lines, name: &Name) -> Soug
 }
 
 /// The name that a text spells, read once more where there was no memory.
-fn named(alloc: Global, text: &str) -> Result<Option<Name>, Failure> {
+pub fn named(alloc: Global, text: &str) -> Result<Option<Name>, Failure> {
     match read_name(alloc, text) {
         Err(Failure::NoMemory) => read_name(alloc, text),
         done => done,
