@@ -200,12 +200,17 @@ class Files:
         """The lines of the user's directory with a name."""
         return self.listed(*self.found((4, 4, 0), name))
 
-    def content(self, user, name):
-        """The bytes of the file that a user's directory has under a name."""
+    def sought(self, user, name):
+        """The number of the file that a user's directory has under a name."""
         found = self.found(self.found((4, 4, 0), user), name)
         if not self.has(*found):
             raise Refused("NoSuchFile")
-        return self.bytes_of(found[0])
+        return found[0]
+
+    def taken(self, n):
+        """A file's bytes up to its end, and what the line says that tells of them."""
+        content, missing = self.bytes_of(n), self.first_missing(n)
+        return content, f"copied {len(content)} bytes" + (f" broke off at VBN {missing}" if missing else "")
 
     def bytes_of(self, n):
         """A file's bytes up to its end."""
@@ -267,7 +272,7 @@ def everything(image):
         return [f"fault {wrong}"], None
     lines, made = [], {}
     for what, path, n in files.everything():
-        content, missing = files.bytes_of(n), files.first_missing(n)
-        lines.append(f"{what} copied {len(content)} bytes" + (f" broke off at VBN {missing}" if missing else ""))
+        content, said = files.taken(n)
+        lines.append(f"{what} {said}")
         made.setdefault(files.lost(n) if path in made else path, content)
     return lines, made

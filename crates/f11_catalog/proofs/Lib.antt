@@ -10,3 +10,4 @@ pub mod WalkLemmas
 pub mod EnteredLemmas
 pub mod LostLemmas
 pub mod FilesLemmas
+pub mod StoredLemmas

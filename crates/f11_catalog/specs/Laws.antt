@@ -1,14 +1,40 @@
 -- Laws of directories and files (Files-11 On-Disk Structure Level 1, "Index File" and "Directories").
-use Rattle.std.specs.Prelude.{◌≡◌, ℕ, true}
+use Rattle.std.specs.Prelude.{◌≡◌, ℕ, false, true, List, nat_le, option_map}
 use Rattle.f11_dev.specs.Image.{Image}
-use Rattle.f11_image_store.specs.StoreOf.{is_first}
+use Rattle.f11_home.specs.Home.{HomeFields}
+use Rattle.f11_image_store.specs.StoreOf.{as_seen, is_first, store_of}
 use Rattle.f11_index.specs.IndexFile.{Index}
-use Rattle.f11_index.specs.Table.{table_in}
+use Rattle.f11_index.specs.Table.{table_in, table_of}
+use Rattle.f11_store.specs.Directory.{entries_of, is_empty, record_id, record_name}
+use Rattle.f11_store.specs.Store as store
 use Rattle.f11_store.specs.declared.files.FileId.{FileId}
 use Rattle.f11_catalog.specs.AllFiles.{all_files, is_among}
+use Rattle.f11_catalog.specs.Lines.{name_shown, named_line, record_line}
+use Rattle.f11_catalog.specs.Records.{file_named, records_of}
 
 -- each file of a volume is one of all its files
 abbrev pub NoFileIsLeftOut : Type 0
 NoFileIsLeftOut =
     (image : Image) (index : Index) (master : FileId) (n : ℕ) → is_first (table_in image index) n ≡ true →
     is_among (all_files image (table_in image index) master) n ≡ true
+
+-- the file that the plain store has with an identification on this volume is the one that it names, as requests see it: files 1 to 3
+-- without their blocks
+abbrev pub NamesTheStoresFile : Type 0
+NamesTheStoresFile =
+    (image : Image) (home : HomeFields) (id : FileId) → id.volume ≡ 0 →
+    store.file_of (store_of image home) id ≡ option_map (as_seen id.number) (file_named image (table_of image home) id)
+
+-- from file 4 on the records of a directory are the entries that the plain store has of it
+abbrev pub ListsTheStoresEntries : Type 0
+ListsTheStoresEntries =
+    (image : Image) (home : HomeFields) (id : FileId) → id.volume ≡ 0 → nat_le id.number 3 ≡ false →
+    records_of image (table_of image home) id ≡ entries_of (store.file_named (store_of image home) id)
+
+-- and the line of a record that names one of these is that of the store's file
+abbrev pub ShowsTheStoresFile : Type 0
+ShowsTheStoresFile =
+    (image : Image) (home : HomeFields) (r : List ℕ) → is_empty r ≡ false → (record_id r).volume ≡ 0 →
+    nat_le (record_id r).number 3 ≡ false →
+    record_line image (table_of image home) r
+    ≡ named_line (name_shown (record_name r)) (record_id r) (store.file_of (store_of image home) (record_id r))

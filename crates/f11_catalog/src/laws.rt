@@ -5,3 +5,10 @@ ghost use Rattle.f11_catalog.specs.Laws as laws;
 pub fn all_files()
     ensures { laws.NoFileIsLeftOut }
 {}
+
+/// The files that the plain store has, what it has of directories, and the lines that tell of them.
+pub fn stored_files()
+    ensures named { laws.NamesTheStoresFile }
+    ensures entries { laws.ListsTheStoresEntries }
+    ensures lines { laws.ShowsTheStoresFile }
+{}

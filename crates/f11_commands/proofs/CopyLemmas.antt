@@ -1,7 +1,7 @@
 -- A copy between the volumes of two images.
 use Rattle.std.proofs.Common.{◌≡◌, inl, ℕ, ◌&&◌, not, Bool, true, false, IsTrue, List, Option, Result, refl, sym, ◌∙◌, ap, subst, arith}
 use Rattle.f11_dev.specs.Disk.{Disk}
-use Rattle.f11_dev.specs.Image.{Image}
+use Rattle.f11_dev.specs.Image.{Image, IsImage}
 use Rattle.f11_dev.specs.declared.device.Device.{Ghosts}
 use Rattle.f11_home.specs.Home.{HomeFields}
 use Rattle.f11_fcp.specs.Accesses.{AccessTable, held_in, no_entries}
@@ -12,6 +12,10 @@ use Rattle.f11_fcp.specs.declared.volume.Volume.{Volume}
 use Rattle.f11_flx.specs.declared.refusal.FlxRefusal.{FlxRefusal}
 use Rattle.f11_image_store.specs.StoreOf.{store_of}
 use Rattle.f11_store.specs.Store.{Store}
+use Rattle.f11_volume.specs.Verdict.{IsAccepted}
+use Rattle.f11_writes.proofs.InOrderLemmas.{order-accepted, order-looked, order-then}
+use Rattle.f11_writes.specs.Moments.{StandsAccepted}
+use Rattle.f11_writes.specs.Order.{WritesInOrder}
 use Rattle.rt11_volume.specs.Calls.{has_failed, volume_device}
 use Rattle.rt11_volume.specs.Verifying.Verdict.{IsRtAccepted, IsSoundDisk}
 use Rattle.rt11_volume.specs.declared.volume.RtAccepted.{RtAccepted}
@@ -41,9 +45,18 @@ module _ {D : Type 0} {met : Ghosts D} (old : Disk) (first last : Volume D met) 
   pub sound-first : IsTrue old.honest → is_sound first ≡ true
   sound-first is = both (state_in first).disk.honest (is_spent first) (mounts.looked.honest ∙ is) mounts.fresh
 
+-- what stands on the image of one that was mounted and then written in order
+pub stands-accepted : {D : Type 0} {met : Ghosts D} (old : Disk) (first last : Volume D met) → Mounts old first → IsImage old.image
+    → (IsTrue old.honest → IsAccepted old.image) → WritesInOrder (state_in first).disk (state_in last).disk
+    → StandsAccepted old (state_in last).disk
+stands-accepted old first last mounts image accepted ordered =
+    order-accepted old (state_in last).disk image accepted
+    (order-then old (state_in first).disk (state_in last).disk (order-looked old (state_in first).disk _ _ mounts.looked) ordered)
+
 -- a volume that was mounted, between which and an RT-11 volume a copy was asked for
 module _ {D E : Type 0} {met : Ghosts D} {met' : Ghosts E} (rt-disk : E → Disk) (c : Copying) (result : Result ℕ FlxRefusal) (old : Disk)
-    (first last : Volume D met) (rt rt' : RtAccepted E met') (mounts : Mounts old first)
+    (first last : Volume D met) (rt rt' : RtAccepted E met') (mounts : Mounts old first) (image : IsImage old.image)
+    (files-accepted : IsTrue old.honest → IsAccepted old.image)
     (accepted : IsTrue (rt-disk (volume_device rt)).honest → IsRtAccepted (rt-disk (volume_device rt)).image)
     (unfailed : has_failed rt ≡ false)
     (answers : FaresAsAnswered rt-disk c.direction c.rt_name result (OutcomeIs c result) first last rt rt')
@@ -84,6 +97,7 @@ module _ {D E : Type 0} {met : Ghosts D} {met' : Ghosts E} (rt-disk : E → Disk
           (subst (λ (s : Store). StandsAsIs (store_of_volume first) s) (last-is old first last mounts answers.home)
           (answers.broken (sound-first old first last mounts answers.home is) fault));
       accepted = λ is. answers.fares.accepted (answers.fares.honest ∙ mounts.looked.honest ∙ is);
+      meanwhile = stands-accepted old first last mounts image files-accepted answers.fares.ordered;
       rt_broken = λ is. answers.rt_broken (sound-rt is);
       rt_accepted = λ is none. (answers.sound_rt (sound-rt is) none).accepted;
     }

@@ -1,5 +1,5 @@
 -- What finding a file by its name tells, step by step.
-use Rattle.std.proofs.Common.{◌≡◌, ℕ, IsTrue, List, Option, Result, length, ap, subst, sym, take, ◌∙◌}
+use Rattle.std.proofs.Common.{◌≡◌, ℕ, IsTrue, List, Option, Result, length, refl, ap, subst, sym, take, ◌∙◌}
 use Rattle.std.specs.List.{concat}
 use Rattle.std.specs.Option.{ok_or}
 use Rattle.f11_catalog.proofs.ComingLemmas.{named-none, named-some}
@@ -16,20 +16,20 @@ use Rattle.f11_index.specs.IndexFile.{Index}
 use Rattle.f11_index.specs.Kept.{IndexLiesWithin}
 use Rattle.f11_index.specs.Table.{Table, table_of}
 use Rattle.f11_reader.proofs.LawLemmas.{opened-has}
-use Rattle.f11_reader.specs.Reading.{FindsNone, OpensFile}
+use Rattle.f11_reader.specs.Reading.{FindsNone, OpensFile, blocks_to_come}
 use Rattle.f11_reader.specs.declared.file.FileReader.{FileReader}
 use Rattle.f11_store.specs.File.{File, stated_end}
 use Rattle.f11_store.specs.declared.callers.Uic.{Uic}
 use Rattle.f11_store.specs.declared.files.FileId.{FileId}
 use Rattle.f11_store.specs.declared.refusals.Refusal.{Refusal}
 use Rattle.f11_store.specs.declared.refusals.Refusal.TheVariants.{NoSuchFile}
-use Rattle.f11_volume.specs.Contents.{file_of}
+use Rattle.f11_volume.specs.Contents.{blocks_reached, file_of}
 use Rattle.f11_commands.specs.AnyVolume.{FindsVolume, IsReadable, unless_refused}
 use Rattle.f11_commands.specs.Copying.{directory_name, master_directory}
 use Rattle.f11_commands.specs.GetCommand.{CannotBeFound, FailsToSeek, FindsSought, IsToRead, LacksFile, LacksSought, OpensSought}
 use Rattle.f11_commands.specs.GetCommand.{TellsWhyNot, cannot_be_read, lacks_file, tells_fault, tells_none}
 use Rattle.f11_commands.specs.GetCommand.{file_entered, file_identified, file_sought}
-use Rattle.f11_commands.specs.TakingOut.{bytes_to_come}
+use Rattle.f11_commands.specs.TakingOut.{bytes_to_come, lbns_to_come}
 use Rattle.f11_commands.specs.TakingText.{file_to_come}
 use Rattle.f11_commands.specs.declared.outcome.Answer.{Answer}
 use Rattle.f11_commands.specs.declared.outcome.Failure.{Failure}
@@ -46,19 +46,26 @@ module _ (index : Index) (id : FileId) (old new : Disk) where
       let f = file_of old.image t file.number in
       record {
         found = f;
+        number = file.number;
+        found_is = λ honest. refl;
+        places = λ honest. said-later (λ image t'. blocks_to_come t' file) index opens.looked ∙ opens.blocks honest;
         is = λ honest. ap (λ x. ok_or x NoSuchFile) (named-some old.image t id file.number (opens.is_id honest));
         to_come = λ honest.
             ap (λ (bs : List (List ℕ)). take end (concat bs))
             (contents-stay index file old new _ _ opens.looked ∙ opened-has index id file old new opens honest)
-            ∙ ap (λ (n : ℕ). take n (concat f.blocks))
-            (end-is ∙ ap (λ b. stated_end (attributes b)) (opens.header_is honest)
-            ∙ ap stated_end (sym (attr-is old.image t file.number)));
+            ∙ ap (λ (n : ℕ). take n (concat f.blocks)) (its-end honest);
+        end_is = its-end;
         attr_is = λ honest. ap attributes (opens.header_is honest) ∙ sym (attr-is old.image t file.number);
         blocks_are = λ honest.
             contents-stay index file old new _ _ opens.looked ∙ opened-has index id file old new opens honest;
         reading = opens.reading;
         reads = (_, opens.looked);
       }
+    where
+      its-end : IsTrue old.honest → end ≡ stated_end (file_of old.image (table index old) file.number).attr
+      its-end honest =
+          end-is ∙ ap (λ b. stated_end (attributes b)) (opens.header_is honest)
+          ∙ ap stated_end (sym (attr-is old.image (table index old) file.number))
 
   pub opened-none : FindsNone index id old new → LacksSought (λ image t. file_identified image t id) index NoSuchFile old new
   opened-none none = record {
@@ -76,7 +83,12 @@ module _ (sought next : Image → Table → Result File Refusal) (index : Index)
   finds-behind file end finds = record {
     found = finds.found;
     is = λ honest. later honest ∙ finds.is (reads.1.honest ∙ honest);
+    number = finds.number;
+    found_is = λ honest.
+        finds.found_is (reads.1.honest ∙ honest) ∙ said-later (λ image t. file_of image t finds.number) index reads.1;
+    places = λ honest. finds.places (reads.1.honest ∙ honest) ∙ said-later (λ image t. blocks_reached t finds.number) index reads.1;
     to_come = λ honest. finds.to_come (reads.1.honest ∙ honest);
+    end_is = λ honest. finds.end_is (reads.1.honest ∙ honest);
     attr_is = λ honest. finds.attr_is (reads.1.honest ∙ honest);
     blocks_are = λ honest. finds.blocks_are (reads.1.honest ∙ honest);
     reading = finds.reading;
@@ -125,13 +137,21 @@ module _ (home : HomeFields) (index : Index) (old mid : Disk) (found : FindsVolu
   of-volume honest = said-of-volume home index old mid found (λ image t. file_sought image t user name) honest
 
   pub volume-has : (file : FileReader) (end : ℕ) → OpensSought (λ image t. file_sought image t user name) index file end mid new
-      → FindsSought user name (bytes_to_come index new file end) (file_to_come index new file) old new
+      → FindsSought user name (bytes_to_come index new file end) end (lbns_to_come index new file) (file_to_come index new file) old new
   volume-has file end finds = record {
     home = home;
     readable = found.readable;
     found = finds.found;
     is = λ honest. sym (of-volume honest) ∙ finds.is (found.looked.honest ∙ honest);
+    number = finds.number;
+    found_is = λ honest.
+        finds.found_is (found.looked.honest ∙ honest)
+        ∙ said-of-volume home index old mid found (λ image t. file_of image t finds.number) honest;
+    places = λ honest.
+        finds.places (found.looked.honest ∙ honest)
+        ∙ said-of-volume home index old mid found (λ image t. blocks_reached t finds.number) honest;
     bytes_are = λ honest. finds.to_come (found.looked.honest ∙ honest);
+    end_is = λ honest. finds.end_is (found.looked.honest ∙ honest);
     attr_is = λ honest. finds.attr_is (found.looked.honest ∙ honest);
     blocks_are = λ honest. finds.blocks_are (found.looked.honest ∙ honest);
     reads = reads-then (_, found.looked) finds.reads;
@@ -155,14 +175,23 @@ module _ (home : HomeFields) (index : Index) (old mid : Disk) (found : FindsVolu
 
 -- the volume was verified before
 module _ (user : Uic) (name : List ℕ) (old mid new : Disk) (reads : Reads old mid 0) where
-  pub sought-behind : (bytes : List ℕ) (come : File) → FindsSought user name bytes come mid new → FindsSought user name bytes come old new
-  sought-behind bytes come finds = record {
+  pub sought-behind : (bytes : List ℕ) (end : ℕ) (lbns : List ℕ) (come : File) → FindsSought user name bytes end lbns come mid new
+      → FindsSought user name bytes end lbns come old new
+  sought-behind bytes end lbns come finds = record {
     home = finds.home;
     readable = λ honest. subst (λ (i : Image). IsReadable i finds.home) reads.1.image (finds.readable (reads.1.honest ∙ honest));
     found = finds.found;
     is = λ honest.
         sym (ap (λ (i : Image). file_sought i (table_of i finds.home) user name) reads.1.image) ∙ finds.is (reads.1.honest ∙ honest);
+    number = finds.number;
+    found_is = λ honest.
+        finds.found_is (reads.1.honest ∙ honest)
+        ∙ ap (λ (i : Image). file_of i (table_of i finds.home) finds.number) reads.1.image;
+    places = λ honest.
+        finds.places (reads.1.honest ∙ honest)
+        ∙ ap (λ (i : Image). blocks_reached (table_of i finds.home) finds.number) reads.1.image;
     bytes_are = λ honest. finds.bytes_are (reads.1.honest ∙ honest);
+    end_is = λ honest. finds.end_is (reads.1.honest ∙ honest);
     attr_is = λ honest. finds.attr_is (reads.1.honest ∙ honest);
     blocks_are = λ honest. finds.blocks_are (reads.1.honest ∙ honest);
     reads = reads-then reads finds.reads;

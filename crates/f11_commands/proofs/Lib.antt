@@ -13,6 +13,7 @@ mod NamedLemmas
 mod DirectoryLemmas
 mod TakingOutLemmas
 mod TakingTextLemmas
+mod StoppingLemmas
 mod PutLemmas
 mod RtFileLemmas
 mod RtGetLemmas

@@ -9,8 +9,8 @@ use Rattle.f11_fcp.specs.declared.volume.Volume.{Volume}
 use Rattle.f11_files.specs.Answers.{is_fatal, is_fault}
 use Rattle.f11_flx.proofs.KeptLemmas.{denied-live, rt-apart, same-refusal}
 use Rattle.f11_flx.proofs.VolumeLemmas.{IsFared, denied-fared, granted-fared, volume-seen}
-use Rattle.f11_flx.specs.Asking.{Asking, Denies, Fails, Grants, Who, asks, plain, told, who_asks}
-use Rattle.f11_flx.specs.Copying.{AsksOnly, FaresFiles, FaresRt, MayMakeFile, MakesRtFile, ReadsFiles, ReadsRt, WhereSound, is_whole}
+use Rattle.f11_flx.specs.Asking.{Asking, Denies, Fails, Grants, Tried, Who, asks, plain, told, who_asks}
+use Rattle.f11_flx.specs.Copying.{FaresFiles, FaresRt, MayMakeFile, MakesRtFile, ReadsFiles, ReadsRt, WhereSound, is_whole}
 use Rattle.f11_flx.specs.Copying.{of_files, of_rt, of_volume}
 use Rattle.f11_flx.specs.CopyFromRt.{CopiesFromRt, FailsToCopyFromRt}
 use Rattle.f11_flx.specs.CopyToRt.{CopiesToRt, FailsToCopyToRt, RefusesCopyToRt}
@@ -27,6 +27,7 @@ use Rattle.f11_store.specs.declared.refusals.Refusal.TheVariants.{Damaged, Volum
 use Rattle.f11_store.specs.declared.requests.Reply.{Reply}
 use Rattle.f11_store.specs.declared.requests.Reply.TheVariants as reply
 use Rattle.f11_store.specs.declared.requests.Request.TheVariants as request
+use Rattle.f11_writes.proofs.InOrderLemmas.{order-then}
 use Rattle.rt11_volume.specs.Calls.{has_failed, volume_device}
 use Rattle.rt11_volume.specs.Files.{is_fault as is_rt_fault}
 use Rattle.rt11_volume.specs.Named.{files_named}
@@ -96,15 +97,16 @@ module _ {D : Type 0} {met : Ghosts D} where
         next = λ honest. g.next (f.honest ∙ honest) ∙ ap (λ b. b || of_files is_fatal result) alive;
         spent = λ dead. ap (λ b. b || of_files is_fatal result) (sym alive) ∙ g.spent dead;
         accepted = g.accepted;
+        ordered = order-then (state_in v).disk (state_in u).disk (state_in w).disk f.ordered g.ordered;
       }
 
   -- a volume that a copy was asked of, as it tells itself
-  pub undamaged-asked : (is_one : Asking → Bool) (who : Who) (result : Result ℕ FlxRefusal) (v w : Volume D met) → FaresFiles result v w
-      → AsksOnly is_one who v w
-      → is_spent v ≡ false → IsTrue (state_in v).disk.honest → result ≢ Err (Files Damaged)
-  undamaged-asked is_one who result v w fares asked alive honest is =
+  pub undamaged-asked : (who : Who) (result : Result ℕ FlxRefusal) (v w : Volume D met) → FaresFiles result v w
+      → (asked : List Asking) → Tried of_volume who asked v w → is_spent v ≡ false → IsTrue (state_in v).disk.honest
+      → result ≢ Err (Files Damaged)
+  undamaged-asked who result v w fares asked tried alive honest is =
       let dead = fares.next honest ∙ ap (λ r. is_spent v || of_files is_fatal r) is ∙ or-true (is_spent v) in
-      let more = tried-breaks who asked.asked v w asked.tried honest alive dead in
+      let more = tried-breaks who asked v w tried honest alive dead in
       let same = fares.failures ∙ ap (λ r. failures_of v + (if of_files is_fault r then 1 else 0)) is in
       absurd (omega (arith, more, same))
 
@@ -133,6 +135,7 @@ module _ {D : Type 0} {met : Ghosts D} where
           next = λ honest. fared.next;
           spent = λ dead. sym fared.next ∙ dead;
           accepted = fared.accepted;
+          ordered = fared.ordered;
         };
         alive = λ alive is. (denied-live operator (asks (request.Find dir name)) e v w alive denies).other
             (same-refusal (Files e) (Files VolumeFailed) is);
@@ -151,6 +154,7 @@ module _ {D : Type 0} {met : Ghosts D} where
           next = λ honest. absurd (dishonest honest);
           spent = λ dead. or-true (is_spent v);
           accepted = fared.accepted;
+          ordered = fared.ordered;
         });
         alive = λ alive is. damaged-apart e wrong.2 (same-refusal (Files e) (Files VolumeFailed) is);
         home = granted-home operator (told (request.Find dir name) wrong.0) v w wrong.3;
@@ -260,7 +264,7 @@ module _ {D E : Type 0} {met : Ghosts D} {met' : Ghosts E} (disk : E → Disk) w
       alive = λ alive is. never (files.keeps.only is) alive;
       rt_alive = λ alive is. never (target.keeps.only is) alive;
       home = tried-home operator files.asked.asked v w files.asked.tried;
-      undamaged = undamaged-asked _ operator result v w files.fares files.asked;
+      undamaged = undamaged-asked operator result v w files.fares files.asked.asked files.asked.tried;
       sound_rt = λ rt-sound none. sounds rt-sound result target ended none;
       rt_broken = λ rt-sound. begun rt-sound result ended;
       outcome = by_result result target copied refused;
@@ -309,7 +313,8 @@ module _ {D E : Type 0} {met : Ghosts D} {met' : Ghosts E} (disk : E → Disk) w
             let is = not-copied whole sound rt-sound in (is.why, ap (λ i. rt_store_of i) is.unwritten)
 
     -- a copy from it
-    pub answers-from-rt : (dir : FileId) (result : Result ℕ FlxRefusal) → ReadsRt disk result rt rt' → MayMakeFile result operator v w
+    pub answers-from-rt : (dir : FileId) (result : Result ℕ FlxRefusal) → ReadsRt disk result rt rt'
+        → MayMakeFile result operator 0 dir c.name 0 v w
         → IfOk result (λ blocks.
         WhereSound disk v rt (CopiesFromRt c.mode c.rt_name operator 0 dir c.name 0 blocks (rt_store_of d.image) s s'))
         → IfErr result (λ e. is_whole result ≡ true
@@ -323,7 +328,7 @@ module _ {D E : Type 0} {met : Ghosts D} {met' : Ghosts E} (disk : E → Disk) w
       alive = λ alive is. never (files.keeps.only is) alive;
       rt_alive = λ alive is. never (source.keeps.only is) alive;
       home = tried-home operator files.asked.asked v w files.asked.tried;
-      undamaged = undamaged-asked _ operator result v w files.fares files.asked;
+      undamaged = undamaged-asked operator result v w files.fares files.asked.asked files.asked.tried;
       rt_broken = λ sound fatal.
           inl (record {
             named = ap (λ i. files_named c.rt_name (rt_store_of i)) source.image;
@@ -347,7 +352,7 @@ module _ {D E : Type 0} {met : Ghosts D} {met' : Ghosts E} (disk : E → Disk) w
         same : (r : Result ℕ FlxRefusal) → KeepsRt FromRt r (rt_store_of d.image) (rt_store_of d'.image)
         same r = ap (λ i. rt_store_of i) source.image
 
-        by_result : (r : Result ℕ FlxRefusal) → MayMakeFile r operator v w
+        by_result : (r : Result ℕ FlxRefusal) → MayMakeFile r operator 0 dir c.name 0 v w
             → IfOk r (λ blocks. WhereSound disk v rt
             (CopiesFromRt c.mode c.rt_name operator 0 dir c.name 0 blocks (rt_store_of d.image) s s'))
             → IfErr r (λ e. is_whole r ≡ true → WhereSound disk v rt (FailsToCopyFromRt e c.mode c.rt_name operator 0 dir c.name 0 d s s'))
@@ -395,7 +400,7 @@ module _ {D E : Type 0} {met : Ghosts D} {met' : Ghosts E} (disk : E → Disk) (
   -- and one from it
   pub copied-from-rt : (task lun : ℕ) → task ≡ 0 → lun ≡ 0
       → (dir : FileId) (result : Result ℕ FlxRefusal) (v w : Volume D met) (rt rt' : RtAccepted E met')
-      → ReadsRt disk result rt rt' → MayMakeFile result (who_asks task operator.caller) v w
+      → ReadsRt disk result rt rt' → MayMakeFile result (who_asks task operator.caller) lun dir c.name 0 v w
       → IfOk result (λ blocks. WhereSound disk v rt (CopiesFromRt c.mode c.rt_name (who_asks task operator.caller) lun dir c.name 0 blocks
       (rt_store_of (disk (volume_device rt)).image) (store_of_volume v) (store_of_volume w)))
       → IfErr result (λ e. is_whole result ≡ true → WhereSound disk v rt
@@ -408,7 +413,7 @@ module _ {D E : Type 0} {met : Ghosts D} {met' : Ghosts E} (disk : E → Disk) (
     where
       By : ℕ → ℕ → Type 0
       By t l =
-          ReadsRt disk result rt rt' → MayMakeFile result (who_asks t operator.caller) v w
+          ReadsRt disk result rt rt' → MayMakeFile result (who_asks t operator.caller) l dir c.name 0 v w
           → IfOk result (λ blocks. WhereSound disk v rt (CopiesFromRt c.mode c.rt_name (who_asks t operator.caller) l dir c.name 0 blocks
           (rt_store_of (disk (volume_device rt)).image) (store_of_volume v) (store_of_volume w)))
           → IfErr result (λ e. is_whole result ≡ true → WhereSound disk v rt

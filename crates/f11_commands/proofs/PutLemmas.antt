@@ -1,16 +1,21 @@
 -- A file of the host that is put on a volume by its name.
-use Rattle.std.proofs.Common.{◌≡◌, inl, inr, ℕ, true, IsTrue, List, [], Option, Result, Ok, Err, IfOk, IfErr, refl, sym, ◌∙◌, subst, arith}
+use Rattle.std.proofs.Common.{◌≡◌, inl, inr, ℕ, ◌||◌, false, true, IsTrue, List, [], Option, Result, Ok, Err, IfOk, IfErr, refl, sym, ap}
+use Rattle.std.proofs.Common.{◌∙◌}
+use Rattle.std.proofs.Common.{subst, arith}
 use Rattle.std.proofs.KnownBytes.{Consumes-nil}
 use Rattle.f11_dev.specs.Disk.{Disk}
+use Rattle.f11_dev.specs.Image.{IsImage}
 use Rattle.f11_dev.specs.declared.device.Device.{Ghosts}
 use Rattle.f11_fcp.specs.Lists.{is_sound, store_of_volume}
 use Rattle.f11_fcp.specs.Accesses.{held_in}
 use Rattle.f11_fcp.specs.Mounting.{Mounts}
-use Rattle.f11_fcp.specs.Serving.{state_in}
+use Rattle.f11_fcp.specs.Serving.{is_spent, state_in}
 use Rattle.f11_fcp.specs.declared.volume.Volume.{Volume}
 use Rattle.f11_flx.proofs.VolumeLemmas.{volume-seen}
-use Rattle.f11_flx.specs.Asking.{Fails, Grants, Who, told, who_asks}
-use Rattle.f11_flx.specs.Copying.{MayMakeFile, is_whole, of_volume}
+use Rattle.f11_files.specs.Answers.{is_fatal, is_fault}
+use Rattle.f11_flx.specs.Asking.{Fails, Grants, Who, asks, told, who_asks}
+use Rattle.f11_flx.specs.Copying.{MayMakeFile, is_whole, of_files, of_volume}
+use Rattle.f11_home.specs.Home.{HomeFields}
 use Rattle.f11_flx.specs.declared.mode.CopyMode.{CopyMode}
 use Rattle.f11_flx.specs.declared.mode.CopyMode.TheVariants as mode
 use Rattle.f11_host.specs.CopyFromHost.{CopiesFromHost, FailsToCopyFromHost, ReadsHost}
@@ -24,15 +29,18 @@ use Rattle.f11_store.specs.declared.files.FileId.{FileId}
 use Rattle.f11_store.specs.declared.refusals.Refusal.{Refusal}
 use Rattle.f11_store.specs.declared.requests.Reply.TheVariants as reply
 use Rattle.f11_store.specs.declared.requests.Request.TheVariants as request
+use Rattle.f11_volume.specs.Verdict.{IsAccepted}
 use Rattle.f11_commands.proofs.AskedLemmas.{never, tried-home}
-use Rattle.f11_commands.proofs.CopyLemmas.{first-is, last-is, sound-first}
+use Rattle.f11_commands.proofs.CopyLemmas.{first-is, last-is, sound-first, stands-accepted}
+use Rattle.f11_commands.proofs.StoppingLemmas.{alive-of, fault-fatal, honest-of, request-stopped, stops-making, stored}
 use Rattle.f11_commands.proofs.NamedLemmas.{alone-behind, alone-not-found, not-found-seen, undamaged-asked}
 use Rattle.f11_commands.specs.CopyCommand.{VerifiesFiles}
 use Rattle.f11_commands.specs.Copying.{directory_name, master_directory, operator}
 use Rattle.f11_commands.specs.Finding.{is_found}
 use Rattle.f11_commands.specs.PutCommand.{FailsFor, Hosts, MakesFor, ReadsFor}
-use Rattle.f11_commands.specs.PutCommand.{EndsAccepted, EndsPutting, PutsByName, PutsInto, PutsNamed, PutsOnImage, TellsOnImage}
-use Rattle.f11_commands.specs.PutCommand.{TellsPutting}
+use Rattle.f11_commands.specs.PutCommand.{EndsAccepted, EndsPutting, PutsByName, PutsInto, PutsNamed, PutsOnImage, StopsPutting}
+use Rattle.f11_commands.specs.PutCommand.{TellsOnImage, TellsPutting, making, seeking}
+use Rattle.f11_commands.specs.Stopping.{IsStopped, StopsMaking}
 use Rattle.f11_commands.specs.declared.copy.FileAnswer.{FileAnswer}
 use Rattle.f11_commands.specs.declared.put.Putting.{Putting}
 use Rattle.f11_commands.specs.declared.rt_put.PutFailure.{PutFailure}
@@ -58,24 +66,29 @@ unread-for bytes u mode.Text e = inl refl
 module _ {D : Type 0} {met : Ghosts D} (p : Putting) (bytes : ℕ) (u : Hosts) where
   -- the file was to be made in a directory
   made-in : (dir : FileId) (result : Result ℕ HostRefusal) (u' : Hosts) (v w : Volume D met)
-      → MayMakeFile (copy_result result) operator v w → ReadsFor p.mode bytes result u u'
+      → MayMakeFile (copy_result result) operator 0 dir p.name 0 v w → ReadsFor p.mode bytes result u u'
       → IfOk result (λ blocks. is_sound v ≡ true
       → MakesFor p.mode bytes blocks u u' dir p.name (store_of_volume v) (store_of_volume w))
       → IfErr result (λ e. is_whole (copy_result result) ≡ true → is_sound v ≡ true
       → FailsFor p.mode e bytes u u' dir p.name (store_of_volume v) (store_of_volume w))
-      → PutsNamed p.mode bytes result u u' (PutsInto p bytes dir result u u') v w
+      → PutsNamed p.mode bytes result u u' (PutsInto p bytes dir result u u') (StopsMaking dir p.name) v w
   made-in dir result u' v w files host copied refused = record {
     fares = record {
       fares = files.fares;
       alive = λ alive is. never (files.keeps.only is) alive;
       home = tried-home operator files.asked.asked v w files.asked.tried;
-      undamaged = undamaged-asked _ operator (copy_result result) v w files.fares files.asked;
+      undamaged = undamaged-asked operator (copy_result result) v w files.fares files.asked.asked files.asked.tried;
     };
     host = host;
     outcome = by result files copied refused;
+    stops = λ sound fault.
+        stops-making dir p.name files.asked.id files.asked.asked v w files.asked.tried files.asked.only sound
+        (files.fares.next (honest-of (state_in v).disk.honest (is_spent v) sound)
+        ∙ ap (λ b. b || of_files is_fatal (copy_result result)) (alive-of (state_in v).disk.honest (is_spent v) sound)
+        ∙ fault-fatal (copy_result result) fault);
   }
     where
-      by : (r : Result ℕ HostRefusal) → MayMakeFile (copy_result r) operator v w
+      by : (r : Result ℕ HostRefusal) → MayMakeFile (copy_result r) operator 0 dir p.name 0 v w
           → IfOk r (λ blocks. is_sound v ≡ true
           → MakesFor p.mode bytes blocks u u' dir p.name (store_of_volume v) (store_of_volume w))
           → IfErr r (λ e. is_whole (copy_result r) ≡ true → is_sound v ≡ true
@@ -87,17 +100,17 @@ module _ {D : Type 0} {met : Ghosts D} (p : Putting) (bytes : ℕ) (u : Hosts) w
           record { refused = refused whole sound; undone = files.undone (as_copy e) refl sound whole }
 
   pub put-image : p.mode ≡ mode.Image → (task lun : ℕ) → task ≡ 0 → lun ≡ 0 → (dir : FileId) (result : Result ℕ HostRefusal)
-      (u' : Hosts) (v w : Volume D met) → MayMakeFile (copy_result result) (who_asks task operator.caller) v w
+      (u' : Hosts) (v w : Volume D met) → MayMakeFile (copy_result result) (who_asks task operator.caller) lun dir p.name 0 v w
       → ReadsHost bytes result u.first u'.first → u'.again ≡ u.again
       → IfOk result (λ blocks. is_sound v ≡ true → CopiesFromHost bytes u.first u'.first (who_asks task operator.caller) lun dir p.name 0
       (store_of_volume v) (store_of_volume w))
       → IfErr result (λ e. is_whole (copy_result result) ≡ true → is_sound v ≡ true
       → FailsToCopyFromHost e bytes u.first u'.first (who_asks task operator.caller) lun dir p.name 0 (store_of_volume v)
       (store_of_volume w))
-      → PutsNamed p.mode bytes result u u' (PutsInto p bytes dir result u u') v w
+      → PutsNamed p.mode bytes result u u' (PutsInto p bytes dir result u u') (StopsMaking dir p.name) v w
   put-image is task lun task-is lun-is dir result u' v w files host stays copied refused =
       made-in dir result u' v w
-      (by-first task lun task-is lun-is (λ who l. MayMakeFile (copy_result result) who v w) files)
+      (by-first task lun task-is lun-is (λ who l. MayMakeFile (copy_result result) who l dir p.name 0 v w) files)
       (subst (λ m. ReadsFor m bytes result u u') (sym is) (host, stays))
       (subst (λ m. IfOk result (λ blocks. is_sound v ≡ true → MakesFor m bytes blocks u u' dir p.name (store_of_volume v)
       (store_of_volume w))) (sym is)
@@ -109,17 +122,17 @@ module _ {D : Type 0} {met : Ghosts D} (p : Putting) (bytes : ℕ) (u : Hosts) w
       → FailsToCopyFromHost e bytes u.first u'.first who l dir p.name 0 (store_of_volume v) (store_of_volume w))) refused))
 
   pub put-text : p.mode ≡ mode.Text → (task lun : ℕ) → task ≡ 0 → lun ≡ 0 → (dir : FileId) (result : Result ℕ HostRefusal)
-      (u' : Hosts) (v w : Volume D met) → MayMakeFile (copy_result result) (who_asks task operator.caller) v w
+      (u' : Hosts) (v w : Volume D met) → MayMakeFile (copy_result result) (who_asks task operator.caller) lun dir p.name 0 v w
       → ReadsTexts bytes result u.first u'.first u.again u'.again
       → IfOk result (λ blocks. is_sound v ≡ true → CopiesTextFromHost bytes blocks u.again u'.again (who_asks task operator.caller) lun dir
       p.name 0 (store_of_volume v) (store_of_volume w))
       → IfErr result (λ e. is_whole (copy_result result) ≡ true → is_sound v ≡ true
       → FailsToCopyTextFromHost e bytes u.first u'.first u.again u'.again (who_asks task operator.caller) lun dir p.name 0
       (store_of_volume v) (store_of_volume w))
-      → PutsNamed p.mode bytes result u u' (PutsInto p bytes dir result u u') v w
+      → PutsNamed p.mode bytes result u u' (PutsInto p bytes dir result u u') (StopsMaking dir p.name) v w
   put-text is task lun task-is lun-is dir result u' v w files host copied refused =
       made-in dir result u' v w
-      (by-first task lun task-is lun-is (λ who l. MayMakeFile (copy_result result) who v w) files)
+      (by-first task lun task-is lun-is (λ who l. MayMakeFile (copy_result result) who l dir p.name 0 v w) files)
       (subst (λ m. ReadsFor m bytes result u u') (sym is) (texts-for bytes u u' result host))
       (subst (λ m. IfOk result (λ blocks. is_sound v ≡ true → MakesFor m bytes blocks u u' dir p.name (store_of_volume v)
       (store_of_volume w))) (sym is)
@@ -134,8 +147,8 @@ module _ {D : Type 0} {met : Ghosts D} (p : Putting) (bytes : ℕ) (u : Hosts) w
   -- the user's directory was found
   pub put-found : (name : List ℕ) → name ≡ directory_name p.directory → (dir : FileId) (result : Result ℕ HostRefusal)
       (u' : Hosts) (v m w : Volume D met) → Grants of_volume operator (told (request.Find master_directory name) (reply.Found dir)) v m
-      → PutsNamed p.mode bytes result u u' (PutsInto p bytes dir result u u') m w
-      → PutsNamed p.mode bytes result u u' (PutsByName p bytes result u u') v w
+      → PutsNamed p.mode bytes result u u' (PutsInto p bytes dir result u u') (StopsMaking dir p.name) m w
+      → PutsNamed p.mode bytes result u u' (PutsByName p bytes result u u') (StopsPutting p) v w
   put-found name name-is dir result u' v m w grants' a = record {
     fares = alone-behind (copy_result result) (told (request.Find master_directory (directory_name p.directory)) (reply.Found dir)) v m w
         grants a.fares;
@@ -149,6 +162,10 @@ module _ {D : Type 0} {met : Ghosts D} (p : Putting) (bytes : ℕ) (u : Hosts) w
           finds = (store_of_volume m, seen.0, refl);
           puts = a.outcome seen.1 whole;
         });
+    stops = λ sound fault.
+        let seen = volume-seen.granted operator (told (request.Find master_directory (directory_name p.directory)) (reply.Found dir)) v m
+        grants sound in
+        making dir (store_of_volume m) (store_of_volume m, seen.0, refl) (a.stops seen.1 fault);
   }
     where
       grants : Grants of_volume operator (told (request.Find master_directory (directory_name p.directory)) (reply.Found dir)) v m
@@ -157,7 +174,7 @@ module _ {D : Type 0} {met : Ghosts D} (p : Putting) (bytes : ℕ) (u : Hosts) w
   -- it isn't there
   pub put-nowhere : (name : List ℕ) → name ≡ directory_name p.directory → (e : Refusal) (v w : Volume D met)
       → Fails of_volume operator is_found (request.Find master_directory name) e v w
-      → PutsNamed p.mode bytes (Err (Files e)) u u (PutsByName p bytes (Err (Files e)) u u) v w
+      → PutsNamed p.mode bytes (Err (Files e)) u u (PutsByName p bytes (Err (Files e)) u u) (StopsPutting p) v w
   put-nowhere name name-is e v w fails' = record {
     fares = alone-not-found master_directory (directory_name p.directory) e v w fails;
     host = unread-for bytes u p.mode e;
@@ -167,14 +184,22 @@ module _ {D : Type 0} {met : Ghosts D} (p : Putting) (bytes : ℕ) (u : Hosts) w
       not_found = not-found-seen master_directory (directory_name p.directory) e v w sound whole fails;
       unread = refl;
     });
+    stops = λ sound fault. seeking (stopped sound fault fails);
   }
     where
+      stopped : is_sound v ≡ true → is_fault e ≡ true
+          → Fails of_volume operator is_found (request.Find master_directory (directory_name p.directory)) e v w
+          → IsStopped (asks (request.Find master_directory (directory_name p.directory))) (store_of_volume v) (stored w)
+      stopped sound fault (inl denies) = request-stopped (request.Find master_directory (directory_name p.directory)) e v w denies sound
+      stopped sound fault (inr wrong) = absurd (let none : false ≡ true = ap is_fault (sym wrong.2) ∙ fault in cc)
+
       fails : Fails of_volume operator is_found (request.Find master_directory (directory_name p.directory)) e v w
       fails = subst (λ n. Fails of_volume operator is_found (request.Find master_directory n) e v w) name-is fails'
 
   -- on the volume of an image
   module _ (result : Result ℕ HostRefusal) (u' : Hosts) (old : Disk) (first last : Volume D met) (mounts : Mounts old first)
-      (puts : PutsNamed p.mode bytes result u u' (PutsByName p bytes result u u') first last) where
+      (image : IsImage old.image) (accepted : IsTrue old.honest → IsAccepted old.image)
+      (puts : PutsNamed p.mode bytes result u u' (PutsByName p bytes result u u') (StopsPutting p) first last) where
     pub puts-on-image : PutsOnImage p bytes result u u' old (state_in last).disk
     puts-on-image = record {
       home = (state_in first).home;
@@ -187,12 +212,18 @@ module _ {D : Type 0} {met : Ghosts D} (p : Putting) (bytes : ℕ) (u : Hosts) w
           (subst (λ (s : Store). PutsByName p bytes result u u' (store_of_volume first) s)
           (last-is old first last mounts puts.fares.home)
           (puts.outcome (sound-first old first last mounts puts.fares.home is) whole));
+      stops = λ is fault.
+          subst (λ (s : Store). StopsPutting p s (store_of (state_in last).disk.image (state_in first).home))
+          (first-is old first last mounts puts.fares.home)
+          (subst (λ (h : HomeFields). StopsPutting p (store_of_volume first) (store_of (state_in last).disk.image h)) puts.fares.home
+          (puts.stops (sound-first old first last mounts puts.fares.home is) fault));
       host = puts.host;
       failures = let none = mounts.looked.failures in let some = puts.fares.fares.failures in omega (arith, none, some);
       quiet = puts.fares.fares.quiet;
       alive = puts.fares.alive mounts.fresh;
       undamaged = λ is. puts.fares.undamaged mounts.fresh (mounts.looked.honest ∙ is);
       accepted = λ is. puts.fares.fares.accepted (puts.fares.fares.honest ∙ mounts.looked.honest ∙ is);
+      meanwhile = stands-accepted old first last mounts image accepted puts.fares.fares.ordered;
     }
 
     pub ends-accepted : {W : Type 0} (answer : Result FileAnswer PutFailure) (contents : W → Option (List ℕ)) (before after : W)

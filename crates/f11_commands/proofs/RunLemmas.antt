@@ -1,8 +1,9 @@
 -- A script that is served on an image.
-use Rattle.std.proofs.Common.{◌≡◌, ◌⊎◌, inl, inr, ℕ, ◌&&◌, not, Bool, true, false, List, Option, Result, Ok, Err, refl, sym, ◌∙◌, ap, subst}
-use Rattle.std.proofs.Common.{arith}
+use Rattle.std.proofs.Common.{◌≡◌, ◌⊎◌, inl, inr, ℕ, ◌&&◌, ◌++◌, not, Bool, true, false, IsTrue, List, Option, Result, Ok, Err, refl, sym}
+use Rattle.std.proofs.Common.{◌∙◌}
+use Rattle.std.proofs.Common.{ap, subst, arith}
 use Rattle.f11_dev.specs.Disk.{Disk}
-use Rattle.f11_dev.specs.Image.{Image}
+use Rattle.f11_dev.specs.Image.{Image, IsImage}
 use Rattle.f11_dev.specs.Looked.{Looked}
 use Rattle.f11_dev.specs.declared.device.Device.{Ghosts}
 use Rattle.f11_home.specs.Home.{HomeFields, IsHomeOf}
@@ -18,6 +19,11 @@ use Rattle.f11_serving.specs.Scripts.{ServesScriptRun}
 use Rattle.f11_serving.specs.Serving.{RunsScript}
 use Rattle.f11_serving.proofs.VolumeLemmas.{KeepsVolume, script-keeps-volume}
 use Rattle.f11_store.specs.Store.{Store}
+use Rattle.f11_volume.specs.Verdict.{IsAccepted}
+use Rattle.f11_writes.proofs.InOrderLemmas.{order-looked, order-then}
+use Rattle.f11_writes.specs.Moments.{StandsAccepted}
+use Rattle.f11_writes.specs.Order.{WritesInOrder}
+use Rattle.f11_commands.proofs.CopyLemmas.{stands-accepted}
 use Rattle.f11_commands.specs.RunCommand.{EndsRun, EndsServing, HasFaults, ServesImage, WritesNothing, outcome_of}
 use Rattle.f11_commands.specs.declared.outcome.Answer.{Answer}
 use Rattle.f11_commands.specs.declared.outcome.Answer.TheVariants.{Done, Fault}
@@ -37,6 +43,8 @@ module _ {D W : Type 0} {met : Ghosts D} (disk : Disk) (first last : Volume D me
     (result : Result ℕ ScriptError) (mounts : Mounts disk first)
     (runs : RunsScript ServesCall remaining first last (contents before) (contents after) result)
     (run : ServesScriptRun first last remaining (contents before) (contents after) result) (accepted : StaysAccepted (state_in last))
+    (ordered : WritesInOrder (state_in first).disk (state_in last).disk) (image : IsImage disk.image)
+    (whole : IsTrue disk.honest → IsAccepted disk.image)
   where
     kept : KeepsVolume first last
     kept = script-keeps-volume remaining (contents before) (contents after) first last result runs
@@ -55,6 +63,7 @@ module _ {D W : Type 0} {met : Ghosts D} (disk : Disk) (first last : Volume D me
       held = (state_in last).table;
       home_is = mounts.home;
       accepted = λ is. accepted (kept.honest ∙ mounts.looked.honest ∙ is);
+      meanwhile = stands-accepted disk first last mounts image whole ordered;
       run = λ is none.
           let sound : is_sound first ≡ true = both (state_in first).disk.honest (is_spent first) (mounts.looked.honest ∙ is) mounts.fresh in
           let same : failures_of last ≡ failures_of first = omega (arith, mounts.looked.failures, none) in
@@ -97,6 +106,11 @@ module _ {W : Type 0} (remaining : Option (List ℕ)) (contents : W → Option (
     held = s.held;
     home_is = λ is. subst (λ (i : Image). IsHomeOf i s.home) looked.image (s.home_is (looked.honest ∙ is));
     accepted = λ is. s.accepted (looked.honest ∙ is);
+    meanwhile = record {
+      accepted = λ is since history.
+          s.meanwhile.accepted (looked.honest ∙ is) since (history ∙ ap (λ (h : List Image). since ++ h) (sym looked.history));
+      ordered = order-then old mid new (order-looked old mid n 0 looked) s.meanwhile.ordered;
+    };
     run = λ is none.
         let same : new.failures ≡ mid.failures = omega (arith, looked.failures, none) in
         subst (λ (i : Image). RunsScript Steps remaining (held_in no_entries (store_of i s.home))

@@ -24,7 +24,7 @@ use Rattle.f11_store.specs.File.{stated_end}
 use Rattle.f11_commands.specs.AnyVolume.{CannotBeRead, IsReadable}
 use Rattle.f11_commands.specs.Copying.{master_directory}
 use Rattle.f11_commands.specs.Output.{WriterTakes}
-use Rattle.f11_commands.specs.TakingOut.{ReadsBefore, StopsBehind, WritesContent}
+use Rattle.f11_commands.specs.TakingOut.{ReadsBefore, StopsBehind, WritesContent, blocks_before_end, missing_text}
 use Rattle.f11_commands.specs.declared.get.all.state.TakingAll.{TakingAll}
 use Rattle.f11_commands.specs.declared.get.all.taking.Taken.{Taken}
 use Rattle.f11_commands.specs.declared.ls.Served.{Served}
@@ -59,15 +59,6 @@ reader_at found = found.file
 
 abbrev pub end_at : FileAt → ℕ
 end_at found = stated_end (attributes (header_in_hand found.file))
-
--- how many blocks have bytes before an end
-abbrev pub blocks_before_end : ℕ → ℕ
-blocks_before_end end = (end + 511) / 512
-
--- the block that a file breaks off at
-abbrev pub missing_text : Option ℕ → List ℕ
-missing_text (Some vbn) = codes " broke off at VBN " ++ decimal vbn
-missing_text None = []
 
 -- the line of a file that was taken out: where it stands, how many bytes were written, and which block breaks it off
 abbrev pub taken_at_line : Place → ℕ → Option ℕ → List ℕ

@@ -17,6 +17,7 @@ use Rattle.f11_store.specs.declared.refusals.Refusal.{Refusal}
 use Rattle.f11_store.specs.declared.refusals.Refusal.TheVariants as files_refusal
 use Rattle.f11_vfy.specs.Verify.{Examines}
 use Rattle.f11_volume.specs.Verdict.{IsAccepted}
+use Rattle.f11_writes.specs.Moments.{StandsAccepted}
 use Rattle.rt11_volume.specs.Calls.{Accepts, Rejects, most_transfers}
 use Rattle.rt11_volume.specs.Files.{is_fault as is_rt_fault}
 use Rattle.rt11_volume.specs.Store.{rt_store_of}
@@ -85,7 +86,8 @@ pub record FaresBoth (result : Result ℕ FlxRefusal) (files files' rt rt' : Dis
 
 -- A copy was asked for between the volumes of two images, of which neither has a fault. Where the disks are honest it is what the answer
 -- says of the plain stores, from those of the images, in which nobody holds an access; and the images have no fault then, that of the RT-11
--- volume unless a transfer of it failed. Where one of either failed nothing is undone on the other; an RT-11 source is only read.
+-- volume unless a transfer of it failed; nor has any that stood meanwhile on the Files-11 one. Where a transfer of either failed nothing is
+-- undone on the other; an RT-11 source is only read.
 pub record CopiesImages (c : Copying) (result : Result ℕ FlxRefusal) (files files' rt rt' : Disk) : Type 0 where
   pub home : HomeFields
   pub held : AccessTable
@@ -100,6 +102,7 @@ pub record CopiesImages (c : Copying) (result : Result ℕ FlxRefusal) (files fi
   pub rt_broken : IsTrue rt.honest → of_files is_fatal result ≡ true →
       LeavesBegun c.rt_name (rt_store_of rt.image) (rt_store_of rt'.image)
   pub accepted : IsTrue files.honest → IsAccepted files'.image
+  pub meanwhile : StandsAccepted files files'
   pub rt_accepted : IsTrue rt.honest → of_rt is_rt_fault result ≡ false → IsRtAccepted rt'.image
 
 -- The copy was asked for, and its answer told.

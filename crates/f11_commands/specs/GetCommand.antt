@@ -1,5 +1,5 @@
 -- What `get` takes out of a volume, faulty or not (profile).
-use Rattle.std.specs.Prelude.{◌≡◌, ℕ, IsTrue, List, [], ◌∷◌, ◌++◌, codes, length, take, Option, Result, Ok, Err}
+use Rattle.std.specs.Prelude.{◌≡◌, ℕ, ◌+◌, IsTrue, List, [], ◌∷◌, ◌++◌, codes, length, take, Option, Result, Ok, Err}
 use Rattle.std.specs.Fmt.{decimal}
 use Rattle.std.specs.List.{concat}
 use Rattle.std.specs.Option.{ok_or}
@@ -8,25 +8,31 @@ use Rattle.f11_catalog.specs.Records.{Reads, file_named}
 use Rattle.f11_chain.specs.Calls.{table}
 use Rattle.f11_dev.specs.Disk.{Disk}
 use Rattle.f11_dev.specs.Image.{Image}
+use Rattle.f11_dev.specs.Looked.{Looked}
 use Rattle.f11_flx.specs.declared.mode.CopyMode.{CopyMode}
 use Rattle.f11_flx.specs.declared.mode.CopyMode.TheVariants as mode
+use Rattle.f11_flx.specs.Refusal.{flx_refusal_name}
 use Rattle.f11_flx.specs.declared.refusal.FlxRefusal.TheVariants.{BadRecord, Files}
 use Rattle.f11_home.specs.Home.{HomeFields}
 use Rattle.f11_index.specs.IndexFile.{Index}
 use Rattle.f11_index.specs.Kept.{IndexLiesWithin}
 use Rattle.f11_index.specs.Table.{Table, table_of}
-use Rattle.f11_reader.specs.Reading.{IsReading}
+use Rattle.f11_reader.specs.Missing.{FindsMissing}
+use Rattle.f11_reader.specs.Reading.{IsReading, headers_left}
 use Rattle.f11_reader.specs.declared.file.FileReader.{FileReader}
 use Rattle.f11_store.specs.File.{File, stated_end}
 use Rattle.f11_store.specs.declared.callers.Uic.{Uic}
 use Rattle.f11_store.specs.declared.files.FileId.{FileId}
 use Rattle.f11_store.specs.declared.refusals.Refusal.{Refusal}
 use Rattle.f11_store.specs.declared.refusals.Refusal.TheVariants.{NoSuchFile}
+use Rattle.f11_volume.specs.Contents.{blocks_reached, file_of}
 use Rattle.f11_commands.specs.AnyVolume.{CannotBeRead, IsReadable, TellsFault, unless_refused, user_directory}
 use Rattle.f11_commands.specs.CopyCommand.{refused_line}
 use Rattle.f11_commands.specs.Output.{WriterTakes}
-use Rattle.f11_commands.specs.TakingOut.{BreaksOff, ReadsBefore, WritesContent, bytes_to_come}
+use Rattle.f11_commands.specs.TakingOut.{FailsToWriteContent, WritesContent, blocks_before_end, bytes_to_come, lbns_to_come, missing_text}
 use Rattle.f11_commands.specs.TakingText.{FailsToWriteText, WritesGoodText, WritesText, file_to_come}
+use Rattle.f11_commands.specs.declared.get.told.Told.{Told}
+use Rattle.f11_commands.specs.declared.get.told.Told.TheVariants.{Copied, BadRecords}
 use Rattle.f11_commands.specs.declared.outcome.Answer.{Answer}
 use Rattle.f11_commands.specs.declared.outcome.Answer.TheVariants.{Done, Fault}
 use Rattle.f11_commands.specs.declared.outcome.Failure.{Failure}
@@ -50,12 +56,16 @@ file_entered image t name directory =
 abbrev pub file_sought : Image → Table → Uic → List ℕ → Result File Refusal
 file_sought image t user name = unless_refused (file_entered image t name) (user_directory image t user)
 
--- A file was found, by what this says of the files that an index file has: all its bytes are to come.
+-- A file was found, by what this says of the files that an index file has: it has this number, and all its bytes and blocks are to come.
 pub record OpensSought (sought : Image → Table → Result File Refusal) (index : Index) (file : FileReader) (end : ℕ) (old new : Disk)
     : Type 0 where
   pub found : File
   pub is : IsTrue old.honest → sought old.image (table index old) ≡ Ok found
+  pub number : ℕ
+  pub found_is : IsTrue old.honest → found ≡ file_of old.image (table index old) number
+  pub places : IsTrue old.honest → lbns_to_come index new file ≡ blocks_reached (table index old) number
   pub to_come : IsTrue old.honest → bytes_to_come index new file end ≡ bytes_of found
+  pub end_is : IsTrue old.honest → end ≡ stated_end found.attr
   pub attr_is : IsTrue old.honest → (file_to_come index new file).attr ≡ found.attr
   pub blocks_are : IsTrue old.honest → (file_to_come index new file).blocks ≡ found.blocks
   pub reading : IsReading index file new
@@ -71,14 +81,18 @@ pub record IsToRead (index : Index) (file : FileReader) (disk : Disk) : Type 0 w
   pub within : IndexLiesWithin index (length disk.image)
   pub reading : IsReading index file disk
 
--- The file of a user's directory was found on a volume that can be read: these bytes of it are to come, and a file with its attributes
--- and its blocks.
-pub record FindsSought (user : Uic) (name bytes : List ℕ) (come : File) (old new : Disk) : Type 0 where
+-- The file of a user's directory was found on a volume that can be read, and has this number. What is to come is all of it: its bytes, up
+-- to the end that it states; its blocks, which lie there; and, as another file, what its attributes and its blocks say.
+pub record FindsSought (user : Uic) (name bytes : List ℕ) (end : ℕ) (lbns : List ℕ) (come : File) (old new : Disk) : Type 0 where
   pub home : HomeFields
   pub readable : IsTrue old.honest → IsReadable old.image home
   pub found : File
   pub is : IsTrue old.honest → file_sought old.image (table_of old.image home) user name ≡ Ok found
+  pub number : ℕ
+  pub found_is : IsTrue old.honest → found ≡ file_of old.image (table_of old.image home) number
+  pub places : IsTrue old.honest → lbns ≡ blocks_reached (table_of old.image home) number
   pub bytes_are : IsTrue old.honest → bytes ≡ bytes_of found
+  pub end_is : IsTrue old.honest → end ≡ stated_end found.attr
   pub attr_is : IsTrue old.honest → come.attr ≡ found.attr
   pub blocks_are : IsTrue old.honest → come.blocks ≡ found.blocks
   pub reads : Reads old new 0
@@ -116,69 +130,98 @@ FailsToSeek DeviceFault user name old new before after = Reads old new 1 × (aft
 FailsToSeek NoMemory user name old new before after = Reads old new 0 × (after ≡ before)
 FailsToSeek CannotWrite user name old new before after = CannotBeFound user name old new
 
--- the line of a file of so many bytes that was taken out
-abbrev pub taken_line : ℕ → List ℕ
-taken_line count = codes "copied " ++ (decimal count ++ (codes " bytes" ++ 10 ∷ []))
+-- what a line says of a file that was taken out: how many bytes were given, or that its records can't all be read
+abbrev pub told_text : Told → List ℕ
+told_text (Copied count) = codes "copied " ++ (decimal count ++ codes " bytes")
+told_text BadRecords = codes "no " ++ flx_refusal_name BadRecord
 
--- The file was written to the host, and how many bytes it has.
-pub record TakesOut {H W : Type 0} (index : Index) (file : FileReader) (end : ℕ) (old new : Disk) (held : H → Option (List ℕ))
-    (host_before host_after : H) (contents : W → Option (List ℕ)) (before after : W) : Type 0 where
+-- The line was written that tells this of a file, and which of its blocks before an end is the first that isn't there.
+pub record Tells {W : Type 0} (index : Index) (file : FileReader) (end : ℕ) (told : Told) (old new : Disk) (contents : W → Option (List ℕ))
+    (before after : W) : Type 0 where
+  pub missing : Option ℕ
+  pub finds : FindsMissing index file (blocks_before_end end) missing old new
+  pub takes : WriterTakes contents before after (told_text told ++ (missing_text missing ++ 10 ∷ []))
+
+-- It wasn't: a transfer failed before that block was found, and nothing is told; or it was found, and the writer takes no more.
+abbrev pub FailsToTell : {W : Type 0} → Failure → Index → FileReader → ℕ → Disk → Disk → W → W → Type 0
+FailsToTell DeviceFault index file end old new before after = Looked old new (headers_left file + 1) 1 × (after ≡ before)
+FailsToTell NoMemory index file end old new before after = ⊥
+FailsToTell CannotWrite index file end old new before after =
+    (missing : Option ℕ) × FindsMissing index file (blocks_before_end end) missing old new
+
+-- What `Gives` says was given to the host: so many bytes; and then its line was written.
+pub record TakesOut {W : Type 0} (Gives : ℕ → Disk → Disk → Type 0) (index : Index) (file : FileReader) (end : ℕ) (old new : Disk)
+    (contents : W → Option (List ℕ)) (before after : W) : Type 0 where
   pub count : ℕ
-  pub writes : WritesContent index file end count old new held host_before host_after
-  pub takes : WriterTakes contents before after (taken_line count)
+  pub mid : Disk
+  pub gives : Gives count old mid
+  pub tells : Tells index file end (Copied count) mid new contents before after
 
--- It couldn't be: a transfer failed, and then the host was given a beginning of it, and nothing is told; or the host or the writer takes no
--- more. It takes no memory.
-abbrev pub FailsToTakeOut : {H W : Type 0} → Failure → Index → FileReader → ℕ → Disk → Disk → (H → Option (List ℕ)) → H → H → W → W
+-- It couldn't all be given, as `Stops` says, and nothing is told; or it was, and its line couldn't be written.
+pub data FailsToTakeOut {W : Type 0} (Gives : ℕ → Disk → Disk → Type 0) (Stops : Failure → Disk → Disk → Type 0) (failure : Failure)
+    (index : Index) (file : FileReader) (end : ℕ) (old new : Disk) (before after : W) : Type 0 where
+  stops : Stops failure old new → after ≡ before → FailsToTakeOut Gives Stops failure index file end old new before after
+  untold : (count : ℕ) (mid : Disk) → Gives count old mid → FailsToTell failure index file end mid new before after
+      → FailsToTakeOut Gives Stops failure index file end old new before after
+
+-- The file was written to the host, as it is.
+abbrev pub TakesOutImage : {H W : Type 0} → Index → FileReader → ℕ → Disk → Disk → (H → Option (List ℕ)) → H → H
+    → (W → Option (List ℕ)) → W → W → Type 0
+TakesOutImage index file end old new held host_before host_after contents before after =
+    TakesOut (λ count a b. WritesContent index file end count a b held host_before host_after) index file end old new contents before after
+
+-- It couldn't be: a transfer failed, and then the host was given a beginning of it; or the host or the writer takes no more. It takes no
+-- memory.
+abbrev pub FailsToTakeOutImage : {H W : Type 0} → Failure → Index → FileReader → ℕ → Disk → Disk → (H → Option (List ℕ)) → H → H → W → W
     → Type 0
-FailsToTakeOut DeviceFault index file end old new held host_before host_after before after =
-    BreaksOff index file end old new held host_before host_after × (after ≡ before)
-FailsToTakeOut NoMemory index file end old new held host_before host_after before after = ⊥
-FailsToTakeOut CannotWrite index file end old new held host_before host_after before after = ReadsBefore index file end old new 0
+FailsToTakeOutImage failure index file end old new held host_before host_after before after =
+    FailsToTakeOut (λ count a b. WritesContent index file end count a b held host_before host_after)
+    (λ f a b. FailsToWriteContent f index file end a b held host_before host_after) failure index file end old new before after
 
--- The text of its records was written to the host, and how many bytes that has.
-pub record TakesOutText {H W : Type 0} (index : Index) (file : FileReader) (old new : Disk) (held : H → Option (List ℕ))
-    (host_before host_after : H) (contents : W → Option (List ℕ)) (before after : W) : Type 0 where
-  pub count : ℕ
-  pub writes : WritesText index file count old new held host_before host_after
-  pub takes : WriterTakes contents before after (taken_line count)
+-- The text of its records was written to the host.
+abbrev pub TakesOutText : {H W : Type 0} → Index → FileReader → ℕ → Disk → Disk → (H → Option (List ℕ)) → H → H
+    → (W → Option (List ℕ)) → W → W → Type 0
+TakesOutText index file end old new held host_before host_after contents before after =
+    TakesOut (λ count a b. WritesText index file count a b held host_before host_after) index file end old new contents before after
 
 -- Its records can't all be read: the text of those before the first that can't was written to the host, and the line that says so.
-pub record TellsBadRecord {H W : Type 0} (index : Index) (file : FileReader) (old new : Disk) (held : H → Option (List ℕ))
+pub record TellsBadRecord {H W : Type 0} (index : Index) (file : FileReader) (end : ℕ) (old new : Disk) (held : H → Option (List ℕ))
     (host_before host_after : H) (contents : W → Option (List ℕ)) (before after : W) : Type 0 where
-  pub writes : WritesGoodText index file old new held host_before host_after
-  pub takes : WriterTakes contents before after (refused_line BadRecord)
+  pub mid : Disk
+  pub writes : WritesGoodText index file old mid held host_before host_after
+  pub tells : Tells index file end BadRecords mid new contents before after
 
 -- what was told of a text, with each answer
-abbrev pub TakesOutTextAs : {H W : Type 0} → Answer → Index → FileReader → Disk → Disk → (H → Option (List ℕ)) → H → H
+abbrev pub TakesOutTextAs : {H W : Type 0} → Answer → Index → FileReader → ℕ → Disk → Disk → (H → Option (List ℕ)) → H → H
     → (W → Option (List ℕ)) → W → W → Type 0
-TakesOutTextAs Done index file old new held host_before host_after contents before after =
-    TakesOutText index file old new held host_before host_after contents before after
-TakesOutTextAs Fault index file old new held host_before host_after contents before after =
-    TellsBadRecord index file old new held host_before host_after contents before after
+TakesOutTextAs Done index file end old new held host_before host_after contents before after =
+    TakesOutText index file end old new held host_before host_after contents before after
+TakesOutTextAs Fault index file end old new held host_before host_after contents before after =
+    TellsBadRecord index file end old new held host_before host_after contents before after
 
 -- what was taken out in each mode
 abbrev pub TakesOutAs : {H W : Type 0} → CopyMode → Answer → Index → FileReader → ℕ → Disk → Disk → (H → Option (List ℕ)) → H → H
     → (W → Option (List ℕ)) → W → W → Type 0
 TakesOutAs mode.Image Done index file end old new held host_before host_after contents before after =
-    TakesOut index file end old new held host_before host_after contents before after
+    TakesOutImage index file end old new held host_before host_after contents before after
 TakesOutAs mode.Image Fault index file end old new held host_before host_after contents before after = ⊥
 TakesOutAs mode.Text answer index file end old new held host_before host_after contents before after =
-    TakesOutTextAs answer index file old new held host_before host_after contents before after
+    TakesOutTextAs answer index file end old new held host_before host_after contents before after
 
--- It couldn't be as text, likewise.
-abbrev pub FailsToTakeOutText : {H W : Type 0} → Failure → Index → FileReader → Disk → Disk → (H → Option (List ℕ)) → H → H → W → W
-    → Type 0
-FailsToTakeOutText DeviceFault index file old new held host_before host_after before after =
-    FailsToWriteText DeviceFault index file old new held host_before host_after × (after ≡ before)
-FailsToTakeOutText NoMemory index file old new held host_before host_after before after = ⊥
-FailsToTakeOutText CannotWrite index file old new held host_before host_after before after =
-    FailsToWriteText CannotWrite index file old new held host_before host_after
+-- It couldn't be as text, likewise; or its records can't all be read, and the line couldn't be written that says so.
+pub data FailsToTakeOutText {H W : Type 0} (failure : Failure) (index : Index) (file : FileReader) (end : ℕ) (old new : Disk)
+    (held : H → Option (List ℕ)) (host_before host_after : H) (before after : W) : Type 0 where
+  as_told : FailsToTakeOut (λ count a b. WritesText index file count a b held host_before host_after)
+      (λ f a b. FailsToWriteText f index file a b held host_before host_after) failure index file end old new before after
+      → FailsToTakeOutText failure index file end old new held host_before host_after before after
+  bad_untold : (mid : Disk) → WritesGoodText index file old mid held host_before host_after
+      → FailsToTell failure index file end mid new before after
+      → FailsToTakeOutText failure index file end old new held host_before host_after before after
 
 -- nor in a mode
 abbrev pub FailsToTakeOutAs : {H W : Type 0} → CopyMode → Failure → Index → FileReader → ℕ → Disk → Disk → (H → Option (List ℕ)) → H → H
     → W → W → Type 0
 FailsToTakeOutAs mode.Image failure index file end old new held host_before host_after before after =
-    FailsToTakeOut failure index file end old new held host_before host_after before after
+    FailsToTakeOutImage failure index file end old new held host_before host_after before after
 FailsToTakeOutAs mode.Text failure index file end old new held host_before host_after before after =
-    FailsToTakeOutText failure index file old new held host_before host_after before after
+    FailsToTakeOutText failure index file end old new held host_before host_after before after

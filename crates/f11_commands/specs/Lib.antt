@@ -14,6 +14,7 @@ pub mod Output
 pub mod AllCommand
 pub mod AnyVolume
 pub mod LsCommand
+pub mod Stopping
 pub mod PutCommand
 pub mod Report
 pub mod RtReport

@@ -5,8 +5,10 @@ use Rattle.f11_dev.specs.Disk.{Disk}
 use Rattle.f11_dev.specs.declared.device.Device.{Ghosts}
 use Rattle.f11_fcp.specs.Accesses.{AccessTable, held_in, no_entries}
 use Rattle.f11_fcp.specs.Lists.{is_sound, store_of_volume}
+use Rattle.f11_fcp.specs.Serving.{state_in}
 use Rattle.f11_fcp.specs.declared.volume.Volume.{Volume}
 use Rattle.f11_files.specs.Answers.{is_fault}
+use Rattle.f11_flx.specs.Asking.{asks}
 use Rattle.f11_flx.specs.Copying.{is_whole, of_files}
 use Rattle.f11_flx.specs.CopyFromRt.{IsAsBefore}
 use Rattle.f11_flx.specs.declared.refusal.FlxRefusal.TheVariants as copy
@@ -23,11 +25,14 @@ use Rattle.f11_store.specs.Store.{Store}
 use Rattle.f11_store.specs.declared.files.FileId.{FileId}
 use Rattle.f11_store.specs.declared.refusals.Refusal.{Refusal}
 use Rattle.f11_store.specs.declared.refusals.Refusal.TheVariants.{Damaged, VolumeFailed}
+use Rattle.f11_store.specs.declared.requests.Request.TheVariants as request
 use Rattle.f11_volume.specs.Verdict.{IsAccepted}
+use Rattle.f11_writes.specs.Moments.{StandsAccepted}
 use Rattle.f11_commands.specs.CopyCommand.{EndsFiles, FailsToMount, TellsCopy, VerifiesFiles}
 use Rattle.f11_commands.specs.Copying.{FindsName, FindsNoName, directory_name, master_directory, operator}
 use Rattle.f11_commands.specs.Finding.{FaresAlone}
 use Rattle.f11_commands.specs.RtPut.{put_told}
+use Rattle.f11_commands.specs.Stopping.{IsStopped, StopsMaking}
 use Rattle.f11_commands.specs.declared.copy.FileAnswer.{FileAnswer}
 use Rattle.f11_commands.specs.declared.outcome.Failure.{Failure}
 use Rattle.f11_commands.specs.declared.put.Putting.{Putting}
@@ -91,16 +96,26 @@ abbrev pub PutsByName : Putting → ℕ → Result ℕ HostRefusal → Hosts →
 PutsByName p bytes result h h' s s' =
     (FindsAndPuts p bytes result h h' s s') ⊎ (HasNoDirectory p result h h' s s')
 
--- A file was to be made on a volume: it fared as the answer says, and where it is sound this holds of its stores.
+-- a transfer failed: looking for the user's directory was stopped, or, once it was found, making the file
+pub data StopsPutting (p : Putting) (s t : Store) : Type 0 where
+  seeking : IsStopped (asks (request.Find master_directory (directory_name p.directory))) s t → StopsPutting p s t
+  making : (dir : FileId) (found : Store) → FindsName master_directory (directory_name p.directory) dir s found
+      → StopsMaking dir p.name found t → StopsPutting p s t
+
+-- A file was to be made on a volume: it fared as the answer says, and where it is sound the one holds of its stores, or the other where a
+-- transfer failed.
 pub record PutsNamed {D : Type 0} {met : Ghosts D} (m : CopyMode) (bytes : ℕ) (result : Result ℕ HostRefusal) (h h' : Hosts)
-    (Holds : Store → Store → Type 0) (old new : Volume D met) : Type 0 where
+    (Holds Stops : Store → Store → Type 0) (old new : Volume D met) : Type 0 where
   pub fares : FaresAlone (copy_result result) old new
   pub host : ReadsFor m bytes result h h'
   pub outcome : is_sound old ≡ true → is_whole (copy_result result) ≡ true → Holds (store_of_volume old) (store_of_volume new)
+  pub stops : is_sound old ≡ true → of_files is_fault (copy_result result) ≡ true →
+      Stops (store_of_volume old) (store_of (state_in new).disk.image (state_in new).home)
 
 -- A file was to be made on the volume of an image that has no fault. Where the disk is honest it is what the answer says of the plain
--- store, from that of the image, in which nobody holds an access; and the image has no fault then. A transfer failed exactly where that is
--- the answer, and no other followed.
+-- store, from that of the image, in which nobody holds an access; and the image has no fault then, nor has any that stood meanwhile. A
+-- transfer failed exactly where that is the answer, and no other followed; then what was asked last was stopped, and nothing else is done
+-- but what was asked for this file before.
 pub record PutsOnImage (p : Putting) (bytes : ℕ) (result : Result ℕ HostRefusal) (h h' : Hosts) (old new : Disk)
     : Type 0 where
   pub home : HomeFields
@@ -108,12 +123,15 @@ pub record PutsOnImage (p : Putting) (bytes : ℕ) (result : Result ℕ HostRefu
   pub home_is : IsTrue old.honest → IsHomeOf old.image home
   pub outcome : IsTrue old.honest → is_whole (copy_result result) ≡ true →
       PutsByName p bytes result h h' (held_in no_entries (store_of old.image home)) (held_in held (store_of new.image home))
+  pub stops : IsTrue old.honest → of_files is_fault (copy_result result) ≡ true →
+      StopsPutting p (held_in no_entries (store_of old.image home)) (store_of new.image home)
   pub host : ReadsFor p.mode bytes result h h'
   pub failures : new.failures ≡ old.failures + (if of_files is_fault (copy_result result) then 1 else 0)
   pub quiet : of_files is_fault (copy_result result) ≡ true → new.calm ≡ 0
   pub alive : copy_result result ≢ Err (copy.Files VolumeFailed)
   pub undamaged : IsTrue old.honest → copy_result result ≢ Err (copy.Files Damaged)
   pub accepted : IsTrue old.honest → IsAccepted new.image
+  pub meanwhile : StandsAccepted old new
 
 -- how it is told
 abbrev pub TellsPutting : {W : Type 0} → Result ℕ HostRefusal → Result FileAnswer PutFailure → (W → Option (List ℕ)) → W → W → Type 0

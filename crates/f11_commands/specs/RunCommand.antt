@@ -16,17 +16,19 @@ use Rattle.f11_commands.specs.declared.outcome.Failure.TheVariants.{DeviceFault,
 use Rattle.f11_commands.specs.declared.run.RunFailure.{RunFailure}
 use Rattle.f11_commands.specs.declared.run.RunFailure.TheVariants.{Command, Script}
 use Rattle.f11_volume.specs.Verdict.{IsAccepted}
+use Rattle.f11_writes.specs.Moments.{StandsAccepted}
 use Rattle.f11_vfy.specs.Verify.{Examines}
 
--- A script was served on an image. Where the disk is honest the image is accepted then; and where no transfer failed, it was served by
--- steps of the plain store, from that of the image, in which nobody holds an access, to that of the image then, with what tasks held at
--- the end.
+-- A script was served on an image. Where the disk is honest the image is accepted then, so was each that stood meanwhile, and blocks were
+-- written in order; and where no transfer failed, it was served by steps of the plain store, from that of the image, in which nobody holds
+-- an access, to that of the image then, with what tasks held at the end.
 pub record ServesImage {W : Type 0} (result : Result ℕ ScriptError) (remaining : Option (List ℕ)) (old new : Disk)
     (contents : W → Option (List ℕ)) (before after : W) : Type 0 where
   pub home : HomeFields
   pub held : AccessTable
   pub home_is : IsTrue old.honest → IsHomeOf old.image home
   pub accepted : IsTrue old.honest → IsAccepted new.image
+  pub meanwhile : StandsAccepted old new
   pub run : IsTrue old.honest → new.failures ≡ old.failures →
       RunsScript Steps remaining (held_in no_entries (store_of old.image home))
       (held_in held (store_of new.image home)) (contents before) (contents after) result

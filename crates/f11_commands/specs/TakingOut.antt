@@ -1,10 +1,13 @@
 -- What taking out a file's content tells (profile).
-use Rattle.std.specs.Prelude.{◌≡◌, ℕ, ◌+◌, ◌/◌, ◌≤◌, IsTrue, List, ◌++◌, length, take, Option}
+use Rattle.std.specs.Prelude.{◌≡◌, ℕ, ◌+◌, ◌/◌, ◌≤◌, IsTrue, List, [], ◌++◌, codes, length, take, Option, Some, None}
+use Rattle.std.specs.Fmt.{decimal}
+use Rattle.std.specs.Int.{div_ceil}
 use Rattle.std.specs.List.{concat}
+use Rattle.f11_chain.specs.Calls.{table}
 use Rattle.f11_dev.specs.Disk.{Disk}
 use Rattle.f11_dev.specs.Looked.{Looked}
 use Rattle.f11_index.specs.IndexFile.{Index}
-use Rattle.f11_reader.specs.Reading.{contents_to_come, headers_left}
+use Rattle.f11_reader.specs.Reading.{blocks_to_come, contents_to_come, headers_left}
 use Rattle.f11_reader.specs.declared.file.FileReader.{FileReader}
 use Rattle.f11_commands.specs.Output.{TakesText}
 use Rattle.f11_commands.specs.declared.outcome.Failure.{Failure}
@@ -16,6 +19,19 @@ use Rattle.f11_commands.specs.declared.outcome.Failure.TheVariants.{DeviceFault,
 pub record BeginsWith (part whole : List ℕ) : Type 0 where
   pub rest : List ℕ
   pub is : whole ≡ part ++ rest
+
+-- how many blocks have bytes before an end
+abbrev pub blocks_before_end : ℕ → ℕ
+blocks_before_end end = div_ceil end 512
+
+-- the block that a file breaks off at
+abbrev pub missing_text : Option ℕ → List ℕ
+missing_text (Some vbn) = codes " broke off at VBN " ++ decimal vbn
+missing_text None = []
+
+-- where the blocks of a file lie that are still to come
+abbrev pub lbns_to_come : Index → Disk → FileReader → List ℕ
+lbns_to_come index disk file = blocks_to_come (table index disk) file
 
 -- the bytes of a file that are still to come before an end
 abbrev pub bytes_to_come : Index → Disk → FileReader → ℕ → List ℕ

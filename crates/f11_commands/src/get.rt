@@ -2,6 +2,8 @@
 
 pub mod all;
 pub mod found;
+mod missing;
 pub mod name;
 pub mod seek;
+mod told;
 pub mod write;

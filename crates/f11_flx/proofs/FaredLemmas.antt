@@ -18,9 +18,11 @@ use Rattle.f11_files.specs.Answers.{is_fatal, is_fault}
 use Rattle.f11_fcp.specs.Lists.{failures_of, is_sound}
 use Rattle.f11_fcp.specs.Serving.{StaysAccepted, is_spent, state_in}
 use Rattle.f11_fcp.specs.declared.volume.Volume.{Volume}
+use Rattle.f11_writes.proofs.InOrderLemmas.{order-none, order-then}
+use Rattle.f11_writes.specs.Order.{WritesInOrder}
 use Rattle.rt11_volume.specs.declared.volume.RtAccepted.{RtAccepted}
 use Rattle.f11_flx.specs.Asking.{Asking, BreaksOffAsking, Denies, Fails, Granted, Grants, Who, asks, told, writes_of}
-use Rattle.f11_flx.specs.Copying.{of_files, of_volume}
+use Rattle.f11_flx.specs.Copying.{FaresFiles, of_files, of_volume}
 use Rattle.f11_flx.specs.CopyFromRt.{Making, as_file, creation, entry, opening}
 use Rattle.f11_flx.specs.FromRt.{CopiesFrom, FailsToCopyFrom}
 use Rattle.f11_flx.specs.Making.{AsksToFill, FailsToFillFromRt, FailsToFillOpened, FailsToMake, FillsFromRt, FillsOpened, IsBrokenOff}
@@ -33,15 +35,6 @@ use Rattle.f11_flx.specs.declared.refusal.FlxRefusal.TheVariants.{BadRecord, Fil
 use Rattle.f11_flx.proofs.MakingLemmas.{asks-to-fill}
 use Rattle.f11_flx.proofs.SmallLemmas.{or-false}
 use Rattle.f11_flx.proofs.VolumeLemmas.{denied-fared, granted-fared, parts-sound, volume-seen}
-
--- What an answer tells of the device, and whether it failed the volume.
-pub record IsFaring {D T : Type 0} {met : Ghosts D} (result : Result T FlxRefusal) (old new : Volume D met) : Type 0 where
-  pub failures : failures_of new ≡ failures_of old + (if of_files is_fault result then 1 else 0)
-  pub quiet : of_files is_fault result ≡ true → (state_in new).disk.calm ≡ 0
-  pub honest : (state_in new).disk.honest ≡ (state_in old).disk.honest
-  pub next : IsTrue (state_in old).disk.honest → is_spent new ≡ (is_spent old || of_files is_fatal result)
-  pub spent : is_spent new ≡ true → (is_spent old || of_files is_fatal result) ≡ true
-  pub accepted : StaysAccepted (state_in new)
 
 abbrev refused : FlxRefusal → Result Unit FlxRefusal
 refused f = Err f
@@ -71,7 +64,7 @@ module _ {D : Type 0} {met : Ghosts D} where
   pub accepted : (v : Volume D met) → StaysAccepted (state_in v)
   accepted v = v.files.accepted
 
-  pub calm-none : (v : Volume D met) → IsFaring done v v
+  pub calm-none : (v : Volume D met) → FaresFiles done v v
   calm-none v = record {
     failures = omega arith;
     quiet = λ fault. absurd (cc);
@@ -79,11 +72,12 @@ module _ {D : Type 0} {met : Ghosts D} where
     next = λ honest. sym (or-false (is_spent v));
     spent = λ is. or-false (is_spent v) ∙ is;
     accepted = accepted v;
+    ordered = order-none (state_in v).disk;
   }
 
   -- what is told by an answer of which these hold is told by another of which they do
-  alike : (a b : Result Unit FlxRefusal) (v w : Volume D met) → of_files is_fault a ≡ of_files is_fault b
-      → of_files is_fatal a ≡ of_files is_fatal b → IsFaring b v w → IsFaring a v w
+  pub alike : {T U : Type 0} (a : Result T FlxRefusal) (b : Result U FlxRefusal) (v w : Volume D met)
+      → of_files is_fault a ≡ of_files is_fault b → of_files is_fatal a ≡ of_files is_fatal b → FaresFiles b v w → FaresFiles a v w
   alike a b v w fault fatal h = record {
     failures = h.failures ∙ ap (λ x. failures_of v + (if x then 1 else 0)) (sym fault);
     quiet = λ is. h.quiet (sym fault ∙ is);
@@ -91,16 +85,17 @@ module _ {D : Type 0} {met : Ghosts D} where
     next = λ honest. h.next honest ∙ ap (λ x. is_spent v || x) (sym fatal);
     spent = λ is. ap (λ x. is_spent v || x) fatal ∙ h.spent is;
     accepted = h.accepted;
+    ordered = h.ordered;
   }
 
-  as-calm : (f : FlxRefusal) (v w : Volume D met) → is_lethal f ≡ false → IsFaring (refused f) v w → IsFaring done v w
+  as-calm : (f : FlxRefusal) (v w : Volume D met) → is_lethal f ≡ false → FaresFiles (refused f) v w → FaresFiles done v w
   as-calm f v w h k = alike done (refused f) v w (sym (calm-fault f h)) (sym (calm-fatal f h)) k
 
-  pub of-calm : (f : FlxRefusal) (v w : Volume D met) → is_lethal f ≡ false → IsFaring done v w → IsFaring (refused f) v w
+  pub of-calm : (f : FlxRefusal) (v w : Volume D met) → is_lethal f ≡ false → FaresFiles done v w → FaresFiles (refused f) v w
   of-calm f v w h k = alike (refused f) done v w (calm-fault f h) (calm-fatal f h) k
 
   -- and then
-  pub calm-then : (r : Result Unit FlxRefusal) (u v w : Volume D met) → IsFaring done u v → IsFaring r v w → IsFaring r u w
+  pub calm-then : (r : Result Unit FlxRefusal) (u v w : Volume D met) → FaresFiles done u v → FaresFiles r v w → FaresFiles r u w
   calm-then r u v w h k = record {
     failures = k.failures ∙ ap (λ n. n + (if of_files is_fault r then 1 else 0)) (h.failures ∙ plus-none (failures_of u));
     quiet = k.quiet;
@@ -109,6 +104,7 @@ module _ {D : Type 0} {met : Ghosts D} where
         ∙ ap (λ x. x || of_files is_fatal r) (h.next honest ∙ or-false (is_spent u));
     spent = λ is. still (is_spent v) (of_files is_fatal r) refl (k.spent is);
     accepted = k.accepted;
+    ordered = order-then (state_in u).disk (state_in v).disk (state_in w).disk h.ordered k.ordered;
   }
     where
       plus-none : (n : ℕ) → n + 0 ≡ n
@@ -119,7 +115,7 @@ module _ {D : Type 0} {met : Ghosts D} where
       still false true is h' = or_right (is_spent u) true refl
       still false false is h' = absurd (true-false (sym h'))
 
-  fares-granted : (who : Who) (x : Asking) (v w : Volume D met) → Grants of_volume who x v w → IsFaring done v w
+  fares-granted : (who : Who) (x : Asking) (v w : Volume D met) → Grants of_volume who x v w → FaresFiles done v w
   fares-granted who x v w g =
       let h = granted-fared who x v w g in
       record {
@@ -129,10 +125,11 @@ module _ {D : Type 0} {met : Ghosts D} where
         next = λ honest. h.next;
         spent = λ is. sym h.next ∙ is;
         accepted = h.accepted;
+        ordered = h.ordered;
       }
 
   fares-denied : (who : Who) (x : Asking) (e : Refusal) (v w : Volume D met) → Denies of_volume who x e v w
-      → IsFaring (refused (Files e)) v w
+      → FaresFiles (refused (Files e)) v w
   fares-denied who x e v w d =
       let h = denied-fared who x e v w d in
       record {
@@ -142,41 +139,42 @@ module _ {D : Type 0} {met : Ghosts D} where
         next = λ honest. h.next;
         spent = λ is. sym h.next ∙ is;
         accepted = h.accepted;
+        ordered = h.ordered;
       }
 
-  pub fares-all : (who : Who) (xs : List Asking) (v w : Volume D met) → Granted of_volume who xs v w → IsFaring done v w
-  fares-all who [] v w h = subst (λ x. IsFaring done v x) (sym h) (calm-none v)
+  pub fares-all : (who : Who) (xs : List Asking) (v w : Volume D met) → Granted of_volume who xs v w → FaresFiles done v w
+  fares-all who [] v w h = subst (λ x. FaresFiles done v x) (sym h) (calm-none v)
   fares-all who (x ∷ xs) v w h = calm-then done v h.0 w (fares-granted who x v h.0 h.1) (fares-all who xs h.0 w h.2)
 
   pub fares-breaking : (who : Who) (xs : List Asking) (e : Refusal) (v w : Volume D met) → BreaksOffAsking of_volume who xs e v w
-      → IsFaring (refused (Files e)) v w
+      → FaresFiles (refused (Files e)) v w
   fares-breaking who [] e v w h = absurd h
   fares-breaking who (x ∷ xs) e v w (inl h) = fares-denied who x e v w h
   fares-breaking who (x ∷ xs) e v w (inr h) =
       calm-then (refused (Files e)) v h.0 w (fares-granted who x v h.0 h.1) (fares-breaking who xs e h.0 w h.2)
 
-  fares-undoing : (who : Who) (r : Request) (f f' : FlxRefusal) (u v w : Volume D met) → IsFaring (refused f) u v
-      → Undoing of_volume who r f f' v w → IsFaring (refused f') u w
+  fares-undoing : (who : Who) (r : Request) (f f' : FlxRefusal) (u v w : Volume D met) → FaresFiles (refused f) u v
+      → Undoing of_volume who r f f' v w → FaresFiles (refused f') u w
   fares-undoing who r f f' u v w h k = by (is_lethal f) refl k
     where
-      chosen : (e : Refusal) (b : Bool) → is_lethal f ≡ false → is_lethal (Files e) ≡ b → IsFaring (refused (Files e)) v w
-          → IsFaring (refused (if b then Files e else f)) u w
+      chosen : (e : Refusal) (b : Bool) → is_lethal f ≡ false → is_lethal (Files e) ≡ b → FaresFiles (refused (Files e)) v w
+          → FaresFiles (refused (if b then Files e else f)) u w
       chosen e true is lethal d = calm-then (refused (Files e)) u v w (as-calm f u v is h) d
       chosen e false is lethal d = calm-then (refused f) u v w (as-calm f u v is h) (of-calm f v w is (as-calm (Files e) v w lethal d))
 
-      by : (b : Bool) → is_lethal f ≡ b → UndoingIf b of_volume who r f f' v w → IsFaring (refused f') u w
-      by true is k = subst (λ x. IsFaring (refused x) u w) (sym k.0) (subst (λ x. IsFaring (refused f) u x) (sym k.1) h)
+      by : (b : Bool) → is_lethal f ≡ b → UndoingIf b of_volume who r f f' v w → FaresFiles (refused f') u w
+      by true is k = subst (λ x. FaresFiles (refused x) u w) (sym k.0) (subst (λ x. FaresFiles (refused f) u x) (sym k.1) h)
       by false is (inl k) =
-          subst (λ x. IsFaring (refused x) u w) (sym k.same)
+          subst (λ x. FaresFiles (refused x) u w) (sym k.same)
           (calm-then (refused f) u v w (as-calm f u v is h) (of-calm f v w is (fares-granted who (asks r) v w k.granted)))
       by false is (inr k) =
-          subst (λ x. IsFaring (refused x) u w) (sym k.answer)
+          subst (λ x. FaresFiles (refused x) u w) (sym k.answer)
           (chosen k.e (is_lethal (Files k.e)) is refl (fares-denied who (asks r) k.e v w k.denied))
 
   -- a reply of another kind, as no honest device gives
   fares-wrong : (who : Who) (protection : ℕ) (ident attr : List ℕ) (a : Reply) (v w : Volume D met) → is_created a ≡ false
       → Grants of_volume who (told (request.Create protection ident attr) a) v w →
-      IsFaring (refused (Files Damaged)) v w
+      FaresFiles (refused (Files Damaged)) v w
   fares-wrong who protection ident attr a v w wrong g =
       let h = granted-fared who (told (request.Create protection ident attr) a) v w g in
       record {
@@ -186,6 +184,7 @@ module _ {D : Type 0} {met : Ghosts D} where
         next = λ honest. never honest (is_spent v) refl;
         spent = λ is. or_right (is_spent v) true refl;
         accepted = h.accepted;
+        ordered = h.ordered;
       }
     where
       never : IsTrue (state_in v).disk.honest → (b : Bool) → is_spent v ≡ b → is_spent w ≡ (is_spent v || true)
@@ -199,14 +198,14 @@ module _ {D : Type 0} {met : Ghosts D} where
           absurd (true-false (sym right ∙ wrong))
 
   fares-uncreated : (who : Who) (making : Making) (e : Refusal) (v w : Volume D met)
-      → Fails of_volume who is_created (request.Create 0 (ident_with making.name) making.attr) e v w → IsFaring (refused (Files e)) v w
+      → Fails of_volume who is_created (request.Create 0 (ident_with making.name) making.attr) e v w → FaresFiles (refused (Files e)) v w
   fares-uncreated who making e v w (inl h) = fares-denied who (asks (request.Create 0 (ident_with making.name) making.attr)) e v w h
   fares-uncreated who making e v w (inr h) =
-      subst (λ x. IsFaring (refused (Files x)) v w) (sym h.2) (fares-wrong who 0 (ident_with making.name) making.attr h.0 v w h.1 h.3)
+      subst (λ x. FaresFiles (refused (Files x)) v w) (sym h.2) (fares-wrong who 0 (ident_with making.name) making.attr h.0 v w h.1 h.3)
 
 -- the making of a file from any source
 module _ {D : Type 0} {met : Ghosts D} (who : Who) (lun n : ℕ) where
-  broken-fares : (f : FlxRefusal) (v w : Volume D met) → IsBrokenOff of_volume who lun n f v w → IsFaring (refused f) v w
+  broken-fares : (f : FlxRefusal) (v w : Volume D met) → IsBrokenOff of_volume who lun n f v w → FaresFiles (refused f) v w
   broken-fares (Files e) v w h = fares-breaking who (filling_of lun n h.0) e v w h.1
   broken-fares (Rt e) v w h =
       alike (refused (Rt e)) done v w refl refl (fares-all who (extension lun n ++ writes_of lun 0 h.0) v w h.1)
@@ -217,30 +216,30 @@ module _ {D : Type 0} {met : Ghosts D} (who : Who) (lun n : ℕ) where
 
 module _ {D H : Type 0} {met : Ghosts D} (who : Who) (lun n : ℕ) (Fills : H → H → Volume D met → Volume D met → Type 0)
     (Fails : FlxRefusal → H → H → Volume D met → Volume D met → Type 0) (asking : AsksToFill of_volume who lun n Fills Fails) where
-  filled-fares : (id : FileId) (a b : H) (v w : Volume D met) → FillsOpened of_volume who lun Fills id a b v w → IsFaring done v w
+  filled-fares : (id : FileId) (a b : H) (v w : Volume D met) → FillsOpened of_volume who lun Fills id a b v w → FaresFiles done v w
   filled-fares id a b v w h =
       let all = asking.fills a b h.between w h.fills in
       calm-then done v h.between w (fares-all who (opening lun id) v h.between h.opened)
       (fares-all who (filling_of lun n all.0) h.between w all.1)
 
   fill-file-fares : (f : FlxRefusal) (id : FileId) (a b : H) (v w : Volume D met) → FailsToFillOpened of_volume who lun Fails id f a b v w
-      → IsFaring (refused f) v w
+      → FaresFiles (refused f) v w
   fill-file-fares f id a b v w (inl h) =
-      subst (λ x. IsFaring (refused x) v w) (sym h.is) (fares-denied who (asks (request.Access id access.Write lun)) h.e v w h.denied)
+      subst (λ x. FaresFiles (refused x) v w) (sym h.is) (fares-denied who (asks (request.Access id access.Write lun)) h.e v w h.denied)
   fill-file-fares f id a b v w (inr h) =
       calm-then (refused f) v h.between w (fares-all who (opening lun id) v h.between h.opened)
       (fares-undoing who (request.Deaccess lun) h.f f h.between h.left w
       (broken-fares who lun n h.f h.between h.left (asking.fails h.f a b h.between h.left h.fails)) h.undoes)
 
-  pub made-fares : (making : Making) (a b : H) (v w : Volume D met) → MakesFile of_volume who lun Fills making a b v w → IsFaring done v w
+  pub made-fares : (making : Making) (a b : H) (v w : Volume D met) → MakesFile of_volume who lun Fills making a b v w → FaresFiles done v w
   made-fares making a b v w h =
       calm-then done v h.created w (fares-all who (creation making h.id) v h.created h.creates)
       (calm-then done h.created h.filled w (filled-fares h.id a b h.created h.filled h.fills)
       (fares-all who (entry making h.id) h.filled w h.enters))
 
   pub unmade-fares : (f : FlxRefusal) (making : Making) (a b : H) (v w : Volume D met)
-      → FailsToMake of_volume who lun Fills Fails making f a b v w → IsFaring (refused f) v w
-  unmade-fares f making a b v w (inl h) = subst (λ x. IsFaring (refused x) v w) (sym h.is) (fares-uncreated who making h.e v w h.fails)
+      → FailsToMake of_volume who lun Fills Fails making f a b v w → FaresFiles (refused f) v w
+  unmade-fares f making a b v w (inl h) = subst (λ x. FaresFiles (refused x) v w) (sym h.is) (fares-uncreated who making h.e v w h.fails)
   unmade-fares f making a b v w (inr (inl h)) =
       calm-then (refused f) v h.created w (fares-all who (creation making h.id) v h.created h.creates)
       (fares-undoing who (request.Delete h.id) h.f f h.created h.left w (fill-file-fares h.f h.id a b h.created h.left h.fails) h.undoes)
@@ -251,14 +250,14 @@ module _ {D H : Type 0} {met : Ghosts D} (who : Who) (lun n : ℕ) (Fills : H �
       (fares-breaking who (entry making h.id) h.e h.filled h.left h.breaks) h.undoes))
 
 module _ {D E : Type 0} {met : Ghosts D} {met' : Ghosts E} (disk : E → Disk) (m : CopyMode) (who : Who) (lun : ℕ) (name : List ℕ) where
-  plan-fares : (f : FlxRefusal) (a b : RtAccepted E met') (v : Volume D met) → FailsToPlan disk m name f a b → IsFaring (refused f) v v
+  plan-fares : (f : FlxRefusal) (a b : RtAccepted E met') (v : Volume D met) → FailsToPlan disk m name f a b → FaresFiles (refused f) v v
   plan-fares (Files e) a b v h = absurd h
   plan-fares (Rt e) a b v h = alike (refused (Rt e)) done v v refl refl (calm-none v)
   plan-fares BadRecord a b v h = absurd h
   plan-fares LineTooLong a b v h = alike (refused LineTooLong) done v v refl refl (calm-none v)
 
   pub copies-fares : (dir : FileId) (to : List ℕ) (protection blocks : ℕ) (a b : RtAccepted E met') (v w : Volume D met)
-      → CopiesFrom of_volume disk m who lun name dir to protection blocks a b v w → IsFaring done v w
+      → CopiesFrom of_volume disk m who lun name dir to protection blocks a b v w → FaresFiles done v w
   copies-fares dir to protection blocks a b v w h =
       made-fares who lun blocks (FillsFromRt {met = met'} of_volume disk m who lun name h.many blocks)
       (FailsToFillFromRt {met = met'} of_volume disk m who lun name h.many blocks)
@@ -266,8 +265,8 @@ module _ {D E : Type 0} {met : Ghosts D} {met' : Ghosts E} (disk : E → Disk) (
       (as_file to dir protection h.attr []) h.between b v w (h.makes [])
 
   pub fails-fares : (f : FlxRefusal) (dir : FileId) (to : List ℕ) (protection : ℕ) (a b : RtAccepted E met') (v w : Volume D met)
-      → FailsToCopyFrom of_volume disk m who lun name dir to protection f a b v w → IsFaring (refused f) v w
-  fails-fares f dir to protection a b v w (inl h) = subst (λ x. IsFaring (refused f) v x) (sym h.unasked) (plan-fares f a b v h.fails)
+      → FailsToCopyFrom of_volume disk m who lun name dir to protection f a b v w → FaresFiles (refused f) v w
+  fails-fares f dir to protection a b v w (inl h) = subst (λ x. FaresFiles (refused f) v x) (sym h.unasked) (plan-fares f a b v h.fails)
   fails-fares f dir to protection a b v w (inr h) =
       unmade-fares who lun h.blocks (FillsFromRt {met = met'} of_volume disk m who lun name h.many h.blocks)
       (FailsToFillFromRt {met = met'} of_volume disk m who lun name h.many h.blocks)

@@ -35,6 +35,8 @@ use Rattle.f11_flx.specs.declared.refusal.FlxRefusal.TheVariants.{BadRecord, Fil
 use Rattle.f11_flx.specs.Refusal.{is_lethal}
 use Rattle.f11_flx.specs.ToRt.{CopiesFileToRt, CopiesLocked, CountsAs, FailsLocked, FailsToCopyFileToRt, FailsToFillToRt, GaveUp}
 use Rattle.f11_flx.specs.ToRt.{UndoesToRt, nowhere_refuses, nowhere_takes, rt_refuses, rt_takes}
+use Rattle.f11_writes.proofs.InOrderLemmas.{order-looked, order-none, order-then}
+use Rattle.f11_writes.specs.Order.{WritesInOrder}
 use Rattle.rt11_volume.specs.Files.{is_fault as rt_fault}
 use Rattle.rt11_volume.specs.declared.volume.RtAccepted.{RtAccepted}
 use Rattle.f11_flx.proofs.KeptLemmas.{refused}
@@ -55,6 +57,7 @@ pub record Ran {D : Type 0} {met : Ghosts D} (who : Who) (fault fatal : Bool) (o
   pub next : IsTrue (state_in old).disk.honest → is_spent new ≡ (is_spent old || fatal)
   pub spent : is_spent new ≡ true → (is_spent old || fatal) ≡ true
   pub accepted : StaysAccepted (state_in old) → StaysAccepted (state_in new)
+  pub ordered : WritesInOrder (state_in old).disk (state_in new).disk
 
 abbrev as-count : Bool → ℕ
 as-count b = if b then 1 else 0
@@ -71,6 +74,7 @@ module _ {D : Type 0} {met : Ghosts D} (who : Who) where
     next = λ h. sym (or-false (is_spent v));
     spent = λ h. or-false (is_spent v) ∙ h;
     accepted = λ h. h;
+    ordered = order-none (state_in v).disk;
   })
 
   tried-append : (xs ys : List Asking) (u v w : Volume D met) → Tried of_volume who xs u v → Tried of_volume who ys v w
@@ -89,6 +93,7 @@ module _ {D : Type 0} {met : Ghosts D} (who : Who) where
     next = λ t. k.next (h.honest ∙ t) ∙ ap (λ (x : Bool). x || c) (h.next t ∙ or-false (is_spent u));
     spent = λ t. by (is_spent v) refl (k.spent t);
     accepted = λ a. k.accepted (h.accepted a);
+    ordered = order-then (state_in u).disk (state_in v).disk (state_in w).disk h.ordered k.ordered;
   }
     where
       by : (s : Bool) → is_spent v ≡ s → (is_spent v || c) ≡ true → (is_spent u || c) ≡ true
@@ -113,6 +118,7 @@ module _ {D : Type 0} {met : Ghosts D} (who : Who) where
     next = λ t. s.serving.next;
     spent = λ t. sym s.serving.next ∙ t;
     accepted = λ t. s.accepted;
+    ordered = s.serving.ordered;
   }
     where
       no-fault : is_spent v ≡ true → is_refused is_fault a.result ≡ false
@@ -153,6 +159,7 @@ module _ {D : Type 0} {met : Ghosts D} (who : Who) where
     next = λ t. s.0.next;
     spent = λ t. sym s.0.next ∙ t;
     accepted = λ t. s.1;
+    ordered = ordered (is_spent v) refl;
   }
     where
       no-fault : is_spent v ≡ true → is_refused is_fault r ≡ false
@@ -178,6 +185,11 @@ module _ {D : Type 0} {met : Ghosts D} (who : Who) where
       honest : (b : Bool) → is_spent v ≡ b → (state_in w).disk.honest ≡ (state_in v).disk.honest
       honest true is = ap (λ (y : State). y.disk.honest) (s.0.untouched is)
       honest false is = (looked r (s.0.measures is)).1.honest
+
+      ordered : (b : Bool) → is_spent v ≡ b → WritesInOrder (state_in v).disk (state_in w).disk
+      ordered true is =
+          subst (λ (y : State). WritesInOrder (state_in v).disk y.disk) (sym (s.0.untouched is)) (order-none (state_in v).disk)
+      ordered false is = let l = looked r (s.0.measures is) in order-looked (state_in v).disk (state_in w).disk l.0 _ l.1
 
   -- one thing, granted or denied
   pub ran-granted : (x : Asking) (v w : Volume D met) → is_reading x ≡ true → Grants of_volume who x v w → Ran who false false v w
@@ -313,6 +325,7 @@ module _ {D : Type 0} {met : Ghosts D} (who : Who) (lun : ℕ) (name : List ℕ)
         next = λ t. absurd (wrong d.0 v w d.1 d.3 t);
         spent = λ t. or_right (is_spent v) true refl;
         accepted = h.accepted;
+        ordered = h.ordered;
       } in
       by-files who lun name e r v w is (subst (λ x. Ran who (is_fault x) (is_fatal x) v w) (sym d.2) ran)
   told-nothing e r v w is (inr d) =
@@ -450,7 +463,15 @@ module _ {D : Type 0} {met : Ghosts D} (who : Who) (lun : ℕ) (name : List ℕ)
         let p = copied-ran m count old new rt rt' made in
         let h = p.0 in
         record {
-          fares = record { failures = h.failures; quiet = h.quiet; honest = h.honest; next = h.next; spent = h.spent; accepted = p.1 };
+          fares = record {
+            failures = h.failures;
+            quiet = h.quiet;
+            honest = h.honest;
+            next = h.next;
+            spent = h.spent;
+            accepted = p.1;
+            ordered = h.ordered;
+          };
           keeps = copied-keeps who disk lun file name day m old new rt rt' count made;
           spent = λ dead. absurd (spent-uncopied disk who lun name file day m old new rt rt' dead count made);
           asked = record { asked = h.asked; tried = h.tried; only = h.only };
@@ -461,7 +482,15 @@ module _ {D : Type 0} {met : Ghosts D} (who : Who) (lun : ℕ) (name : List ℕ)
         let p = refused-ran m e old new rt rt' failed in
         let h = p.0 in
         record {
-          fares = record { failures = h.failures; quiet = h.quiet; honest = h.honest; next = h.next; spent = h.spent; accepted = p.1 };
+          fares = record {
+            failures = h.failures;
+            quiet = h.quiet;
+            honest = h.honest;
+            next = h.next;
+            spent = h.spent;
+            accepted = p.1;
+            ordered = h.ordered;
+          };
           keeps = uncopied-keeps who disk lun file name day m old new rt rt' e failed;
           spent = λ dead. ap refused (spent-refused disk who lun name file day m old new rt rt' dead e failed);
           asked = record { asked = h.asked; tried = h.tried; only = h.only };

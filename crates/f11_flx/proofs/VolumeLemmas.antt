@@ -25,6 +25,8 @@ use Rattle.f11_fcp.specs.Lists.{ServesCall, failures_of, is_sound, store_of_volu
 use Rattle.f11_fcp.specs.Places.{access_table_of}
 use Rattle.f11_fcp.specs.Serving.{StaysAccepted, is_spent, state_in}
 use Rattle.f11_fcp.specs.declared.volume.Volume.{Volume}
+use Rattle.f11_writes.proofs.InOrderLemmas.{order-looked, order-none}
+use Rattle.f11_writes.specs.Order.{WritesInOrder}
 use Rattle.f11_flx.specs.Asking.{Asking, Denies, Grants, IsMeasured, Who, asks, counts, plain, reads, told, writes}
 use Rattle.f11_flx.specs.Copying.{of_volume}
 use Rattle.f11_flx.specs.Refusal.{is_lethal}
@@ -95,6 +97,7 @@ module _ {D : Type 0} {met : Ghosts D} where
     pub honest : (state_in new).disk.honest ≡ (state_in old).disk.honest
     pub next : is_spent new ≡ (is_spent old || fatal)
     pub accepted : StaysAccepted (state_in new)
+    pub ordered : WritesInOrder (state_in old).disk (state_in new).disk
 
   -- a request of it, whatever it answers
   serves-fared : (v w : Volume D met) (c : Call) (a : Answer) → ServesCall v c a w
@@ -111,6 +114,7 @@ module _ {D : Type 0} {met : Ghosts D} where
             honest = ap (λ (x : State). x.disk.honest) same;
             next = h.serving.next ∙ ap (λ x. is_spent v || is_refused is_fatal x) r;
             accepted = h.accepted;
+            ordered = h.serving.ordered;
           })
       by_spent false is =
           let k = h.serving.handled is in
@@ -121,6 +125,7 @@ module _ {D : Type 0} {met : Ghosts D} where
             honest = k.writes.went.honest;
             next = h.serving.next;
             accepted = h.accepted;
+            ordered = h.serving.ordered;
           }
 
   measures-fared : (v w : Volume D met) (task lun : ℕ) (result : Result ℕ Refusal) → AnswersLength task lun result v w
@@ -135,6 +140,7 @@ module _ {D : Type 0} {met : Ghosts D} where
         honest = k.outcome.reads.looked.honest;
         next = next;
         accepted = accepted;
+        ordered = order-looked _ _ _ _ k.outcome.reads.looked;
       }
       by_result (Err e) k next = record {
         failures = k.outcome.reads.looked.failures;
@@ -142,6 +148,7 @@ module _ {D : Type 0} {met : Ghosts D} where
         honest = k.outcome.reads.looked.honest;
         next = next;
         accepted = accepted;
+        ordered = order-looked _ _ _ _ k.outcome.reads.looked;
       }
 
       by_spent : (b : Bool) → is_spent v ≡ b → IsFared (is_refused is_fault result) (is_refused is_fatal result) v w
@@ -154,6 +161,7 @@ module _ {D : Type 0} {met : Ghosts D} where
             honest = ap (λ (x : State). x.disk.honest) same;
             next = h.next ∙ ap (λ x. is_spent v || is_refused is_fatal x) r;
             accepted = accepted;
+            ordered = subst (λ (x : State). WritesInOrder (state_in v).disk x.disk) (sym same) (order-none (state_in v).disk);
           })
       by_spent false is = by_result result (h.measures is) h.next
 

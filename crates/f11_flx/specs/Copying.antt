@@ -2,8 +2,14 @@
 use Rattle.std.specs.Prelude.{◌≡◌, ℕ, ◌+◌, ◌||◌, ⊤, Bool, true, false, not, IsTrue, if◌then◌else◌, List, All, Result, Ok, Err}
 use Rattle.f11_dev.specs.Disk.{Disk}
 use Rattle.f11_dev.specs.declared.device.Device.{Ghosts}
+use Rattle.f11_store.specs.Ident.{ident_with}
+use Rattle.f11_store.specs.declared.files.Change.TheVariants as change
+use Rattle.f11_store.specs.declared.files.FileId.{FileId}
+use Rattle.f11_store.specs.declared.files.Mode.TheVariants as access
 use Rattle.f11_store.specs.declared.refusals.Refusal.{Refusal}
 use Rattle.f11_store.specs.declared.refusals.Refusal.TheVariants.{VolumeFailed}
+use Rattle.f11_store.specs.declared.requests.Reply.{Reply}
+use Rattle.f11_store.specs.declared.requests.Reply.TheVariants as reply
 use Rattle.f11_store.specs.declared.requests.Request.{Request}
 use Rattle.f11_store.specs.declared.requests.Request.TheVariants as request
 use Rattle.f11_files.specs.Answers.{is_fatal, is_fault}
@@ -11,6 +17,7 @@ use Rattle.f11_fcp.specs.Lengths.{AnswersLength}
 use Rattle.f11_fcp.specs.Lists.{ServesCall, failures_of, is_sound, store_of_volume}
 use Rattle.f11_fcp.specs.Serving.{StaysAccepted, is_spent, state_in}
 use Rattle.f11_fcp.specs.declared.volume.Volume.{Volume}
+use Rattle.f11_writes.specs.Order.{WritesInOrder}
 use Rattle.rt11_volume.specs.Calls.{has_failed, volume_device}
 use Rattle.rt11_volume.specs.Files.{is_fault as is_rt_fault}
 use Rattle.rt11_volume.specs.Store.{rt_store_of}
@@ -65,7 +72,7 @@ pub record KeepsFailed {E T : Type 0} {met : Ghosts E} (disk : E → Disk) (resu
   pub untouched : has_failed old ≡ true → disk (volume_device new) ≡ disk (volume_device old)
 
 -- What the answer tells of the Files-11 volume: a transfer failed where that is the answer, and none followed; DeviceFault and
--- Damaged fail the volume, and nothing else does.
+-- Damaged fail the volume, and nothing else does. Where its disk is honest its blocks were written in order.
 pub record FaresFiles {D T : Type 0} {met : Ghosts D} (result : Result T FlxRefusal) (old new : Volume D met) : Type 0 where
   pub failures : failures_of new ≡ failures_of old + (if of_files is_fault result then 1 else 0)
   pub quiet : of_files is_fault result ≡ true → (state_in new).disk.calm ≡ 0
@@ -73,6 +80,7 @@ pub record FaresFiles {D T : Type 0} {met : Ghosts D} (result : Result T FlxRefu
   pub next : IsTrue (state_in old).disk.honest → is_spent new ≡ (is_spent old || of_files is_fatal result)
   pub spent : is_spent new ≡ true → (is_spent old || of_files is_fatal result) ≡ true
   pub accepted : StaysAccepted (state_in new)
+  pub ordered : WritesInOrder (state_in old).disk (state_in new).disk
 
 -- What it tells of the RT-11 volume.
 pub record FaresRt {E T : Type 0} {met : Ghosts E} (disk : E → Disk) (result : Result T FlxRefusal)
@@ -102,23 +110,37 @@ is_reading (reads lun vbn block) = true
 is_reading (writes lun vbn block) = false
 is_reading (counts lun blocks) = true
 
--- what a copy from RT-11 asks
-abbrev pub is_making_request : Request → Bool
-is_making_request (request.Create protection ident attr) = true
-is_making_request (request.Access id mode lun) = true
-is_making_request (request.Extend lun n) = true
-is_making_request (request.Deaccess lun) = true
-is_making_request (request.Enter d name id) = true
-is_making_request (request.WriteAttr id c) = true
-is_making_request (request.Delete id) = true
-is_making_request _ = false
+-- what making a file asks: it is created with this name, barring nobody, accessed by this lun, gets its blocks, and is given up, entered
+-- into this directory under the name, protected so, or deleted again
+abbrev pub MakesBy : ℕ → FileId → List ℕ → ℕ → FileId → Request → Type 0
+MakesBy lun dir to protection id (request.Create word ident attr) = (word ≡ 0) × (ident ≡ ident_with to)
+MakesBy lun dir to protection id (request.Access f mode l) = (f ≡ id) × (mode ≡ access.Write) × (l ≡ lun)
+MakesBy lun dir to protection id (request.Extend l n) = l ≡ lun
+MakesBy lun dir to protection id (request.Deaccess l) = l ≡ lun
+MakesBy lun dir to protection id (request.Enter d name f) = (d ≡ dir) × (name ≡ to) × (f ≡ id)
+MakesBy lun dir to protection id (request.WriteAttr f c) = (f ≡ id) × (c ≡ change.Protect protection)
+MakesBy lun dir to protection id (request.Delete f) = f ≡ id
+MakesBy lun dir to protection id _ = ⊥
 
-abbrev pub is_making : Asking → Bool
-is_making (asks r) = is_making_request r
-is_making (told r reply) = is_making_request r
-is_making (reads lun vbn block) = false
-is_making (writes lun vbn block) = true
-is_making (counts lun blocks) = false
+-- a reply tells no other file as created
+abbrev pub TellsOnly : FileId → Reply → Type 0
+TellsOnly id (reply.Created f) = f ≡ id
+TellsOnly id _ = ⊤
+
+abbrev pub IsMakingOf : ℕ → FileId → List ℕ → ℕ → FileId → Asking → Type 0
+IsMakingOf lun dir to protection id (asks r) = MakesBy lun dir to protection id r
+IsMakingOf lun dir to protection id (told r a) = MakesBy lun dir to protection id r × TellsOnly id a
+IsMakingOf lun dir to protection id (reads l vbn block) = ⊥
+IsMakingOf lun dir to protection id (writes l vbn block) = l ≡ lun
+IsMakingOf lun dir to protection id (counts l blocks) = ⊥
+
+-- What makes one file was asked of the volume and nothing else, one thing after another, whatever it answered.
+pub record AsksForOne {D : Type 0} {met : Ghosts D} (who : Who) (lun : ℕ) (dir : FileId) (to : List ℕ) (protection : ℕ)
+    (old new : Volume D met) : Type 0 where
+  pub id : FileId
+  pub asked : List Asking
+  pub tried : Tried of_volume who asked old new
+  pub only : All (IsMakingOf lun dir to protection id) asked
 
 -- The volume was read, whatever the answer is; it is as before unless a device fault or Damaged was met. Where it had failed, the answer is
 -- VolumeFailed.
@@ -130,12 +152,14 @@ pub record ReadsFiles {D T : Type 0} {met : Ghosts D} (result : Result T FlxRefu
   pub stays : is_sound old ≡ true → is_whole result ≡ true → store_of_volume new ≡ store_of_volume old
 
 -- A file was made, or not, and then the volume is as before, but for slots that its index file got first, unless a device fault or Damaged
--- was met; on one that had failed nothing is done, and nothing is asked of it where the RT-11 volume had.
-pub record MayMakeFile {D T : Type 0} {met : Ghosts D} (result : Result T FlxRefusal) (who : Who) (old new : Volume D met) : Type 0 where
+-- was met: whatever the answer is, it is all for that file. On one that had failed nothing is done, and nothing is asked of it where the
+-- RT-11 volume had.
+pub record MayMakeFile {D T : Type 0} {met : Ghosts D} (result : Result T FlxRefusal) (who : Who) (lun : ℕ) (dir : FileId)
+    (to : List ℕ) (protection : ℕ) (old new : Volume D met) : Type 0 where
   pub fares : FaresFiles result old new
   pub keeps : KeepsSpent result old new
   pub unasked : result ≡ Err (Rt Failed) → new ≡ old
-  pub asked : AsksOnly is_making who old new
+  pub asked : AsksForOne who lun dir to protection old new
   pub undone : (e : FlxRefusal) → result ≡ Err e → is_sound old ≡ true → is_whole result ≡ true →
       IsAsBefore (store_of_volume old) (store_of_volume new)
 

@@ -50,7 +50,8 @@ pub fn copy_from_rt<D: Device, E: Device>(
     mode: CopyMode,
 ) -> Result<u32, FlxRefusal>
     ensures source { ReadsRt E.disk result rt.old rt.new }
-    ensures files { MayMakeFile result (who_asks task uic) vol.old vol.new }
+    ensures files { MayMakeFile result (who_asks task uic) lun dir to.now protection
+        vol.old vol.new }
     ensures spent { is_spent vol.old ≡ true → IsErrAnd result (λ e.
         FailsToCopySpent e mode name.now (E.disk (volume_device rt.old))) }
     ensures ended { IfErr result (λ e. is_lethal e ≡ true

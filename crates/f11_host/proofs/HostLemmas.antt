@@ -16,8 +16,8 @@ use Rattle.f11_fcp.specs.declared.volume.Volume.{Volume}
 use Rattle.rt11_volume.specs.declared.refusal.RtRefusal.{RtRefusal}
 use Rattle.rt11_volume.specs.declared.refusal.RtRefusal.TheVariants.{Failed}
 use Rattle.f11_flx.specs.Asking.{BreaksOffAsking, FilesService, Granted, Who}
-use Rattle.f11_flx.specs.Copying.{MayMakeFile, is_making, is_whole, of_volume}
-use Rattle.f11_flx.specs.CopyFromRt.{FailsToMakeFile, Making, filling, new_id}
+use Rattle.f11_flx.specs.Copying.{MayMakeFile, is_whole, of_volume}
+use Rattle.f11_flx.specs.CopyFromRt.{FailsToMakeFile, Making, as_file, filling, new_id}
 use Rattle.f11_flx.specs.Ended.{Ends}
 use Rattle.f11_flx.specs.Making.{FailsToFillOpened, IsCutShort, Undoing, UndoingIf, filling_of}
 use Rattle.f11_flx.specs.Refusal.{is_lethal}
@@ -26,11 +26,11 @@ use Rattle.f11_flx.specs.declared.refusal.FlxRefusal.TheVariants.{BadRecord, Fil
 use Rattle.f11_flx.proofs.EndedLemmas.{making-ends}
 use Rattle.f11_flx.proofs.FaredLemmas.{calm-none, made-fares, of-calm, unmade-fares}
 use Rattle.f11_flx.proofs.FromRtLemmas.{making-seen}
-use Rattle.f11_flx.proofs.FromVolumeLemmas.{making-requests, may-make, may-not-make}
+use Rattle.f11_flx.proofs.FromVolumeLemmas.{may-make, may-not-make}
 use Rattle.f11_flx.proofs.KeptLemmas.{dead-made, dead-unmade, given, made-keeps, refused, same-refusal, unmade-keeps}
 use Rattle.f11_flx.proofs.NotMadeLemmas.{IsRefusal, IsShort, bad-no-files, making-refused, making-undone}
 use Rattle.f11_flx.proofs.SmallLemmas.{not-true}
-use Rattle.f11_flx.proofs.TriedLemmas.{made-tries, tries-none, unmade-tries}
+use Rattle.f11_flx.proofs.TriedLemmas.{made-tries, none-for-one, unmade-tries}
 use Rattle.f11_flx.proofs.UndoneLemmas.{as-before, clean-undoing}
 use Rattle.f11_flx.proofs.VolumeLemmas.{standing, unused, volume-seen}
 use Rattle.f11_host.specs.CopyFromHost.{CopiesFromHost, FailsSpent, FailsToCopyFromHost, IsNotCopied, IsRefusedIf, ReadsAll, ReadsHost}
@@ -162,32 +162,32 @@ module _ {D : Type 0} {met : Ghosts D} (who : Who) (lun bytes : ℕ) (dir : File
   pub count-as : (blocks n : ℕ) → blocks ≡ blocks_for n → n ≡ bytes → blocks ≡ blocks_for bytes
   count-as blocks n count same = count ∙ ap blocks_for same
 
-  pub made-files : (blocks : ℕ) → Made → MayMakeFile (given blocks) who v w
+  pub made-files : (blocks : ℕ) → Made → MayMakeFile (given blocks) who lun dir to protection v w
   made-files blocks h =
-      may-make who v w blocks
+      may-make who lun (as_image to dir protection bytes []) v w blocks
       (made-fares who lun (blocks_for bytes) (FillsFromHost of_volume who lun bytes) (FailsToFillFromHost of_volume who lun bytes)
       (asks-to-fill of_volume who lun bytes) (as_image to dir protection bytes []) (host_file u []) (host_file u' taken) v w (h []))
       (made-keeps who lun (blocks_for bytes) (FillsFromHost of_volume who lun bytes) (FailsToFillFromHost of_volume who lun bytes)
       (asks-to-fill of_volume who lun bytes) blocks (as_image to dir protection bytes []) (host_file u []) (host_file u' taken) v w (h []))
       (made-tries of_volume who lun (blocks_for bytes) (FillsFromHost of_volume who lun bytes)
-      (FailsToFillFromHost of_volume who lun bytes) (asks-to-fill of_volume who lun bytes) is_making making-requests
+      (FailsToFillFromHost of_volume who lun bytes) (asks-to-fill of_volume who lun bytes)
       (as_image to dir protection bytes []) (host_file u []) (host_file u' taken) v w (h []))
 
   told : (f : FlxRefusal) → Unmade f → as_copy (of_copy f) ≡ f
   told f h =
       told-made of_volume who lun bytes f (as_image to dir protection bytes []) (host_file u []) (host_file u' taken) v w (h [])
 
-  pub unmade-files : (f : FlxRefusal) → Unmade f → MayMakeFile (copy_result (unmade (of_copy f))) who v w
+  pub unmade-files : (f : FlxRefusal) → Unmade f → MayMakeFile (copy_result (unmade (of_copy f))) who lun dir to protection v w
   unmade-files f h =
-      subst (λ x. MayMakeFile (refused x) who v w) (sym (told f h))
-      (may-not-make who v w f
+      subst (λ x. MayMakeFile (refused x) who lun dir to protection v w) (sym (told f h))
+      (may-not-make who lun (as_image to dir protection bytes []) v w f
       (unmade-fares who lun (blocks_for bytes) (FillsFromHost of_volume who lun bytes) (FailsToFillFromHost of_volume who lun bytes)
       (asks-to-fill of_volume who lun bytes) f (as_image to dir protection bytes []) (host_file u []) (host_file u' taken) v w (h []))
       (unmade-keeps who lun (blocks_for bytes) (FillsFromHost of_volume who lun bytes) (FailsToFillFromHost of_volume who lun bytes)
       (asks-to-fill of_volume who lun bytes) f (as_image to dir protection bytes []) (host_file u []) (host_file u' taken) v w (h []))
       (unmade-tries of_volume who lun (blocks_for bytes) (FillsFromHost of_volume who lun bytes)
-      (FailsToFillFromHost of_volume who lun bytes) (asks-to-fill of_volume who lun bytes) is_making making-requests f
-      (as_image to dir protection bytes []) (host_file u []) (host_file u' taken) v w (h []))
+      (FailsToFillFromHost of_volume who lun bytes) (asks-to-fill of_volume who lun bytes)
+      (as_image to dir protection bytes []) f (host_file u []) (host_file u' taken) v w (h []))
       (λ is. absurd (no-rt Failed (subst (λ x. IsTold x) (same-refusal f (Rt Failed) is) (told f h))))
       (λ sound clean. making-undone of_volume who lun (blocks_for bytes) (FillsFromHost of_volume who lun bytes)
       (FailsToFillFromHost of_volume who lun bytes) (asks-to-fill of_volume who lun bytes) store_of_volume is_sound volume-seen f
@@ -317,11 +317,13 @@ module _ {D : Type 0} {met : Ghosts D} (who : Who) (lun bytes : ℕ) (dir : File
       absurd (made-fate of_volume who lun bytes LineTooLong (as_image to dir protection bytes []) u u' taken v w refl (h []))
 
 -- a file that is too long
-module _ {D : Type 0} {met : Ghosts D} (who : Who) (v : Volume D met) where
-  pub too-long-files : MayMakeFile (copy_result (unmade (host.Files TooManySegments))) who v v
+module _ {D : Type 0} {met : Ghosts D} (who : Who) (lun : ℕ) (dir : FileId) (to : List ℕ) (protection : ℕ) (v : Volume D met) where
+  pub too-long-files : MayMakeFile (copy_result (unmade (host.Files TooManySegments))) who lun dir to protection v v
   too-long-files =
-      may-not-make who v v (Files TooManySegments) (of-calm (Files TooManySegments) v v refl (calm-none v))
-      (record { only = λ is. absurd (differ is); untouched = λ dead. refl }) (tries-none of_volume is_making who v)
+      may-not-make who lun (as_file to dir protection [] []) v v (Files TooManySegments)
+      (of-calm (Files TooManySegments) v v refl (calm-none v))
+      (record { only = λ is. absurd (differ is); untouched = λ dead. refl })
+      (none-for-one of_volume who lun (as_file to dir protection [] []) v)
       (λ is. refl) (λ sound clean. as-before (store_of_volume v))
     where
       differ : refused (Files TooManySegments) ≡ refused (Files VolumeFailed) → ⊥

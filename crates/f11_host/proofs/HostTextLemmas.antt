@@ -14,8 +14,8 @@ use Rattle.f11_fcp.specs.Serving.{is_spent}
 use Rattle.f11_fcp.specs.declared.volume.Volume.{Volume}
 use Rattle.rt11_volume.specs.declared.refusal.RtRefusal.TheVariants.{Failed}
 use Rattle.f11_flx.specs.Asking.{BreaksOffAsking, FilesService, Granted, Who}
-use Rattle.f11_flx.specs.Copying.{MayMakeFile, is_making, is_whole, of_volume}
-use Rattle.f11_flx.specs.CopyFromRt.{FailsToMakeFile, Making, filling, new_id}
+use Rattle.f11_flx.specs.Copying.{MayMakeFile, is_whole, of_volume}
+use Rattle.f11_flx.specs.CopyFromRt.{FailsToMakeFile, Making, as_file, filling, new_id}
 use Rattle.f11_flx.specs.Ended.{Ends}
 use Rattle.f11_flx.specs.Making.{FailsToFillOpened, IsCutShort, filling_of}
 use Rattle.f11_flx.specs.Refusal.{is_lethal}
@@ -25,11 +25,11 @@ use Rattle.f11_flx.specs.declared.refusal.FlxRefusal.TheVariants.{BadRecord, Fil
 use Rattle.f11_flx.proofs.EndedLemmas.{making-ends}
 use Rattle.f11_flx.proofs.FaredLemmas.{calm-none, made-fares, of-calm, unmade-fares}
 use Rattle.f11_flx.proofs.FromRtLemmas.{making-seen}
-use Rattle.f11_flx.proofs.FromVolumeLemmas.{making-requests, may-make, may-not-make}
+use Rattle.f11_flx.proofs.FromVolumeLemmas.{may-make, may-not-make}
 use Rattle.f11_flx.proofs.KeptLemmas.{dead-made, dead-unmade, given, made-keeps, refused, same-refusal, unmade-keeps}
 use Rattle.f11_flx.proofs.NotMadeLemmas.{IsRefusal, IsShort, bad-no-files, making-refused, making-undone}
 use Rattle.f11_flx.proofs.SmallLemmas.{not-true}
-use Rattle.f11_flx.proofs.TriedLemmas.{made-tries, tries-none, unmade-tries}
+use Rattle.f11_flx.proofs.TriedLemmas.{made-tries, none-for-one, unmade-tries}
 use Rattle.f11_flx.proofs.UndoneLemmas.{as-before, clean-undoing}
 use Rattle.f11_flx.proofs.VolumeLemmas.{standing, unused, volume-seen}
 use Rattle.f11_host.specs.CopyTextFromHost.{CopiesTextFromHost, FailsTextSpent, FailsToCopyTextFromHost, IsTextNotCopied, IsTextRefusedIf}
@@ -128,26 +128,26 @@ module _ {D : Type 0} {met : Ghosts D} (who : Who) (lun bytes : ℕ) (plan : Ext
   Unmade f = (pieces : List (List ℕ)) →
       FailsToMakeFromText of_volume who lun bytes plan (as_text to dir protection plan pieces) f (host_file u []) (host_file u' taken) v w
 
-  pub text-made-files : (blocks : ℕ) → Made → MayMakeFile (given blocks) who v w
+  pub text-made-files : (blocks : ℕ) → Made → MayMakeFile (given blocks) who lun dir to protection v w
   text-made-files blocks h =
-      may-make who v w blocks
+      may-make who lun (as_text to dir protection plan []) v w blocks
       (made-fares who lun plan.blocks (FillsFromText of_volume who lun bytes plan) (FailsToFillFromText of_volume who lun bytes plan)
       (asks-to-fill-text of_volume who lun bytes plan) (as_text to dir protection plan []) (host_file u []) (host_file u' taken) v w (h []))
       (made-keeps who lun plan.blocks (FillsFromText of_volume who lun bytes plan) (FailsToFillFromText of_volume who lun bytes plan)
       (asks-to-fill-text of_volume who lun bytes plan) blocks (as_text to dir protection plan []) (host_file u []) (host_file u' taken) v w
       (h []))
       (made-tries of_volume who lun plan.blocks (FillsFromText of_volume who lun bytes plan)
-      (FailsToFillFromText of_volume who lun bytes plan) (asks-to-fill-text of_volume who lun bytes plan) is_making making-requests
+      (FailsToFillFromText of_volume who lun bytes plan) (asks-to-fill-text of_volume who lun bytes plan)
       (as_text to dir protection plan []) (host_file u []) (host_file u' taken) v w (h []))
 
   told : (f : FlxRefusal) → Unmade f → as_copy (of_copy f) ≡ f
   told f h =
       told-made of_volume who lun bytes plan f (as_text to dir protection plan []) (host_file u []) (host_file u' taken) v w (h [])
 
-  pub text-unmade-files : (f : FlxRefusal) → Unmade f → MayMakeFile (copy_result (unmade (of_copy f))) who v w
+  pub text-unmade-files : (f : FlxRefusal) → Unmade f → MayMakeFile (copy_result (unmade (of_copy f))) who lun dir to protection v w
   text-unmade-files f h =
-      subst (λ x. MayMakeFile (refused x) who v w) (sym (told f h))
-      (may-not-make who v w f
+      subst (λ x. MayMakeFile (refused x) who lun dir to protection v w) (sym (told f h))
+      (may-not-make who lun (as_text to dir protection plan []) v w f
       (unmade-fares who lun plan.blocks (FillsFromText of_volume who lun bytes plan) (FailsToFillFromText of_volume who lun bytes plan)
       (asks-to-fill-text of_volume who lun bytes plan) f (as_text to dir protection plan []) (host_file u []) (host_file u' taken) v w
       (h []))
@@ -155,8 +155,8 @@ module _ {D : Type 0} {met : Ghosts D} (who : Who) (lun bytes : ℕ) (plan : Ext
       (asks-to-fill-text of_volume who lun bytes plan) f (as_text to dir protection plan []) (host_file u []) (host_file u' taken) v w
       (h []))
       (unmade-tries of_volume who lun plan.blocks (FillsFromText of_volume who lun bytes plan)
-      (FailsToFillFromText of_volume who lun bytes plan) (asks-to-fill-text of_volume who lun bytes plan) is_making making-requests f
-      (as_text to dir protection plan []) (host_file u []) (host_file u' taken) v w (h []))
+      (FailsToFillFromText of_volume who lun bytes plan) (asks-to-fill-text of_volume who lun bytes plan)
+      (as_text to dir protection plan []) f (host_file u []) (host_file u' taken) v w (h []))
       (λ is. absurd (no-rt Failed (subst (λ x. IsTold x) (same-refusal f (Rt Failed) is) (told f h))))
       (λ sound clean. making-undone of_volume who lun plan.blocks (FillsFromText of_volume who lun bytes plan)
       (FailsToFillFromText of_volume who lun bytes plan) (asks-to-fill-text of_volume who lun bytes plan) store_of_volume is_sound
@@ -315,15 +315,17 @@ module _ {D : Type 0} {met : Ghosts D} (who : Who) (lun bytes : ℕ) (plan : Ext
         absurd (made-fate of_volume who lun bytes plan LineTooLong (as_text to dir protection plan []) u u' taken v w refl (h []))
 
 -- a text that isn't judged, or is too long: nothing was asked
-module _ {D : Type 0} {met : Ghosts D} (who : Who) (v : Volume D met) where
+module _ {D : Type 0} {met : Ghosts D} (who : Who) (lun : ℕ) (dir : FileId) (to : List ℕ) (protection : ℕ) (v : Volume D met) where
   unasked-files : (f : FlxRefusal) → is_lethal f ≡ false → (refused f ≡ refused (Files VolumeFailed) → ⊥)
-      → (refused f ≡ refused (Rt Failed) → ⊥) → MayMakeFile (refused f) who v v
+      → (refused f ≡ refused (Rt Failed) → ⊥) → MayMakeFile (refused f) who lun dir to protection v v
   unasked-files f clean differs other =
-      may-not-make who v v f (of-calm f v v clean (calm-none v)) (record { only = λ is. absurd (differs is); untouched = λ dead. refl })
-      (tries-none of_volume is_making who v) (λ is. absurd (other is)) (λ sound clean. as-before (store_of_volume v))
+      may-not-make who lun (as_file to dir protection [] []) v v f (of-calm f v v clean (calm-none v))
+      (record { only = λ is. absurd (differs is); untouched = λ dead. refl })
+      (none-for-one of_volume who lun (as_file to dir protection [] []) v) (λ is. absurd (other is))
+      (λ sound clean. as-before (store_of_volume v))
 
   pub unplanned-files : (f : FlxRefusal) (bytes : ℕ) (u u' : Option (List ℕ)) → FailsToPlanText bytes f u u'
-      → MayMakeFile (copy_result (unmade (of_copy f))) who v v
+      → MayMakeFile (copy_result (unmade (of_copy f))) who lun dir to protection v v
   unplanned-files (Files e) bytes u u' h = absurd h
   unplanned-files (Rt e) bytes u u' h = absurd h
   unplanned-files BadRecord bytes u u' h = unasked-files BadRecord refl differ differ'

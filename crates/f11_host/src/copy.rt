@@ -50,7 +50,8 @@ pub fn copy_from_host<R: Read, D: Device>(
     protection: u16,
 ) -> Result<u32, HostRefusal>
     ensures host { ReadsHost bytes result (R.remaining host.old) (R.remaining host.new) }
-    ensures files { MayMakeFile (copy_result result) (who_asks task uic) vol.old vol.new }
+    ensures files { MayMakeFile (copy_result result) (who_asks task uic) lun dir to.now protection
+        vol.old vol.new }
     ensures spent { is_spent vol.old ≡ true → IsErrAnd result (FailsSpent (is_too_long bytes)) }
     ensures ended { IfErr result (λ e. is_lethal (as_copy e) ≡ true
         → Ends of_volume (who_asks task uic) (as_copy e) vol.old vol.new) }

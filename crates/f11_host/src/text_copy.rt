@@ -34,8 +34,8 @@ fn copy_judged<R: Read, D: Device>(
     requires few { bytes ≤ 1073741312 }
     ensures hosts { ReadsTexts bytes result (R.remaining first.old) (R.remaining first.new)
         (R.remaining again.old) (R.remaining again.new) }
-    ensures files { MayMakeFile (copy_result result) (who_asks by.now.task by.now.uic)
-        vol.old vol.new }
+    ensures files { MayMakeFile (copy_result result) (who_asks by.now.task by.now.uic) by.now.lun
+        entry.now.dir entry.now.name entry.now.protection vol.old vol.new }
     ensures spent { is_spent vol.old ≡ true
         → IsErrAnd result (FailsTextSpent (is_text_too_long bytes)) }
     ensures ended { IfErr result (λ e. is_lethal (as_copy e) ≡ true
@@ -95,7 +95,8 @@ pub fn copy_text_from_host<R: Read, D: Device>(
 ) -> Result<u32, HostRefusal>
     ensures hosts { ReadsTexts bytes result (R.remaining first.old) (R.remaining first.new)
         (R.remaining again.old) (R.remaining again.new) }
-    ensures files { MayMakeFile (copy_result result) (who_asks task uic) vol.old vol.new }
+    ensures files { MayMakeFile (copy_result result) (who_asks task uic) lun dir to.now protection
+        vol.old vol.new }
     ensures spent { is_spent vol.old ≡ true
         → IsErrAnd result (FailsTextSpent (is_text_too_long bytes)) }
     ensures ended { IfErr result (λ e. is_lethal (as_copy e) ≡ true

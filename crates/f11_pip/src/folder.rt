@@ -17,7 +17,7 @@ use std::io::Write;
 /// # Errors
 ///
 /// Beside those of the command [`Failure::CannotOpen`] where not all files of the host could be made, behind what was done: which ones
-/// is told on standard error.
+/// is told on standard error. A transfer that failed is told before what the host refused.
 pub fn get_all<'a, W: Write>(
     rt: &HostRuntime,
     image: &'a str,
@@ -32,10 +32,10 @@ pub fn get_all<'a, W: Write>(
     };
     let new = fs::create_dir(rt, folder).map_err(CannotOpen::from);
     opened(new, folder, remark)?;
-    let complete = take_all(rt, &mut all, folder, writer)?;
+    let taken = take_all(rt, &mut all, folder, writer);
     let (_device, served) = all.end();
     let answer = judged(rt, image, served?, remark);
-    if complete {
+    if taken? {
         Ok(answer)
     } else {
         Err(Failure::CannotOpen)

@@ -15,6 +15,8 @@ use Rattle.f11_fcp.specs.Handles.{State, faults_in, is_damage}
 use Rattle.f11_fcp.specs.Serving.{is_spent, state_in}
 use Rattle.f11_fcp.specs.declared.volume.Volume.{Volume}
 use Rattle.f11_fcp.proofs.ListLemmas.{grows, seen-as-steps}
+use Rattle.f11_writes.proofs.InOrderLemmas.{order-none, order-then}
+use Rattle.f11_writes.specs.Order.{WritesInOrder}
 use Rattle.f11_serving.specs.Served.{Service, zeros}
 use Rattle.f11_serving.specs.Serving.{AnswersLines, Place, RunsScript, StopsReading}
 use Rattle.f11_serving.specs.Scripts.{KeepsScriptCosts, ServesScriptRun}
@@ -281,6 +283,14 @@ module _ {D : Type 0} {met : Ghosts D} where
       RunsScript ServesCall bytes old new written written' result → KeepsVolume old new
   script-keeps-volume bytes written written' old new result h =
       script-keeps ServesCall KeepsVolume volume-self volume-trans call-keeps bytes written written' old new result h
+
+  -- blocks are written in order by a script, since they are by each call
+  pub script-ordered : (bytes written written' : Option (List ℕ)) (old new : Volume D met) (result : Result ℕ ScriptError) →
+      RunsScript ServesCall bytes old new written written' result → WritesInOrder (state_in old).disk (state_in new).disk
+  script-ordered bytes written written' old new result h =
+      script-keeps ServesCall (λ v w. WritesInOrder (state_in v).disk (state_in w).disk) (λ v. order-none (state_in v).disk)
+      (λ u v w. order-then (state_in u).disk (state_in v).disk (state_in w).disk) (λ v w c a served. served.serving.ordered) bytes written
+      written' old new result h
 
 module _ {D : Type 0} {met : Ghosts D} (old new : Volume D met) (bytes written written' : Option (List ℕ)) (result : Result ℕ ScriptError)
     (runs : RunsScript ServesCall bytes old new written written' result)

@@ -257,7 +257,7 @@ sound-from image is accepted =
       };
     }
 
-accepted-from : (image : Image) → IsSoundImage image → IsAccepted image
+pub accepted-from : (image : Image) → IsSoundImage image → IsAccepted image
 accepted-from image sound code a b (of_frame c d fault) = frame-none image sound.home c d sound.framed fault
 accepted-from image sound code a b (of_volume home c d e framed fault) =
     (no-fault-sound (volume_of image home)).1

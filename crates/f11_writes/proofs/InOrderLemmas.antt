@@ -1,8 +1,10 @@
 -- What carries `WritesInOrder` from call to call.
 use Rattle.std.proofs.Common.{◌≡◌, ◌⊎◌, ℕ, zero, suc, ◌<◌, ◌≤◌, length, Bool, true, false, IsTrue, List, [], ◌∷◌, ◌++◌, All, refl, sym, ap}
 use Rattle.std.proofs.Common.{subst, ◌∙◌, append_assoc, inl, inr, set, arith}
+use Rattle.std.proofs.lemmas.List.{append_cancel_right}
+use Rattle.std.proofs.lemmas.List.Elements.{All-cons, All-nil}
 use Rattle.f11_dev.specs.Disk.{Disk, with_transfer, with_block_at}
-use Rattle.f11_dev.specs.Image.{Image}
+use Rattle.f11_dev.specs.Image.{Image, IsImage}
 use Rattle.f11_dev.specs.Looked.{Looked}
 use Rattle.f11_dev.specs.Went.{Went, newest}
 use Rattle.f11_bits.specs.Bitmap.{Bitmap, is_free, KeepsOthers}
@@ -10,9 +12,12 @@ use Rattle.f11_home.specs.Home.{HomeFields}
 use Rattle.f11_index.specs.Calls.{SetsBit, HasBitWritten, with_bitmap_block}
 use Rattle.f11_index.specs.IndexFile.{Index, index_of, slots}
 use Rattle.f11_index.specs.Table.{Table, table_of}
+use Rattle.f11_volume.proofs.AcceptedLemmas.{accepted-from, accepted-sound}
 use Rattle.f11_volume.specs.Space.{storage_bitmap}
+use Rattle.f11_volume.specs.Verdict.{IsAccepted}
 use Rattle.f11_volume.specs.Volume.{volume_of, IsNamed}
 use Rattle.f11_writes.specs.Kept.{WritesSlotBit}
+use Rattle.f11_writes.specs.Moments.{StandsAccepted}
 use Rattle.f11_writes.proofs.BitmapLemmas.{bitmap-keeps}
 use Rattle.f11_writes.proofs.NameLemmas.{free-unnamed}
 use Rattle.f11_writes.proofs.OrderLemmas.{bitmap-orderly, bit-again-orderly}
@@ -115,6 +120,27 @@ pub each-sound : (home : HomeFields) (old : Image) (since : List Image) → HasS
 each-sound home old [] sound each = sound
 each-sound home old (image ∷ earlier) sound each =
     ((each zero (omega arith)).orderly (each-sound home old earlier sound (earlier-written each))).sound
+
+-- and accepted
+each-accepted : (home : HomeFields) (old : Image) (since : List Image) → HasSoundVolume old home → AreInOrder home old since
+    → All IsAccepted since
+each-accepted home old [] sound each = All-nil IsAccepted
+each-accepted home old (image ∷ earlier) sound each =
+    All-cons IsAccepted image earlier
+    (accepted-from image (record { home = home; volume = each-sound home old (image ∷ earlier) sound each }))
+    (each-accepted home old earlier sound (earlier-written each))
+
+pub order-accepted : (old new : Disk) → IsImage old.image → (IsTrue old.honest → IsAccepted old.image) → WritesInOrder old new
+    → StandsAccepted old new
+order-accepted old new is_image accepted ordered = record {
+  accepted = λ honest since history.
+      let sound = (accepted-sound old.image is_image).0 (accepted honest) in
+      let made = ordered.ordered honest in
+      let same : made.since ≡ since = append_cancel_right made.since since old.history (sym made.history ∙ history) in
+      subst (λ (images : List Image). All IsAccepted images) same
+      (each-accepted sound.home old.image made.since sound.volume (made.each sound.home));
+  ordered = ordered;
+}
 
 -- and each write is orderly
 pub each-orderly : (home : HomeFields) (old : Image) (since : List Image) → HasSoundVolume old home → AreInOrder home old since → (k : ℕ)

@@ -5,5 +5,6 @@ pub mod Laws
 pub mod HeaderLaws
 pub mod Order
 pub mod OrderLaws
+pub mod Moments
 pub mod NameLaws
 pub mod Worked

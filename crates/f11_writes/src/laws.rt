@@ -1,6 +1,7 @@
 //! Laws of writes, each the contract of a function that does nothing: layers above cite them.
 ghost use Rattle.f11_writes.specs.HeaderLaws as headers;
 ghost use Rattle.f11_writes.specs.Laws as laws;
+ghost use Rattle.f11_writes.specs.Moments as moments;
 ghost use Rattle.f11_writes.specs.NameLaws as names;
 ghost use Rattle.f11_writes.specs.OrderLaws as order;
 ghost use Rattle.f11_writes.specs.OtherSlots as slots;
@@ -113,6 +114,7 @@ pub fn ordered_calls()
     ensures failed { order.FailedWriteIsInOrder }
     ensures kept { order.OrderIsKept }
     ensures sound { order.OrderIsSound }
+    ensures accepted { moments.OrderIsAccepted }
 {}
 
 /// Writes that are not.

@@ -5,7 +5,7 @@ ghost use Rattle.f11_index.specs.Kept.{index_kept, IndexLiesWithin};
 ghost use Rattle.f11_commands.specs.AnyVolume.{IsVerified};
 ghost use Rattle.f11_commands.specs.FoundFile.{device_with, end_found, has_faults, index_with, reader_of};
 ghost use Rattle.f11_commands.specs.GetCommand.{FailsToSeek, FindsSought, IsToRead, LacksSought, OpensSought, TellsWhyNot, file_entered, file_identified, file_sought};
-ghost use Rattle.f11_commands.specs.TakingOut.{bytes_to_come};
+ghost use Rattle.f11_commands.specs.TakingOut.{bytes_to_come, lbns_to_come};
 ghost use Rattle.f11_commands.specs.TakingText.{file_to_come};
 
 use crate::copy::finding::{MASTER_DIRECTORY, directory_name};
@@ -45,7 +45,8 @@ pub fn seek_file<D: Device, W: Write>(
         × IsVerified (has_faults found) (D.disk device)
         × FindsSought user name.now
         (bytes_to_come (index_with found) (D.disk (device_with found))
-        (reader_of found) (end_found found))
+        (reader_of found) (end_found found)) (end_found found)
+        (lbns_to_come (index_with found) (D.disk (device_with found)) (reader_of found))
         (file_to_come (index_with found) (D.disk (device_with found)) (reader_of found))
         (D.disk device) (D.disk (device_with found)))) }
     ensures none { IfOk result (λ answer. IfErr answer (λ told.
@@ -78,7 +79,8 @@ fn seek<D: Device, W: Write>(
         × (has_faults found ≡ faulty)
         × FindsSought user name.now
         (bytes_to_come (index_with found) (D.disk (device_with found))
-        (reader_of found) (end_found found))
+        (reader_of found) (end_found found)) (end_found found)
+        (lbns_to_come (index_with found) (D.disk (device_with found)) (reader_of found))
         (file_to_come (index_with found) (D.disk (device_with found)) (reader_of found))
         (D.disk device) (D.disk (device_with found)))) }
     ensures none { IfOk result (λ answer. IfErr answer (λ told. (told.1.faulty ≡ faulty)
@@ -112,7 +114,8 @@ fn seek_on_volume<D: Device, W: Write>(
     ensures found { IfOk result (λ answer. IfOk answer (λ found. (writer.new ≡ writer.old)
         × IsToRead (index_kept found.0) found.1 (D.disk device.new)
         × FindsSought user name.now
-        (bytes_to_come (index_kept found.0) (D.disk device.new) found.1 found.2)
+        (bytes_to_come (index_kept found.0) (D.disk device.new) found.1 found.2) found.2
+        (lbns_to_come (index_kept found.0) (D.disk device.new) found.1)
         (file_to_come (index_kept found.0) (D.disk device.new) found.1)
         (D.disk device.old) (D.disk device.new))) }
     ensures none { IfOk result (λ answer. IfErr answer (λ told. TellsWhyNot user name.now told

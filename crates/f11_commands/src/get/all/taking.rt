@@ -1,5 +1,5 @@
 //! A file's content is taken out as far as it can be.
-ghost use Rattle.std.specs.Prelude.{◌≡◌, ◌<◌, ◌^◌, length, IfErr, IfOk, OnErr};
+ghost use Rattle.std.specs.Prelude.{◌≡◌, length, IfErr, IfOk, OnErr};
 ghost use Rattle.f11_commands.specs.AllCommand.{TakesFile};
 ghost use Rattle.f11_commands.specs.TakingOut.{ReadsBefore};
 ghost use Rattle.f11_index.specs.Kept.{index_kept, IndexLiesWithin};
@@ -42,14 +42,13 @@ pub(crate) fn take_out<D: Device, H: Write>(
 ) -> Result<Taken, HostFull>
     requires within { IndexLiesWithin (index_kept index.now) (length (D.disk device.old).image) }
     requires reading { IsReading (index_kept index.now) file (D.disk device.old) }
-    requires few { end < 2 ^ 42 }
     ensures takes { IfOk result (λ taken. TakesFile (index_kept index.now) file end taken
         (D.disk device.old) (D.disk device.new) H.contents host.old host.new) }
     ensures full { OnErr result (ReadsBefore (index_kept index.now) file end
         (D.disk device.old) (D.disk device.new) 0) }
 {
     match put_contents(device, index, file, end, host) {
-        Ok(bytes) => match file.first_missing(device, index, (end + 511) / 512) {
+        Ok(bytes) => match file.first_missing(device, index, end.div_ceil(512)) {
             Ok(missing) => Ok(Taken {
                 bytes,
                 missing,

@@ -14,7 +14,8 @@ use Rattle.f11_host.proofs.HostLemmas.{unmade, unmade-as, unmade-ends, unmade-fi
 use Rattle.f11_host.proofs.copy.copy_from_host.Goals as goal
 
 pub returns-then-bytes-gt-MOST_BYTES-clause-files : goal.returns-then-bytes-gt-MOST_BYTES-clause-files
-returns-then-bytes-gt-MOST_BYTES-clause-files g c = too-long-files (who_asks c.args.task c.args.uic) c.args.vol.now
+returns-then-bytes-gt-MOST_BYTES-clause-files g c =
+    too-long-files (who_asks c.args.task c.args.uic) c.args.lun c.args.dir c.args.to.now c.args.protection c.args.vol.now
 
 pub returns-then-bytes-gt-MOST_BYTES-clause-host : goal.returns-then-bytes-gt-MOST_BYTES-clause-host
 returns-then-bytes-gt-MOST_BYTES-clause-host g c = too-long-host c.args.bytes (g.R.Read.remaining c.args.host.now)
@@ -77,7 +78,8 @@ returns-in-Err-clause-files g c =
     (g.R.Read.remaining c.make.new.host) k.0 c.args.vol.now c.make.new.service c.in-Err.refusal _ k.1
     (omega (arith, c.if-bytes-gt-MOST_BYTES.false)) in
     let short : is_too_long c.args.bytes ≡ false = le-ltb 4294967295 c.args.bytes (omega (arith, c.if-bytes-gt-MOST_BYTES.false)) in
-    subst (λ (e : HostRefusal). MayMakeFile (copy_result (unmade e)) who c.args.vol.now c.make.new.service) (sym c.told.ensures)
+    subst (λ (e : HostRefusal). MayMakeFile (copy_result (unmade e)) who c.args.lun c.args.dir c.args.to.now c.args.protection
+    c.args.vol.now c.make.new.service) (sym c.told.ensures)
     (unmade-files who c.args.lun c.args.bytes c.args.dir c.args.to.now c.args.protection (g.R.Read.remaining c.args.host.now)
     (g.R.Read.remaining c.make.new.host) k.0 c.args.vol.now c.make.new.service c.in-Err.refusal h)
 

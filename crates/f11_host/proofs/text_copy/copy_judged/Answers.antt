@@ -24,8 +24,10 @@ returns-in-Err-clause-hosts g c =
 pub returns-in-Err-clause-files : goal.returns-in-Err-clause-files
 returns-in-Err-clause-files g c =
     let who : Who = who_asks c.args.by.now.task c.args.by.now.uic in
-    subst (λ (e : HostRefusal). MayMakeFile (copy_result (unmade e)) who c.args.vol.now c.args.vol.now) (sym c.told.ensures)
-    (unplanned-files who c.args.vol.now c.in-Err.refusal c.args.bytes _ _ c.in-Err.ensures.fails)
+    subst (λ (e : HostRefusal). MayMakeFile (copy_result (unmade e)) who c.args.by.now.lun c.args.entry.now.dir c.args.entry.now.name
+    c.args.entry.now.protection c.args.vol.now c.args.vol.now) (sym c.told.ensures)
+    (unplanned-files who c.args.by.now.lun c.args.entry.now.dir c.args.entry.now.name c.args.entry.now.protection c.args.vol.now
+    c.in-Err.refusal c.args.bytes _ _ c.in-Err.ensures.fails)
 
 pub returns-in-Err-clause-spent : goal.returns-in-Err-clause-spent
 returns-in-Err-clause-spent g c = λ dead.
@@ -39,7 +41,8 @@ returns-in-Err-clause-ended g c =
     let who : Who = who_asks c.args.by.now.task c.args.by.now.uic in
     subst (λ (e : HostRefusal). is_lethal (as_copy e) ≡ true → Ends of_volume who (as_copy e) c.args.vol.now c.args.vol.now)
     (sym c.told.ensures)
-    (unplanned-ends who c.args.vol.now c.in-Err.refusal c.args.bytes _ _ c.in-Err.ensures.fails)
+    (unplanned-ends who c.args.by.now.lun c.args.entry.now.dir c.args.entry.now.name c.args.entry.now.protection c.args.vol.now
+    c.in-Err.refusal c.args.bytes _ _ c.in-Err.ensures.fails)
 
 pub returns-in-Err-clause-refused : goal.returns-in-Err-clause-refused
 returns-in-Err-clause-refused g c = λ whole sound.
@@ -102,7 +105,8 @@ pub returns-in-Err-make_text-clause-files : goal.returns-in-Err-make_text-clause
 returns-in-Err-make_text-clause-files g c =
     let who : Who = who_asks c.args.by.now.task c.args.by.now.uic in
     let k = c.in-Err-make_text.ensures.fails in
-    subst (λ (e : HostRefusal). MayMakeFile (copy_result (unmade e)) who c.args.vol.now c.make_text.new.service)
+    subst (λ (e : HostRefusal). MayMakeFile (copy_result (unmade e)) who c.args.by.now.lun c.args.entry.now.dir c.args.entry.now.name
+    c.args.entry.now.protection c.args.vol.now c.make_text.new.service)
     (sym c.told-in-Err-make_text.ensures)
     (text-unmade-files who c.args.by.now.lun c.args.bytes c.in-Ok.plan c.args.entry.now.dir c.args.entry.now.name
     c.args.entry.now.protection (g.R.Read.remaining c.args.again.now) (g.R.Read.remaining c.make_text.new.host) k.0 c.args.vol.now

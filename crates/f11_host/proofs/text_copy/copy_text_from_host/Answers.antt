@@ -12,7 +12,8 @@ returns-then-bytes-gt-MOST_TEXT-clause-hosts g c =
     long-text-host c.args.bytes (g.R.Read.remaining c.args.first.now) (g.R.Read.remaining c.args.again.now) long
 
 pub returns-then-bytes-gt-MOST_TEXT-clause-files : goal.returns-then-bytes-gt-MOST_TEXT-clause-files
-returns-then-bytes-gt-MOST_TEXT-clause-files g c = too-long-files (who_asks c.args.task c.args.uic) c.args.vol.now
+returns-then-bytes-gt-MOST_TEXT-clause-files g c =
+    too-long-files (who_asks c.args.task c.args.uic) c.args.lun c.args.dir c.args.to.now c.args.protection c.args.vol.now
 
 pub returns-then-bytes-gt-MOST_TEXT-clause-spent : goal.returns-then-bytes-gt-MOST_TEXT-clause-spent
 returns-then-bytes-gt-MOST_TEXT-clause-spent g c = λ dead.

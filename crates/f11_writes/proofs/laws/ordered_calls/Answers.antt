@@ -1,4 +1,4 @@
-use Rattle.f11_writes.proofs.InOrderLemmas.{each-orderly, order-failed, order-looked, order-then, order-write}
+use Rattle.f11_writes.proofs.InOrderLemmas.{each-orderly, order-accepted, order-failed, order-looked, order-then, order-write}
 use Rattle.f11_writes.proofs.laws.ordered_calls.Goals as goal
 
 pub returns : goal.returns
@@ -8,4 +8,5 @@ returns c = record {
   failed = λ old new home lbn block sound orderly. order-failed old home sound lbn block orderly new;
   kept = order-then;
   sound = each-orderly;
+  accepted = order-accepted;
 }

@@ -5,7 +5,8 @@ pub returns-in-Ok : goal.returns-in-Ok
 returns-in-Ok g c = record {
   ends =
       ends-between g.E.Device.disk c.args.copy.now c.copy_by_names-copied.result (g.D.Device.disk c.args.accepted.device) c.in-Ok.volume
-      c.copy_by_names-copied.new.volume c.args.rt c.copy_by_names-copied.new.rt c.in-Ok.ensures.mounts c.requires.accepted c.requires.fresh
+      c.copy_by_names-copied.new.volume c.args.rt c.copy_by_names-copied.new.rt c.in-Ok.ensures.mounts
+      (g.met.D.Device.is_image c.args.accepted.device) c.args.accepted.accepted c.requires.accepted c.requires.fresh
       c.copy_by_names-copied.ensures.answers
       c.tell-told.result g.W.Write.contents c.args.writer.now c.tell-told.new.writer (g.D.Device.disk c.dismount.result)
       (g.E.Device.disk c.device.result)
