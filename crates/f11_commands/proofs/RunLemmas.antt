@@ -21,7 +21,6 @@ use Rattle.f11_serving.proofs.VolumeLemmas.{KeepsVolume, script-keeps-volume}
 use Rattle.f11_store.specs.Store.{Store}
 use Rattle.f11_volume.specs.Verdict.{IsAccepted}
 use Rattle.f11_writes.proofs.InOrderLemmas.{order-looked, order-then}
-use Rattle.f11_writes.specs.Moments.{StandsAccepted}
 use Rattle.f11_writes.specs.Order.{WritesInOrder}
 use Rattle.f11_commands.proofs.CopyLemmas.{stands-accepted}
 use Rattle.f11_commands.specs.RunCommand.{EndsRun, EndsServing, HasFaults, ServesImage, WritesNothing, outcome_of}

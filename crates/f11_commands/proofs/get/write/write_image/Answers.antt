@@ -1,4 +1,3 @@
-use Rattle.std.proofs.Common.{rules}
 use Rattle.f11_commands.specs.GetCommand.{untold}
 use Rattle.f11_commands.proofs.get.write.write_image.Goals as goal
 
