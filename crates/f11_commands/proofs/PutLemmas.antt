@@ -82,7 +82,7 @@ module _ {D : Type 0} {met : Ghosts D} (p : Putting) (bytes : ℕ) (u : Hosts) w
     host = host;
     outcome = by result files copied refused;
     stops = λ sound fault.
-        stops-making dir p.name files.asked.id files.asked.asked v w files.asked.tried files.asked.only sound
+        stops-making dir p.name v w files.asked sound
         (files.fares.next (honest-of (state_in v).disk.honest (is_spent v) sound)
         ∙ ap (λ b. b || of_files is_fatal (copy_result result)) (alive-of (state_in v).disk.honest (is_spent v) sound)
         ∙ fault-fatal (copy_result result) fault);

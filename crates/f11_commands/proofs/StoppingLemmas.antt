@@ -1,7 +1,8 @@
 -- A file that is made on a volume of which a transfer fails: what was asked last was stopped, and nothing else is done.
-use Rattle.std.proofs.Common.{◌≡◌, ◌⊎◌, inl, inr, ℕ, ◌&&◌, ◌||◌, not, Bool, true, false, IsTrue, List, [], ◌∷◌, All, Result, Ok, Err, refl}
+use Rattle.std.proofs.Common.{◌≡◌, ◌⊎◌, inl, inr, ℕ, ◌&&◌, ◌||◌, not, Bool, true, false, IsTrue, List, [], ◌∷◌, ◌++◌, All, Result, Ok, Err}
+use Rattle.std.proofs.Common.{refl}
 use Rattle.std.proofs.Common.{sym, ap, subst, ◌∙◌}
-use Rattle.std.proofs.lemmas.List.Elements.{All-cons, All-head, All-nil, All-tail}
+use Rattle.std.proofs.lemmas.List.Elements.{All-head}
 use Rattle.f11_dev.specs.Image.{Image}
 use Rattle.f11_dev.specs.Went.{newest}
 use Rattle.f11_dev.specs.declared.device.Device.{Ghosts}
@@ -13,7 +14,7 @@ use Rattle.f11_fcp.specs.declared.volume.Volume.{Volume}
 use Rattle.f11_files.specs.Answers.{is_fatal, is_fault, is_refused}
 use Rattle.f11_flx.proofs.VolumeLemmas.{denied-fared, volume-seen}
 use Rattle.f11_flx.specs.Asking.{Asking, Denies, Grants, Tried, asks, counts, plain, reads, told, writes}
-use Rattle.f11_flx.specs.Copying.{IsMakingOf, of_files, of_volume}
+use Rattle.f11_flx.specs.Copying.{AreForOne, AsksForOne, of_files, of_volume}
 use Rattle.f11_flx.specs.Refusal.{is_lethal}
 use Rattle.f11_flx.specs.declared.refusal.FlxRefusal.{FlxRefusal}
 use Rattle.f11_flx.specs.declared.refusal.FlxRefusal.TheVariants.{Files, Rt, BadRecord, LineTooLong}
@@ -55,30 +56,26 @@ alive-of false spent h = absurd (let none : false ≡ true = h in cc)
 abbrev Part : Request → List ℕ → Store → Store → Type 0
 Part r lent s t = ((held : AccessTable) × (s ≡ held_in held t)) ⊎ Lags t s operator.task operator.caller r lent
 
--- what is asked for a file
-abbrev IsFor : FileId → List ℕ → FileId → Asking → Type 0
-IsFor dir to id = IsMakingOf 0 dir to 0 id
-
--- what came before what was stopped
-record Stops (dir : FileId) (to : List ℕ) (id : FileId) (s t : Store) : Type 0 where
+-- of a list of what was asked one thing was stopped
+record Stops (xs : List Asking) (s t : Store) : Type 0 where
   pub asked : List Asking
   pub reached : Store
   pub tried : Tried plain operator asked s reached
   pub last : Asking
-  pub only : All (IsFor dir to id) (last ∷ asked)
+  pub behind : List Asking
+  pub are : asked ++ last ∷ behind ≡ xs
   pub stopped : IsStopped last reached t
 
 -- something was granted or denied before
-behind : (dir : FileId) (to : List ℕ) (id : FileId) (x : Asking) (s u t : Store) → IsFor dir to id x
-    → (Grants plain operator x s u) ⊎ ((e : Refusal) × Denies plain operator x e s u)
-    → Stops dir to id u t → Stops dir to id s t
-behind dir to id x s u t is one h = record {
+later : (x : Asking) (xs : List Asking) (s u t : Store) → (Grants plain operator x s u) ⊎ ((e : Refusal) × Denies plain operator x e s u)
+    → Stops xs u t → Stops (x ∷ xs) s t
+later x xs s u t one h = record {
   asked = x ∷ h.asked;
   reached = h.reached;
   tried = (u, one, h.tried);
   last = h.last;
-  only = All-cons (IsFor dir to id) h.last (x ∷ h.asked) (All-head (IsFor dir to id) h.last h.asked h.only)
-      (All-cons (IsFor dir to id) x h.asked is (All-tail (IsFor dir to id) h.last h.asked h.only));
+  behind = h.behind;
+  are = ap (λ (ys : List Asking). x ∷ ys) h.are;
   stopped = h.stopped;
 }
 
@@ -149,66 +146,70 @@ module _ {D : Type 0} {met : Ghosts D} where
   tried-dead (x ∷ xs) v w h dead =
       let one = asked-dead x v h.0 h.1 dead in tried-dead xs h.0 w h.2 one.1 ∙ one.0
 
+  denied-stopped : (x : Asking) (e : Refusal) (v w : Volume D met) → Denies of_volume operator x e v w → is_sound v ≡ true
+      → IsStopped x (store_of_volume v) (stored w)
+  denied-stopped (asks r) e v w d sound = request-stopped r e v w d sound
+  denied-stopped (told r a) e v w d sound = served-stopped r (told r a) v w d.0 _ d.2 sound (λ l. in_part (d.0, l))
+  denied-stopped (reads lun vbn block) e v w d sound =
+      served-stopped (request.ReadBlock lun vbn) (reads lun vbn block) v w d.0 _ d.2 sound (λ l. in_part (d.0, l))
+  denied-stopped (writes lun vbn block) e v w d sound =
+      served-stopped (request.WriteBlock lun vbn) (writes lun vbn block) v w block _ d.1 sound (λ l. in_part l)
+  denied-stopped (counts lun blocks) e v w d sound =
+      let k = d.0.measures (alive-of (state_in v).disk.honest (is_spent v) sound) in
+      undone (state_in v).table
+      (ap (λ (i : Image). held_in (state_in v).table (store_of i (state_in v).home)) (sym k.outcome.reads.looked.image)
+      ∙ ap (λ (h' : HomeFields). held_in (state_in v).table (store_of (state_in w).disk.image h')) (sym k.home))
+
+  -- what is asked first is granted, refused, or stopped
+  first-asked : (x : Asking) (xs : List Asking) (v u w : Volume D met) → is_sound v ≡ true → Tried of_volume operator xs u w
+      → (is_sound u ≡ true → Stops xs (store_of_volume u) (stored w))
+      → (Grants of_volume operator x v u) ⊎ ((e : Refusal) × Denies of_volume operator x e v u)
+      → Stops (x ∷ xs) (store_of_volume v) (stored w)
+  first-asked x xs v u w sound tried rest (inl g) =
+      let seen = volume-seen.granted operator x v u g sound in
+      later x xs (store_of_volume v) (store_of_volume u) (stored w) (inl seen.0) (rest seen.1)
+  first-asked x xs v u w sound tried rest (inr d) = denied d.0 d.1 (is_lethal (Files d.0)) refl
+    where
+      last : (e : Refusal) → Denies of_volume operator x e v u → is_fatal e ≡ true → Stops (x ∷ xs) (store_of_volume v) (stored w)
+      last e d fatal =
+          let spent = (denied-fared operator x e v u d).next ∙ ap (λ b. b || is_fatal e)
+          (alive-of (state_in v).disk.honest (is_spent v) sound) ∙ fatal in
+          let same : stored w ≡ stored u = ap (λ (s : State). store_of s.disk.image s.home) (tried-dead xs u w tried spent) in
+          record {
+            asked = [];
+            reached = store_of_volume v;
+            tried = refl;
+            last = x;
+            behind = xs;
+            are = refl;
+            stopped = subst (λ (t : Store). IsStopped x (store_of_volume v) t) (sym same) (denied-stopped x e v u d sound);
+          }
+
+      denied : (e : Refusal) → Denies of_volume operator x e v u → (b : Bool) → is_lethal (Files e) ≡ b
+          → Stops (x ∷ xs) (store_of_volume v) (stored w)
+      denied e d true lethal = last e d lethal
+      denied e d false clean =
+          let seen = volume-seen.denied operator x e v u d sound clean in
+          later x xs (store_of_volume v) (store_of_volume u) (stored w) (inr (e, seen.0)) (rest seen.1)
+
+  stops : (xs : List Asking) (v w : Volume D met) → Tried of_volume operator xs v w → is_sound v ≡ true → is_spent w ≡ true
+      → Stops xs (store_of_volume v) (stored w)
+  stops [] v w h sound dead =
+      never (sym (ap (λ (u : Volume D met). is_spent u) h) ∙ dead) (alive-of (state_in v).disk.honest (is_spent v) sound)
+  stops (x ∷ xs) v w h sound dead = first-asked x xs v h.0 w sound h.2 (λ still. stops xs h.0 w h.2 still dead) h.1
+
   -- a file was being made
-  module _ (dir : FileId) (to : List ℕ) (id : FileId) where
-    denied-stopped : (x : Asking) (e : Refusal) (v w : Volume D met) → IsFor dir to id x → Denies of_volume operator x e v w
-        → is_sound v ≡ true → IsStopped x (store_of_volume v) (stored w)
-    denied-stopped (asks r) e v w is d sound = request-stopped r e v w d sound
-    denied-stopped (told r a) e v w is d sound = served-stopped r (told r a) v w d.0 _ d.2 sound (λ l. in_part (d.0, l))
-    denied-stopped (reads lun vbn block) e v w is d sound = absurd is
-    denied-stopped (writes lun vbn block) e v w is d sound =
-        served-stopped (request.WriteBlock lun vbn) (writes lun vbn block) v w block _ d.1 sound (λ l. in_part l)
-    denied-stopped (counts lun blocks) e v w is d sound = absurd is
-
-    -- what is asked first is granted, refused, or stopped
-    first-asked : (x : Asking) (xs : List Asking) (v u w : Volume D met) → IsFor dir to id x → is_sound v ≡ true
-        → Tried of_volume operator xs u w → (is_sound u ≡ true → Stops dir to id (store_of_volume u) (stored w))
-        → (Grants of_volume operator x v u) ⊎ ((e : Refusal) × Denies of_volume operator x e v u)
-        → Stops dir to id (store_of_volume v) (stored w)
-    first-asked x xs v u w is sound tried rest (inl g) =
-        let seen = volume-seen.granted operator x v u g sound in
-        behind dir to id x (store_of_volume v) (store_of_volume u) (stored w) is (inl seen.0) (rest seen.1)
-    first-asked x xs v u w is sound tried rest (inr d) = denied d.0 d.1 (is_lethal (Files d.0)) refl
-      where
-        last : (e : Refusal) → Denies of_volume operator x e v u → is_fatal e ≡ true → Stops dir to id (store_of_volume v) (stored w)
-        last e d fatal =
-            let spent = (denied-fared operator x e v u d).next ∙ ap (λ b. b || is_fatal e)
-            (alive-of (state_in v).disk.honest (is_spent v) sound) ∙ fatal in
-            let same : stored w ≡ stored u = ap (λ (s : State). store_of s.disk.image s.home) (tried-dead xs u w tried spent) in
-            record {
-              asked = [];
-              reached = store_of_volume v;
-              tried = refl;
-              last = x;
-              only = All-cons (IsFor dir to id) x [] is (All-nil (IsFor dir to id));
-              stopped = subst (λ (t : Store). IsStopped x (store_of_volume v) t) (sym same) (denied-stopped x e v u is d sound);
-            }
-
-        denied : (e : Refusal) → Denies of_volume operator x e v u → (b : Bool) → is_lethal (Files e) ≡ b
-            → Stops dir to id (store_of_volume v) (stored w)
-        denied e d true lethal = last e d lethal
-        denied e d false clean =
-            let seen = volume-seen.denied operator x e v u d sound clean in
-            behind dir to id x (store_of_volume v) (store_of_volume u) (stored w) is (inr (e, seen.0)) (rest seen.1)
-
-    stops : (xs : List Asking) (v w : Volume D met) → Tried of_volume operator xs v w → All (IsFor dir to id) xs → is_sound v ≡ true
-        → is_spent w ≡ true → Stops dir to id (store_of_volume v) (stored w)
-    stops [] v w h all sound dead =
-        never (sym (ap (λ (u : Volume D met). is_spent u) h) ∙ dead) (alive-of (state_in v).disk.honest (is_spent v) sound)
-    stops (x ∷ xs) v w h all sound dead =
-        first-asked x xs v h.0 w (All-head (IsFor dir to id) x xs all) sound h.2
-        (λ still. stops xs h.0 w h.2 (All-tail (IsFor dir to id) x xs all) still dead) h.1
-
-    pub stops-making : (xs : List Asking) (v w : Volume D met) → Tried of_volume operator xs v w → All (IsFor dir to id) xs
-        → is_sound v ≡ true → is_spent w ≡ true → StopsMaking dir to (store_of_volume v) (stored w)
-    stops-making xs v w h all sound dead =
-        let s = stops xs v w h all sound dead in
-        record {
-          id = id;
-          asked = s.asked;
-          reached = s.reached;
-          tried = s.tried;
-          last = s.last;
-          only = s.only;
-          stopped = s.stopped;
-        }
+  pub stops-making : (dir : FileId) (to : List ℕ) (v w : Volume D met) → AsksForOne operator 0 dir to 0 v w → is_sound v ≡ true
+      → is_spent w ≡ true → StopsMaking dir to (store_of_volume v) (stored w)
+  stops-making dir to v w one sound dead =
+      let s = stops one.asked v w one.tried sound dead in
+      record {
+        id = one.id;
+        asked = s.asked;
+        reached = s.reached;
+        tried = s.tried;
+        last = s.last;
+        behind = s.behind;
+        only = subst (λ (xs : List Asking). AreForOne 0 dir to 0 one.id xs) (sym s.are) one.only;
+        stopped = s.stopped;
+      }

@@ -1,8 +1,8 @@
 -- What stands on a Files-11 volume where a transfer of it failed while a file was made (profile).
-use Rattle.std.specs.Prelude.{◌≡◌, ℕ, List, ◌∷◌, All}
+use Rattle.std.specs.Prelude.{◌≡◌, ℕ, List, ◌∷◌, ◌++◌}
 use Rattle.f11_fcp.specs.Accesses.{AccessTable, held_in}
 use Rattle.f11_flx.specs.Asking.{Asking, Tried, asks, counts, plain, reads, told, writes}
-use Rattle.f11_flx.specs.Copying.{IsMakingOf}
+use Rattle.f11_flx.specs.Copying.{AreForOne}
 use Rattle.f11_store.specs.Lags.{Lags}
 use Rattle.f11_store.specs.Store.{Store}
 use Rattle.f11_store.specs.declared.files.FileId.{FileId}
@@ -28,13 +28,14 @@ pub data IsStopped (last : Asking) (s t : Store) : Type 0 where
   undone : (held : AccessTable) → s ≡ held_in held t → IsStopped last s t
   in_part : LagsAsked last t s → IsStopped last s t
 
--- A file was being made in a directory under a name. All that was asked was for that file; what came before the last was granted, or
--- refused and then nothing was changed, and the last was stopped.
+-- A file was being made in a directory under a name. All that was asked was for that one file, which was created first: what came before
+-- something was granted, or refused and then nothing was changed; that was stopped, and whatever was asked behind it did nothing.
 pub record StopsMaking (dir : FileId) (to : List ℕ) (s t : Store) : Type 0 where
   pub id : FileId
   pub asked : List Asking
   pub reached : Store
   pub tried : Tried plain operator asked s reached
   pub last : Asking
-  pub only : All (IsMakingOf 0 dir to 0 id) (last ∷ asked)
+  pub behind : List Asking
+  pub only : AreForOne 0 dir to 0 id (asked ++ last ∷ behind)
   pub stopped : IsStopped last reached t

@@ -62,7 +62,7 @@ module _ {D : Type 0} {met : Ghosts D} (who : Who) (lun : ℕ) (making : Making)
   May result = MayMakeFile result who lun making.directory making.name making.protection v w
 
   asks-for-one : TriesOne of_volume who lun making v w → AsksForOne who lun making.directory making.name making.protection v w
-  asks-for-one h = record { id = h.id; asked = h.tries.asked; tried = h.tries.tried; only = h.tries.only }
+  asks-for-one h = record { id = h.id; asked = h.asked; tried = h.tried; only = h.only }
 
   pub may-make : (blocks : ℕ) → FaresFiles {T = Unit} (Ok tt) v w → KeepsSpent (given blocks) v w → TriesOne of_volume who lun making v w
       → May (given blocks)

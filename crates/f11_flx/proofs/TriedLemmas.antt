@@ -15,7 +15,7 @@ use Rattle.rt11_volume.specs.declared.volume.RtAccepted.{RtAccepted}
 use Rattle.f11_flx.specs.Asking.{Asking, BreaksOffAsking, Denies, Fails, Granted, Grants, FilesService, Tried, Who, asks, told}
 use Rattle.f11_flx.specs.Asking.{writes_of}
 use Rattle.f11_flx.specs.CopyFromRt.{Making, as_file, creation, entry, giving_up, opening}
-use Rattle.f11_flx.specs.Copying.{IsMakingOf, MakesBy, TellsOnly}
+use Rattle.f11_flx.specs.Copying.{AreForOne, FollowsReply, IsMakingOf, MakesBy}
 use Rattle.f11_flx.specs.FromRt.{CopiesFrom, FailsToCopyFrom}
 use Rattle.f11_flx.specs.Making.{AsksToFill, FailsToFillFromRt, FailsToFillOpened, FailsToMake, FillsFromRt, FillsOpened, IsBrokenOff}
 use Rattle.f11_flx.specs.Making.{MakesFile, Undoing, UndoingIf, extension, filling_of, is_created}
@@ -88,7 +88,9 @@ module _ {V : Type 0} (S : FilesService V) (P : Asking → Type 0) (who : Who) w
 -- A file was to be made, from any source: what was asked was for it alone.
 pub record TriesOne {V : Type 0} (S : FilesService V) (who : Who) (lun : ℕ) (making : Making) (v w : V) : Type 0 where
   pub id : FileId
-  pub tries : Tries S (IsMakingOf lun making.directory making.name making.protection id) who v w
+  pub asked : List Asking
+  pub tried : Tried S who asked v w
+  pub only : AreForOne lun making.directory making.name making.protection id asked
 
 module _ {V : Type 0} (S : FilesService V) (who : Who) (lun : ℕ) (making : Making) (id : FileId) where
   abbrev P : Asking → Type 0
@@ -116,28 +118,45 @@ module _ {V : Type 0} (S : FilesService V) (who : Who) (lun : ℕ) (making : Mak
   only-entry : Only S P who (entry making id)
   only-entry = ((refl, refl, refl), ((refl, refl), tt))
 
-  create-tries : (v w : V) → Granted S who (creation making id) v w → Tries S P who v w
-  create-tries v w h = tries-granted S P who (creation making id) v w (((refl, refl), refl), tt) h
-
   open-tries : (v w : V) → Granted S who (opening lun id) v w → Tries S P who v w
   open-tries v w h = tries-granted S P who (opening lun id) v w ((refl, refl, refl), tt) h
-
-  not-created-tries : (e : Refusal) (v w : V) → Fails S who is_created (request.Create 0 (ident_with making.name) making.attr) e v w
-      → Tries S P who v w
-  not-created-tries e v w (inl h) =
-      tries-deny S P who (asks (request.Create 0 (ident_with making.name) making.attr)) e v w (refl, refl) h
-  not-created-tries e v w (inr h) =
-      tries-grant S P who (told (request.Create 0 (ident_with making.name) making.attr) h.0) v w ((refl, refl), other h.0 h.1) h.3
-    where
-      other : (a : Reply) → is_created a ≡ false → TellsOnly id a
-      other (reply.Created f) wrong = absurd (cc)
-      other _ wrong = tt
 
   broken-tries : (n : ℕ) (f : FlxRefusal) (v w : V) → IsBrokenOff S who lun n f v w → Tries S P who v w
   broken-tries n (Files e) v w h = tries-breaks S P who (filling_of lun n h.0) e v w (only-filling n h.0) h.1
   broken-tries n (Rt e) v w h = tries-granted S P who (extension lun n ++ writes_of lun 0 h.0) v w (only-front n h.0) h.1
   broken-tries n BadRecord v w h = tries-granted S P who (extension lun n ++ writes_of lun 0 h.0) v w (only-front n h.0) h.1
   broken-tries n LineTooLong v w h = tries-granted S P who (extension lun n ++ writes_of lun 0 h.0) v w (only-front n h.0) h.1
+
+-- it was created first, or not
+module _ {V : Type 0} (S : FilesService V) (who : Who) (lun : ℕ) (making : Making) where
+  created-first : (id : FileId) (u v w : V) → Granted S who (creation making id) u v
+      → Tries S (IsMakingOf lun making.directory making.name making.protection id) who v w → TriesOne S who lun making u w
+  created-first id u v w h rest = record {
+    id = id;
+    asked = told (request.Create 0 (ident_with making.name) making.attr) (reply.Created id) ∷ rest.asked;
+    tried = (h.0, inl h.1, subst (λ (x : V). Tried S who rest.asked x w) h.2 rest.tried);
+    only = ((refl, refl), (refl, rest.only));
+  }
+
+  not-created : (e : Refusal) (v w : V) → Fails S who is_created (request.Create 0 (ident_with making.name) making.attr) e v w
+      → TriesOne S who lun making v w
+  not-created e v w (inl h) = record {
+    id = making.directory;
+    asked = asks (request.Create 0 (ident_with making.name) making.attr) ∷ [];
+    tried = (w, inr (e, h), refl);
+    only = ((refl, refl), refl);
+  }
+  not-created e v w (inr h) = record {
+    id = making.directory;
+    asked = told (request.Create 0 (ident_with making.name) making.attr) h.0 ∷ [];
+    tried = (w, inl h.3, refl);
+    only = ((refl, refl), nothing h.0 h.1);
+  }
+    where
+      nothing : (a : Reply) → is_created a ≡ false
+          → FollowsReply making.directory [] (All (IsMakingOf lun making.directory making.name making.protection making.directory) []) a
+      nothing (reply.Created f) wrong = absurd (cc)
+      nothing _ wrong = refl
 
 -- the making of a file from any source
 module _ {V H : Type 0} (S : FilesService V) (who : Who) (lun n : ℕ) (Fills : H → H → V → V → Type 0)
@@ -172,40 +191,30 @@ module _ {V H : Type 0} (S : FilesService V) (who : Who) (lun n : ℕ) (Fills : 
       (undoing id (request.Deaccess lun) h.f f h.left w refl h.undoes))
 
   pub made-tries : (a b : H) (v w : V) → MakesFile S who lun Fills making a b v w → TriesOne S who lun making v w
-  made-tries a b v w h = record {
-    id = h.id;
-    tries = both h.id v h.created w (create-tries S who lun making h.id v h.created h.creates)
-        (both h.id h.created h.filled w (filled-tries h.id a b h.created h.filled h.fills)
-        (tries-granted S (IsMakingOf lun making.directory making.name making.protection h.id) who (entry making h.id) h.filled w
-        (only-entry S who lun making h.id) h.enters));
-  }
+  made-tries a b v w h =
+      created-first S who lun making h.id v h.created w h.creates
+      (both h.id h.created h.filled w (filled-tries h.id a b h.created h.filled h.fills)
+      (tries-granted S (IsMakingOf lun making.directory making.name making.protection h.id) who (entry making h.id) h.filled w
+      (only-entry S who lun making h.id) h.enters))
 
   pub unmade-tries : (f : FlxRefusal) (a b : H) (v w : V) → FailsToMake S who lun Fills Fails making f a b v w
       → TriesOne S who lun making v w
-  unmade-tries f a b v w (inl h) =
-      record { id = making.directory; tries = not-created-tries S who lun making making.directory h.e v w h.fails }
-  unmade-tries f a b v w (inr (inl h)) = record {
-    id = h.id;
-    tries = both h.id v h.created w (create-tries S who lun making h.id v h.created h.creates)
-        (both h.id h.created h.left w (fill-file-tries h.f h.id a b h.created h.left h.fails)
-        (undoing h.id (request.Delete h.id) h.f f h.left w refl h.undoes));
-  }
-  unmade-tries f a b v w (inr (inr h)) = record {
-    id = h.id;
-    tries = both h.id v h.created w (create-tries S who lun making h.id v h.created h.creates)
-        (both h.id h.created h.filled w (filled-tries h.id a b h.created h.filled h.fills)
-        (both h.id h.filled h.left w
-        (tries-breaks S (IsMakingOf lun making.directory making.name making.protection h.id) who (entry making h.id) h.e h.filled h.left
-        (only-entry S who lun making h.id) h.breaks)
-        (undoing h.id (request.Delete h.id) (Files h.e) f h.left w refl h.undoes)));
-  }
+  unmade-tries f a b v w (inl h) = not-created S who lun making h.e v w h.fails
+  unmade-tries f a b v w (inr (inl h)) =
+      created-first S who lun making h.id v h.created w h.creates
+      (both h.id h.created h.left w (fill-file-tries h.f h.id a b h.created h.left h.fails)
+      (undoing h.id (request.Delete h.id) h.f f h.left w refl h.undoes))
+  unmade-tries f a b v w (inr (inr h)) =
+      created-first S who lun making h.id v h.created w h.creates
+      (both h.id h.created h.filled w (filled-tries h.id a b h.created h.filled h.fills)
+      (both h.id h.filled h.left w
+      (tries-breaks S (IsMakingOf lun making.directory making.name making.protection h.id) who (entry making h.id) h.e h.filled h.left
+      (only-entry S who lun making h.id) h.breaks)
+      (undoing h.id (request.Delete h.id) (Files h.e) f h.left w refl h.undoes)))
 
 -- nothing was asked
 pub none-for-one : {V : Type 0} (S : FilesService V) (who : Who) (lun : ℕ) (making : Making) (v : V) → TriesOne S who lun making v v
-none-for-one S who lun making v = record {
-  id = making.directory;
-  tries = tries-none S (IsMakingOf lun making.directory making.name making.protection making.directory) who v;
-}
+none-for-one S who lun making v = record { id = making.directory; asked = []; tried = refl; only = tt }
 
 module _ {V E : Type 0} {met : Ghosts E} (S : FilesService V) (disk : E → Disk) (m : CopyMode) (who : Who) (lun : ℕ) (name : List ℕ)
     (dir : FileId) (to : List ℕ) (protection : ℕ) (a b : RtAccepted E met) (v w : V) where
@@ -215,7 +224,7 @@ module _ {V E : Type 0} {met : Ghosts E} (S : FilesService V) (disk : E → Disk
       let t = made-tries S who lun blocks (FillsFromRt {met = met} S disk m who lun name h.many blocks)
       (FailsToFillFromRt {met = met} S disk m who lun name h.many blocks)
       (asks-to-fill S who lun {met = met} disk m name h.many blocks) (as_file to dir protection h.attr []) h.between b v w (h.makes []) in
-      record { id = t.id; tries = t.tries }
+      record { id = t.id; asked = t.asked; tried = t.tried; only = t.only }
 
   pub fails-tries : (f : FlxRefusal) → FailsToCopyFrom S disk m who lun name dir to protection f a b v w
       → TriesOne S who lun (as_file to dir protection [] []) v w
@@ -226,4 +235,4 @@ module _ {V E : Type 0} {met : Ghosts E} (S : FilesService V) (disk : E → Disk
       let t = unmade-tries S who lun h.blocks (FillsFromRt {met = met} S disk m who lun name h.many h.blocks)
       (FailsToFillFromRt {met = met} S disk m who lun name h.many h.blocks) (asks-to-fill S who lun {met = met} disk m name h.many h.blocks)
       (as_file to dir protection h.attr []) f h.between b v w (h.fails []) in
-      record { id = t.id; tries = t.tries }
+      record { id = t.id; asked = t.asked; tried = t.tried; only = t.only }

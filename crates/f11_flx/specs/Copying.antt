@@ -1,5 +1,5 @@
 -- What a copy between two volumes tells, on any devices (profile).
-use Rattle.std.specs.Prelude.{◌≡◌, ℕ, ◌+◌, ◌||◌, ⊤, Bool, true, false, not, IsTrue, if◌then◌else◌, List, All, Result, Ok, Err}
+use Rattle.std.specs.Prelude.{◌≡◌, ℕ, ◌+◌, ◌||◌, ⊤, Bool, true, false, not, IsTrue, if◌then◌else◌, List, [], ◌∷◌, All, Result, Ok, Err}
 use Rattle.f11_dev.specs.Disk.{Disk}
 use Rattle.f11_dev.specs.declared.device.Device.{Ghosts}
 use Rattle.f11_store.specs.Ident.{ident_with}
@@ -110,10 +110,9 @@ is_reading (reads lun vbn block) = true
 is_reading (writes lun vbn block) = false
 is_reading (counts lun blocks) = true
 
--- what making a file asks: it is created with this name, barring nobody, accessed by this lun, gets its blocks, and is given up, entered
--- into this directory under the name, protected so, or deleted again
+-- what making a file asks once it is created: it is accessed by this lun, gets its blocks, and is given up, entered into this directory
+-- under the name, protected so, or deleted again;
 abbrev pub MakesBy : ℕ → FileId → List ℕ → ℕ → FileId → Request → Type 0
-MakesBy lun dir to protection id (request.Create word ident attr) = (word ≡ 0) × (ident ≡ ident_with to)
 MakesBy lun dir to protection id (request.Access f mode l) = (f ≡ id) × (mode ≡ access.Write) × (l ≡ lun)
 MakesBy lun dir to protection id (request.Extend l n) = l ≡ lun
 MakesBy lun dir to protection id (request.Deaccess l) = l ≡ lun
@@ -122,17 +121,31 @@ MakesBy lun dir to protection id (request.WriteAttr f c) = (f ≡ id) × (c ≡ 
 MakesBy lun dir to protection id (request.Delete f) = f ≡ id
 MakesBy lun dir to protection id _ = ⊥
 
--- a reply tells no other file as created
-abbrev pub TellsOnly : FileId → Reply → Type 0
-TellsOnly id (reply.Created f) = f ≡ id
-TellsOnly id _ = ⊤
-
 abbrev pub IsMakingOf : ℕ → FileId → List ℕ → ℕ → FileId → Asking → Type 0
 IsMakingOf lun dir to protection id (asks r) = MakesBy lun dir to protection id r
-IsMakingOf lun dir to protection id (told r a) = MakesBy lun dir to protection id r × TellsOnly id a
+IsMakingOf lun dir to protection id (told r a) = ⊥
 IsMakingOf lun dir to protection id (reads l vbn block) = ⊥
 IsMakingOf lun dir to protection id (writes l vbn block) = l ≡ lun
 IsMakingOf lun dir to protection id (counts l blocks) = ⊥
+
+-- the request that creates it, with this name and barring nobody
+abbrev pub Creates : List ℕ → Request → Type 0
+Creates to (request.Create word ident attr) = (word ≡ 0) × (ident ≡ ident_with to)
+Creates to _ = ⊥
+
+-- what is asked behind it: nothing, unless it was told which file was created
+abbrev pub FollowsReply : FileId → List Asking → Type 0 → Reply → Type 0
+FollowsReply id xs Are (reply.Created f) = (f ≡ id) × Are
+FollowsReply id xs Are _ = xs ≡ []
+
+-- all that was asked is for one file: it was to be created, and if it was, nothing but what makes it was asked behind that
+abbrev pub AreForOne : ℕ → FileId → List ℕ → ℕ → FileId → List Asking → Type 0
+AreForOne lun dir to protection id [] = ⊤
+AreForOne lun dir to protection id (asks r ∷ xs) = Creates to r × (xs ≡ [])
+AreForOne lun dir to protection id (told r a ∷ xs) = Creates to r × FollowsReply id xs (All (IsMakingOf lun dir to protection id) xs) a
+AreForOne lun dir to protection id (reads l vbn block ∷ xs) = ⊥
+AreForOne lun dir to protection id (writes l vbn block ∷ xs) = ⊥
+AreForOne lun dir to protection id (counts l blocks ∷ xs) = ⊥
 
 -- What makes one file was asked of the volume and nothing else, one thing after another, whatever it answered.
 pub record AsksForOne {D : Type 0} {met : Ghosts D} (who : Who) (lun : ℕ) (dir : FileId) (to : List ℕ) (protection : ℕ)
@@ -140,7 +153,7 @@ pub record AsksForOne {D : Type 0} {met : Ghosts D} (who : Who) (lun : ℕ) (dir
   pub id : FileId
   pub asked : List Asking
   pub tried : Tried of_volume who asked old new
-  pub only : All (IsMakingOf lun dir to protection id) asked
+  pub only : AreForOne lun dir to protection id asked
 
 -- The volume was read, whatever the answer is; it is as before unless a device fault or Damaged was met. Where it had failed, the answer is
 -- VolumeFailed.
