@@ -1,18 +1,19 @@
 -- The files of the plain store, found by their identifications.
 use Rattle.std.proofs.Common.{◌≡◌, ℕ, ◌==◌, ◌&&◌, Bool, true, false, List, [], Option, Some, None, cond, nat_le, option_map, unwrap_or}
 use Rattle.std.proofs.Common.{refl, sym, ap, ◌∙◌}
-use Rattle.std.proofs.lemmas.Bool.{eq-eqb}
+use Rattle.std.proofs.lemmas.Bool.{eq-eqb, eqb-true}
 use Rattle.std.specs.Option.{option_and_then}
 use Rattle.f11_dev.specs.Image.{Image}
 use Rattle.f11_home.specs.Home.{HomeFields}
 use Rattle.f11_image_store.specs.StoreOf.{as_seen, file_at, is_first, store_of}
-use Rattle.f11_index.specs.Table.{Table, table_of}
+use Rattle.f11_index.specs.Table.{Table, last_sequence, table_of}
 use Rattle.f11_store.specs.Directory.{entries_of, is_empty, record_id, record_name}
 use Rattle.f11_store.specs.File.{File, no_file}
 use Rattle.f11_store.specs.Store as store
 use Rattle.f11_store.specs.declared.files.FileId.{FileId}
 use Rattle.f11_volume.specs.Contents.{file_of}
 use Rattle.f11_catalog.specs.Lines.{name_shown, named_line, record_line}
+use Rattle.f11_catalog.specs.Laws.{file_stored, with_own_blocks}
 use Rattle.f11_catalog.specs.Records.{file_named, is_id_of_file, records_of}
 
 -- a file as requests see it has its sequence number, and from file 4 on is what it is
@@ -52,6 +53,38 @@ named-is-stored image home id here =
 
     f : File
     f = file_of image t id.number
+
+-- with the blocks of files 1 to 3 it is the one that the identification names
+own-again : (image : Image) (t : Table) (n : ℕ) → with_own_blocks image t n (as_seen n (file_of image t n)) ≡ file_of image t n
+own-again image t n = go (nat_le n 3)
+  where
+    go : (low : Bool) → cond low (record (cond low (record (file_of image t n) { blocks = [] }) (file_of image t n)) {
+      blocks = (file_of image t n).blocks;
+    }) (cond low (record (file_of image t n) { blocks = [] }) (file_of image t n)) ≡ file_of image t n
+    go true = refl
+    go false = refl
+
+stored-again : (image : Image) (t : Table) (n : ℕ) (found : Bool)
+    → option_map (with_own_blocks image t n) (option_map (as_seen n) (cond found (Some (file_of image t n)) None))
+    ≡ cond found (Some (file_of image t n)) None
+stored-again image t n true = ap (λ (f : File). Some f) (own-again image t n)
+stored-again image t n false = refl
+
+pub files-are-stored : (image : Image) (home : HomeFields) (id : FileId)
+    → file_named image (table_of image home) id ≡ file_stored image (table_of image home) (store_of image home) id
+unfolding is_id_of_file
+files-are-stored image home id = by (id.volume == 0) refl
+  where
+    t : Table
+    t = table_of image home
+
+    by : (here : Bool) → (id.volume == 0) ≡ here
+        → file_named image t id ≡ cond here (option_map (with_own_blocks image t id.number) (store.file_of (store_of image home) id)) None
+    by true is =
+        sym (ap (option_map (with_own_blocks image t id.number)) (named-is-stored image home id (eqb-true id.volume 0 is))
+        ∙ stored-again image t id.number (is_id_of_file t id))
+    by false is = ap (λ (b : Bool). cond (b && (is_first t id.number && (last_sequence t id.number == id.sequence)))
+        (Some (file_of image t id.number)) None) is
 
 -- from file 4 on it is the one that the identification names
 stored-alike : (image : Image) (home : HomeFields) (id : FileId) → id.volume ≡ 0 → nat_le id.number 3 ≡ false

@@ -1,13 +1,16 @@
 -- Laws of directories and files (Files-11 On-Disk Structure Level 1, "Index File" and "Directories").
-use Rattle.std.specs.Prelude.{◌≡◌, ℕ, false, true, List, nat_le, option_map}
+use Rattle.std.specs.Prelude.{◌≡◌, ℕ, ◌==◌, false, true, List, Option, None, nat_le, option_map, if◌then◌else◌}
 use Rattle.f11_dev.specs.Image.{Image}
 use Rattle.f11_home.specs.Home.{HomeFields}
 use Rattle.f11_image_store.specs.StoreOf.{as_seen, is_first, store_of}
 use Rattle.f11_index.specs.IndexFile.{Index}
-use Rattle.f11_index.specs.Table.{table_in, table_of}
+use Rattle.f11_index.specs.Table.{Table, table_in, table_of}
 use Rattle.f11_store.specs.Directory.{entries_of, is_empty, record_id, record_name}
+use Rattle.f11_store.specs.File.{File}
 use Rattle.f11_store.specs.Store as store
+use Rattle.f11_store.specs.Store.{Store}
 use Rattle.f11_store.specs.declared.files.FileId.{FileId}
+use Rattle.f11_volume.specs.Contents.{file_of}
 use Rattle.f11_catalog.specs.AllFiles.{all_files, is_among}
 use Rattle.f11_catalog.specs.Lines.{name_shown, named_line, record_line}
 use Rattle.f11_catalog.specs.Records.{file_named, records_of}
@@ -24,6 +27,20 @@ abbrev pub NamesTheStoresFile : Type 0
 NamesTheStoresFile =
     (image : Image) (home : HomeFields) (id : FileId) → id.volume ≡ 0 →
     store.file_of (store_of image home) id ≡ option_map (as_seen id.number) (file_named image (table_of image home) id)
+
+-- a file of the store with the blocks of files 1 to 3, which no request reaches
+abbrev pub with_own_blocks : Image → Table → ℕ → File → File
+with_own_blocks image t n f = if nat_le n 3 then record f { blocks = (file_of image t n).blocks } else f
+
+-- the file that the plain store has with an identification, with these, if that is one of this volume
+abbrev pub file_stored : Image → Table → Store → FileId → Option File
+file_stored image t s id = if id.volume == 0 then option_map (with_own_blocks image t id.number) (store.file_of s id) else None
+
+-- whatever is listed or taken out is read off the files that identifications name: these are the store's
+abbrev pub FilesAreTheStores : Type 0
+FilesAreTheStores =
+    (image : Image) (home : HomeFields) (id : FileId) →
+    file_named image (table_of image home) id ≡ file_stored image (table_of image home) (store_of image home) id
 
 -- from file 4 on the records of a directory are the entries that the plain store has of it
 abbrev pub ListsTheStoresEntries : Type 0

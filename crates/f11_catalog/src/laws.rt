@@ -9,6 +9,7 @@ pub fn all_files()
 /// The files that the plain store has, what it has of directories, and the lines that tell of them.
 pub fn stored_files()
     ensures named { laws.NamesTheStoresFile }
+    ensures files { laws.FilesAreTheStores }
     ensures entries { laws.ListsTheStoresEntries }
     ensures lines { laws.ShowsTheStoresFile }
 {}
