@@ -10,6 +10,7 @@ mod AskedLemmas
 mod BrokenLemmas
 mod CopyLemmas
 mod NamedLemmas
+mod OthersLemmas
 mod DirectoryLemmas
 mod TakingOutLemmas
 mod TakingTextLemmas

@@ -9,6 +9,7 @@ use Rattle.f11_fcp.specs.declared.volume.Volume.{Volume}
 use Rattle.f11_files.specs.Answers.{is_fatal, is_fault}
 use Rattle.f11_flx.proofs.KeptLemmas.{denied-live, rt-apart, same-refusal}
 use Rattle.f11_flx.proofs.VolumeLemmas.{IsFared, denied-fared, granted-fared, volume-seen}
+use Rattle.f11_flx.proofs.TriedLemmas.{asked-for-one}
 use Rattle.f11_flx.specs.Asking.{Asking, Denies, Fails, Grants, Tried, Who, asks, plain, told, who_asks}
 use Rattle.f11_flx.specs.Copying.{FaresFiles, FaresRt, MayMakeFile, MakesRtFile, ReadsFiles, ReadsRt, WhereSound, is_whole}
 use Rattle.f11_flx.specs.Copying.{of_files, of_rt, of_volume}
@@ -327,8 +328,8 @@ module _ {D E : Type 0} {met : Ghosts D} {met' : Ghosts E} (disk : E → Disk) w
       source = record { image = source.image; history = source.history };
       alive = λ alive is. never (files.keeps.only is) alive;
       rt_alive = λ alive is. never (source.keeps.only is) alive;
-      home = tried-home operator files.asked.asked v w files.asked.tried;
-      undamaged = undamaged-asked operator result v w files.fares files.asked.asked files.asked.tried;
+      home = tried-home operator asked.0 v w asked.1;
+      undamaged = undamaged-asked operator result v w files.fares asked.0 asked.1;
       rt_broken = λ sound fatal.
           inl (record {
             named = ap (λ i. files_named c.rt_name (rt_store_of i)) source.image;
@@ -341,6 +342,9 @@ module _ {D E : Type 0} {met : Ghosts D} {met' : Ghosts E} (disk : E → Disk) w
       broken = λ sound. stopped sound result ended;
     }
       where
+        asked : (xs : List Asking) × Tried of_volume operator xs v w
+        asked = asked-for-one of_volume operator 0 dir c.name 0 v w files.asked
+
         stopped : is_sound v ≡ true → (r : Result ℕ FlxRefusal) → IfErr r (λ e. is_lethal e ≡ true → Ends of_volume operator e v w)
             → of_rt is_rt_fault r ≡ true → StandsAsIs s s'
         stopped sound (Err (Rt e)) h fault = unread-stands v w sound (h fault)

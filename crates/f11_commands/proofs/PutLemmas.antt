@@ -13,7 +13,8 @@ use Rattle.f11_fcp.specs.Serving.{is_spent, state_in}
 use Rattle.f11_fcp.specs.declared.volume.Volume.{Volume}
 use Rattle.f11_flx.proofs.VolumeLemmas.{volume-seen}
 use Rattle.f11_files.specs.Answers.{is_fatal, is_fault}
-use Rattle.f11_flx.specs.Asking.{Fails, Grants, Who, asks, told, who_asks}
+use Rattle.f11_flx.proofs.TriedLemmas.{asked-for-one}
+use Rattle.f11_flx.specs.Asking.{Asking, Fails, Grants, Tried, Who, asks, told, who_asks}
 use Rattle.f11_flx.specs.Copying.{MayMakeFile, is_whole, of_files, of_volume}
 use Rattle.f11_home.specs.Home.{HomeFields}
 use Rattle.f11_flx.specs.declared.mode.CopyMode.{CopyMode}
@@ -32,7 +33,7 @@ use Rattle.f11_store.specs.declared.requests.Request.TheVariants as request
 use Rattle.f11_volume.specs.Verdict.{IsAccepted}
 use Rattle.f11_commands.proofs.AskedLemmas.{never, tried-home}
 use Rattle.f11_commands.proofs.CopyLemmas.{first-is, last-is, sound-first, stands-accepted}
-use Rattle.f11_commands.proofs.StoppingLemmas.{alive-of, fault-fatal, honest-of, request-stopped, stops-making, stored}
+use Rattle.f11_commands.proofs.StoppingLemmas.{alive-of, fault-fatal, find-leaves, honest-of, request-stopped, stops-making, stored}
 use Rattle.f11_commands.proofs.NamedLemmas.{alone-behind, alone-not-found, not-found-seen, undamaged-asked}
 use Rattle.f11_commands.specs.CopyCommand.{VerifiesFiles}
 use Rattle.f11_commands.specs.Copying.{directory_name, master_directory, operator}
@@ -40,7 +41,7 @@ use Rattle.f11_commands.specs.Finding.{is_found}
 use Rattle.f11_commands.specs.PutCommand.{FailsFor, Hosts, MakesFor, ReadsFor}
 use Rattle.f11_commands.specs.PutCommand.{EndsAccepted, EndsPutting, PutsByName, PutsInto, PutsNamed, PutsOnImage, StopsPutting}
 use Rattle.f11_commands.specs.PutCommand.{TellsOnImage, TellsPutting, making, seeking}
-use Rattle.f11_commands.specs.Stopping.{IsStopped, StopsMaking}
+use Rattle.f11_commands.specs.Stopping.{IsStopped, IsUnheld, StopsMaking, WhereUnheld}
 use Rattle.f11_commands.specs.declared.copy.FileAnswer.{FileAnswer}
 use Rattle.f11_commands.specs.declared.put.Putting.{Putting}
 use Rattle.f11_commands.specs.declared.rt_put.PutFailure.{PutFailure}
@@ -71,13 +72,13 @@ module _ {D : Type 0} {met : Ghosts D} (p : Putting) (bytes : ℕ) (u : Hosts) w
       → MakesFor p.mode bytes blocks u u' dir p.name (store_of_volume v) (store_of_volume w))
       → IfErr result (λ e. is_whole (copy_result result) ≡ true → is_sound v ≡ true
       → FailsFor p.mode e bytes u u' dir p.name (store_of_volume v) (store_of_volume w))
-      → PutsNamed p.mode bytes result u u' (PutsInto p bytes dir result u u') (StopsMaking dir p.name) v w
+      → PutsNamed p.mode bytes result u u' (PutsInto p bytes dir result u u') (WhereUnheld (StopsMaking dir p.name)) v w
   made-in dir result u' v w files host copied refused = record {
     fares = record {
       fares = files.fares;
       alive = λ alive is. never (files.keeps.only is) alive;
-      home = tried-home operator files.asked.asked v w files.asked.tried;
-      undamaged = undamaged-asked operator (copy_result result) v w files.fares files.asked.asked files.asked.tried;
+      home = tried-home operator asked.0 v w asked.1;
+      undamaged = undamaged-asked operator (copy_result result) v w files.fares asked.0 asked.1;
     };
     host = host;
     outcome = by result files copied refused;
@@ -88,6 +89,9 @@ module _ {D : Type 0} {met : Ghosts D} (p : Putting) (bytes : ℕ) (u : Hosts) w
         ∙ fault-fatal (copy_result result) fault);
   }
     where
+      asked : (xs : List Asking) × Tried of_volume operator xs v w
+      asked = asked-for-one of_volume operator 0 dir p.name 0 v w files.asked
+
       by : (r : Result ℕ HostRefusal) → MayMakeFile (copy_result r) operator 0 dir p.name 0 v w
           → IfOk r (λ blocks. is_sound v ≡ true
           → MakesFor p.mode bytes blocks u u' dir p.name (store_of_volume v) (store_of_volume w))
@@ -107,7 +111,7 @@ module _ {D : Type 0} {met : Ghosts D} (p : Putting) (bytes : ℕ) (u : Hosts) w
       → IfErr result (λ e. is_whole (copy_result result) ≡ true → is_sound v ≡ true
       → FailsToCopyFromHost e bytes u.first u'.first (who_asks task operator.caller) lun dir p.name 0 (store_of_volume v)
       (store_of_volume w))
-      → PutsNamed p.mode bytes result u u' (PutsInto p bytes dir result u u') (StopsMaking dir p.name) v w
+      → PutsNamed p.mode bytes result u u' (PutsInto p bytes dir result u u') (WhereUnheld (StopsMaking dir p.name)) v w
   put-image is task lun task-is lun-is dir result u' v w files host stays copied refused =
       made-in dir result u' v w
       (by-first task lun task-is lun-is (λ who l. MayMakeFile (copy_result result) who l dir p.name 0 v w) files)
@@ -129,7 +133,7 @@ module _ {D : Type 0} {met : Ghosts D} (p : Putting) (bytes : ℕ) (u : Hosts) w
       → IfErr result (λ e. is_whole (copy_result result) ≡ true → is_sound v ≡ true
       → FailsToCopyTextFromHost e bytes u.first u'.first u.again u'.again (who_asks task operator.caller) lun dir p.name 0
       (store_of_volume v) (store_of_volume w))
-      → PutsNamed p.mode bytes result u u' (PutsInto p bytes dir result u u') (StopsMaking dir p.name) v w
+      → PutsNamed p.mode bytes result u u' (PutsInto p bytes dir result u u') (WhereUnheld (StopsMaking dir p.name)) v w
   put-text is task lun task-is lun-is dir result u' v w files host copied refused =
       made-in dir result u' v w
       (by-first task lun task-is lun-is (λ who l. MayMakeFile (copy_result result) who l dir p.name 0 v w) files)
@@ -147,8 +151,8 @@ module _ {D : Type 0} {met : Ghosts D} (p : Putting) (bytes : ℕ) (u : Hosts) w
   -- the user's directory was found
   pub put-found : (name : List ℕ) → name ≡ directory_name p.directory → (dir : FileId) (result : Result ℕ HostRefusal)
       (u' : Hosts) (v m w : Volume D met) → Grants of_volume operator (told (request.Find master_directory name) (reply.Found dir)) v m
-      → PutsNamed p.mode bytes result u u' (PutsInto p bytes dir result u u') (StopsMaking dir p.name) m w
-      → PutsNamed p.mode bytes result u u' (PutsByName p bytes result u u') (StopsPutting p) v w
+      → PutsNamed p.mode bytes result u u' (PutsInto p bytes dir result u u') (WhereUnheld (StopsMaking dir p.name)) m w
+      → PutsNamed p.mode bytes result u u' (PutsByName p bytes result u u') (WhereUnheld (StopsPutting p)) v w
   put-found name name-is dir result u' v m w grants' a = record {
     fares = alone-behind (copy_result result) (told (request.Find master_directory (directory_name p.directory)) (reply.Found dir)) v m w
         grants a.fares;
@@ -162,10 +166,11 @@ module _ {D : Type 0} {met : Ghosts D} (p : Putting) (bytes : ℕ) (u : Hosts) w
           finds = (store_of_volume m, seen.0, refl);
           puts = a.outcome seen.1 whole;
         });
-    stops = λ sound fault.
+    stops = λ sound fault unheld.
         let seen = volume-seen.granted operator (told (request.Find master_directory (directory_name p.directory)) (reply.Found dir)) v m
         grants sound in
-        making dir (store_of_volume m) (store_of_volume m, seen.0, refl) (a.stops seen.1 fault);
+        making dir (store_of_volume m) (store_of_volume m, seen.0, refl)
+        (a.stops seen.1 fault (subst IsUnheld (sym seen.0.2.changes) unheld));
   }
     where
       grants : Grants of_volume operator (told (request.Find master_directory (directory_name p.directory)) (reply.Found dir)) v m
@@ -174,7 +179,7 @@ module _ {D : Type 0} {met : Ghosts D} (p : Putting) (bytes : ℕ) (u : Hosts) w
   -- it isn't there
   pub put-nowhere : (name : List ℕ) → name ≡ directory_name p.directory → (e : Refusal) (v w : Volume D met)
       → Fails of_volume operator is_found (request.Find master_directory name) e v w
-      → PutsNamed p.mode bytes (Err (Files e)) u u (PutsByName p bytes (Err (Files e)) u u) (StopsPutting p) v w
+      → PutsNamed p.mode bytes (Err (Files e)) u u (PutsByName p bytes (Err (Files e)) u u) (WhereUnheld (StopsPutting p)) v w
   put-nowhere name name-is e v w fails' = record {
     fares = alone-not-found master_directory (directory_name p.directory) e v w fails;
     host = unread-for bytes u p.mode e;
@@ -184,7 +189,9 @@ module _ {D : Type 0} {met : Ghosts D} (p : Putting) (bytes : ℕ) (u : Hosts) w
       not_found = not-found-seen master_directory (directory_name p.directory) e v w sound whole fails;
       unread = refl;
     });
-    stops = λ sound fault. seeking (stopped sound fault fails);
+    stops = λ sound fault unheld.
+        let at = stopped sound fault fails in
+        seeking at (find-leaves master_directory (directory_name p.directory) (store_of_volume v) (stored w) at);
   }
     where
       stopped : is_sound v ≡ true → is_fault e ≡ true
@@ -199,7 +206,7 @@ module _ {D : Type 0} {met : Ghosts D} (p : Putting) (bytes : ℕ) (u : Hosts) w
   -- on the volume of an image
   module _ (result : Result ℕ HostRefusal) (u' : Hosts) (old : Disk) (first last : Volume D met) (mounts : Mounts old first)
       (image : IsImage old.image) (accepted : IsTrue old.honest → IsAccepted old.image)
-      (puts : PutsNamed p.mode bytes result u u' (PutsByName p bytes result u u') (StopsPutting p) first last) where
+      (puts : PutsNamed p.mode bytes result u u' (PutsByName p bytes result u u') (WhereUnheld (StopsPutting p)) first last) where
     pub puts-on-image : PutsOnImage p bytes result u u' old (state_in last).disk
     puts-on-image = record {
       home = (state_in first).home;
@@ -213,10 +220,10 @@ module _ {D : Type 0} {met : Ghosts D} (p : Putting) (bytes : ℕ) (u : Hosts) w
           (last-is old first last mounts puts.fares.home)
           (puts.outcome (sound-first old first last mounts puts.fares.home is) whole));
       stops = λ is fault.
-          subst (λ (s : Store). StopsPutting p s (store_of (state_in last).disk.image (state_in first).home))
+          subst (λ (s : Store). WhereUnheld (StopsPutting p) s (store_of (state_in last).disk.image (state_in first).home))
           (first-is old first last mounts puts.fares.home)
-          (subst (λ (h : HomeFields). StopsPutting p (store_of_volume first) (store_of (state_in last).disk.image h)) puts.fares.home
-          (puts.stops (sound-first old first last mounts puts.fares.home is) fault));
+          (subst (λ (h : HomeFields). WhereUnheld (StopsPutting p) (store_of_volume first) (store_of (state_in last).disk.image h))
+          puts.fares.home (puts.stops (sound-first old first last mounts puts.fares.home is) fault)) (λ task lun. refl);
       host = puts.host;
       failures = let none = mounts.looked.failures in let some = puts.fares.fares.failures in omega (arith, none, some);
       quiet = puts.fares.fares.quiet;

@@ -1,7 +1,6 @@
 -- A file that is made on a volume of which a transfer fails: what was asked last was stopped, and nothing else is done.
 use Rattle.std.proofs.Common.{◌≡◌, ◌⊎◌, inl, inr, ℕ, ◌&&◌, ◌||◌, not, Bool, true, false, IsTrue, List, [], ◌∷◌, ◌++◌, All, Result, Ok, Err}
-use Rattle.std.proofs.Common.{refl}
-use Rattle.std.proofs.Common.{sym, ap, subst, ◌∙◌}
+use Rattle.std.proofs.Common.{Option, Some, None, refl, sym, ap, subst, ◌∙◌}
 use Rattle.std.proofs.lemmas.List.Elements.{All-head}
 use Rattle.f11_dev.specs.Image.{Image}
 use Rattle.f11_dev.specs.Went.{newest}
@@ -12,26 +11,29 @@ use Rattle.f11_fcp.specs.Lists.{ServesCall, is_sound, store_of_volume}
 use Rattle.f11_fcp.specs.Serving.{is_spent, state_in}
 use Rattle.f11_fcp.specs.declared.volume.Volume.{Volume}
 use Rattle.f11_files.specs.Answers.{is_fatal, is_fault, is_refused}
-use Rattle.f11_flx.proofs.VolumeLemmas.{denied-fared, volume-seen}
+use Rattle.f11_flx.proofs.VolumeLemmas.{denied-fared, unused, volume-seen}
 use Rattle.f11_flx.specs.Asking.{Asking, Denies, Grants, Tried, asks, counts, plain, reads, told, writes}
-use Rattle.f11_flx.specs.Copying.{AreForOne, AsksForOne, of_files, of_volume}
+use Rattle.f11_flx.specs.Copying.{AsksForOne, IsMakingOf, creation, making, nothing, of_files, of_volume}
 use Rattle.f11_flx.specs.Refusal.{is_lethal}
 use Rattle.f11_flx.specs.declared.refusal.FlxRefusal.{FlxRefusal}
 use Rattle.f11_flx.specs.declared.refusal.FlxRefusal.TheVariants.{Files, Rt, BadRecord, LineTooLong}
 use Rattle.f11_home.specs.Home.{HomeFields}
 use Rattle.f11_image_store.specs.StoreOf.{store_of}
 use Rattle.f11_runs.specs.Each.{call_with}
-use Rattle.f11_store.specs.Lags.{Lags}
+use Rattle.f11_store.specs.Causes.{first_refusal}
+use Rattle.f11_store.specs.Lags.{Lags, no_work, work_if}
 use Rattle.f11_store.specs.Run.{Answer, Call}
 use Rattle.f11_store.specs.Store.{Store}
 use Rattle.f11_store.specs.declared.files.FileId.{FileId}
 use Rattle.f11_store.specs.declared.refusals.Refusal.{Refusal}
 use Rattle.f11_store.specs.declared.refusals.Refusal.TheVariants.{DeviceFault}
+use Rattle.f11_store.specs.declared.requests.Reply.TheVariants as reply
 use Rattle.f11_store.specs.declared.requests.Request.{Request}
 use Rattle.f11_store.specs.declared.requests.Request.TheVariants as request
 use Rattle.f11_commands.proofs.AskedLemmas.{never}
+use Rattle.f11_commands.proofs.OthersLemmas.{no-slot-0, others-stay}
 use Rattle.f11_commands.specs.Copying.{operator}
-use Rattle.f11_commands.specs.Stopping.{IsStopped, StopsMaking, in_part, undone}
+use Rattle.f11_commands.specs.Stopping.{IsStopped, StopsAt, StopsMaking, WhereUnheld, creating, filling, in_part, undone}
 
 -- a device fault fails the volume
 pub fault-fatal : (r : Result ℕ FlxRefusal) → of_files is_fault r ≡ true → of_files is_fatal r ≡ true
@@ -78,6 +80,37 @@ later x xs s u t one h = record {
   are = ap (λ (ys : List Asking). x ∷ ys) h.are;
   stopped = h.stopped;
 }
+
+-- one thing alone
+one-stopped : (x : Asking) (s t : Store) → Stops (x ∷ []) s t → IsStopped x s t
+one-stopped x s t h = by h.asked h.reached h.tried h.last h.behind h.are h.stopped
+  where
+    none-behind : (xs : List Asking) (y : Asking) (ys : List Asking) → xs ++ y ∷ ys ≡ [] → ⊥
+    none-behind [] y ys is = cc
+    none-behind (z ∷ zs) y ys is = cc
+
+    tails : (y : Asking) (ys : List Asking) → y ∷ ys ≡ x ∷ [] → ys ≡ []
+    tails y ys is = cc
+
+    heads : (y : Asking) (ys : List Asking) → y ∷ ys ≡ x ∷ [] → y ≡ x
+    heads y ys is = cc
+
+    by : (asked : List Asking) (reached : Store) → Tried plain operator asked s reached → (last : Asking) (behind : List Asking)
+        → asked ++ last ∷ behind ≡ x ∷ [] → IsStopped last reached t → IsStopped x s t
+    by [] reached tried last behind are stopped =
+        subst (λ (u : Store). IsStopped x u t) tried (subst (λ (y : Asking). IsStopped y reached t) (heads last behind are) stopped)
+    by (y ∷ ys) reached tried last behind are stopped =
+        absurd (none-behind ys last behind (tails y (ys ++ last ∷ behind) are))
+
+-- a request that changes no file leaves them all, however it was stopped
+pub find-leaves : (dir : FileId) (name : List ℕ) (s t : Store) → IsStopped (asks (request.Find dir name)) s t
+    → (n : ℕ) → t.file n ≡ s.file n
+find-leaves dir name s t (undone held same) n = sym (ap (λ (x : Store). x.file n) same)
+find-leaves dir name s t (in_part h) n = h.1.others n (by (first_refusal s operator.task operator.caller (request.Find dir name)))
+  where
+    by : (o : Option Refusal) → (work_if o no_work).is_meant n ≡ false
+    by None = refl
+    by (Some e) = refl
 
 module _ {D : Type 0} {met : Ghosts D} where
   -- the store of a volume, with what nobody holds
@@ -199,17 +232,36 @@ module _ {D : Type 0} {met : Ghosts D} where
   stops (x ∷ xs) v w h sound dead = first-asked x xs v h.0 w sound h.2 (λ still. stops xs h.0 w h.2 still dead) h.1
 
   -- a file was being made
-  pub stops-making : (dir : FileId) (to : List ℕ) (v w : Volume D met) → AsksForOne operator 0 dir to 0 v w → is_sound v ≡ true
-      → is_spent w ≡ true → StopsMaking dir to (store_of_volume v) (stored w)
-  stops-making dir to v w one sound dead =
-      let s = stops one.asked v w one.tried sound dead in
-      record {
-        id = one.id;
+  stops-at : (dir : FileId) (to : List ℕ) (v w : Volume D met) → AsksForOne of_volume operator 0 dir to 0 v w → is_sound v ≡ true
+      → is_spent w ≡ true → StopsAt dir to (store_of_volume v) (stored w)
+  stops-at dir to v w (nothing same) sound dead =
+      never (sym (ap (λ (u : Volume D met). is_spent u) same) ∙ dead) (alive-of (state_in v).disk.honest (is_spent v) sound)
+  stops-at dir to v w (creation r is tried) sound dead =
+      creating r is (one-stopped (asks r) (store_of_volume v) (stored w) (stops (asks r ∷ []) v w tried sound dead))
+  stops-at dir to v w (making m) sound dead =
+      let seen = volume-seen.granted operator (told m.request (reply.Created m.id)) v m.created m.granted sound in
+      let s = stops m.asked m.created w m.tried seen.1 dead in
+      filling (record {
+        request = m.request;
+        creates = m.creates;
+        id = m.id;
+        created = store_of_volume m.created;
+        granted = seen.0;
         asked = s.asked;
         reached = s.reached;
         tried = s.tried;
         last = s.last;
         behind = s.behind;
-        only = subst (λ (xs : List Asking). AreForOne 0 dir to 0 one.id xs) (sym s.are) one.only;
+        only = subst (λ (xs : List Asking). All (IsMakingOf 0 dir to 0 m.id) xs) (sym s.are) m.only;
         stopped = s.stopped;
+      })
+
+  pub stops-making : (dir : FileId) (to : List ℕ) (v w : Volume D met) → AsksForOne of_volume operator 0 dir to 0 v w → is_sound v ≡ true
+      → is_spent w ≡ true → WhereUnheld (StopsMaking dir to) (store_of_volume v) (stored w)
+  stops-making dir to v w one sound dead unheld =
+      let at = stops-at dir to v w one sound dead in
+      record {
+        stops = at;
+        others = others-stay dir to (store_of_volume v) (stored w) (unused v) (no-slot-0 (state_in v).disk.image (state_in v).home) unheld
+            at;
       }

@@ -96,9 +96,10 @@ abbrev pub PutsByName : Putting → ℕ → Result ℕ HostRefusal → Hosts →
 PutsByName p bytes result h h' s s' =
     (FindsAndPuts p bytes result h h' s s') ⊎ (HasNoDirectory p result h h' s s')
 
--- a transfer failed: looking for the user's directory was stopped, or, once it was found, making the file
+-- a transfer failed: looking for the user's directory was stopped, and all files are as they were; or, once it was found, making the file
 pub data StopsPutting (p : Putting) (s t : Store) : Type 0 where
-  seeking : IsStopped (asks (request.Find master_directory (directory_name p.directory))) s t → StopsPutting p s t
+  seeking : IsStopped (asks (request.Find master_directory (directory_name p.directory))) s t
+      → ((n : ℕ) → t.file n ≡ s.file n) → StopsPutting p s t
   making : (dir : FileId) (found : Store) → FindsName master_directory (directory_name p.directory) dir s found
       → StopsMaking dir p.name found t → StopsPutting p s t
 
@@ -115,7 +116,7 @@ pub record PutsNamed {D : Type 0} {met : Ghosts D} (m : CopyMode) (bytes : ℕ) 
 -- A file was to be made on the volume of an image that has no fault. Where the disk is honest it is what the answer says of the plain
 -- store, from that of the image, in which nobody holds an access; and the image has no fault then, nor has any that stood meanwhile. A
 -- transfer failed exactly where that is the answer, and no other followed; then what was asked last was stopped, and nothing else is done
--- but what was asked for this file before.
+-- but what was asked for this file before: no other is changed, but its directory and the index file.
 pub record PutsOnImage (p : Putting) (bytes : ℕ) (result : Result ℕ HostRefusal) (h h' : Hosts) (old new : Disk)
     : Type 0 where
   pub home : HomeFields

@@ -1,10 +1,9 @@
 //! The command `put`.
 
-ghost use Rattle.std.specs.Prelude.{◌≡◌};
 ghost use Rattle.f11_vfy.specs.Accepted.{device_of};
 ghost use Rattle.f11_commands.specs.PutCommand.{EndsAccepted, EndsPutting, PutsByName, PutsInto, PutsNamed, StopsPutting};
 ghost use Rattle.f11_commands.specs.PutCommand.{TellsPutting, hosts};
-ghost use Rattle.f11_commands.specs.Stopping.{StopsMaking};
+ghost use Rattle.f11_commands.specs.Stopping.{StopsMaking, WhereUnheld};
 
 use crate::copy::FileAnswer;
 use crate::copy::finding::{
@@ -118,7 +117,7 @@ fn put_by_name<D: Device, R: Read>(
         (hosts (R.remaining host.new) (R.remaining again.new))
         (PutsByName put.now bytes result (hosts (R.remaining host.old) (R.remaining again.old))
         (hosts (R.remaining host.new) (R.remaining again.new)))
-        (StopsPutting put.now) volume.old volume.new }
+        (WhereUnheld (StopsPutting put.now)) volume.old volume.new }
 {
     let directory = directory_name(put.directory);
     match find(volume, MASTER_DIRECTORY, &directory) {
@@ -141,7 +140,7 @@ fn put_into<D: Device, R: Read>(
         (hosts (R.remaining host.new) (R.remaining again.new))
         (PutsInto put.now bytes dir result (hosts (R.remaining host.old) (R.remaining again.old))
         (hosts (R.remaining host.new) (R.remaining again.new)))
-        (StopsMaking dir put.now.name) volume.old volume.new }
+        (WhereUnheld (StopsMaking dir put.now.name)) volume.old volume.new }
 {
     let task = first_task();
     let lun = first_lun();

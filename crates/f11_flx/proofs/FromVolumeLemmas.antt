@@ -11,7 +11,7 @@ use Rattle.rt11_volume.specs.Verifying.Verdict.{IsSoundDisk}
 use Rattle.rt11_volume.specs.declared.refusal.RtRefusal.TheVariants.{Failed}
 use Rattle.rt11_volume.specs.declared.volume.RtAccepted.{RtAccepted}
 use Rattle.f11_flx.specs.Asking.{Who}
-use Rattle.f11_flx.specs.Copying.{AsksForOne, FaresFiles, KeepsFailed, KeepsSpent, MayMakeFile, ReadsRt, is_whole, of_rt}
+use Rattle.f11_flx.specs.Copying.{FaresFiles, KeepsFailed, KeepsSpent, MayMakeFile, ReadsRt, is_whole, of_rt}
 use Rattle.f11_flx.specs.Copying.{of_volume}
 use Rattle.f11_flx.specs.CopyFromRt.{CopiesFromRt, FailsToCopyFromRt, IsAsBefore, Making, as_file}
 use Rattle.f11_flx.specs.FromRt.{CopiesFrom, FailsToCopyFrom}
@@ -28,7 +28,7 @@ use Rattle.f11_flx.proofs.LooksLemmas.{copies-looks, fails-looks, is-rt-fault}
 use Rattle.f11_flx.proofs.NotMadeLemmas.{copy-refused, copy-undone}
 use Rattle.f11_flx.proofs.SmallLemmas.{not-true}
 use Rattle.f11_flx.proofs.SpentLemmas.{failed-made, failed-unasked, failed-unmade}
-use Rattle.f11_flx.proofs.TriedLemmas.{TriesOne, copies-tries, fails-tries}
+use Rattle.f11_flx.proofs.TriedLemmas.{AsksFor, copies-tries, fails-tries}
 use Rattle.f11_flx.proofs.VolumeLemmas.{standing, unused, volume-seen}
 
 abbrev pub given : ℕ → Result ℕ FlxRefusal
@@ -61,16 +61,13 @@ module _ {D : Type 0} {met : Ghosts D} (who : Who) (lun : ℕ) (making : Making)
   abbrev May : Result ℕ FlxRefusal → Type 0
   May result = MayMakeFile result who lun making.directory making.name making.protection v w
 
-  asks-for-one : TriesOne of_volume who lun making v w → AsksForOne who lun making.directory making.name making.protection v w
-  asks-for-one h = record { id = h.id; asked = h.asked; tried = h.tried; only = h.only }
-
-  pub may-make : (blocks : ℕ) → FaresFiles {T = Unit} (Ok tt) v w → KeepsSpent (given blocks) v w → TriesOne of_volume who lun making v w
+  pub may-make : (blocks : ℕ) → FaresFiles {T = Unit} (Ok tt) v w → KeepsSpent (given blocks) v w → AsksFor of_volume who lun making v w
       → May (given blocks)
   may-make blocks k keeps tries = record {
     fares = alike (given blocks) (Ok tt) v w refl refl k;
     keeps = keeps;
     unasked = λ is. absurd (differ (Rt Failed) is);
-    asked = asks-for-one tries;
+    asked = tries;
     undone = λ e is sound whole. absurd (differ e is);
   }
     where
@@ -78,14 +75,14 @@ module _ {D : Type 0} {met : Ghosts D} (who : Who) (lun : ℕ) (making : Making)
       differ e is = cc
 
   pub may-not-make : (f : FlxRefusal) → FaresFiles {T = Unit} (Err f) v w → KeepsSpent (refused f) v w
-      → TriesOne of_volume who lun making v w
+      → AsksFor of_volume who lun making v w
       → (refused f ≡ refused (Rt Failed) → w ≡ v)
       → (is_sound v ≡ true → is_lethal f ≡ false → IsAsBefore (store_of_volume v) (store_of_volume w)) → May (refused f)
   may-not-make f k keeps tries unasked undone = record {
     fares = fares f k;
     keeps = keeps;
     unasked = unasked;
-    asked = asks-for-one tries;
+    asked = tries;
     undone = λ e is sound whole. undone sound (not-true (is_lethal f) whole);
   }
     where

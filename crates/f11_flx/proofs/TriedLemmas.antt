@@ -1,5 +1,5 @@
 -- Lists of what was asked, granted or refused.
-use Rattle.std.proofs.Common.{◌≡◌, inl, inr, ℕ, suc, ◌==◌, Bool, true, false, if◌then◌else◌, List, [], ◌∷◌, ◌++◌, All, refl, sym, subst}
+use Rattle.std.proofs.Common.{inl, inr, ℕ, suc, ◌==◌, Bool, true, false, if◌then◌else◌, List, [], ◌∷◌, ◌++◌, All, refl, sym, subst}
 use Rattle.std.proofs.lemmas.List.Elements.{All-append, All-cons, All-nil}
 use Rattle.f11_dev.specs.Disk.{Disk}
 use Rattle.f11_dev.specs.declared.device.Device.{Ghosts}
@@ -7,7 +7,6 @@ use Rattle.f11_store.specs.Ident.{ident_with}
 use Rattle.f11_store.specs.declared.files.FileId.{FileId}
 use Rattle.f11_store.specs.declared.files.Mode.TheVariants as access
 use Rattle.f11_store.specs.declared.refusals.Refusal.{Refusal}
-use Rattle.f11_store.specs.declared.requests.Reply.{Reply}
 use Rattle.f11_store.specs.declared.requests.Reply.TheVariants as reply
 use Rattle.f11_store.specs.declared.requests.Request.{Request}
 use Rattle.f11_store.specs.declared.requests.Request.TheVariants as request
@@ -15,7 +14,7 @@ use Rattle.rt11_volume.specs.declared.volume.RtAccepted.{RtAccepted}
 use Rattle.f11_flx.specs.Asking.{Asking, BreaksOffAsking, Denies, Fails, Granted, Grants, FilesService, Tried, Who, asks, told}
 use Rattle.f11_flx.specs.Asking.{writes_of}
 use Rattle.f11_flx.specs.CopyFromRt.{Making, as_file, creation, entry, giving_up, opening}
-use Rattle.f11_flx.specs.Copying.{AreForOne, FollowsReply, IsMakingOf, MakesBy}
+use Rattle.f11_flx.specs.Copying.{AsksForOne, IsMakingOf, MakesBy, creation as created-alone, making as made-one, nothing as unasked}
 use Rattle.f11_flx.specs.FromRt.{CopiesFrom, FailsToCopyFrom}
 use Rattle.f11_flx.specs.Making.{AsksToFill, FailsToFillFromRt, FailsToFillOpened, FailsToMake, FillsFromRt, FillsOpened, IsBrokenOff}
 use Rattle.f11_flx.specs.Making.{MakesFile, Undoing, UndoingIf, extension, filling_of, is_created}
@@ -85,12 +84,17 @@ module _ {V : Type 0} (S : FilesService V) (P : Asking → Type 0) (who : Who) w
       by false (inl h) = tries-grant (asks r) v w is h.granted
       by false (inr h) = tries-deny (asks r) h.e v w is h.denied
 
--- A file was to be made, from any source: what was asked was for it alone.
-pub record TriesOne {V : Type 0} (S : FilesService V) (who : Who) (lun : ℕ) (making : Making) (v w : V) : Type 0 where
-  pub id : FileId
-  pub asked : List Asking
-  pub tried : Tried S who asked v w
-  pub only : AreForOne lun making.directory making.name making.protection id asked
+-- a file was to be made, from any source: what was asked was for it alone
+abbrev pub AsksFor : {V : Type 0} → FilesService V → Who → ℕ → Making → V → V → Type 0
+AsksFor S who lun making v w = AsksForOne S who lun making.directory making.name making.protection v w
+
+-- what was asked then, one thing after another
+pub asked-for-one : {V : Type 0} (S : FilesService V) (who : Who) (lun : ℕ) (dir : FileId) (to : List ℕ) (protection : ℕ) (v w : V)
+    → AsksForOne S who lun dir to protection v w → (asked : List Asking) × Tried S who asked v w
+asked-for-one S who lun dir to protection v w (unasked same) = ([], same)
+asked-for-one S who lun dir to protection v w (created-alone r is tried) = (asks r ∷ [], tried)
+asked-for-one S who lun dir to protection v w (made-one m) =
+    (told m.request (reply.Created m.id) ∷ m.asked, (m.created, inl m.granted, m.tried))
 
 module _ {V : Type 0} (S : FilesService V) (who : Who) (lun : ℕ) (making : Making) (id : FileId) where
   abbrev P : Asking → Type 0
@@ -130,33 +134,23 @@ module _ {V : Type 0} (S : FilesService V) (who : Who) (lun : ℕ) (making : Mak
 -- it was created first, or not
 module _ {V : Type 0} (S : FilesService V) (who : Who) (lun : ℕ) (making : Making) where
   created-first : (id : FileId) (u v w : V) → Granted S who (creation making id) u v
-      → Tries S (IsMakingOf lun making.directory making.name making.protection id) who v w → TriesOne S who lun making u w
-  created-first id u v w h rest = record {
+      → Tries S (IsMakingOf lun making.directory making.name making.protection id) who v w → AsksFor S who lun making u w
+  created-first id u v w h rest = made-one (record {
+    request = request.Create 0 (ident_with making.name) making.attr;
+    creates = (refl, refl);
     id = id;
-    asked = told (request.Create 0 (ident_with making.name) making.attr) (reply.Created id) ∷ rest.asked;
-    tried = (h.0, inl h.1, subst (λ (x : V). Tried S who rest.asked x w) h.2 rest.tried);
-    only = ((refl, refl), (refl, rest.only));
-  }
+    created = h.0;
+    granted = h.1;
+    asked = rest.asked;
+    only = rest.only;
+    tried = subst (λ (x : V). Tried S who rest.asked x w) h.2 rest.tried;
+  })
 
   not-created : (e : Refusal) (v w : V) → Fails S who is_created (request.Create 0 (ident_with making.name) making.attr) e v w
-      → TriesOne S who lun making v w
-  not-created e v w (inl h) = record {
-    id = making.directory;
-    asked = asks (request.Create 0 (ident_with making.name) making.attr) ∷ [];
-    tried = (w, inr (e, h), refl);
-    only = ((refl, refl), refl);
-  }
-  not-created e v w (inr h) = record {
-    id = making.directory;
-    asked = told (request.Create 0 (ident_with making.name) making.attr) h.0 ∷ [];
-    tried = (w, inl h.3, refl);
-    only = ((refl, refl), nothing h.0 h.1);
-  }
-    where
-      nothing : (a : Reply) → is_created a ≡ false
-          → FollowsReply making.directory [] (All (IsMakingOf lun making.directory making.name making.protection making.directory) []) a
-      nothing (reply.Created f) wrong = absurd (cc)
-      nothing _ wrong = refl
+      → AsksFor S who lun making v w
+  not-created e v w (inl h) = created-alone (request.Create 0 (ident_with making.name) making.attr) (refl, refl) (w, inr (e, h), refl)
+  not-created e v w (inr h) =
+      created-alone (request.Create 0 (ident_with making.name) making.attr) (refl, refl) (w, inl (h.3.0, h.0, h.3.1, h.3.2), refl)
 
 -- the making of a file from any source
 module _ {V H : Type 0} (S : FilesService V) (who : Who) (lun n : ℕ) (Fills : H → H → V → V → Type 0)
@@ -190,7 +184,7 @@ module _ {V H : Type 0} (S : FilesService V) (who : Who) (lun n : ℕ) (Fills : 
       (broken-tries S who lun making id n h.f h.between h.left (asking.fails h.f a b h.between h.left h.fails))
       (undoing id (request.Deaccess lun) h.f f h.left w refl h.undoes))
 
-  pub made-tries : (a b : H) (v w : V) → MakesFile S who lun Fills making a b v w → TriesOne S who lun making v w
+  pub made-tries : (a b : H) (v w : V) → MakesFile S who lun Fills making a b v w → AsksFor S who lun making v w
   made-tries a b v w h =
       created-first S who lun making h.id v h.created w h.creates
       (both h.id h.created h.filled w (filled-tries h.id a b h.created h.filled h.fills)
@@ -198,7 +192,7 @@ module _ {V H : Type 0} (S : FilesService V) (who : Who) (lun n : ℕ) (Fills : 
       (only-entry S who lun making h.id) h.enters))
 
   pub unmade-tries : (f : FlxRefusal) (a b : H) (v w : V) → FailsToMake S who lun Fills Fails making f a b v w
-      → TriesOne S who lun making v w
+      → AsksFor S who lun making v w
   unmade-tries f a b v w (inl h) = not-created S who lun making h.e v w h.fails
   unmade-tries f a b v w (inr (inl h)) =
       created-first S who lun making h.id v h.created w h.creates
@@ -213,26 +207,24 @@ module _ {V H : Type 0} (S : FilesService V) (who : Who) (lun n : ℕ) (Fills : 
       (undoing h.id (request.Delete h.id) (Files h.e) f h.left w refl h.undoes)))
 
 -- nothing was asked
-pub none-for-one : {V : Type 0} (S : FilesService V) (who : Who) (lun : ℕ) (making : Making) (v : V) → TriesOne S who lun making v v
-none-for-one S who lun making v = record { id = making.directory; asked = []; tried = refl; only = tt }
+pub none-for-one : {V : Type 0} (S : FilesService V) (who : Who) (lun : ℕ) (making : Making) (v : V) → AsksFor S who lun making v v
+none-for-one S who lun making v = unasked refl
 
 module _ {V E : Type 0} {met : Ghosts E} (S : FilesService V) (disk : E → Disk) (m : CopyMode) (who : Who) (lun : ℕ) (name : List ℕ)
     (dir : FileId) (to : List ℕ) (protection : ℕ) (a b : RtAccepted E met) (v w : V) where
   pub copies-tries : (blocks : ℕ) → CopiesFrom S disk m who lun name dir to protection blocks a b v w
-      → TriesOne S who lun (as_file to dir protection [] []) v w
+      → AsksFor S who lun (as_file to dir protection [] []) v w
   copies-tries blocks h =
-      let t = made-tries S who lun blocks (FillsFromRt {met = met} S disk m who lun name h.many blocks)
+      made-tries S who lun blocks (FillsFromRt {met = met} S disk m who lun name h.many blocks)
       (FailsToFillFromRt {met = met} S disk m who lun name h.many blocks)
-      (asks-to-fill S who lun {met = met} disk m name h.many blocks) (as_file to dir protection h.attr []) h.between b v w (h.makes []) in
-      record { id = t.id; asked = t.asked; tried = t.tried; only = t.only }
+      (asks-to-fill S who lun {met = met} disk m name h.many blocks) (as_file to dir protection h.attr []) h.between b v w (h.makes [])
 
   pub fails-tries : (f : FlxRefusal) → FailsToCopyFrom S disk m who lun name dir to protection f a b v w
-      → TriesOne S who lun (as_file to dir protection [] []) v w
+      → AsksFor S who lun (as_file to dir protection [] []) v w
   fails-tries f (inl h) =
-      subst (λ x. TriesOne S who lun (as_file to dir protection [] []) v x) (sym h.unasked)
+      subst (λ x. AsksFor S who lun (as_file to dir protection [] []) v x) (sym h.unasked)
       (none-for-one S who lun (as_file to dir protection [] []) v)
   fails-tries f (inr h) =
-      let t = unmade-tries S who lun h.blocks (FillsFromRt {met = met} S disk m who lun name h.many h.blocks)
+      unmade-tries S who lun h.blocks (FillsFromRt {met = met} S disk m who lun name h.many h.blocks)
       (FailsToFillFromRt {met = met} S disk m who lun name h.many h.blocks) (asks-to-fill S who lun {met = met} disk m name h.many h.blocks)
-      (as_file to dir protection h.attr []) f h.between b v w (h.fails []) in
-      record { id = t.id; asked = t.asked; tried = t.tried; only = t.only }
+      (as_file to dir protection h.attr []) f h.between b v w (h.fails [])

@@ -8,7 +8,6 @@ use Rattle.f11_store.specs.declared.files.FileId.{FileId}
 use Rattle.f11_store.specs.declared.files.Mode.TheVariants as access
 use Rattle.f11_store.specs.declared.refusals.Refusal.{Refusal}
 use Rattle.f11_store.specs.declared.refusals.Refusal.TheVariants.{VolumeFailed}
-use Rattle.f11_store.specs.declared.requests.Reply.{Reply}
 use Rattle.f11_store.specs.declared.requests.Reply.TheVariants as reply
 use Rattle.f11_store.specs.declared.requests.Request.{Request}
 use Rattle.f11_store.specs.declared.requests.Request.TheVariants as request
@@ -25,7 +24,7 @@ use Rattle.rt11_volume.specs.Verifying.Verdict.{IsSoundDisk}
 use Rattle.rt11_volume.specs.declared.refusal.RtRefusal.{RtRefusal}
 use Rattle.rt11_volume.specs.declared.refusal.RtRefusal.TheVariants.{Failed}
 use Rattle.rt11_volume.specs.declared.volume.RtAccepted.{RtAccepted}
-use Rattle.f11_flx.specs.Asking.{Asking, FilesService, Tried, Who, asks, counts, reads, told, writes}
+use Rattle.f11_flx.specs.Asking.{Asking, FilesService, Grants, Tried, Who, asks, counts, reads, told, writes}
 use Rattle.f11_flx.specs.CopyFromRt.{IsAsBefore}
 use Rattle.f11_flx.specs.Refusal.{is_lethal}
 use Rattle.f11_flx.specs.RtOutcome.{HasSameFiles, KeepsDirectory}
@@ -133,27 +132,24 @@ abbrev pub Creates : List ℕ → Request → Type 0
 Creates to (request.Create word ident attr) = (word ≡ 0) × (ident ≡ ident_with to)
 Creates to _ = ⊥
 
--- what is asked behind it: nothing, unless it was told which file was created
-abbrev pub FollowsReply : FileId → List Asking → Type 0 → Reply → Type 0
-FollowsReply id xs Are (reply.Created f) = (f ≡ id) × Are
-FollowsReply id xs Are _ = xs ≡ []
-
--- all that was asked is for one file: it was to be created, and if it was, nothing but what makes it was asked behind that
-abbrev pub AreForOne : ℕ → FileId → List ℕ → ℕ → FileId → List Asking → Type 0
-AreForOne lun dir to protection id [] = ⊤
-AreForOne lun dir to protection id (asks r ∷ xs) = Creates to r × (xs ≡ [])
-AreForOne lun dir to protection id (told r a ∷ xs) = Creates to r × FollowsReply id xs (All (IsMakingOf lun dir to protection id) xs) a
-AreForOne lun dir to protection id (reads l vbn block ∷ xs) = ⊥
-AreForOne lun dir to protection id (writes l vbn block ∷ xs) = ⊥
-AreForOne lun dir to protection id (counts l blocks ∷ xs) = ⊥
-
--- What makes one file was asked of the volume and nothing else, one thing after another, whatever it answered.
-pub record AsksForOne {D : Type 0} {met : Ghosts D} (who : Who) (lun : ℕ) (dir : FileId) (to : List ℕ) (protection : ℕ)
-    (old new : Volume D met) : Type 0 where
+-- The file was created, and what was asked then was what makes that one, one thing after another, whatever was answered.
+pub record MakesOne {V : Type 0} (S : FilesService V) (who : Who) (lun : ℕ) (dir : FileId) (to : List ℕ) (protection : ℕ) (old new : V)
+    : Type 0 where
+  pub request : Request
+  pub creates : Creates to request
   pub id : FileId
+  pub created : V
+  pub granted : Grants S who (told request (reply.Created id)) old created
   pub asked : List Asking
-  pub tried : Tried of_volume who asked old new
-  pub only : AreForOne lun dir to protection id asked
+  pub only : All (IsMakingOf lun dir to protection id) asked
+  pub tried : Tried S who asked created new
+
+-- What makes one file was asked and nothing else: nothing at all; that it is created, alone; or what makes it, once it was created.
+pub data AsksForOne {V : Type 0} (S : FilesService V) (who : Who) (lun : ℕ) (dir : FileId) (to : List ℕ) (protection : ℕ) (old new : V)
+    : Type 0 where
+  nothing : new ≡ old → AsksForOne S who lun dir to protection old new
+  creation : (r : Request) → Creates to r → Tried S who (asks r ∷ []) old new → AsksForOne S who lun dir to protection old new
+  making : MakesOne S who lun dir to protection old new → AsksForOne S who lun dir to protection old new
 
 -- The volume was read, whatever the answer is; it is as before unless a device fault or Damaged was met. Where it had failed, the answer is
 -- VolumeFailed.
@@ -172,7 +168,7 @@ pub record MayMakeFile {D T : Type 0} {met : Ghosts D} (result : Result T FlxRef
   pub fares : FaresFiles result old new
   pub keeps : KeepsSpent result old new
   pub unasked : result ≡ Err (Rt Failed) → new ≡ old
-  pub asked : AsksForOne who lun dir to protection old new
+  pub asked : AsksForOne of_volume who lun dir to protection old new
   pub undone : (e : FlxRefusal) → result ≡ Err e → is_sound old ≡ true → is_whole result ≡ true →
       IsAsBefore (store_of_volume old) (store_of_volume new)
 
