@@ -1,9 +1,9 @@
 -- What is asked for one file leaves all others as they are, but a directory and the index file: where it is granted, where it is refused,
 -- and where it is stopped.
 use Rattle.std.proofs.Common.{◌≡◌, ◌⊎◌, inl, inr, ℕ, zero, suc, ◌+◌, ◌==◌, ◌&&◌, ◌||◌, Bool, true, false, List, [], ◌∷◌, ◌++◌, All}
-use Rattle.std.proofs.Common.{Option, Some, None, Result, Ok, Err, length, refl, sym, ap, subst, ◌∙◌, arith, if◌then◌else◌}
+use Rattle.std.proofs.Common.{Option, Some, None, Result, Ok, Err, length, nat_lt, refl, sym, ap, subst, ◌∙◌, arith, if◌then◌else◌}
 use Rattle.std.specs.Prelude.{slice_index}
-use Rattle.std.proofs.lemmas.Bool.{ne_eqb}
+use Rattle.std.proofs.lemmas.Bool.{and_from, eq-eqb, eqb-true, ne_eqb}
 use Rattle.std.proofs.lemmas.List.Elements.{All-cons, All-head, All-tail}
 use Rattle.f11_dev.specs.Image.{Image}
 use Rattle.f11_flx.proofs.GainedLemmas.{enters-from, not-index}
@@ -13,13 +13,13 @@ use Rattle.f11_home.specs.Home.{HomeFields}
 use Rattle.f11_image_store.specs.StoreOf.{store_of}
 use Rattle.f11_index.specs.IndexFile.{is_in_use}
 use Rattle.f11_index.specs.Table.{table_in}
-use Rattle.f11_runs.proofs.AccessLemmas.{true-false}
+use Rattle.f11_runs.proofs.AccessLemmas.{there-is, true-false}
 use Rattle.f11_store.proofs.FileLaws.{least_free_is_free, new_slot_was_free}
 use Rattle.f11_store.proofs.SlotsFirst.{gained-is-ready}
 use Rattle.f11_store.proofs.StepLags.{step_lags}
 use Rattle.f11_store.proofs.StoreLemmas.{none_first, none_rest}
 use Rattle.f11_store.specs.Accesses.{FreeIsEmpty}
-use Rattle.f11_store.specs.Causes.{cannot_write, first_refusal, is_no_writer}
+use Rattle.f11_store.specs.Causes.{cannot_write, first_refusal, is_bad, is_missing, is_no_writer}
 use Rattle.f11_store.specs.Changes.{Changes, after_giving_up, is_due, with_access, with_marked_file, with_slots_added, with_slots_first}
 use Rattle.f11_store.specs.Changes.{without_file_at}
 use Rattle.f11_store.specs.Directory.{entry_count, index_of_empty, needs_block, record_bytes}
@@ -32,14 +32,14 @@ use Rattle.f11_store.specs.Step.{Step}
 use Rattle.f11_store.specs.Store.{Access, Store, file_named, free_headers, free_slots, id_held, id_in, is_accessed, least_free}
 use Rattle.f11_store.specs.declared.files.FileId.{FileId}
 use Rattle.f11_store.specs.declared.refusals.Refusal.{Refusal}
-use Rattle.f11_store.specs.declared.refusals.Refusal.TheVariants.{BadArgument, NoSuchAccess}
+use Rattle.f11_store.specs.declared.refusals.Refusal.TheVariants.{BadArgument, NoSuchAccess, NoSuchFile, SystemFile}
 use Rattle.f11_store.specs.declared.requests.Reply.{Reply}
 use Rattle.f11_store.specs.declared.requests.Reply.TheVariants as reply
 use Rattle.f11_store.specs.declared.requests.Request.{Request}
 use Rattle.f11_store.specs.declared.requests.Request.TheVariants as request
 use Rattle.f11_commands.specs.Copying.{operator}
 use Rattle.f11_commands.specs.Stopping.{IsStopped, IsUnheld, KeepsOthers, LagsAsked, StopsAt}
-use Rattle.f11_commands.specs.Stopping.{creating, filling, in_part, undone}
+use Rattle.f11_commands.specs.Stopping.{after_creation, creating, in_part, is_directory_of, not_begun}
 
 -- what is held is nothing, or an access to this file
 abbrev pub IsHeldOf : FileId → Option Access → Type 0
@@ -51,9 +51,9 @@ abbrev pub HoldsOnly : FileId → Store → Type 0
 HoldsOnly id u = (task lun : ℕ) → IsHeldOf id (u.access task lun)
 
 -- A file is another than one that is made in a directory, than that directory and than the index file; nor is this the one that is made.
-record IsAnother (id dir : FileId) (n : ℕ) : Type 0 where
+record IsAnother (id dir : FileId) (n : ℕ) (f : File) : Type 0 where
   pub apart : (n == id.number) ≡ false
-  pub elsewhere : (n == dir.number) ≡ false
+  pub elsewhere : is_directory_of dir n f.sequence ≡ false
   pub no-index : (n == 1) ≡ false
   pub late : (id.number == 1) ≡ false
 
@@ -107,15 +107,15 @@ none-index id u late held = λ task lun. by (u.access task lun) (held task lun)
     by (Some a) h = ap (λ (i : FileId). i.number == 1) h ∙ late
 
 -- what makes the file, once it is created
-module _ (dir : FileId) (to : List ℕ) (id : FileId) (n : ℕ) (f : File) (other : IsAnother id dir n) where
+module _ (dir : FileId) (to : List ℕ) (id : FileId) (n : ℕ) (f : File) (other : IsAnother id dir n f) where
   held-apart : (o : Option Access) → IsHeldOf id o → is_no_writer o ≡ false → (n == (id_in o).number) ≡ false
   held-apart None h writing = absurd (true-false writing)
   held-apart (Some a) h writing = ap (λ (i : FileId). n == i.number) h ∙ other.apart
 
   -- a request of it doesn't mean the file
-  own-unmeant : (r : Request) (lent : List ℕ) (u : Store) → MakesBy 0 dir to 0 id r → HoldsOnly id u
+  own-unmeant : (r : Request) (lent : List ℕ) (u : Store) → MakesBy 0 dir to 0 id r → IsOnTheWay id n f u
       → (work_of u operator.task operator.caller r lent).is_meant n ≡ false
-  own-unmeant r lent u is held =
+  own-unmeant r lent u is on =
       if-served n (first_refusal u operator.task operator.caller r) (served_work u operator.task operator.caller r lent) (served r is)
     where
       given-up : (l : ℕ) (o : Option Access) → IsHeldOf id o → (give_up_work u operator.task l o).is_meant n ≡ false
@@ -130,18 +130,33 @@ module _ (dir : FileId) (to : List ℕ) (id : FileId) (n : ℕ) (f : File) (othe
       gone g apart true = apart
       gone g apart false = apart
 
+      -- a name is entered into the directory alone: where another file has its number, it is refused
+      entered : (d : FileId) (name : List ℕ) (g : FileId) → d ≡ dir
+          → first_refusal u operator.task operator.caller (request.Enter d name g) ≡ None → (b : Bool) → (n == d.number) ≡ b
+          → (enter_work (index_of_empty (file_named u d)) u d (record_bytes g name)).is_meant n ≡ false
+      entered d name g same none false apart =
+          enter-apart n u d (record_bytes g name) apart other.no-index (index_of_empty (file_named u d))
+      entered d name g same none true here =
+          let file = there-is u d (none_first (is_missing u d) NoSuchFile _ (none_rest (nat_lt d.number 4) SystemFile _
+          (none_rest (is_bad d || is_bad g) BadArgument _ none))) in
+          let files : Some f ≡ Some file.file = sym on.there ∙ ap u.file (eqb-true n d.number here) ∙ file.is in
+          let one : f ≡ file.file = cc in
+          let sequence : f.sequence ≡ dir.sequence =
+          ap (λ (x : File). x.sequence) one ∙ file.sequence ∙ ap (λ (i : FileId). i.sequence) same in
+          let number : (n == dir.number) ≡ true = ap (λ (i : FileId). n == i.number) (sym same) ∙ here in
+          absurd (true-false (sym (and_from (n == dir.number) (f.sequence == dir.sequence) number
+          (eq-eqb f.sequence dir.sequence sequence)) ∙ other.elsewhere))
+
       served : (r : Request) → MakesBy 0 dir to 0 id r → first_refusal u operator.task operator.caller r ≡ None
           → (served_work u operator.task operator.caller r lent).is_meant n ≡ false
       served (request.Access g mode l) is none = refl
       served (request.Extend l k) is none =
           lengthen-apart n u (id_held u operator.task l) k
-          (held-apart (u.access operator.task l) (held operator.task l)
+          (held-apart (u.access operator.task l) (on.held operator.task l)
           (none_first (cannot_write u operator.task l) NoSuchAccess _ (none_rest (k == 0) BadArgument _ none)))
           other.no-index
-      served (request.Deaccess l) is none = given-up l (u.access operator.task l) (held operator.task l)
-      served (request.Enter d name g) is none =
-          enter-apart n u d (record_bytes g name) (ap (λ (i : FileId). n == i.number) is.0 ∙ other.elsewhere) other.no-index
-          (index_of_empty (file_named u d))
+      served (request.Deaccess l) is none = given-up l (u.access operator.task l) (on.held operator.task l)
+      served (request.Enter d name g) is none = entered d name g is.0 none (n == d.number) refl
       served (request.WriteAttr g c) is none = ap (λ (i : FileId). n == i.number) is.0 ∙ other.apart
       served (request.Delete g) is none = gone g (ap (λ (i : FileId). n == i.number) is ∙ other.apart) (is_accessed u g)
       served _ is none = absurd is
@@ -205,7 +220,7 @@ module _ (dir : FileId) (to : List ℕ) (id : FileId) (n : ℕ) (f : File) (othe
   own-step : (r : Request) (lent given : List ℕ) (result : Result Reply Refusal) (u w : Store) → MakesBy 0 dir to 0 id r
       → IsOnTheWay id n f u → Step u operator.task operator.caller r lent result w given → IsOnTheWay id n f w
   own-step r lent given result u w is on h = record {
-    there = step-there r lent given result u w on h (own-unmeant r lent u is on.held);
+    there = step-there r lent given result u w on h (own-unmeant r lent u is on);
     held = own-holds r lent given result u w is h on.held;
   }
 
@@ -236,18 +251,18 @@ module _ (dir : FileId) (to : List ℕ) (id : FileId) (n : ℕ) (f : File) (othe
 
   -- and what was stopped
   asked-lags : (x : Asking) (u t : Store) → IsMakingOf 0 dir to 0 id x → IsOnTheWay id n f u → LagsAsked x t u → t.file n ≡ Some f
-  asked-lags (asks r) u t is on h = h.1.others n (own-unmeant r h.0 u is on.held) ∙ on.there
+  asked-lags (asks r) u t is on h = h.1.others n (own-unmeant r h.0 u is on) ∙ on.there
   asked-lags (writes l vbn block) u t is on h = h.others n (write-unmeant l vbn block u on.held) ∙ on.there
   asked-lags (told r a) u t is on h = absurd is
   asked-lags (reads l vbn block) u t is on h = absurd is
   asked-lags (counts l blocks) u t is on h = absurd is
 
   stopped-there : (x : Asking) (u t : Store) → IsMakingOf 0 dir to 0 id x → IsOnTheWay id n f u → IsStopped x u t → t.file n ≡ Some f
-  stopped-there x u t is on (undone held same) = sym (ap (λ (s : Store). s.file n) same) ∙ on.there
+  stopped-there x u t is on (not_begun held same) = sym (ap (λ (s : Store). s.file n) same) ∙ on.there
   stopped-there x u t is on (in_part h) = asked-lags x u t is on h
 
--- what of a list stands behind others
-all-behind : {X : Type 0} (P : X → Type 0) (xs : List X) (y : X) (ys : List X) → All P (xs ++ y ∷ ys) → All P xs × P y
+-- what of a list stands before another, and that one
+pub all-behind : {X : Type 0} (P : X → Type 0) (xs : List X) (y : X) (ys : List X) → All P (xs ++ y ∷ ys) → All P xs × P y
 all-behind P [] y ys h = (λ i d within. absurd (omega (arith, within)), All-head P y ys h)
 all-behind P (x ∷ xs) y ys h =
     let rest = all-behind P xs y ys (All-tail P x (xs ++ y ∷ ys) h) in
@@ -307,8 +322,8 @@ module _ (s : Store) (tidy : FreeIsEmpty s) (low : s.in_use 0 ≡ false) (unheld
   held-none task lun = ap (λ (o : Option Access). (id_in o).number == 1) (unheld task lun)
 
   -- it was granted
-  created-there : (to : List ℕ) (r : Request) (dir id : FileId) (t : Store) → Creates to r → (n == dir.number) ≡ false
-      → Grants plain operator (told r (reply.Created id)) s t → IsAnother id dir n × IsOnTheWay id n f t
+  created-there : (to : List ℕ) (r : Request) (dir id : FileId) (t : Store) → Creates to r → is_directory_of dir n f.sequence ≡ false
+      → Grants plain operator (told r (reply.Created id)) s t → IsAnother id dir n f × IsOnTheWay id n f t
   created-there to (request.Create word ident attr) dir id t is elsewhere g =
       let slot = new_slot_was_free s operator.task operator.caller word ident attr g.0 id t g.1 g.2 in
       let made = g.2.changes in
@@ -329,7 +344,7 @@ module _ (s : Store) (tidy : FreeIsEmpty s) (low : s.in_use 0 ≡ false) (unheld
 
   -- or stopped
   creation-stopped : (to : List ℕ) (r : Request) (t : Store) → Creates to r → IsStopped (asks r) s t → t.file n ≡ Some f
-  creation-stopped to r t is (undone held same) = sym (ap (λ (x : Store). x.file n) same) ∙ there
+  creation-stopped to r t is (not_begun held same) = sym (ap (λ (x : Store). x.file n) same) ∙ there
   creation-stopped to r t is (in_part h) = h.1.others n (creation-unmeant to r h.0 is) ∙ there
 
 -- wherever the making was stopped, the others are as they were
@@ -337,14 +352,13 @@ pub others-stay : (dir : FileId) (to : List ℕ) (s t : Store) → FreeIsEmpty s
     → KeepsOthers dir s t
 others-stay dir to s t tidy low unheld (creating r is stopped) =
     λ n f there elsewhere no-index. creation-stopped s tidy low unheld n f there no-index to r t is stopped
-others-stay dir to s t tidy low unheld (filling h) = λ n f there elsewhere no-index. by n f there elsewhere no-index
+others-stay dir to s t tidy low unheld (after_creation h) = λ n f there elsewhere no-index. by n f there elsewhere no-index
   where
-    by : (n : ℕ) (f : File) → s.file n ≡ Some f → (n == dir.number) ≡ false → (n == 1) ≡ false → t.file n ≡ Some f
+    by : (n : ℕ) (f : File) → s.file n ≡ Some f → is_directory_of dir n f.sequence ≡ false → (n == 1) ≡ false → t.file n ≡ Some f
     by n f there elsewhere no-index =
         let begun = created-there s tidy low unheld n f there no-index to h.request dir h.id h.created h.creates elsewhere h.granted in
-        let parts = all-behind (IsMakingOf 0 dir to 0 h.id) h.asked h.last h.behind h.only in
-        stopped-there dir to h.id n f begun.0 h.last h.reached t parts.1
-        (all-steps dir to h.id n f begun.0 h.asked h.created h.reached parts.0 begun.1 h.tried) h.stopped
+        stopped-there dir to h.id n f begun.0 h.last h.reached t h.is
+        (all-steps dir to h.id n f begun.0 h.asked h.created h.reached h.only begun.1 h.tried) h.stopped
 
 -- no volume has a slot 0
 pub no-slot-0 : (image : Image) (home : HomeFields) → (store_of image home).in_use 0 ≡ false

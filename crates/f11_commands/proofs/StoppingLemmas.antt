@@ -31,9 +31,9 @@ use Rattle.f11_store.specs.declared.requests.Reply.TheVariants as reply
 use Rattle.f11_store.specs.declared.requests.Request.{Request}
 use Rattle.f11_store.specs.declared.requests.Request.TheVariants as request
 use Rattle.f11_commands.proofs.AskedLemmas.{never}
-use Rattle.f11_commands.proofs.OthersLemmas.{no-slot-0, others-stay}
+use Rattle.f11_commands.proofs.OthersLemmas.{all-behind, no-slot-0, others-stay}
 use Rattle.f11_commands.specs.Copying.{operator}
-use Rattle.f11_commands.specs.Stopping.{IsStopped, StopsAt, StopsMaking, WhereUnheld, creating, filling, in_part, undone}
+use Rattle.f11_commands.specs.Stopping.{IsStopped, StopsAt, StopsMaking, WhereUnheld, after_creation, creating, in_part, not_begun}
 
 -- a device fault fails the volume
 pub fault-fatal : (r : Result ℕ FlxRefusal) → of_files is_fault r ≡ true → of_files is_fatal r ≡ true
@@ -105,7 +105,7 @@ one-stopped x s t h = by h.asked h.reached h.tried h.last h.behind h.are h.stopp
 -- a request that changes no file leaves them all, however it was stopped
 pub find-leaves : (dir : FileId) (name : List ℕ) (s t : Store) → IsStopped (asks (request.Find dir name)) s t
     → (n : ℕ) → t.file n ≡ s.file n
-find-leaves dir name s t (undone held same) n = sym (ap (λ (x : Store). x.file n) same)
+find-leaves dir name s t (not_begun held same) n = sym (ap (λ (x : Store). x.file n) same)
 find-leaves dir name s t (in_part h) n = h.1.others n (by (first_refusal s operator.task operator.caller (request.Find dir name)))
   where
     by : (o : Option Refusal) → (work_if o no_work).is_meant n ≡ false
@@ -149,7 +149,7 @@ module _ {D : Type 0} {met : Ghosts D} where
   served-stopped r x v w lent a h sound lags = by (part-of v w r lent a h sound)
     where
       by : Part r lent (store_of_volume v) (stored w) → IsStopped x (store_of_volume v) (stored w)
-      by (inl p) = undone p.0 p.1
+      by (inl p) = not_begun p.0 p.1
       by (inr l) = lags l
 
   pub request-stopped : (r : Request) (e : Refusal) (v w : Volume D met) → Denies of_volume operator (asks r) e v w → is_sound v ≡ true
@@ -189,7 +189,7 @@ module _ {D : Type 0} {met : Ghosts D} where
       served-stopped (request.WriteBlock lun vbn) (writes lun vbn block) v w block _ d.1 sound (λ l. in_part l)
   denied-stopped (counts lun blocks) e v w d sound =
       let k = d.0.measures (alive-of (state_in v).disk.honest (is_spent v) sound) in
-      undone (state_in v).table
+      not_begun (state_in v).table
       (ap (λ (i : Image). held_in (state_in v).table (store_of i (state_in v).home)) (sym k.outcome.reads.looked.image)
       ∙ ap (λ (h' : HomeFields). held_in (state_in v).table (store_of (state_in w).disk.image h')) (sym k.home))
 
@@ -241,7 +241,9 @@ module _ {D : Type 0} {met : Ghosts D} where
   stops-at dir to v w (making m) sound dead =
       let seen = volume-seen.granted operator (told m.request (reply.Created m.id)) v m.created m.granted sound in
       let s = stops m.asked m.created w m.tried seen.1 dead in
-      filling (record {
+      let parts = all-behind (IsMakingOf 0 dir to 0 m.id) s.asked s.last s.behind
+      (subst (λ (xs : List Asking). All (IsMakingOf 0 dir to 0 m.id) xs) (sym s.are) m.only) in
+      after_creation (record {
         request = m.request;
         creates = m.creates;
         id = m.id;
@@ -250,9 +252,9 @@ module _ {D : Type 0} {met : Ghosts D} where
         asked = s.asked;
         reached = s.reached;
         tried = s.tried;
+        only = parts.0;
         last = s.last;
-        behind = s.behind;
-        only = subst (λ (xs : List Asking). All (IsMakingOf 0 dir to 0 m.id) xs) (sym s.are) m.only;
+        is = parts.1;
         stopped = s.stopped;
       })
 

@@ -49,8 +49,8 @@ pub struct Putting {
 ///
 /// [`PutFailure::Unread`] where `host` or `again` couldn't be read to that length, or another text came of `again`, and what was made was
 /// deleted again; else of [`PutFailure::Command`]
-/// [`Failure::DeviceFault`] where a transfer failed, [`Failure::NoMemory`] where there was no memory, and [`Failure::CannotWrite`] where the
-/// writer takes no more: then the file may be made.
+/// [`Failure::DeviceFault`] where a transfer failed: then the file may stand, whole or in part, entered or not; [`Failure::NoMemory`] where
+/// there was no memory; and [`Failure::CannotWrite`] where the writer takes no more: then the file may be made.
 pub fn print_put<D: Device, R: Read, W: Write>(
     alloc: Global,
     device: D,

@@ -132,8 +132,8 @@ abbrev pub Creates : List ℕ → Request → Type 0
 Creates to (request.Create word ident attr) = (word ≡ 0) × (ident ≡ ident_with to)
 Creates to _ = ⊥
 
--- The file was created, and what was asked then was what makes that one, one thing after another, whatever was answered.
-pub record MakesOne {V : Type 0} (S : FilesService V) (who : Who) (lun : ℕ) (dir : FileId) (to : List ℕ) (protection : ℕ) (old new : V)
+-- A file was created, and nothing was asked then but what makes that one, whatever was answered.
+pub record AsksOfCreated {V : Type 0} (S : FilesService V) (who : Who) (lun : ℕ) (dir : FileId) (to : List ℕ) (protection : ℕ) (old new : V)
     : Type 0 where
   pub request : Request
   pub creates : Creates to request
@@ -144,12 +144,13 @@ pub record MakesOne {V : Type 0} (S : FilesService V) (who : Who) (lun : ℕ) (d
   pub only : All (IsMakingOf lun dir to protection id) asked
   pub tried : Tried S who asked created new
 
--- What makes one file was asked and nothing else: nothing at all; that it is created, alone; or what makes it, once it was created.
+-- What makes one file was asked and nothing else: nothing at all; that it is created, alone; or what makes it, once it was created. What is
+-- asked by the lun is for it where the lun held no other file.
 pub data AsksForOne {V : Type 0} (S : FilesService V) (who : Who) (lun : ℕ) (dir : FileId) (to : List ℕ) (protection : ℕ) (old new : V)
     : Type 0 where
   nothing : new ≡ old → AsksForOne S who lun dir to protection old new
   creation : (r : Request) → Creates to r → Tried S who (asks r ∷ []) old new → AsksForOne S who lun dir to protection old new
-  making : MakesOne S who lun dir to protection old new → AsksForOne S who lun dir to protection old new
+  making : AsksOfCreated S who lun dir to protection old new → AsksForOne S who lun dir to protection old new
 
 -- The volume was read, whatever the answer is; it is as before unless a device fault or Damaged was met. Where it had failed, the answer is
 -- VolumeFailed.
