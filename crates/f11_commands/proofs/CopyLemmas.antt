@@ -22,6 +22,7 @@ use Rattle.rt11_volume.specs.declared.volume.RtAccepted.{RtAccepted}
 use Rattle.f11_commands.specs.CopyCommand.{AnswersCopy, CopiesImages, EndsBetween, TellsCopy}
 use Rattle.f11_commands.specs.Copying.{OutcomeIs, StandsAsIs}
 use Rattle.f11_commands.specs.Finding.{FaresAsAnswered}
+use Rattle.f11_commands.specs.Stopping.{StopsCopy, WhereUnheld}
 use Rattle.f11_commands.specs.declared.copy.FileAnswer.{FileAnswer}
 use Rattle.f11_commands.specs.declared.copy.Copying.{Copying}
 use Rattle.f11_commands.specs.declared.outcome.Failure.{Failure}
@@ -59,13 +60,17 @@ module _ {D E : Type 0} {met : Ghosts D} {met' : Ghosts E} (rt-disk : E → Disk
     (files-accepted : IsTrue old.honest → IsAccepted old.image)
     (accepted : IsTrue (rt-disk (volume_device rt)).honest → IsRtAccepted (rt-disk (volume_device rt)).image)
     (unfailed : has_failed rt ≡ false)
-    (answers : FaresAsAnswered rt-disk c.direction c.rt_name result (OutcomeIs c result) first last rt rt')
+    (answers : FaresAsAnswered rt-disk c.direction c.rt_name result (OutcomeIs c result) (StopsCopy c.direction c.directory c.name) first
+    last rt rt')
   where
     abbrev d : Disk
     d = rt-disk (volume_device rt)
 
     abbrev d' : Disk
     d' = rt-disk (volume_device rt')
+
+    abbrev Stopped : Store → Store → Type 0
+    Stopped = StopsCopy c.direction c.directory c.name
 
     sound-rt : IsTrue d.honest → IsSoundDisk d
     sound-rt honest = record { honest = honest; accepted = accepted honest }
@@ -96,6 +101,11 @@ module _ {D E : Type 0} {met : Ghosts D} {met' : Ghosts E} (rt-disk : E → Disk
           (first-is old first last mounts answers.home)
           (subst (λ (s : Store). StandsAsIs (store_of_volume first) s) (last-is old first last mounts answers.home)
           (answers.broken (sound-first old first last mounts answers.home is) fault));
+      stopped = λ is fault.
+          subst (λ (s : Store). WhereUnheld Stopped s (store_of (state_in last).disk.image (state_in first).home))
+          (first-is old first last mounts answers.home)
+          (subst (λ (h : HomeFields). WhereUnheld Stopped (store_of_volume first) (store_of (state_in last).disk.image h)) answers.home
+          (answers.stopped (sound-first old first last mounts answers.home is) fault)) (λ task lun. refl);
       accepted = λ is. answers.fares.accepted (answers.fares.honest ∙ mounts.looked.honest ∙ is);
       meanwhile = stands-accepted old first last mounts image files-accepted answers.fares.ordered;
       rt_broken = λ is. answers.rt_broken (sound-rt is);

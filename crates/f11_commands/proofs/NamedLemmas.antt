@@ -1,6 +1,7 @@
 -- A copy by names: what its steps tell, one after another.
 use Rattle.std.proofs.Common.{◌≡◌, ◌≢◌, inl, inr, ℕ, ◌+◌, ◌||◌, not, Bool, true, false, IsTrue, if◌then◌else◌, List, Result, Ok, Err, IfOk}
 use Rattle.std.proofs.Common.{IfErr, refl, sym, ap, subst, ◌∙◌, arith}
+use Rattle.std.specs.Prelude.{⊤}
 use Rattle.f11_dev.specs.Disk.{Disk}
 use Rattle.f11_dev.specs.declared.device.Device.{Ghosts}
 use Rattle.f11_fcp.specs.Lists.{failures_of, is_sound, store_of_volume}
@@ -40,10 +41,16 @@ use Rattle.f11_commands.proofs.AskedLemmas.{denied-home, denied-undamaged, grant
 use Rattle.f11_commands.proofs.BrokenLemmas.{begun-left, held-stands, stands-behind, unread-stands}
 use Rattle.f11_commands.specs.Copying.{CopiesWithin, KeepsRt, LeavesBegun, OutcomeIs, ReadsSource, StandsAsIs, directory_name, is_undoing}
 use Rattle.f11_commands.specs.Copying.{master_directory, operator}
+use Rattle.f11_commands.proofs.StoppingLemmas.{find-leaves, find-stopped, stops-by, stored}
 use Rattle.f11_commands.specs.Finding.{FaresAlone, FaresAsAnswered, WithinDirectory, is_found}
+use Rattle.f11_commands.specs.Stopping.{IsStopped, IsUnheld, StopsCopy, StopsWithin, WhereUnheld, making, seeking}
 use Rattle.f11_commands.specs.declared.copy.Copying.{Copying}
 use Rattle.f11_commands.specs.declared.copy.Direction.{Direction}
 use Rattle.f11_commands.specs.declared.copy.Direction.TheVariants.{ToRt, FromRt}
+
+-- of a volume that is only read nothing is said where a transfer of it failed
+abbrev Unsaid : Store → Store → Type 0
+Unsaid s t = ⊤
 
 or-false : (b : Bool) → (b || false) ≡ b
 or-false true = refl
@@ -181,13 +188,16 @@ module _ {D : Type 0} {met : Ghosts D} where
 module _ {D E : Type 0} {met : Ghosts D} {met' : Ghosts E} (disk : E → Disk) where
   -- a copy behind something that was granted
   pub answers-behind : (direction : Direction) (rt-name : List ℕ) (result : Result ℕ FlxRefusal)
-      (Holds Holds' : Store → Store → Disk → Disk → Type 0) (x : Asking) (v u w : Volume D met) (rt rt' : RtAccepted E met')
-      → is_undoing x ≡ false → Grants of_volume operator x v u → FaresAsAnswered disk direction rt-name result Holds u w rt rt'
+      (Holds Holds' : Store → Store → Disk → Disk → Type 0) (Stops Stops' : Store → Store → Type 0) (x : Asking) (v u w : Volume D met)
+      (rt rt' : RtAccepted E met')
+      → is_undoing x ≡ false → Grants of_volume operator x v u → FaresAsAnswered disk direction rt-name result Holds Stops u w rt rt'
       → (Grants plain operator x (store_of_volume v) (store_of_volume u) → Holds (store_of_volume u) (store_of_volume w)
       (disk (volume_device rt)) (disk (volume_device rt'))
       → Holds' (store_of_volume v) (store_of_volume w) (disk (volume_device rt)) (disk (volume_device rt')))
-      → FaresAsAnswered disk direction rt-name result Holds' v w rt rt'
-  answers-behind direction rt-name result Holds Holds' x v u w rt rt' none grants a step =
+      → (Grants plain operator x (store_of_volume v) (store_of_volume u) → WhereUnheld Stops (store_of_volume u) (stored w)
+      → WhereUnheld Stops' (store_of_volume v) (stored w))
+      → FaresAsAnswered disk direction rt-name result Holds' Stops' v w rt rt'
+  answers-behind direction rt-name result Holds Holds' Stops Stops' x v u w rt rt' none grants a step stop =
       let alone = alone-behind result x v u w grants
       (record { fares = a.fares; alive = a.alive; home = a.home; undamaged = a.undamaged }) in
       record {
@@ -206,16 +216,20 @@ module _ {D E : Type 0} {met : Ghosts D} {met' : Ghosts E} (disk : E → Disk) w
         broken = λ sound fault.
             let seen = volume-seen.granted operator x v u grants sound in
             stands-behind x (store_of_volume v) (store_of_volume u) (store_of_volume w) none seen.0 (a.broken seen.1 fault);
+        stopped = λ sound fault.
+            let seen = volume-seen.granted operator x v u grants sound in
+            stop seen.0 (a.stopped seen.1 fault);
       }
 
   -- a find that is refused
-  pub answers-not-found : (direction : Direction) (rt-name : List ℕ) (Holds : Store → Store → Disk → Disk → Type 0) (dir : FileId)
-      (name : List ℕ) (e : Refusal) (v w : Volume D met) (rt : RtAccepted E met')
+  pub answers-not-found : (direction : Direction) (rt-name : List ℕ) (Holds : Store → Store → Disk → Disk → Type 0)
+      (Stops : Store → Store → Type 0) (dir : FileId) (name : List ℕ) (e : Refusal) (v w : Volume D met) (rt : RtAccepted E met')
       → Fails of_volume operator is_found (request.Find dir name) e v w
       → (Denies plain operator (asks (request.Find dir name)) e (store_of_volume v) (store_of_volume w)
       → Holds (store_of_volume v) (store_of_volume w) (disk (volume_device rt)) (disk (volume_device rt)))
-      → FaresAsAnswered disk direction rt-name (Err (Files e)) Holds v w rt rt
-  answers-not-found direction rt-name Holds dir name e v w rt fails step =
+      → (IsStopped (asks (request.Find dir name)) (store_of_volume v) (stored w) → WhereUnheld Stops (store_of_volume v) (stored w))
+      → FaresAsAnswered disk direction rt-name (Err (Files e)) Holds Stops v w rt rt
+  answers-not-found direction rt-name Holds Stops dir name e v w rt fails step stop =
       let alone = alone-not-found dir name e v w fails in
       record {
         fares = alone.fares;
@@ -229,6 +243,7 @@ module _ {D E : Type 0} {met : Ghosts D} {met' : Ghosts E} (disk : E → Disk) w
         rt_broken = λ sound fatal. inl (same-files rt-name (rt_store_of (disk (volume_device rt)).image));
         outcome = λ sound rt-sound whole. step (not-found-seen dir name e v w sound whole fails);
         broken = λ sound fault. absurd (cc);
+        stopped = λ sound fault. stop (find-stopped dir name e v w sound fault fails);
       }
 
   module _ (c : Copying) (v w : Volume D met) (rt rt' : RtAccepted E met') where
@@ -257,7 +272,7 @@ module _ {D E : Type 0} {met : Ghosts D} {met' : Ghosts E} (disk : E → Disk) w
         WhereSound disk v rt (CopiesToRt c.mode operator 0 source c.rt_name 0 blocks s s' (rt_store_of d.image) (rt_store_of d'.image)))
         → IfErr result (λ e. is_whole result ≡ true → WhereSound disk v rt (RefusesCopyToRt e c.mode operator 0 source c.rt_name s s' d d'))
         → IfErr result (λ e. is_lethal e ≡ true → EndsToRt c.mode of_volume disk operator 0 source c.rt_name 0 e v w rt rt')
-        → FaresAsAnswered disk ToRt c.rt_name result (OfSource source result) v w rt rt'
+        → FaresAsAnswered disk ToRt c.rt_name result (OfSource source result) Unsaid v w rt rt'
     answers-to-rt source result files target copied refused ended = record {
       fares = files.fares;
       fares_rt = target.fares;
@@ -270,6 +285,7 @@ module _ {D E : Type 0} {met : Ghosts D} {met' : Ghosts E} (disk : E → Disk) w
       rt_broken = λ rt-sound. begun rt-sound result ended;
       outcome = by_result result target copied refused;
       broken = λ sound. held sound result ended;
+      stopped = λ sound fault unheld. tt;
     }
       where
         sounds : IsSoundDisk d → (r : Result ℕ FlxRefusal) → MakesRtFile disk r c.rt_name rt rt'
@@ -321,7 +337,7 @@ module _ {D E : Type 0} {met : Ghosts D} {met' : Ghosts E} (disk : E → Disk) w
         → IfErr result (λ e. is_whole result ≡ true
         → WhereSound disk v rt (FailsToCopyFromRt e c.mode c.rt_name operator 0 dir c.name 0 d s s'))
         → IfErr result (λ e. is_lethal e ≡ true → Ends of_volume operator e v w)
-        → FaresAsAnswered disk FromRt c.rt_name result (WithinDirectory FromRt c dir result) v w rt rt'
+        → FaresAsAnswered disk FromRt c.rt_name result (WithinDirectory FromRt c dir result) (StopsWithin FromRt dir c.name) v w rt rt'
     answers-from-rt dir result source files copied refused ended = record {
       fares = files.fares;
       fares_rt = source.fares;
@@ -339,19 +355,20 @@ module _ {D E : Type 0} {met : Ghosts D} {met' : Ghosts E} (disk : E → Disk) w
       sound_rt = λ sound none.
           record { honest = source.fares.honest ∙ sound.honest; accepted = subst (λ i. IsRtAccepted i) (sym source.image) sound.accepted };
       outcome = λ sound rt-sound whole. (by_result result files copied refused sound rt-sound whole, same result);
-      broken = λ sound. stopped sound result ended;
+      broken = λ sound. unread sound result ended;
+      stopped = λ sound fault. stops-by dir c.name result v w files.fares files.asked sound fault;
     }
       where
         asked : (xs : List Asking) × Tried of_volume operator xs v w
         asked = asked-for-one of_volume operator 0 dir c.name 0 v w files.asked
 
-        stopped : is_sound v ≡ true → (r : Result ℕ FlxRefusal) → IfErr r (λ e. is_lethal e ≡ true → Ends of_volume operator e v w)
+        unread : is_sound v ≡ true → (r : Result ℕ FlxRefusal) → IfErr r (λ e. is_lethal e ≡ true → Ends of_volume operator e v w)
             → of_rt is_rt_fault r ≡ true → StandsAsIs s s'
-        stopped sound (Err (Rt e)) h fault = unread-stands v w sound (h fault)
-        stopped sound (Err (Files e)) h fault = absurd (cc)
-        stopped sound (Err BadRecord) h fault = absurd (cc)
-        stopped sound (Err LineTooLong) h fault = absurd (cc)
-        stopped sound (Ok blocks) h fault = absurd (cc)
+        unread sound (Err (Rt e)) h fault = unread-stands v w sound (h fault)
+        unread sound (Err (Files e)) h fault = absurd (cc)
+        unread sound (Err BadRecord) h fault = absurd (cc)
+        unread sound (Err LineTooLong) h fault = absurd (cc)
+        unread sound (Ok blocks) h fault = absurd (cc)
 
         same : (r : Result ℕ FlxRefusal) → KeepsRt FromRt r (rt_store_of d.image) (rt_store_of d'.image)
         same r = ap (λ i. rt_store_of i) source.image
@@ -383,7 +400,7 @@ module _ {D E : Type 0} {met : Ghosts D} {met' : Ghosts E} (disk : E → Disk) (
       (disk (volume_device rt)) (disk (volume_device rt'))))
       → IfErr result (λ e. is_lethal e ≡ true → EndsToRt c.mode of_volume disk (who_asks task operator.caller) lun source c.rt_name 0 e v w
       rt rt')
-      → FaresAsAnswered disk ToRt c.rt_name result (OfSource disk c v w rt rt' source result) v w rt rt'
+      → FaresAsAnswered disk ToRt c.rt_name result (OfSource disk c v w rt rt' source result) Unsaid v w rt rt'
   copied-to-rt task lun task-is lun-is source result v w rt rt' =
       subst (λ t. By t lun) (sym task-is) (subst (λ l. By 0 l) (sym lun-is) (answers-to-rt disk c v w rt rt' source result))
     where
@@ -399,7 +416,7 @@ module _ {D E : Type 0} {met : Ghosts D} {met' : Ghosts E} (disk : E → Disk) (
           (disk (volume_device rt)) (disk (volume_device rt'))))
           → IfErr result (λ e. is_lethal e ≡ true → EndsToRt c.mode of_volume disk (who_asks t operator.caller) l source c.rt_name 0 e v w
           rt rt')
-          → FaresAsAnswered disk ToRt c.rt_name result (OfSource disk c v w rt rt' source result) v w rt rt'
+          → FaresAsAnswered disk ToRt c.rt_name result (OfSource disk c v w rt rt' source result) Unsaid v w rt rt'
 
   -- and one from it
   pub copied-from-rt : (task lun : ℕ) → task ≡ 0 → lun ≡ 0
@@ -411,7 +428,7 @@ module _ {D E : Type 0} {met : Ghosts D} {met' : Ghosts E} (disk : E → Disk) (
       (FailsToCopyFromRt e c.mode c.rt_name (who_asks task operator.caller) lun dir c.name 0 (disk (volume_device rt)) (store_of_volume v)
       (store_of_volume w)))
       → IfErr result (λ e. is_lethal e ≡ true → Ends of_volume (who_asks task operator.caller) e v w)
-      → FaresAsAnswered disk FromRt c.rt_name result (WithinDirectory FromRt c dir result) v w rt rt'
+      → FaresAsAnswered disk FromRt c.rt_name result (WithinDirectory FromRt c dir result) (StopsWithin FromRt dir c.name) v w rt rt'
   copied-from-rt task lun task-is lun-is dir result v w rt rt' =
       subst (λ t. By t lun) (sym task-is) (subst (λ l. By 0 l) (sym lun-is) (answers-from-rt disk c v w rt rt' dir result))
     where
@@ -424,17 +441,17 @@ module _ {D E : Type 0} {met : Ghosts D} {met' : Ghosts E} (disk : E → Disk) (
           (FailsToCopyFromRt e c.mode c.rt_name (who_asks t operator.caller) l dir c.name 0 (disk (volume_device rt)) (store_of_volume v)
           (store_of_volume w)))
           → IfErr result (λ e. is_lethal e ≡ true → Ends of_volume (who_asks t operator.caller) e v w)
-          → FaresAsAnswered disk FromRt c.rt_name result (WithinDirectory FromRt c dir result) v w rt rt'
+          → FaresAsAnswered disk FromRt c.rt_name result (WithinDirectory FromRt c dir result) (StopsWithin FromRt dir c.name) v w rt rt'
 
   -- the file is found, and then it is copied
   pub found-source : (dir source : FileId) (result : Result ℕ FlxRefusal) (v u w : Volume D met) (rt rt' : RtAccepted E met')
       → Grants of_volume operator (told (request.Find dir c.name) (reply.Found source)) v u
-      → FaresAsAnswered disk ToRt c.rt_name result (OfSource disk c u w rt rt' source result) u w rt rt'
-      → FaresAsAnswered disk ToRt c.rt_name result (WithinDirectory ToRt c dir result) v w rt rt'
+      → FaresAsAnswered disk ToRt c.rt_name result (OfSource disk c u w rt rt' source result) Unsaid u w rt rt'
+      → FaresAsAnswered disk ToRt c.rt_name result (WithinDirectory ToRt c dir result) (StopsWithin ToRt dir c.name) v w rt rt'
   found-source dir source result v u w rt rt' grants answers =
       answers-behind disk ToRt c.rt_name result (OfSource disk c u w rt rt' source result) (WithinDirectory ToRt c dir result)
-      (told (request.Find dir c.name) (reply.Found source))
-      v u w rt rt' refl grants answers (by_result result)
+      Unsaid (StopsWithin ToRt dir c.name) (told (request.Find dir c.name) (reply.Found source))
+      v u w rt rt' refl grants answers (by_result result) (λ granted stops unheld. tt)
     where
       by_result : (r : Result ℕ FlxRefusal)
           → Grants plain operator (told (request.Find dir c.name) (reply.Found source)) (store_of_volume v) (store_of_volume u)
@@ -449,21 +466,24 @@ module _ {D E : Type 0} {met : Ghosts D} {met' : Ghosts E} (disk : E → Disk) (
 
   pub lacks-source : (dir : FileId) (e : Refusal) (v w : Volume D met) (rt : RtAccepted E met')
       → Fails of_volume operator is_found (request.Find dir c.name) e v w
-      → FaresAsAnswered disk ToRt c.rt_name (Err (Files e)) (WithinDirectory ToRt c dir (Err (Files e))) v w rt rt
+      → FaresAsAnswered disk ToRt c.rt_name (Err (Files e)) (WithinDirectory ToRt c dir (Err (Files e))) (StopsWithin ToRt dir c.name) v w
+      rt rt
   lacks-source dir e v w rt fails =
-      answers-not-found disk ToRt c.rt_name (WithinDirectory ToRt c dir (Err (Files e))) dir c.name e v w rt fails
-      (λ denies. (inl (record { refusal = e; is = refl; not_found = denies }), refl))
+      answers-not-found disk ToRt c.rt_name (WithinDirectory ToRt c dir (Err (Files e))) (StopsWithin ToRt dir c.name) dir c.name e v w rt
+      fails (λ denies. (inl (record { refusal = e; is = refl; not_found = denies }), refl)) (λ stopped unheld. tt)
 
   -- the user's directory is found, and then a file is copied from it, or to it
   pub found-directory : (direction : Direction) → c.direction ≡ direction → (name : List ℕ) → name ≡ directory_name c.directory
       → (dir : FileId) (result : Result ℕ FlxRefusal)
       (v u w : Volume D met) (rt rt' : RtAccepted E met')
       → Grants of_volume operator (told (request.Find master_directory name) (reply.Found dir)) v u
-      → FaresAsAnswered disk direction c.rt_name result (WithinDirectory direction c dir result) u w rt rt'
-      → FaresAsAnswered disk c.direction c.rt_name result (OutcomeIs c result) v w rt rt'
+      → FaresAsAnswered disk direction c.rt_name result (WithinDirectory direction c dir result) (StopsWithin direction dir c.name) u w rt
+      rt'
+      → FaresAsAnswered disk c.direction c.rt_name result (OutcomeIs c result) (StopsCopy c.direction c.directory c.name) v w rt rt'
   found-directory direction is name name-is dir result v u w rt rt' grants answers =
-      subst (λ x. FaresAsAnswered disk x c.rt_name result (OutcomeIs c result) v w rt rt') (sym is)
+      subst (λ x. FaresAsAnswered disk x c.rt_name result (OutcomeIs c result) (StopsCopy x c.directory c.name) v w rt rt') (sym is)
       (answers-behind disk direction c.rt_name result (WithinDirectory direction c dir result) (OutcomeIs c result)
+      (StopsWithin direction dir c.name) (StopsCopy direction c.directory c.name)
       (told (request.Find master_directory (directory_name c.directory)) (reply.Found dir))
       v u w rt rt' refl (subst (λ n. Grants of_volume operator (told (request.Find master_directory n) (reply.Found dir)) v u) name-is
       grants) answers
@@ -477,15 +497,33 @@ module _ {D E : Type 0} {met : Ghosts D} {met' : Ghosts E} (disk : E → Disk) (
         });
         rt = subst (λ x. KeepsRt x result (rt_store_of (disk (volume_device rt)).image) (rt_store_of (disk (volume_device rt')).image))
             (sym is) holds.1;
-      }))
+      }) (stop direction))
+    where
+      stop : (x : Direction)
+          → Grants plain operator (told (request.Find master_directory (directory_name c.directory)) (reply.Found dir)) (store_of_volume v)
+          (store_of_volume u)
+          → WhereUnheld (StopsWithin x dir c.name) (store_of_volume u) (stored w)
+          → WhereUnheld (StopsCopy x c.directory c.name) (store_of_volume v) (stored w)
+      stop ToRt granted stops unheld = tt
+      stop FromRt granted stops unheld =
+          making dir (store_of_volume u) (store_of_volume u, granted, refl) (stops (subst IsUnheld (sym granted.2.changes) unheld))
 
   pub lacks-directory : (name : List ℕ) → name ≡ directory_name c.directory → (e : Refusal) (v w : Volume D met) (rt : RtAccepted E met')
       → Fails of_volume operator is_found (request.Find master_directory name) e v w
-      → FaresAsAnswered disk c.direction c.rt_name (Err (Files e)) (OutcomeIs c (Err (Files e))) v w rt rt
+      → FaresAsAnswered disk c.direction c.rt_name (Err (Files e)) (OutcomeIs c (Err (Files e))) (StopsCopy c.direction c.directory c.name)
+      v w rt rt
   lacks-directory name name-is e v w rt fails =
-      answers-not-found disk c.direction c.rt_name (OutcomeIs c (Err (Files e))) master_directory (directory_name c.directory) e v w rt
+      answers-not-found disk c.direction c.rt_name (OutcomeIs c (Err (Files e))) (StopsCopy c.direction c.directory c.name)
+      master_directory (directory_name c.directory) e v w rt
       (subst (λ n. Fails of_volume operator is_found (request.Find master_directory n) e v w) name-is fails)
       (λ denies. record {
         files = inr (record { refusal = e; is = refl; not_found = denies });
         rt = keeps-rt c.direction (Files e) (rt_store_of (disk (volume_device rt)).image);
-      })
+      }) (stop c.direction)
+    where
+      stop : (x : Direction)
+          → IsStopped (asks (request.Find master_directory (directory_name c.directory))) (store_of_volume v) (stored w)
+          → WhereUnheld (StopsCopy x c.directory c.name) (store_of_volume v) (stored w)
+      stop ToRt at unheld = tt
+      stop FromRt at unheld =
+          seeking at (find-leaves master_directory (directory_name c.directory) (store_of_volume v) (stored w) at)

@@ -1,7 +1,6 @@
 -- A file of the host that is put on a volume by its name.
-use Rattle.std.proofs.Common.{◌≡◌, inl, inr, ℕ, ◌||◌, false, true, IsTrue, List, [], Option, Result, Ok, Err, IfOk, IfErr, refl, sym, ap}
-use Rattle.std.proofs.Common.{◌∙◌}
-use Rattle.std.proofs.Common.{subst, arith}
+use Rattle.std.proofs.Common.{◌≡◌, inl, inr, ℕ, true, IsTrue, List, [], Option, Result, Ok, Err, IfOk, IfErr, refl, sym}
+use Rattle.std.proofs.Common.{◌∙◌, subst, arith}
 use Rattle.std.proofs.KnownBytes.{Consumes-nil}
 use Rattle.f11_dev.specs.Disk.{Disk}
 use Rattle.f11_dev.specs.Image.{IsImage}
@@ -9,13 +8,12 @@ use Rattle.f11_dev.specs.declared.device.Device.{Ghosts}
 use Rattle.f11_fcp.specs.Lists.{is_sound, store_of_volume}
 use Rattle.f11_fcp.specs.Accesses.{held_in}
 use Rattle.f11_fcp.specs.Mounting.{Mounts}
-use Rattle.f11_fcp.specs.Serving.{is_spent, state_in}
+use Rattle.f11_fcp.specs.Serving.{state_in}
 use Rattle.f11_fcp.specs.declared.volume.Volume.{Volume}
 use Rattle.f11_flx.proofs.VolumeLemmas.{volume-seen}
-use Rattle.f11_files.specs.Answers.{is_fatal, is_fault}
 use Rattle.f11_flx.proofs.TriedLemmas.{asked-for-one}
-use Rattle.f11_flx.specs.Asking.{Asking, Fails, Grants, Tried, Who, asks, told, who_asks}
-use Rattle.f11_flx.specs.Copying.{MayMakeFile, is_whole, of_files, of_volume}
+use Rattle.f11_flx.specs.Asking.{Asking, Fails, Grants, Tried, Who, told, who_asks}
+use Rattle.f11_flx.specs.Copying.{MayMakeFile, is_whole, of_volume}
 use Rattle.f11_home.specs.Home.{HomeFields}
 use Rattle.f11_flx.specs.declared.mode.CopyMode.{CopyMode}
 use Rattle.f11_flx.specs.declared.mode.CopyMode.TheVariants as mode
@@ -33,15 +31,15 @@ use Rattle.f11_store.specs.declared.requests.Request.TheVariants as request
 use Rattle.f11_volume.specs.Verdict.{IsAccepted}
 use Rattle.f11_commands.proofs.AskedLemmas.{never, tried-home}
 use Rattle.f11_commands.proofs.CopyLemmas.{first-is, last-is, sound-first, stands-accepted}
-use Rattle.f11_commands.proofs.StoppingLemmas.{alive-of, fault-fatal, find-leaves, honest-of, request-stopped, stops-making, stored}
+use Rattle.f11_commands.proofs.StoppingLemmas.{find-leaves, find-stopped, stops-by, stored}
 use Rattle.f11_commands.proofs.NamedLemmas.{alone-behind, alone-not-found, not-found-seen, undamaged-asked}
 use Rattle.f11_commands.specs.CopyCommand.{VerifiesFiles}
 use Rattle.f11_commands.specs.Copying.{directory_name, master_directory, operator}
 use Rattle.f11_commands.specs.Finding.{is_found}
 use Rattle.f11_commands.specs.PutCommand.{FailsFor, Hosts, MakesFor, ReadsFor}
-use Rattle.f11_commands.specs.PutCommand.{EndsAccepted, EndsPutting, PutsByName, PutsInto, PutsNamed, PutsOnImage, StopsPutting}
-use Rattle.f11_commands.specs.PutCommand.{TellsOnImage, TellsPutting, making, seeking}
-use Rattle.f11_commands.specs.Stopping.{IsStopped, IsUnheld, StopsMaking, WhereUnheld}
+use Rattle.f11_commands.specs.PutCommand.{EndsAccepted, EndsPutting, PutsByName, PutsInto, PutsNamed, PutsOnImage}
+use Rattle.f11_commands.specs.PutCommand.{TellsOnImage, TellsPutting}
+use Rattle.f11_commands.specs.Stopping.{IsUnheld, StopsMaking, StopsNamed, WhereUnheld, making, seeking}
 use Rattle.f11_commands.specs.declared.copy.FileAnswer.{FileAnswer}
 use Rattle.f11_commands.specs.declared.put.Putting.{Putting}
 use Rattle.f11_commands.specs.declared.rt_put.PutFailure.{PutFailure}
@@ -82,11 +80,7 @@ module _ {D : Type 0} {met : Ghosts D} (p : Putting) (bytes : ℕ) (u : Hosts) w
     };
     host = host;
     outcome = by result files copied refused;
-    stops = λ sound fault.
-        stops-making dir p.name v w files.asked sound
-        (files.fares.next (honest-of (state_in v).disk.honest (is_spent v) sound)
-        ∙ ap (λ b. b || of_files is_fatal (copy_result result)) (alive-of (state_in v).disk.honest (is_spent v) sound)
-        ∙ fault-fatal (copy_result result) fault);
+    stops = λ sound fault. stops-by dir p.name (copy_result result) v w files.fares files.asked sound fault;
   }
     where
       asked : (xs : List Asking) × Tried of_volume operator xs v w
@@ -152,7 +146,7 @@ module _ {D : Type 0} {met : Ghosts D} (p : Putting) (bytes : ℕ) (u : Hosts) w
   pub put-found : (name : List ℕ) → name ≡ directory_name p.directory → (dir : FileId) (result : Result ℕ HostRefusal)
       (u' : Hosts) (v m w : Volume D met) → Grants of_volume operator (told (request.Find master_directory name) (reply.Found dir)) v m
       → PutsNamed p.mode bytes result u u' (PutsInto p bytes dir result u u') (WhereUnheld (StopsMaking dir p.name)) m w
-      → PutsNamed p.mode bytes result u u' (PutsByName p bytes result u u') (WhereUnheld (StopsPutting p)) v w
+      → PutsNamed p.mode bytes result u u' (PutsByName p bytes result u u') (WhereUnheld (StopsNamed p.directory p.name)) v w
   put-found name name-is dir result u' v m w grants' a = record {
     fares = alone-behind (copy_result result) (told (request.Find master_directory (directory_name p.directory)) (reply.Found dir)) v m w
         grants a.fares;
@@ -179,7 +173,8 @@ module _ {D : Type 0} {met : Ghosts D} (p : Putting) (bytes : ℕ) (u : Hosts) w
   -- it isn't there
   pub put-nowhere : (name : List ℕ) → name ≡ directory_name p.directory → (e : Refusal) (v w : Volume D met)
       → Fails of_volume operator is_found (request.Find master_directory name) e v w
-      → PutsNamed p.mode bytes (Err (Files e)) u u (PutsByName p bytes (Err (Files e)) u u) (WhereUnheld (StopsPutting p)) v w
+      → PutsNamed p.mode bytes (Err (Files e)) u u (PutsByName p bytes (Err (Files e)) u u) (WhereUnheld (StopsNamed p.directory p.name)) v
+      w
   put-nowhere name name-is e v w fails' = record {
     fares = alone-not-found master_directory (directory_name p.directory) e v w fails;
     host = unread-for bytes u p.mode e;
@@ -190,55 +185,51 @@ module _ {D : Type 0} {met : Ghosts D} (p : Putting) (bytes : ℕ) (u : Hosts) w
       unread = refl;
     });
     stops = λ sound fault unheld.
-        let at = stopped sound fault fails in
+        let at = find-stopped master_directory (directory_name p.directory) e v w sound fault fails in
         seeking at (find-leaves master_directory (directory_name p.directory) (store_of_volume v) (stored w) at);
   }
     where
-      stopped : is_sound v ≡ true → is_fault e ≡ true
-          → Fails of_volume operator is_found (request.Find master_directory (directory_name p.directory)) e v w
-          → IsStopped (asks (request.Find master_directory (directory_name p.directory))) (store_of_volume v) (stored w)
-      stopped sound fault (inl denies) = request-stopped (request.Find master_directory (directory_name p.directory)) e v w denies sound
-      stopped sound fault (inr wrong) = absurd (let none : false ≡ true = ap is_fault (sym wrong.2) ∙ fault in cc)
-
       fails : Fails of_volume operator is_found (request.Find master_directory (directory_name p.directory)) e v w
       fails = subst (λ n. Fails of_volume operator is_found (request.Find master_directory n) e v w) name-is fails'
 
   -- on the volume of an image
   module _ (result : Result ℕ HostRefusal) (u' : Hosts) (old : Disk) (first last : Volume D met) (mounts : Mounts old first)
       (image : IsImage old.image) (accepted : IsTrue old.honest → IsAccepted old.image)
-      (puts : PutsNamed p.mode bytes result u u' (PutsByName p bytes result u u') (WhereUnheld (StopsPutting p)) first last) where
-    pub puts-on-image : PutsOnImage p bytes result u u' old (state_in last).disk
-    puts-on-image = record {
-      home = (state_in first).home;
-      held = (state_in last).table;
-      home_is = mounts.home;
-      outcome = λ is whole.
-          subst (λ (s : Store). PutsByName p bytes result u u' s
-          (held_in (state_in last).table (store_of (state_in last).disk.image (state_in first).home)))
-          (first-is old first last mounts puts.fares.home)
-          (subst (λ (s : Store). PutsByName p bytes result u u' (store_of_volume first) s)
-          (last-is old first last mounts puts.fares.home)
-          (puts.outcome (sound-first old first last mounts puts.fares.home is) whole));
-      stops = λ is fault.
-          subst (λ (s : Store). WhereUnheld (StopsPutting p) s (store_of (state_in last).disk.image (state_in first).home))
-          (first-is old first last mounts puts.fares.home)
-          (subst (λ (h : HomeFields). WhereUnheld (StopsPutting p) (store_of_volume first) (store_of (state_in last).disk.image h))
-          puts.fares.home (puts.stops (sound-first old first last mounts puts.fares.home is) fault)) (λ task lun. refl);
-      host = puts.host;
-      failures = let none = mounts.looked.failures in let some = puts.fares.fares.failures in omega (arith, none, some);
-      quiet = puts.fares.fares.quiet;
-      alive = puts.fares.alive mounts.fresh;
-      undamaged = λ is. puts.fares.undamaged mounts.fresh (mounts.looked.honest ∙ is);
-      accepted = λ is. puts.fares.fares.accepted (puts.fares.fares.honest ∙ mounts.looked.honest ∙ is);
-      meanwhile = stands-accepted old first last mounts image accepted puts.fares.fares.ordered;
-    }
+      (puts : PutsNamed p.mode bytes result u u' (PutsByName p bytes result u u') (WhereUnheld (StopsNamed p.directory p.name)) first last)
+    where
+      pub puts-on-image : PutsOnImage p bytes result u u' old (state_in last).disk
+      puts-on-image = record {
+        home = (state_in first).home;
+        held = (state_in last).table;
+        home_is = mounts.home;
+        outcome = λ is whole.
+            subst (λ (s : Store). PutsByName p bytes result u u' s
+            (held_in (state_in last).table (store_of (state_in last).disk.image (state_in first).home)))
+            (first-is old first last mounts puts.fares.home)
+            (subst (λ (s : Store). PutsByName p bytes result u u' (store_of_volume first) s)
+            (last-is old first last mounts puts.fares.home)
+            (puts.outcome (sound-first old first last mounts puts.fares.home is) whole));
+        stops = λ is fault.
+            subst (λ (s : Store). WhereUnheld (StopsNamed p.directory p.name) s (store_of (state_in last).disk.image (state_in first).home))
+            (first-is old first last mounts puts.fares.home)
+            (subst (λ (h : HomeFields). WhereUnheld (StopsNamed p.directory p.name) (store_of_volume first)
+            (store_of (state_in last).disk.image h))
+            puts.fares.home (puts.stops (sound-first old first last mounts puts.fares.home is) fault)) (λ task lun. refl);
+        host = puts.host;
+        failures = let none = mounts.looked.failures in let some = puts.fares.fares.failures in omega (arith, none, some);
+        quiet = puts.fares.fares.quiet;
+        alive = puts.fares.alive mounts.fresh;
+        undamaged = λ is. puts.fares.undamaged mounts.fresh (mounts.looked.honest ∙ is);
+        accepted = λ is. puts.fares.fares.accepted (puts.fares.fares.honest ∙ mounts.looked.honest ∙ is);
+        meanwhile = stands-accepted old first last mounts image accepted puts.fares.fares.ordered;
+      }
 
-    pub ends-accepted : {W : Type 0} (answer : Result FileAnswer PutFailure) (contents : W → Option (List ℕ)) (before after : W)
-        (new : Disk) → new ≡ (state_in last).disk → TellsPutting result answer contents before after
-        → EndsAccepted p bytes answer u u' old new contents before after
-    ends-accepted {W} answer contents before after new at tells =
-        inl (subst (λ (x : Disk). TellsOnImage p bytes answer u u' old x contents before after) (sym at)
-        (record { result = result; puts = puts-on-image; tells = tells }))
+      pub ends-accepted : {W : Type 0} (answer : Result FileAnswer PutFailure) (contents : W → Option (List ℕ)) (before after : W)
+          (new : Disk) → new ≡ (state_in last).disk → TellsPutting result answer contents before after
+          → EndsAccepted p bytes answer u u' old new contents before after
+      ends-accepted {W} answer contents before after new at tells =
+          inl (subst (λ (x : Disk). TellsOnImage p bytes answer u u' old x contents before after) (sym at)
+          (record { result = result; puts = puts-on-image; tells = tells }))
 
 -- behind a verified image
 pub ends-putting : {W : Type 0} (p : Putting) (bytes : ℕ) (u u' : Hosts) (answer : Result FileAnswer PutFailure)

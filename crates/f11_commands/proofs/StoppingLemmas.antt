@@ -12,8 +12,8 @@ use Rattle.f11_fcp.specs.Serving.{is_spent, state_in}
 use Rattle.f11_fcp.specs.declared.volume.Volume.{Volume}
 use Rattle.f11_files.specs.Answers.{is_fatal, is_fault, is_refused}
 use Rattle.f11_flx.proofs.VolumeLemmas.{denied-fared, unused, volume-seen}
-use Rattle.f11_flx.specs.Asking.{Asking, Denies, Grants, Tried, asks, counts, plain, reads, told, writes}
-use Rattle.f11_flx.specs.Copying.{AsksForOne, IsMakingOf, creation, making, nothing, of_files, of_volume}
+use Rattle.f11_flx.specs.Asking.{Asking, Denies, Fails, Grants, Tried, asks, counts, plain, reads, told, writes}
+use Rattle.f11_flx.specs.Copying.{AsksForOne, FaresFiles, IsMakingOf, creation, making, nothing, of_files, of_volume}
 use Rattle.f11_flx.specs.Refusal.{is_lethal}
 use Rattle.f11_flx.specs.declared.refusal.FlxRefusal.{FlxRefusal}
 use Rattle.f11_flx.specs.declared.refusal.FlxRefusal.TheVariants.{Files, Rt, BadRecord, LineTooLong}
@@ -33,10 +33,11 @@ use Rattle.f11_store.specs.declared.requests.Request.TheVariants as request
 use Rattle.f11_commands.proofs.AskedLemmas.{never}
 use Rattle.f11_commands.proofs.OthersLemmas.{all-behind, no-slot-0, others-stay}
 use Rattle.f11_commands.specs.Copying.{operator}
+use Rattle.f11_commands.specs.Finding.{is_found}
 use Rattle.f11_commands.specs.Stopping.{IsStopped, StopsAt, StopsMaking, WhereUnheld, after_creation, creating, in_part, not_begun}
 
 -- a device fault fails the volume
-pub fault-fatal : (r : Result ℕ FlxRefusal) → of_files is_fault r ≡ true → of_files is_fatal r ≡ true
+fault-fatal : (r : Result ℕ FlxRefusal) → of_files is_fault r ≡ true → of_files is_fatal r ≡ true
 fault-fatal (Ok n) h = h
 fault-fatal (Err (Files DeviceFault)) h = refl
 fault-fatal (Err (Files _)) h = absurd (let none : false ≡ true = h in cc)
@@ -45,11 +46,11 @@ fault-fatal (Err BadRecord) h = h
 fault-fatal (Err LineTooLong) h = h
 
 -- a sound volume's disk is honest, and no request has failed it
-pub honest-of : (honest spent : Bool) → (honest && not spent) ≡ true → IsTrue honest
+honest-of : (honest spent : Bool) → (honest && not spent) ≡ true → IsTrue honest
 honest-of true spent h = refl
 honest-of false spent h = absurd (let none : false ≡ true = h in cc)
 
-pub alive-of : (honest spent : Bool) → (honest && not spent) ≡ true → spent ≡ false
+alive-of : (honest spent : Bool) → (honest && not spent) ≡ true → spent ≡ false
 alive-of true true h = absurd (let none : false ≡ true = h in cc)
 alive-of true false h = refl
 alive-of false spent h = absurd (let none : false ≡ true = h in cc)
@@ -152,7 +153,7 @@ module _ {D : Type 0} {met : Ghosts D} where
       by (inl p) = not_begun p.0 p.1
       by (inr l) = lags l
 
-  pub request-stopped : (r : Request) (e : Refusal) (v w : Volume D met) → Denies of_volume operator (asks r) e v w → is_sound v ≡ true
+  request-stopped : (r : Request) (e : Refusal) (v w : Volume D met) → Denies of_volume operator (asks r) e v w → is_sound v ≡ true
       → IsStopped (asks r) (store_of_volume v) (stored w)
   request-stopped r e v w d sound = served-stopped r (asks r) v w d.0 _ d.2 sound (λ l. in_part (d.0, l))
 
@@ -258,7 +259,7 @@ module _ {D : Type 0} {met : Ghosts D} where
         stopped = s.stopped;
       })
 
-  pub stops-making : (dir : FileId) (to : List ℕ) (v w : Volume D met) → AsksForOne of_volume operator 0 dir to 0 v w → is_sound v ≡ true
+  stops-making : (dir : FileId) (to : List ℕ) (v w : Volume D met) → AsksForOne of_volume operator 0 dir to 0 v w → is_sound v ≡ true
       → is_spent w ≡ true → WhereUnheld (StopsMaking dir to) (store_of_volume v) (stored w)
   stops-making dir to v w one sound dead unheld =
       let at = stops-at dir to v w one sound dead in
@@ -267,3 +268,19 @@ module _ {D : Type 0} {met : Ghosts D} where
         others = others-stay dir to (store_of_volume v) (stored w) (unused v) (no-slot-0 (state_in v).disk.image (state_in v).home) unheld
             at;
       }
+
+  -- by what an answer tells of it
+  pub stops-by : (dir : FileId) (to : List ℕ) (result : Result ℕ FlxRefusal) (v w : Volume D met) → FaresFiles result v w
+      → AsksForOne of_volume operator 0 dir to 0 v w → is_sound v ≡ true → of_files is_fault result ≡ true
+      → WhereUnheld (StopsMaking dir to) (store_of_volume v) (stored w)
+  stops-by dir to result v w fares one sound fault =
+      stops-making dir to v w one sound
+      (fares.next (honest-of (state_in v).disk.honest (is_spent v) sound)
+      ∙ ap (λ b. b || of_files is_fatal result) (alive-of (state_in v).disk.honest (is_spent v) sound) ∙ fault-fatal result fault)
+
+  -- a name was looked for, and a transfer failed
+  pub find-stopped : (dir : FileId) (name : List ℕ) (e : Refusal) (v w : Volume D met) → is_sound v ≡ true → is_fault e ≡ true
+      → Fails of_volume operator is_found (request.Find dir name) e v w
+      → IsStopped (asks (request.Find dir name)) (store_of_volume v) (stored w)
+  find-stopped dir name e v w sound fault (inl denies) = request-stopped (request.Find dir name) e v w denies sound
+  find-stopped dir name e v w sound fault (inr wrong) = absurd (let none : false ≡ true = ap is_fault (sym wrong.2) ∙ fault in cc)

@@ -28,6 +28,7 @@ use Rattle.f11_commands.specs.Copying.{LeavesBegun, OutcomeIs, ReadsSource, Stan
 use Rattle.f11_commands.specs.Output.{WriterTakes}
 use Rattle.f11_commands.specs.RtVolume.{FailsToPrintRt, PrintsFaulty}
 use Rattle.f11_commands.specs.RunCommand.{HasFaults, WritesNothing}
+use Rattle.f11_commands.specs.Stopping.{StopsCopy}
 use Rattle.f11_commands.specs.VfyCommand.{FailsToPrintReport, PrintsReport}
 use Rattle.f11_commands.specs.declared.copy.FileAnswer.{FileAnswer}
 use Rattle.f11_commands.specs.declared.copy.FileAnswer.TheVariants.{Done, Refused, Faulty}
@@ -87,7 +88,8 @@ pub record FaresBoth (result : Result ℕ FlxRefusal) (files files' rt rt' : Dis
 -- A copy was asked for between the volumes of two images, of which neither has a fault. Where the disks are honest it is what the answer
 -- says of the plain stores, from those of the images, in which nobody holds an access; and the images have no fault then, that of the RT-11
 -- volume unless a transfer of it failed; nor has any that stood meanwhile on the Files-11 one. Where a transfer of either failed nothing is
--- undone on the other; an RT-11 source is only read.
+-- undone on the other; where that was one of a Files-11 volume that is copied to, what was asked last was stopped, and no file is changed
+-- but the copy, its directory and the index file. An RT-11 source is only read.
 pub record CopiesImages (c : Copying) (result : Result ℕ FlxRefusal) (files files' rt rt' : Disk) : Type 0 where
   pub home : HomeFields
   pub held : AccessTable
@@ -99,6 +101,8 @@ pub record CopiesImages (c : Copying) (result : Result ℕ FlxRefusal) (files fi
   pub source : ReadsSource c.direction rt rt'
   pub broken : IsTrue files.honest → of_rt is_rt_fault result ≡ true →
       StandsAsIs (held_in no_entries (store_of files.image home)) (held_in held (store_of files'.image home))
+  pub stopped : IsTrue files.honest → of_files is_files_fault result ≡ true →
+      StopsCopy c.direction c.directory c.name (held_in no_entries (store_of files.image home)) (store_of files'.image home)
   pub rt_broken : IsTrue rt.honest → of_files is_fatal result ≡ true →
       LeavesBegun c.rt_name (rt_store_of rt.image) (rt_store_of rt'.image)
   pub accepted : IsTrue files.honest → IsAccepted files'.image

@@ -5,10 +5,11 @@ use Rattle.f11_dev.specs.declared.device.Device.{Ghosts}
 use Rattle.f11_fcp.specs.Lists.{is_sound, store_of_volume}
 use Rattle.f11_fcp.specs.Serving.{is_spent, state_in}
 use Rattle.f11_fcp.specs.declared.volume.Volume.{Volume}
-use Rattle.f11_files.specs.Answers.{is_fatal}
+use Rattle.f11_files.specs.Answers.{is_fatal, is_fault}
 use Rattle.f11_flx.specs.Copying.{FaresFiles, FaresRt, is_whole, of_files, of_rt}
 use Rattle.f11_flx.specs.declared.refusal.FlxRefusal.{FlxRefusal}
 use Rattle.f11_flx.specs.declared.refusal.FlxRefusal.TheVariants.{Files, Rt}
+use Rattle.f11_image_store.specs.StoreOf.{store_of}
 use Rattle.f11_store.specs.Store.{Store}
 use Rattle.f11_store.specs.declared.callers.Uic.{Uic}
 use Rattle.f11_store.specs.declared.files.FileId.{FileId}
@@ -22,6 +23,7 @@ use Rattle.rt11_volume.specs.Verifying.Verdict.{IsSoundDisk}
 use Rattle.rt11_volume.specs.declared.refusal.RtRefusal.TheVariants.{Failed}
 use Rattle.rt11_volume.specs.declared.volume.RtAccepted.{RtAccepted}
 use Rattle.f11_commands.specs.Copying.{CopiesWithin, KeepsRt, LeavesBegun, ReadsSource, StandsAsIs, three_octal}
+use Rattle.f11_commands.specs.Stopping.{WhereUnheld}
 use Rattle.f11_commands.specs.declared.copy.Copying.{Copying}
 use Rattle.f11_commands.specs.declared.copy.Direction.{Direction}
 
@@ -39,10 +41,10 @@ pub record FaresAlone {D : Type 0} {met : Ghosts D} (result : Result ℕ FlxRefu
   pub undamaged : is_spent old ≡ false → IsTrue (state_in old).disk.honest → result ≢ Err (Files Damaged)
 
 -- A copy was asked for, of two volumes: each fared as its answer says, and where both are sound this holds of their stores. Where a
--- device fault of one broke it off nothing is undone on the other.
+-- device fault of one broke it off nothing is undone on the other; where that was the Files-11 volume's, this is how it was stopped.
 pub record FaresAsAnswered {D E : Type 0} {met : Ghosts D} {met' : Ghosts E} (disk : E → Disk) (direction : Direction) (name : List ℕ)
-    (result : Result ℕ FlxRefusal) (Holds : Store → Store → Disk → Disk → Type 0) (old new : Volume D met)
-    (rt rt' : RtAccepted E met') : Type 0 where
+    (result : Result ℕ FlxRefusal) (Holds : Store → Store → Disk → Disk → Type 0) (Stops : Store → Store → Type 0)
+    (old new : Volume D met) (rt rt' : RtAccepted E met') : Type 0 where
   pub fares : FaresFiles result old new
   pub fares_rt : FaresRt disk result rt rt'
   pub source : ReadsSource direction (disk (volume_device rt)) (disk (volume_device rt'))
@@ -54,6 +56,8 @@ pub record FaresAsAnswered {D E : Type 0} {met : Ghosts D} {met' : Ghosts E} (di
   pub outcome : is_sound old ≡ true → IsSoundDisk (disk (volume_device rt)) → is_whole result ≡ true →
       Holds (store_of_volume old) (store_of_volume new) (disk (volume_device rt)) (disk (volume_device rt'))
   pub broken : is_sound old ≡ true → of_rt is_rt_fault result ≡ true → StandsAsIs (store_of_volume old) (store_of_volume new)
+  pub stopped : is_sound old ≡ true → of_files is_fault result ≡ true →
+      WhereUnheld Stops (store_of_volume old) (store_of (state_in new).disk.image (state_in new).home)
   pub rt_broken : IsSoundDisk (disk (volume_device rt)) → of_files is_fatal result ≡ true →
       LeavesBegun name (rt_store_of (disk (volume_device rt)).image) (rt_store_of (disk (volume_device rt')).image)
 

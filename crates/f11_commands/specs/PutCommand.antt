@@ -8,7 +8,6 @@ use Rattle.f11_fcp.specs.Lists.{is_sound, store_of_volume}
 use Rattle.f11_fcp.specs.Serving.{state_in}
 use Rattle.f11_fcp.specs.declared.volume.Volume.{Volume}
 use Rattle.f11_files.specs.Answers.{is_fault}
-use Rattle.f11_flx.specs.Asking.{asks}
 use Rattle.f11_flx.specs.Copying.{is_whole, of_files}
 use Rattle.f11_flx.specs.CopyFromRt.{IsAsBefore}
 use Rattle.f11_flx.specs.declared.refusal.FlxRefusal.TheVariants as copy
@@ -25,14 +24,13 @@ use Rattle.f11_store.specs.Store.{Store}
 use Rattle.f11_store.specs.declared.files.FileId.{FileId}
 use Rattle.f11_store.specs.declared.refusals.Refusal.{Refusal}
 use Rattle.f11_store.specs.declared.refusals.Refusal.TheVariants.{Damaged, VolumeFailed}
-use Rattle.f11_store.specs.declared.requests.Request.TheVariants as request
 use Rattle.f11_volume.specs.Verdict.{IsAccepted}
 use Rattle.f11_writes.specs.Moments.{StandsAccepted}
 use Rattle.f11_commands.specs.CopyCommand.{EndsFiles, FailsToMount, TellsCopy, VerifiesFiles}
 use Rattle.f11_commands.specs.Copying.{FindsName, FindsNoName, directory_name, master_directory, operator}
 use Rattle.f11_commands.specs.Finding.{FaresAlone}
 use Rattle.f11_commands.specs.RtPut.{put_told}
-use Rattle.f11_commands.specs.Stopping.{IsStopped, StopsMaking}
+use Rattle.f11_commands.specs.Stopping.{StopsNamed}
 use Rattle.f11_commands.specs.declared.copy.FileAnswer.{FileAnswer}
 use Rattle.f11_commands.specs.declared.outcome.Failure.{Failure}
 use Rattle.f11_commands.specs.declared.put.Putting.{Putting}
@@ -96,13 +94,6 @@ abbrev pub PutsByName : Putting → ℕ → Result ℕ HostRefusal → Hosts →
 PutsByName p bytes result h h' s s' =
     (FindsAndPuts p bytes result h h' s s') ⊎ (HasNoDirectory p result h h' s s')
 
--- a transfer failed: looking for the user's directory was stopped, and all files are as they were; or, once it was found, making the file
-pub data StopsPutting (p : Putting) (s t : Store) : Type 0 where
-  seeking : IsStopped (asks (request.Find master_directory (directory_name p.directory))) s t
-      → ((n : ℕ) → t.file n ≡ s.file n) → StopsPutting p s t
-  making : (dir : FileId) (found : Store) → FindsName master_directory (directory_name p.directory) dir s found
-      → StopsMaking dir p.name found t → StopsPutting p s t
-
 -- A file was to be made on a volume: it fared as the answer says, and where it is sound the one holds of its stores, or the other where a
 -- transfer failed.
 pub record PutsNamed {D : Type 0} {met : Ghosts D} (m : CopyMode) (bytes : ℕ) (result : Result ℕ HostRefusal) (h h' : Hosts)
@@ -125,7 +116,7 @@ pub record PutsOnImage (p : Putting) (bytes : ℕ) (result : Result ℕ HostRefu
   pub outcome : IsTrue old.honest → is_whole (copy_result result) ≡ true →
       PutsByName p bytes result h h' (held_in no_entries (store_of old.image home)) (held_in held (store_of new.image home))
   pub stops : IsTrue old.honest → of_files is_fault (copy_result result) ≡ true →
-      StopsPutting p (held_in no_entries (store_of old.image home)) (store_of new.image home)
+      StopsNamed p.directory p.name (held_in no_entries (store_of old.image home)) (store_of new.image home)
   pub host : ReadsFor p.mode bytes result h h'
   pub failures : new.failures ≡ old.failures + (if of_files is_fault (copy_result result) then 1 else 0)
   pub quiet : of_files is_fault (copy_result result) ≡ true → new.calm ≡ 0

@@ -1,16 +1,19 @@
 -- What stands on a Files-11 volume where a transfer of it failed while a file was made (profile).
-use Rattle.std.specs.Prelude.{◌≡◌, ℕ, ◌==◌, ◌&&◌, Bool, false, List, All, Some, None}
+use Rattle.std.specs.Prelude.{◌≡◌, ℕ, ◌==◌, ◌&&◌, ⊤, Bool, false, List, All, Some, None}
 use Rattle.f11_fcp.specs.Accesses.{AccessTable, held_in}
 use Rattle.f11_flx.specs.Asking.{Asking, Grants, Tried, asks, counts, plain, reads, told, writes}
 use Rattle.f11_flx.specs.Copying.{Creates, IsMakingOf}
 use Rattle.f11_store.specs.File.{File}
 use Rattle.f11_store.specs.Lags.{Lags}
 use Rattle.f11_store.specs.Store.{Store}
+use Rattle.f11_store.specs.declared.callers.Uic.{Uic}
 use Rattle.f11_store.specs.declared.files.FileId.{FileId}
 use Rattle.f11_store.specs.declared.requests.Reply.TheVariants as reply
 use Rattle.f11_store.specs.declared.requests.Request.{Request}
 use Rattle.f11_store.specs.declared.requests.Request.TheVariants as request
-use Rattle.f11_commands.specs.Copying.{operator}
+use Rattle.f11_commands.specs.Copying.{FindsName, directory_name, master_directory, operator}
+use Rattle.f11_commands.specs.declared.copy.Direction.{Direction}
+use Rattle.f11_commands.specs.declared.copy.Direction.TheVariants.{ToRt, FromRt}
 
 -- a store lags the one before by a request, with some block lent,
 abbrev pub LagsRequest : Request → Store → Store → Type 0
@@ -65,6 +68,14 @@ pub record StopsMaking (dir : FileId) (to : List ℕ) (s t : Store) : Type 0 whe
   pub stops : StopsAt dir to s t
   pub others : KeepsOthers dir s t
 
+-- A file was to be made in a user's directory under a name: the look for the directory was stopped, and all files are as they were; or the
+-- making of the file was, in the directory that was found.
+pub data StopsNamed (user : Uic) (name : List ℕ) (s t : Store) : Type 0 where
+  seeking : IsStopped (asks (request.Find master_directory (directory_name user))) s t → ((n : ℕ) → t.file n ≡ s.file n)
+      → StopsNamed user name s t
+  making : (dir : FileId) (found : Store) → FindsName master_directory (directory_name user) dir s found → StopsMaking dir name found t
+      → StopsNamed user name s t
+
 -- nobody holds an access
 abbrev pub IsUnheld : Store → Type 0
 IsUnheld s = (task lun : ℕ) → s.access task lun ≡ None
@@ -72,3 +83,13 @@ IsUnheld s = (task lun : ℕ) → s.access task lun ≡ None
 -- if so, stores are related as this says
 abbrev pub WhereUnheld : (Store → Store → Type 0) → Store → Store → Type 0
 WhereUnheld Stops s t = IsUnheld s → Stops s t
+
+-- a copy between a directory and an RT-11 volume was stopped by the Files-11 one: where that is copied to, the making of the copy was
+abbrev pub StopsWithin : Direction → FileId → List ℕ → Store → Store → Type 0
+StopsWithin ToRt dir name s t = ⊤
+StopsWithin FromRt dir name s t = StopsMaking dir name s t
+
+-- and so one of names
+abbrev pub StopsCopy : Direction → Uic → List ℕ → Store → Store → Type 0
+StopsCopy ToRt user name s t = ⊤
+StopsCopy FromRt user name s t = StopsNamed user name s t

@@ -1,9 +1,9 @@
 //! The command `put`.
 
 ghost use Rattle.f11_vfy.specs.Accepted.{device_of};
-ghost use Rattle.f11_commands.specs.PutCommand.{EndsAccepted, EndsPutting, PutsByName, PutsInto, PutsNamed, StopsPutting};
+ghost use Rattle.f11_commands.specs.PutCommand.{EndsAccepted, EndsPutting, PutsByName, PutsInto, PutsNamed};
 ghost use Rattle.f11_commands.specs.PutCommand.{TellsPutting, hosts};
-ghost use Rattle.f11_commands.specs.Stopping.{StopsMaking, WhereUnheld};
+ghost use Rattle.f11_commands.specs.Stopping.{StopsMaking, StopsNamed, WhereUnheld};
 
 use crate::copy::FileAnswer;
 use crate::copy::finding::{
@@ -117,7 +117,7 @@ fn put_by_name<D: Device, R: Read>(
         (hosts (R.remaining host.new) (R.remaining again.new))
         (PutsByName put.now bytes result (hosts (R.remaining host.old) (R.remaining again.old))
         (hosts (R.remaining host.new) (R.remaining again.new)))
-        (WhereUnheld (StopsPutting put.now)) volume.old volume.new }
+        (WhereUnheld (StopsNamed put.now.directory put.now.name)) volume.old volume.new }
 {
     let directory = directory_name(put.directory);
     match find(volume, MASTER_DIRECTORY, &directory) {

@@ -3,6 +3,7 @@ ghost use Rattle.std.specs.Prelude.{◌≡◌, false, IsTrue};
 ghost use Rattle.f11_commands.specs.CopyCommand.{EndsBetween};
 ghost use Rattle.f11_commands.specs.Copying.{OutcomeIs};
 ghost use Rattle.f11_commands.specs.Finding.{FaresAsAnswered, WithinDirectory};
+ghost use Rattle.f11_commands.specs.Stopping.{StopsCopy, StopsWithin};
 ghost use Rattle.f11_commands.specs.declared.copy.Direction.TheVariants as direction;
 ghost use Rattle.f11_fcp.specs.Serving.{device_in};
 ghost use Rattle.f11_vfy.specs.Accepted.{device_of};
@@ -72,7 +73,9 @@ fn copy_by_names<D: Device, E: Device>(
     copy: &Copying,
 ) -> Result<u32, FlxRefusal>
     ensures answers { FaresAsAnswered E.disk copy.now.direction copy.now.rt_name result
-        (OutcomeIs copy.now result) volume.old volume.new rt.old rt.new }
+        (OutcomeIs copy.now result)
+        (StopsCopy copy.now.direction copy.now.directory copy.now.name)
+        volume.old volume.new rt.old rt.new }
 {
     let directory = directory_name(copy.directory);
     let dir = match find(volume, MASTER_DIRECTORY, &directory) {
@@ -93,7 +96,8 @@ fn copy_out<D: Device, E: Device>(
     copy: &Copying,
 ) -> Result<u32, FlxRefusal>
     ensures answers { FaresAsAnswered E.disk direction.ToRt copy.now.rt_name result
-        (WithinDirectory direction.ToRt copy.now dir result) volume.old volume.new rt.old rt.new }
+        (WithinDirectory direction.ToRt copy.now dir result)
+        (StopsWithin direction.ToRt dir copy.now.name) volume.old volume.new rt.old rt.new }
 {
     let source = match find(volume, dir, &copy.name) {
         Ok(source) => source,
@@ -122,7 +126,8 @@ fn copy_in<D: Device, E: Device>(
     copy: &Copying,
 ) -> Result<u32, FlxRefusal>
     ensures answers { FaresAsAnswered E.disk direction.FromRt copy.now.rt_name result
-        (WithinDirectory direction.FromRt copy.now dir result) volume.old volume.new rt.old rt.new }
+        (WithinDirectory direction.FromRt copy.now dir result)
+        (StopsWithin direction.FromRt dir copy.now.name) volume.old volume.new rt.old rt.new }
 {
     let task = first_task();
     let lun = first_lun();
