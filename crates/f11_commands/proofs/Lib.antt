@@ -11,6 +11,7 @@ mod BrokenLemmas
 mod CopyLemmas
 mod NamedLemmas
 mod OthersLemmas
+mod ReadOnlyLemmas
 mod DirectoryLemmas
 mod TakingOutLemmas
 mod TakingTextLemmas

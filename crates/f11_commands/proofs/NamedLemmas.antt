@@ -1,7 +1,6 @@
 -- A copy by names: what its steps tell, one after another.
 use Rattle.std.proofs.Common.{◌≡◌, ◌≢◌, inl, inr, ℕ, ◌+◌, ◌||◌, not, Bool, true, false, IsTrue, if◌then◌else◌, List, Result, Ok, Err, IfOk}
 use Rattle.std.proofs.Common.{IfErr, refl, sym, ap, subst, ◌∙◌, arith}
-use Rattle.std.specs.Prelude.{⊤}
 use Rattle.f11_dev.specs.Disk.{Disk}
 use Rattle.f11_dev.specs.declared.device.Device.{Ghosts}
 use Rattle.f11_fcp.specs.Lists.{failures_of, is_sound, store_of_volume}
@@ -41,16 +40,16 @@ use Rattle.f11_commands.proofs.AskedLemmas.{denied-home, denied-undamaged, grant
 use Rattle.f11_commands.proofs.BrokenLemmas.{begun-left, held-stands, stands-behind, unread-stands}
 use Rattle.f11_commands.specs.Copying.{CopiesWithin, KeepsRt, LeavesBegun, OutcomeIs, ReadsSource, StandsAsIs, directory_name, is_undoing}
 use Rattle.f11_commands.specs.Copying.{master_directory, operator}
-use Rattle.f11_commands.proofs.StoppingLemmas.{find-leaves, find-stopped, stops-by, stored}
+use Rattle.f11_commands.proofs.StoppingLemmas.{find-leaves, find-stopped, reads-by, stops-by, stored}
 use Rattle.f11_commands.specs.Finding.{FaresAlone, FaresAsAnswered, WithinDirectory, is_found}
-use Rattle.f11_commands.specs.Stopping.{IsStopped, IsUnheld, StopsCopy, StopsWithin, WhereUnheld, making, seeking}
+use Rattle.f11_commands.specs.Stopping.{IsStopped, IsUnheld, KeepsFiles, StopsCopy, StopsWithin, WhereUnheld, making, seeking}
 use Rattle.f11_commands.specs.declared.copy.Copying.{Copying}
 use Rattle.f11_commands.specs.declared.copy.Direction.{Direction}
 use Rattle.f11_commands.specs.declared.copy.Direction.TheVariants.{ToRt, FromRt}
 
--- of a volume that is only read nothing is said where a transfer of it failed
-abbrev Unsaid : Store → Store → Type 0
-Unsaid s t = ⊤
+-- all files of a store are as they were that is the one before
+behind-find : (s u t : Store) → u ≡ s → WhereUnheld KeepsFiles u t → WhereUnheld KeepsFiles s t
+behind-find s u t same keeps = subst (λ (x : Store). WhereUnheld KeepsFiles x t) same keeps
 
 or-false : (b : Bool) → (b || false) ≡ b
 or-false true = refl
@@ -272,7 +271,7 @@ module _ {D E : Type 0} {met : Ghosts D} {met' : Ghosts E} (disk : E → Disk) w
         WhereSound disk v rt (CopiesToRt c.mode operator 0 source c.rt_name 0 blocks s s' (rt_store_of d.image) (rt_store_of d'.image)))
         → IfErr result (λ e. is_whole result ≡ true → WhereSound disk v rt (RefusesCopyToRt e c.mode operator 0 source c.rt_name s s' d d'))
         → IfErr result (λ e. is_lethal e ≡ true → EndsToRt c.mode of_volume disk operator 0 source c.rt_name 0 e v w rt rt')
-        → FaresAsAnswered disk ToRt c.rt_name result (OfSource source result) Unsaid v w rt rt'
+        → FaresAsAnswered disk ToRt c.rt_name result (OfSource source result) KeepsFiles v w rt rt'
     answers-to-rt source result files target copied refused ended = record {
       fares = files.fares;
       fares_rt = target.fares;
@@ -285,7 +284,7 @@ module _ {D E : Type 0} {met : Ghosts D} {met' : Ghosts E} (disk : E → Disk) w
       rt_broken = λ rt-sound. begun rt-sound result ended;
       outcome = by_result result target copied refused;
       broken = λ sound. held sound result ended;
-      stopped = λ sound fault unheld. tt;
+      stopped = λ sound fault. reads-by result v w files sound fault;
     }
       where
         sounds : IsSoundDisk d → (r : Result ℕ FlxRefusal) → MakesRtFile disk r c.rt_name rt rt'
@@ -400,7 +399,7 @@ module _ {D E : Type 0} {met : Ghosts D} {met' : Ghosts E} (disk : E → Disk) (
       (disk (volume_device rt)) (disk (volume_device rt'))))
       → IfErr result (λ e. is_lethal e ≡ true → EndsToRt c.mode of_volume disk (who_asks task operator.caller) lun source c.rt_name 0 e v w
       rt rt')
-      → FaresAsAnswered disk ToRt c.rt_name result (OfSource disk c v w rt rt' source result) Unsaid v w rt rt'
+      → FaresAsAnswered disk ToRt c.rt_name result (OfSource disk c v w rt rt' source result) KeepsFiles v w rt rt'
   copied-to-rt task lun task-is lun-is source result v w rt rt' =
       subst (λ t. By t lun) (sym task-is) (subst (λ l. By 0 l) (sym lun-is) (answers-to-rt disk c v w rt rt' source result))
     where
@@ -416,7 +415,7 @@ module _ {D E : Type 0} {met : Ghosts D} {met' : Ghosts E} (disk : E → Disk) (
           (disk (volume_device rt)) (disk (volume_device rt'))))
           → IfErr result (λ e. is_lethal e ≡ true → EndsToRt c.mode of_volume disk (who_asks t operator.caller) l source c.rt_name 0 e v w
           rt rt')
-          → FaresAsAnswered disk ToRt c.rt_name result (OfSource disk c v w rt rt' source result) Unsaid v w rt rt'
+          → FaresAsAnswered disk ToRt c.rt_name result (OfSource disk c v w rt rt' source result) KeepsFiles v w rt rt'
 
   -- and one from it
   pub copied-from-rt : (task lun : ℕ) → task ≡ 0 → lun ≡ 0
@@ -446,12 +445,13 @@ module _ {D E : Type 0} {met : Ghosts D} {met' : Ghosts E} (disk : E → Disk) (
   -- the file is found, and then it is copied
   pub found-source : (dir source : FileId) (result : Result ℕ FlxRefusal) (v u w : Volume D met) (rt rt' : RtAccepted E met')
       → Grants of_volume operator (told (request.Find dir c.name) (reply.Found source)) v u
-      → FaresAsAnswered disk ToRt c.rt_name result (OfSource disk c u w rt rt' source result) Unsaid u w rt rt'
+      → FaresAsAnswered disk ToRt c.rt_name result (OfSource disk c u w rt rt' source result) KeepsFiles u w rt rt'
       → FaresAsAnswered disk ToRt c.rt_name result (WithinDirectory ToRt c dir result) (StopsWithin ToRt dir c.name) v w rt rt'
   found-source dir source result v u w rt rt' grants answers =
       answers-behind disk ToRt c.rt_name result (OfSource disk c u w rt rt' source result) (WithinDirectory ToRt c dir result)
-      Unsaid (StopsWithin ToRt dir c.name) (told (request.Find dir c.name) (reply.Found source))
-      v u w rt rt' refl grants answers (by_result result) (λ granted stops unheld. tt)
+      KeepsFiles (StopsWithin ToRt dir c.name) (told (request.Find dir c.name) (reply.Found source))
+      v u w rt rt' refl grants answers (by_result result)
+      (λ granted stops unheld. behind-find (store_of_volume v) (store_of_volume u) (stored w) granted.2.changes stops unheld)
     where
       by_result : (r : Result ℕ FlxRefusal)
           → Grants plain operator (told (request.Find dir c.name) (reply.Found source)) (store_of_volume v) (store_of_volume u)
@@ -470,7 +470,8 @@ module _ {D E : Type 0} {met : Ghosts D} {met' : Ghosts E} (disk : E → Disk) (
       rt rt
   lacks-source dir e v w rt fails =
       answers-not-found disk ToRt c.rt_name (WithinDirectory ToRt c dir (Err (Files e))) (StopsWithin ToRt dir c.name) dir c.name e v w rt
-      fails (λ denies. (inl (record { refusal = e; is = refl; not_found = denies }), refl)) (λ stopped unheld. tt)
+      fails (λ denies. (inl (record { refusal = e; is = refl; not_found = denies }), refl))
+      (λ at unheld. find-leaves dir c.name (store_of_volume v) (stored w) at)
 
   -- the user's directory is found, and then a file is copied from it, or to it
   pub found-directory : (direction : Direction) → c.direction ≡ direction → (name : List ℕ) → name ≡ directory_name c.directory
@@ -504,7 +505,7 @@ module _ {D E : Type 0} {met : Ghosts D} {met' : Ghosts E} (disk : E → Disk) (
           (store_of_volume u)
           → WhereUnheld (StopsWithin x dir c.name) (store_of_volume u) (stored w)
           → WhereUnheld (StopsCopy x c.directory c.name) (store_of_volume v) (stored w)
-      stop ToRt granted stops unheld = tt
+      stop ToRt granted stops unheld = behind-find (store_of_volume v) (store_of_volume u) (stored w) granted.2.changes stops unheld
       stop FromRt granted stops unheld =
           making dir (store_of_volume u) (store_of_volume u, granted, refl) (stops (subst IsUnheld (sym granted.2.changes) unheld))
 
@@ -524,6 +525,6 @@ module _ {D E : Type 0} {met : Ghosts D} {met' : Ghosts E} (disk : E → Disk) (
       stop : (x : Direction)
           → IsStopped (asks (request.Find master_directory (directory_name c.directory))) (store_of_volume v) (stored w)
           → WhereUnheld (StopsCopy x c.directory c.name) (store_of_volume v) (stored w)
-      stop ToRt at unheld = tt
+      stop ToRt at unheld = find-leaves master_directory (directory_name c.directory) (store_of_volume v) (stored w) at
       stop FromRt at unheld =
           seeking at (find-leaves master_directory (directory_name c.directory) (store_of_volume v) (stored w) at)

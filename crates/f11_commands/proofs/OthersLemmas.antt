@@ -63,7 +63,7 @@ record IsOnTheWay (id : FileId) (n : ℕ) (f : File) (u : Store) : Type 0 where
   pub held : HoldsOnly id u
 
 -- work that isn't done where there is a cause against it
-if-served : (n : ℕ) (o : Option Refusal) (w : Work) → (o ≡ None → w.is_meant n ≡ false) → (work_if o w).is_meant n ≡ false
+pub if-served : (n : ℕ) (o : Option Refusal) (w : Work) → (o ≡ None → w.is_meant n ≡ false) → (work_if o w).is_meant n ≡ false
 if-served n None w h = h refl
 if-served n (Some e) w h = refl
 

@@ -13,7 +13,8 @@ use Rattle.f11_fcp.specs.declared.volume.Volume.{Volume}
 use Rattle.f11_files.specs.Answers.{is_fatal, is_fault, is_refused}
 use Rattle.f11_flx.proofs.VolumeLemmas.{denied-fared, unused, volume-seen}
 use Rattle.f11_flx.specs.Asking.{Asking, Denies, Fails, Grants, Tried, asks, counts, plain, reads, told, writes}
-use Rattle.f11_flx.specs.Copying.{AsksForOne, FaresFiles, IsMakingOf, creation, making, nothing, of_files, of_volume}
+use Rattle.f11_flx.specs.Copying.{AsksForOne, AsksOnly, FaresFiles, IsMakingOf, ReadsFiles, is_reading, creation, making, nothing, of_files}
+use Rattle.f11_flx.specs.Copying.{of_volume}
 use Rattle.f11_flx.specs.Refusal.{is_lethal}
 use Rattle.f11_flx.specs.declared.refusal.FlxRefusal.{FlxRefusal}
 use Rattle.f11_flx.specs.declared.refusal.FlxRefusal.TheVariants.{Files, Rt, BadRecord, LineTooLong}
@@ -32,9 +33,11 @@ use Rattle.f11_store.specs.declared.requests.Request.{Request}
 use Rattle.f11_store.specs.declared.requests.Request.TheVariants as request
 use Rattle.f11_commands.proofs.AskedLemmas.{never}
 use Rattle.f11_commands.proofs.OthersLemmas.{all-behind, no-slot-0, others-stay}
+use Rattle.f11_commands.proofs.ReadOnlyLemmas.{reads-leave}
 use Rattle.f11_commands.specs.Copying.{operator}
 use Rattle.f11_commands.specs.Finding.{is_found}
-use Rattle.f11_commands.specs.Stopping.{IsStopped, StopsAt, StopsMaking, WhereUnheld, after_creation, creating, in_part, not_begun}
+use Rattle.f11_commands.specs.Stopping.{IsStopped, KeepsFiles, StopsAt, StopsMaking, WhereUnheld, after_creation, creating, in_part}
+use Rattle.f11_commands.specs.Stopping.{not_begun}
 
 -- a device fault fails the volume
 fault-fatal : (r : Result ℕ FlxRefusal) → of_files is_fault r ≡ true → of_files is_fatal r ≡ true
@@ -105,7 +108,7 @@ one-stopped x s t h = by h.asked h.reached h.tried h.last h.behind h.are h.stopp
 
 -- a request that changes no file leaves them all, however it was stopped
 pub find-leaves : (dir : FileId) (name : List ℕ) (s t : Store) → IsStopped (asks (request.Find dir name)) s t
-    → (n : ℕ) → t.file n ≡ s.file n
+    → KeepsFiles s t
 find-leaves dir name s t (not_begun held same) n = sym (ap (λ (x : Store). x.file n) same)
 find-leaves dir name s t (in_part h) n = h.1.others n (by (first_refusal s operator.task operator.caller (request.Find dir name)))
   where
@@ -269,14 +272,31 @@ module _ {D : Type 0} {met : Ghosts D} where
             at;
       }
 
+  -- a device fault is the answer, and the volume has failed
+  failed-by : (result : Result ℕ FlxRefusal) (v w : Volume D met) → FaresFiles result v w → is_sound v ≡ true
+      → of_files is_fault result ≡ true → is_spent w ≡ true
+  failed-by result v w fares sound fault =
+      fares.next (honest-of (state_in v).disk.honest (is_spent v) sound)
+      ∙ ap (λ b. b || of_files is_fatal result) (alive-of (state_in v).disk.honest (is_spent v) sound) ∙ fault-fatal result fault
+
   -- by what an answer tells of it
   pub stops-by : (dir : FileId) (to : List ℕ) (result : Result ℕ FlxRefusal) (v w : Volume D met) → FaresFiles result v w
       → AsksForOne of_volume operator 0 dir to 0 v w → is_sound v ≡ true → of_files is_fault result ≡ true
       → WhereUnheld (StopsMaking dir to) (store_of_volume v) (stored w)
-  stops-by dir to result v w fares one sound fault =
-      stops-making dir to v w one sound
-      (fares.next (honest-of (state_in v).disk.honest (is_spent v) sound)
-      ∙ ap (λ b. b || of_files is_fatal result) (alive-of (state_in v).disk.honest (is_spent v) sound) ∙ fault-fatal result fault)
+  stops-by dir to result v w fares one sound fault = stops-making dir to v w one sound (failed-by result v w fares sound fault)
+
+  -- it was only read
+  reading-stops : (v w : Volume D met) → AsksOnly is_reading operator v w → is_sound v ≡ true → is_spent w ≡ true
+      → WhereUnheld KeepsFiles (store_of_volume v) (stored w)
+  reading-stops v w only sound dead unheld =
+      let s = stops only.asked v w only.tried sound dead in
+      let parts = all-behind (λ x. is_reading x ≡ true) s.asked s.last s.behind
+      (subst (λ (xs : List Asking). All (λ x. is_reading x ≡ true) xs) (sym s.are) only.only) in
+      reads-leave (store_of_volume v) s.reached (stored w) s.asked s.last unheld parts.0 parts.1 s.tried s.stopped
+
+  pub reads-by : (result : Result ℕ FlxRefusal) (v w : Volume D met) → ReadsFiles result operator v w → is_sound v ≡ true
+      → of_files is_fault result ≡ true → WhereUnheld KeepsFiles (store_of_volume v) (stored w)
+  reads-by result v w files sound fault = reading-stops v w files.asked sound (failed-by result v w files.fares sound fault)
 
   -- a name was looked for, and a transfer failed
   pub find-stopped : (dir : FileId) (name : List ℕ) (e : Refusal) (v w : Volume D met) → is_sound v ≡ true → is_fault e ≡ true

@@ -1,5 +1,5 @@
 -- What stands on a Files-11 volume where a transfer of it failed while a file was made (profile).
-use Rattle.std.specs.Prelude.{◌≡◌, ℕ, ◌==◌, ◌&&◌, ⊤, Bool, false, List, All, Some, None}
+use Rattle.std.specs.Prelude.{◌≡◌, ℕ, ◌==◌, ◌&&◌, Bool, false, List, All, Some, None}
 use Rattle.f11_fcp.specs.Accesses.{AccessTable, held_in}
 use Rattle.f11_flx.specs.Asking.{Asking, Grants, Tried, asks, counts, plain, reads, told, writes}
 use Rattle.f11_flx.specs.Copying.{Creates, IsMakingOf}
@@ -68,10 +68,14 @@ pub record StopsMaking (dir : FileId) (to : List ℕ) (s t : Store) : Type 0 whe
   pub stops : StopsAt dir to s t
   pub others : KeepsOthers dir s t
 
+-- all files are as they were
+abbrev pub KeepsFiles : Store → Store → Type 0
+KeepsFiles s t = (n : ℕ) → t.file n ≡ s.file n
+
 -- A file was to be made in a user's directory under a name: the look for the directory was stopped, and all files are as they were; or the
 -- making of the file was, in the directory that was found.
 pub data StopsNamed (user : Uic) (name : List ℕ) (s t : Store) : Type 0 where
-  seeking : IsStopped (asks (request.Find master_directory (directory_name user))) s t → ((n : ℕ) → t.file n ≡ s.file n)
+  seeking : IsStopped (asks (request.Find master_directory (directory_name user))) s t → KeepsFiles s t
       → StopsNamed user name s t
   making : (dir : FileId) (found : Store) → FindsName master_directory (directory_name user) dir s found → StopsMaking dir name found t
       → StopsNamed user name s t
@@ -84,12 +88,13 @@ IsUnheld s = (task lun : ℕ) → s.access task lun ≡ None
 abbrev pub WhereUnheld : (Store → Store → Type 0) → Store → Store → Type 0
 WhereUnheld Stops s t = IsUnheld s → Stops s t
 
--- a copy between a directory and an RT-11 volume was stopped by the Files-11 one: where that is copied to, the making of the copy was
+-- a copy between a directory and an RT-11 volume was stopped by the Files-11 one: where that is copied from, all files are as they were;
+-- else the making of the copy was stopped
 abbrev pub StopsWithin : Direction → FileId → List ℕ → Store → Store → Type 0
-StopsWithin ToRt dir name s t = ⊤
+StopsWithin ToRt dir name s t = KeepsFiles s t
 StopsWithin FromRt dir name s t = StopsMaking dir name s t
 
 -- and so one of names
 abbrev pub StopsCopy : Direction → Uic → List ℕ → Store → Store → Type 0
-StopsCopy ToRt user name s t = ⊤
+StopsCopy ToRt user name s t = KeepsFiles s t
 StopsCopy FromRt user name s t = StopsNamed user name s t
