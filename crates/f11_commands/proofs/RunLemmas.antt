@@ -1,14 +1,13 @@
 -- A script that is served on an image.
-use Rattle.std.proofs.Common.{◌≡◌, ◌⊎◌, inl, inr, ℕ, ◌&&◌, ◌++◌, not, Bool, true, false, IsTrue, List, Option, Result, Ok, Err, refl, sym}
-use Rattle.std.proofs.Common.{◌∙◌}
-use Rattle.std.proofs.Common.{ap, subst, arith}
+use Rattle.std.proofs.Common.{◌≡◌, ◌⊎◌, inl, inr, ℕ, ◌++◌, Bool, true, false, IsTrue, List, Option, Result, Ok, Err, refl, sym}
+use Rattle.std.proofs.Common.{◌∙◌, ap, subst, arith}
 use Rattle.f11_dev.specs.Disk.{Disk}
 use Rattle.f11_dev.specs.Image.{Image, IsImage}
 use Rattle.f11_dev.specs.Looked.{Looked}
 use Rattle.f11_dev.specs.declared.device.Device.{Ghosts}
-use Rattle.f11_home.specs.Home.{HomeFields, IsHomeOf}
-use Rattle.f11_fcp.specs.Accesses.{AccessTable, held_in, no_entries}
-use Rattle.f11_fcp.specs.Lists.{ServesCall, failures_of, is_sound, store_of_volume}
+use Rattle.f11_home.specs.Home.{IsHomeOf}
+use Rattle.f11_fcp.specs.Accesses.{held_in, no_entries}
+use Rattle.f11_fcp.specs.Lists.{ServesCall, failures_of, store_of_volume}
 use Rattle.f11_fcp.specs.Mounting.{Mounts}
 use Rattle.f11_fcp.specs.Serving.{StaysAccepted, is_spent, state_in}
 use Rattle.f11_fcp.specs.declared.volume.Volume.{Volume}
@@ -22,7 +21,7 @@ use Rattle.f11_store.specs.Store.{Store}
 use Rattle.f11_volume.specs.Verdict.{IsAccepted}
 use Rattle.f11_writes.proofs.InOrderLemmas.{order-looked, order-then}
 use Rattle.f11_writes.specs.Order.{WritesInOrder}
-use Rattle.f11_commands.proofs.CopyLemmas.{stands-accepted}
+use Rattle.f11_commands.proofs.CopyLemmas.{first-is, last-is, sound-first, stands-accepted}
 use Rattle.f11_commands.specs.RunCommand.{EndsRun, EndsServing, HasFaults, ServesImage, WritesNothing, outcome_of}
 use Rattle.f11_commands.specs.declared.outcome.Answer.{Answer}
 use Rattle.f11_commands.specs.declared.outcome.Answer.TheVariants.{Done, Fault}
@@ -30,11 +29,6 @@ use Rattle.f11_commands.specs.declared.outcome.Failure.{Failure}
 use Rattle.f11_commands.specs.declared.outcome.Failure.TheVariants.{DeviceFault, NoMemory, CannotWrite}
 use Rattle.f11_commands.specs.declared.run.RunFailure.{RunFailure}
 use Rattle.f11_commands.specs.declared.run.RunFailure.TheVariants.{Command, Script}
-
-both : (a b : Bool) → a ≡ true → b ≡ false → (a && not b) ≡ true
-both true false h k = refl
-both true true h k = absurd (let never : true ≡ false = k in cc)
-both false b h k = absurd (let never : false ≡ true = h in cc)
 
 -- a volume that was mounted served the script
 module _ {D W : Type 0} {met : Ghosts D} (disk : Disk) (first last : Volume D met) (remaining : Option (List ℕ))
@@ -48,14 +42,6 @@ module _ {D W : Type 0} {met : Ghosts D} (disk : Disk) (first last : Volume D me
     kept : KeepsVolume first last
     kept = script-keeps-volume remaining (contents before) (contents after) first last result runs
 
-    first-is : store_of_volume first ≡ held_in no_entries (store_of disk.image (state_in first).home)
-    first-is =
-        ap (λ (t : AccessTable). held_in t (store_of (state_in first).disk.image (state_in first).home)) mounts.none
-        ∙ ap (λ (i : Image). held_in no_entries (store_of i (state_in first).home)) mounts.looked.image
-
-    last-is : store_of_volume last ≡ held_in (state_in last).table (store_of (state_in last).disk.image (state_in first).home)
-    last-is = ap (λ (h : HomeFields). held_in (state_in last).table (store_of (state_in last).disk.image h)) kept.home
-
     pub serves-image : ServesImage result remaining disk (state_in last).disk contents before after
     serves-image = record {
       home = (state_in first).home;
@@ -64,13 +50,13 @@ module _ {D W : Type 0} {met : Ghosts D} (disk : Disk) (first last : Volume D me
       accepted = λ is. accepted (kept.honest ∙ mounts.looked.honest ∙ is);
       meanwhile = stands-accepted disk first last mounts image whole ordered;
       run = λ is none.
-          let sound : is_sound first ≡ true = both (state_in first).disk.honest (is_spent first) (mounts.looked.honest ∙ is) mounts.fresh in
+          let sound = sound-first disk first last mounts kept.home is in
           let same : failures_of last ≡ failures_of first = omega (arith, mounts.looked.failures, none) in
           subst (λ (s : Store). RunsScript Steps remaining s
           (held_in (state_in last).table (store_of (state_in last).disk.image (state_in first).home)) (contents before) (contents after)
-          result) first-is
-          (subst (λ (s : Store). RunsScript Steps remaining (store_of_volume first) s (contents before) (contents after) result) last-is
-          (run sound same));
+          result) (first-is disk first last mounts kept.home)
+          (subst (λ (s : Store). RunsScript Steps remaining (store_of_volume first) s (contents before) (contents after) result)
+          (last-is disk first last mounts kept.home) (run sound same));
     }
 
     by-outcome : (spent : Bool) → is_spent last ≡ spent
