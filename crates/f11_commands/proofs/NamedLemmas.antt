@@ -47,7 +47,7 @@ use Rattle.f11_commands.specs.declared.copy.Copying.{Copying}
 use Rattle.f11_commands.specs.declared.copy.Direction.{Direction}
 use Rattle.f11_commands.specs.declared.copy.Direction.TheVariants.{ToRt, FromRt}
 
--- all files of a store are as they were that is the one before
+-- files that stay behind a look for a name, which changes nothing, stay from before it
 behind-find : (s u t : Store) → u ≡ s → WhereUnheld KeepsFiles u t → WhereUnheld KeepsFiles s t
 behind-find s u t same keeps = subst (λ (x : Store). WhereUnheld KeepsFiles x t) same keeps
 

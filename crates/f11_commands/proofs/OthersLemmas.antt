@@ -50,7 +50,7 @@ IsHeldOf id (Some a) = a.file ≡ id
 abbrev pub HoldsOnly : FileId → Store → Type 0
 HoldsOnly id u = (task lun : ℕ) → IsHeldOf id (u.access task lun)
 
--- A file is another than one that is made in a directory, than that directory and than the index file; nor is this the one that is made.
+-- A file is none of these: one that is made in a directory, that directory, and the index file; nor is the one that is made the last.
 record IsAnother (id dir : FileId) (n : ℕ) (f : File) : Type 0 where
   pub apart : (n == id.number) ≡ false
   pub elsewhere : is_directory_of dir n f.sequence ≡ false
