@@ -1,7 +1,7 @@
 -- Facts about the bits of a block, and about tests on numbers.
 use Rattle.std.proofs.Common.{◌≡◌, ℕ, ◌+◌, ◌<◌, ◌≤◌, Bool, true, false, List, refl, sym, ap, ◌∙◌, inl, inr, add-one, arith, lt-ltb, min}
 use Rattle.std.proofs.lemmas.Bool.{both_ways, and_from, cases_lt}
-use Rattle.f11_bytes.specs.Bits.{bit}
+use Rattle.f11_dev.specs.bytes.Bits.{bit}
 use Rattle.f11_bits.specs.Bitmap.{count_below}
 use Rattle.f11_bits.specs.Bits.{bit_below, IsFirstSet}
 use Rattle.f11_bits.specs.Run.{IsFirstRun}

@@ -8,8 +8,8 @@ use Rattle.std.proofs.lemmas.Bool.{cases_Bool, both_ways, eqb-true}
 use Rattle.std.proofs.lemmas.List.{get_or-replicate}
 use Rattle.std.proofs.lemmas.Nat.Bits.{bit_at-zero}
 use Rattle.std.proofs.lemmas.Simd.{fold-sum, get_or-chunk, get_or_wider, below_from_Fits, bitmask_splat, length-chunk}
-use Rattle.f11_bytes.specs.Bits.{bit}
-use Rattle.f11_bytes.specs.Words.{word, word_total, word_sum}
+use Rattle.f11_dev.specs.bytes.Bits.{bit}
+use Rattle.f11_dev.specs.bytes.Words.{word, word_total, word_sum}
 use Rattle.f11_bits.specs.Bitmap.{count_below}
 use Rattle.f11_bits.specs.Bits.{NoneWithin}
 use Rattle.f11_bits.proofs.CountLemmas.{count_below-append, count_below-le}

@@ -12,7 +12,7 @@ use Rattle.std.proofs.lemmas.Nat.{ones_cat, ones-le, mod-pow-add, pow_pos}
 use Rattle.std.proofs.lemmas.Nat.Bits.{bit_at-lt}
 use Rattle.std.proofs.lemmas.List.{length-map}
 use Rattle.std.proofs.lemmas.Simd.{sum_bound, fold-sum}
-use Rattle.f11_bytes.specs.Bits.{bit}
+use Rattle.f11_dev.specs.bytes.Bits.{bit}
 use Rattle.f11_bits.specs.Bitmap.{count_below}
 use Rattle.f11_bits.proofs.CountLemmas.{one_if, count_below-zero, count_below-suc, count_below-append}
 

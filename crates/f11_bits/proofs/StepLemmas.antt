@@ -4,7 +4,7 @@ use Rattle.std.proofs.Common.{OnErr, Some, sym, ap, ◌∙◌, subst, arith}
 use Rattle.std.proofs.Math.ListN.{set}
 use Rattle.std.specs.List.{slice_get}
 use Rattle.std.proofs.lemmas.Result.{on_ok_weaker, on_err_weaker}
-use Rattle.f11_bytes.specs.Bits.{bit}
+use Rattle.f11_dev.specs.bytes.Bits.{bit}
 use Rattle.f11_dev.specs.Image.{Image}
 use Rattle.f11_dev.specs.Disk.{Disk, Writes}
 use Rattle.f11_dev.specs.Looked.{Looked}

@@ -2,7 +2,7 @@
 use Rattle.std.specs.Prelude.{◌≡◌, ◌≢◌, ◌⊎◌, ℕ, zero, suc, ◌+◌, ◌*◌, ◌/◌, ◌%◌, ◌<◌, ◌≤◌, Bool, ◌&&◌}
 use Rattle.std.specs.Prelude.{nat_lt, if◌then◌else◌, List, length, slice_index, Some}
 use Rattle.std.specs.List.{slice_get}
-use Rattle.f11_bytes.specs.Bits.{bit}
+use Rattle.f11_dev.specs.bytes.Bits.{bit}
 use Rattle.f11_dev.specs.Image.{Image, image_block}
 
 -- where a volume's bitmap is: the LBNs of its blocks in order, and the volume's size in blocks

@@ -1,6 +1,6 @@
 -- The bits of one bitmap block.
 use Rattle.std.specs.Prelude.{◌≡◌, ℕ, ◌<◌, ◌≤◌, Bool, true, false, ◌&&◌, nat_lt, List}
-use Rattle.f11_bytes.specs.Bits.{bit}
+use Rattle.f11_dev.specs.bytes.Bits.{bit}
 
 -- bit k is 1 and below the end
 abbrev pub bit_below : List ℕ → ℕ → ℕ → Bool

@@ -1,6 +1,6 @@
 -- The lanes of a vector (profile).
 use Rattle.std.specs.Prelude.{ℕ, ◌%◌, List, sum}
-use Rattle.f11_bytes.specs.Bits.{bit}
+use Rattle.f11_dev.specs.bytes.Bits.{bit}
 use Rattle.f11_bits.specs.Bitmap.{count_below}
 
 -- how many bits of 64 lanes of a byte each are 1

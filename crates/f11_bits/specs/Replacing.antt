@@ -1,7 +1,7 @@
 -- Which blocks are free, told anew for one bitmap block (Files-11 On-Disk Structure Level 1, "Storage Bitmap File").
 use Rattle.std.specs.Prelude.{◌≡◌, ◌≢◌, ℕ, ◌*◌, ◌/◌, ◌%◌, ◌<◌, ◌≤◌, List, length, slice_index}
 use Rattle.std.specs.List.{slice_get}
-use Rattle.f11_bytes.specs.Bits.{bit}
+use Rattle.f11_dev.specs.bytes.Bits.{bit}
 use Rattle.f11_dev.specs.Image.{Image}
 use Rattle.f11_bits.specs.Bitmap.{Bitmap, bitmap_bit, is_free, KeepsOthers}
 

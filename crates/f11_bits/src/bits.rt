@@ -1,8 +1,8 @@
 //! The bits of one bitmap block, which are 1 where a block is free (Files-11 On-Disk Structure Level 1, "Storage Bitmap
 //! File"). A run of them is cut at 256, which is as long as a retrieval pointer can tell.
 ghost use Rattle.std.specs.Prelude.{◌≡◌, ℕ, ◌+◌, ◌*◌, ◌^◌, ◌<◌, ◌≤◌, Bool, true, false, MatchOption};
-ghost use Rattle.f11_bytes.specs.Bits.{bit};
-ghost use Rattle.f11_bytes.specs.Words.{word_sum as sum_of_words};
+ghost use Rattle.f11_dev.specs.bytes.Bits.{bit};
+ghost use Rattle.f11_dev.specs.bytes.Words.{word_sum as sum_of_words};
 ghost use Rattle.f11_bits.specs.Bitmap.{count_below};
 ghost use Rattle.f11_bits.specs.Bits.{bit_below, IsFirstSet, IsFirstClear, NoneWithin};
 ghost use Rattle.f11_bits.specs.Room.{IsFirstRoom};
@@ -10,7 +10,7 @@ ghost use Rattle.f11_bits.specs.Run.{IsFirstRun, NoneFrom};
 
 use crate::lanes::{LANES, bytes_at, ones, sum, words_at};
 use byteorder::{ByteOrder, LittleEndian};
-use f11_bytes::{BLOCK_SIZE, Block, is_set, read_word, set_bit};
+use f11_dev::f11_bytes::{BLOCK_SIZE, Block, is_set, read_word, set_bit};
 use std::simd::prelude::*;
 
 /// How many bits a block has.

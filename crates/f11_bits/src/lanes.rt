@@ -1,9 +1,9 @@
 //! The lanes of vectors: their 1 bits, and their sum.
 ghost use Rattle.std.specs.Prelude.{◌≡◌, ◌+◌, ◌*◌, ◌<◌, ℕ, slice_index};
-ghost use Rattle.f11_bytes.specs.Words.{word};
+ghost use Rattle.f11_dev.specs.bytes.Words.{word};
 ghost use Rattle.f11_bits.specs.Lanes.{ones_of, lane_sum};
 
-use f11_bytes::Block;
+use f11_dev::f11_bytes::Block;
 use std::simd::prelude::*;
 
 /// How many bytes are looked at at once.

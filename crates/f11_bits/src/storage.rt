@@ -4,7 +4,7 @@ ghost use Rattle.f11_bits.specs.Bitmap.{IsBitmap, IsBitmapBlock, LiesWithin, is_
 ghost use Rattle.f11_bits.specs.Calls.{Counts, FailsToCount};
 
 use crate::bits::{BITS, LONGEST, count_free_to, first_run_to, run_length, set_bits};
-use f11_bytes::{BLOCK_SIZE, Block};
+use f11_dev::f11_bytes::{BLOCK_SIZE, Block};
 use f11_dev::{Device, DeviceFault};
 
 mod take_run;

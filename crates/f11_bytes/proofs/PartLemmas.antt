@@ -29,14 +29,6 @@ pub slice_index-with_bytes_before : (b : List ℕ) (at : ℕ) (bytes : List ℕ)
 slice_index-with_bytes_before b at bytes i long before =
     get_or_append_left (take at b) (bytes ++ drop (at + length bytes) b) 0 i (omega (arith, length-take at b)) ∙ get_or-take at b i 0 before
 
--- a byte of them
-pub slice_index-with_bytes : (b : List ℕ) (at : ℕ) (bytes : List ℕ) (i : ℕ) → at ≤ length b → i < length bytes
-    → slice_index (with_bytes b at bytes) (at + i) ≡ slice_index bytes i
-slice_index-with_bytes b at bytes i long within =
-    get_or-append_right (take at b) (bytes ++ drop (at + length bytes) b) at (at + i) 0 (omega (arith, length-take at b)) (omega arith)
-    ∙ ap (slice_index (bytes ++ drop (at + length bytes) b)) (omega arith)
-    ∙ get_or_append_left bytes (drop (at + length bytes) b) 0 i within
-
 -- a byte behind them stays
 pub slice_index-with_bytes_behind : (b : List ℕ) (at : ℕ) (bytes : List ℕ) (i : ℕ) → at ≤ length b → at + length bytes ≤ i
     → slice_index (with_bytes b at bytes) i ≡ slice_index b i

@@ -1,5 +1,5 @@
 -- The files of users' directories, one after another.
-use Rattle.std.proofs.Common.{◌≡◌, ◌++◌, ℕ, [], ◌∷◌, Option, Some, None, refl, sym, ap, ◌∙◌, arith}
+use Rattle.std.proofs.Common.{◌≡◌, ◌++◌, ℕ, ◌∷◌, Option, Some, None, refl, sym, ap, ◌∙◌, arith}
 use Rattle.std.proofs.Common.{IfSome}
 use Rattle.f11_chain.specs.Calls.{table}
 use Rattle.f11_dev.specs.Disk.{Disk}
@@ -8,11 +8,10 @@ use Rattle.f11_dir.specs.declared.record.Record.{Record}
 use Rattle.f11_index.specs.IndexFile.{Index}
 use Rattle.f11_index.specs.Table.{table_in}
 use Rattle.f11_reader.proofs.ReadLemmas.{holds-on}
-use Rattle.f11_store.specs.declared.callers.Uic.{Uic}
-use Rattle.f11_catalog.specs.AllFiles.{place_entered, places_entered, places_of_users, places_under}
+use Rattle.f11_catalog.specs.AllFiles.{places_entered, places_of_users, places_under}
 use Rattle.f11_catalog.specs.Records.{IsReadingRecords, Reads, ReadsRecord, records_to_come}
-use Rattle.f11_catalog.specs.Walking.{ComesToFile, ComesToUser, EntersFile, EntersNoMore, HasNoneLeft, OpensUser, StaysToCome}
-use Rattle.f11_catalog.specs.Walking.{TakesUser, entered_to_come, hand_left, hand_to_come, master_left, master_to_come}
+use Rattle.f11_catalog.specs.Walking.{ComesToUser, EntersFile, EntersNoMore, OpensUser, StaysToCome}
+use Rattle.f11_catalog.specs.Walking.{TakesUser, entered_to_come, hand_to_come, master_left, master_to_come}
 use Rattle.f11_catalog.specs.declared.directory.DirectoryReader.{DirectoryReader}
 use Rattle.f11_catalog.specs.declared.walk.place.FileAt.{FileAt}
 use Rattle.f11_catalog.specs.declared.walk.state.UserDirectory.{UserDirectory}
@@ -110,30 +109,6 @@ module _ (index : Index) where
     }
 
   module _ (files : UserFiles) (old new : Disk) where
-    -- a user's directory is in hand, and names another file
-    module _ (user : Uic) (directory : DirectoryReader)
-        (is : files.hand ≡ Some (record { user = user; directory = directory })) where
-      as-in-hand : entered_to_come index old files
-          ≡ places_entered (table index old) user (records_to_come index old directory) ++ master_to_come index old files.master
-      as-in-hand = ap (λ h. hand_to_come index old h ++ master_to_come index old files.master) is
-
-      pub hand-finds : (later : DirectoryReader) (found : FileAt) → ComesToFile index user directory later found old new
-          → EntersFile index files (record { hand = Some (record { user = user; directory = later }); master = files.master }) found old new
-      hand-finds later found comes = record {
-        next = λ honest. as-in-hand ∙ ap (λ ps. ps ++ master_to_come index old files.master) (comes.comes.next honest);
-        fewer = let left = ap hand_left is in omega (arith, left, comes.comes.fewer);
-        opens = comes.opens;
-      }
-
-      -- or no more
-      pub hand-ends : HasNoneLeft (λ image t. place_entered t user) index directory old new
-          → StaysToCome index files (record { hand = None; master = files.master }) old new
-      hand-ends none = record {
-        same = λ honest. sym (as-in-hand ∙ ap (λ ps. ps ++ master_to_come index old files.master) (none.none honest));
-        no_more = omega arith;
-        reads = none.reads;
-      }
-
     -- none is in hand
     module _ (empty : files.hand ≡ None) where
       as-in-master : (master : Option DirectoryReader) → files.master ≡ master
@@ -151,17 +126,6 @@ module _ (index : Index) where
           reads = comes.comes.reads;
         };
         fewer = let left = ap master_left is in omega (arith, left, comes.comes.fewer);
-      }
-
-      -- or there is none
-      pub no-more-named : (master : DirectoryReader) → files.master ≡ Some master
-          → HasNoneLeft (λ image t. places_under image t) index master old new
-          → EntersNoMore index files (record { hand = files.hand; master = None }) old new
-      no-more-named master is none = record {
-        none = λ honest. as-in-master (Some master) is ∙ none.none honest;
-        ended = λ honest. ap (λ h. hand_to_come index old h ++ []) empty;
-        no_more = omega arith;
-        reads = none.reads;
       }
 
   pub no-master : (files : UserFiles) (disk : Disk) → files.hand ≡ None → files.master ≡ None → EntersNoMore index files files disk disk

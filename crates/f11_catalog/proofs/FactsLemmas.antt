@@ -6,7 +6,7 @@ use Rattle.std.specs.Option.{option_map_or}
 use Rattle.std.specs.Str.{bytes_eq}
 use Rattle.f11_header.specs.Fields.{map_area}
 use Rattle.f11_header.specs.MapFields.{segment}
-use Rattle.f11_map.specs.HeaderBlock.{segment_number}
+use Rattle.f11_volume.specs.map.HeaderBlock.{segment_number}
 use Rattle.f11_rad50.proofs.Spelled.{words_spelled-every}
 use Rattle.f11_rad50.specs.Name.{Spells, is_name, name_text}
 use Rattle.f11_catalog.specs.Users.{user_named, user_spelled}

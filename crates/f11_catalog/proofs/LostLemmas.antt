@@ -72,9 +72,6 @@ pub record SeesNone (known : ℕ → Bool) (index : Index) (first here : OtherFi
   pub reads : Reads old now 0
 
 module _ (known : ℕ → Bool) (index : Index) where
-  pub sees-none : (first : OtherFiles) (disk : Disk) → SeesNone known index first first disk disk
-  sees-none first disk = record { rest = λ _. refl; forward = omega arith; reads = reads-none disk }
-
   module _ (first here : OtherFiles) (old now : Disk) (seen : SeesNone known index first here old now) where
     module _ (past : slots index < here.next) where
       none-here : others_to_come (table index old) known here ≡ []

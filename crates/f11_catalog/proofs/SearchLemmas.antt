@@ -9,10 +9,10 @@ use Rattle.f11_store.specs.declared.files.FileId.{FileId}
 use Rattle.f11_store.specs.declared.refusals.Refusal.{Refusal}
 use Rattle.f11_store.specs.declared.refusals.Refusal.TheVariants.{NoSuchEntry}
 use Rattle.f11_catalog.specs.Listing.{FindsId, FindsNoId, id_entered, id_or, id_under}
-use Rattle.f11_catalog.specs.Records.{FindsNoDirectory, HasNoRecord, OpensDirectory, Reads, ReadsRecord}
+use Rattle.f11_catalog.specs.Records.{HasNoRecord, OpensDirectory, Reads, ReadsRecord}
 use Rattle.f11_catalog.specs.Records.{records_of, records_to_come}
 use Rattle.f11_catalog.specs.declared.directory.DirectoryReader.{DirectoryReader}
-use Rattle.f11_catalog.proofs.ListingLemmas.{coming-later, reads-none, reads-then}
+use Rattle.f11_catalog.proofs.ListingLemmas.{coming-later, reads-then}
 
 find-here : {X : Type 0} (p : X → Bool) (x : X) (xs : List X) → p x ≡ true → find p (x ∷ xs) ≡ Some x
 find-here p x xs is = rw is refl
@@ -25,9 +25,6 @@ pub record LookedFor (name : List ℕ) (index : Index) (first here : DirectoryRe
   pub rest : IsTrue old.honest →
       find (has_name name) (records_to_come index old first) ≡ find (has_name name) (records_to_come index old here)
   pub reads : Reads old now 0
-
-pub looked-none : (name : List ℕ) (index : Index) (first : DirectoryReader) (disk : Disk) → LookedFor name index first first disk disk
-looked-none name index first disk = record { rest = λ _. refl; reads = reads-none disk }
 
 module _ (name : List ℕ) (index : Index) (first here : DirectoryReader) (old now : Disk) (so : LookedFor name index first here old now)
   where
@@ -79,11 +76,3 @@ module _ (name : List ℕ) (index : Index) (first here : DirectoryReader) (old n
             answered honest ∙ ap (id_or None) (is-under honest None (ap (find (has_name name)) left));
         reads = reads-then (_, opens.looked) (reads-then so.reads none.reads);
       }
-
-pub not-looked : (name : List ℕ) (index : Index) (id : FileId) (refusal : Refusal) (old new : Disk)
-    → FindsNoDirectory index id refusal old new → FindsNoId index id name refusal old new
-not-looked name index id refusal old new none = record {
-  refused = λ honest.
-      ap (λ r. id_or r (id_under name (records_of old.image (table index old) id))) (none.refused honest);
-  reads = (_, none.looked);
-}

@@ -4,7 +4,7 @@ use Rattle.std.proofs.Common.{refl, sym, ap, ◌∙◌}
 use Rattle.std.proofs.lemmas.Bool.{eq-eqb, eqb-true}
 use Rattle.std.specs.Option.{option_and_then}
 use Rattle.f11_dev.specs.Image.{Image}
-use Rattle.f11_home.specs.Home.{HomeFields}
+use Rattle.f11_volume.specs.home.Home.{HomeFields}
 use Rattle.f11_image_store.specs.StoreOf.{as_seen, file_at, is_first, store_of}
 use Rattle.f11_index.specs.Table.{Table, last_sequence, table_of}
 use Rattle.f11_store.specs.Directory.{entries_of, is_empty, record_id, record_name}

@@ -1,7 +1,7 @@
 -- Laws of directories and files (Files-11 On-Disk Structure Level 1, "Index File" and "Directories").
 use Rattle.std.specs.Prelude.{◌≡◌, ℕ, ◌==◌, false, true, List, Option, None, nat_le, option_map, if◌then◌else◌}
 use Rattle.f11_dev.specs.Image.{Image}
-use Rattle.f11_home.specs.Home.{HomeFields}
+use Rattle.f11_volume.specs.home.Home.{HomeFields}
 use Rattle.f11_image_store.specs.StoreOf.{as_seen, is_first, store_of}
 use Rattle.f11_index.specs.IndexFile.{Index}
 use Rattle.f11_index.specs.Table.{Table, table_in, table_of}

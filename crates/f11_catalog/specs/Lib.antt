@@ -6,3 +6,6 @@ pub mod Listing
 pub mod AllFiles
 pub mod Walking
 pub mod Laws
+pub use Rattle.f11_image_store.specs as image_store
+pub use Rattle.f11_chain.specs as chain
+pub use Rattle.f11_volume.specs.map as map

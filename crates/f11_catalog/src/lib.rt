@@ -18,6 +18,7 @@ mod users;
 mod walk;
 
 pub use directory::DirectoryReader;
+pub use f11_volume::f11_map;
 pub use fault::{ListFault, WalkFault};
 pub use list::{list_directory, list_users};
 pub use records::stated_end;

@@ -4,7 +4,7 @@ ghost use Rattle.f11_dev.specs.Looked.{Looked};
 ghost use Rattle.f11_header.specs.Fields.{attributes as attributes_of};
 ghost use Rattle.f11_header.specs.Header.{holds_header};
 ghost use Rattle.f11_catalog.specs.Facts.{is_directory_header};
-ghost use Rattle.f11_map.specs.HeaderBlock.{segment_number};
+ghost use Rattle.f11_volume.specs.map.HeaderBlock.{segment_number};
 ghost use Rattle.f11_index.specs.Kept.{index_kept, IndexLiesWithin};
 ghost use Rattle.f11_store.specs.File.{stated_end as end_stated};
 ghost use Rattle.f11_store.specs.declared.refusals.Refusal.TheVariants as refusals;

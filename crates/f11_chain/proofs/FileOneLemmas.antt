@@ -5,7 +5,7 @@ use Rattle.std.specs.List.{slice_get}
 use Rattle.std.proofs.lemmas.List.{append-nil}
 use Rattle.f11_dev.specs.Image.{Image, image_block}
 use Rattle.f11_index.specs.Home.{HomeFields}
-use Rattle.f11_map.specs.HeaderBlock.{blocks_named}
+use Rattle.f11_index.specs.map.HeaderBlock.{blocks_named}
 use Rattle.f11_index.specs.Headers.{headers_from}
 use Rattle.f11_index.specs.IndexFile.{index_file_blocks, blocks_on, header_place, header_among, first_header_lbn}
 use Rattle.f11_index.specs.Sound.{IsIndexFile}

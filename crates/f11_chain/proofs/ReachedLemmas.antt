@@ -5,8 +5,8 @@ use Rattle.std.proofs.Math.Seq.{take-append_seam}
 use Rattle.std.proofs.lemmas.List.{append-nil}
 use Rattle.std.proofs.lemmas.Option.{slice_get-get_or}
 use Rattle.std.proofs.lemmas.Grind.{flat_map-append}
-use Rattle.f11_map.proofs.MapLemmas.{slice_get-append_back}
-use Rattle.f11_map.specs.HeaderBlock.{segment_number, blocks_named}
+use Rattle.f11_index.proofs.map.MapLemmas.{slice_get-append_back}
+use Rattle.f11_index.specs.map.HeaderBlock.{segment_number, blocks_named}
 use Rattle.f11_index.specs.Headers.{headers_from, headers_of}
 use Rattle.f11_index.specs.Table.{Table, IsFile, IsNext, IsHeaderOf, first, next}
 use Rattle.f11_index.proofs.HeadersLemmas.{link_number, Comes, Comes-first, Comes-next, Comes-split, Comes-last}

@@ -6,10 +6,10 @@ use Rattle.f11_dev.specs.Disk.{Disk, with_transfer}
 use Rattle.f11_dev.specs.Image.{IsImage, image_block}
 use Rattle.f11_dev.proofs.ImageLemmas.{image_block-read}
 use Rattle.f11_dev.proofs.LookedLemmas.{looked_none, looked_read, looked_within}
-use Rattle.f11_header.specs.Header.{IsHeader}
+use Rattle.f11_index.specs.header.Header.{IsHeader}
 use Rattle.f11_index.specs.IndexFile.{Index, is_in_use, header_lbn}
 use Rattle.f11_index.specs.Table.{Table, table_in, LinksRightly}
-use Rattle.f11_map.specs.HeaderBlock.{segment_number, link_of}
+use Rattle.f11_index.specs.map.HeaderBlock.{segment_number, link_of}
 use Rattle.f11_index.proofs.SegmentLemmas.{table-bytes}
 use Rattle.f11_chain.specs.Calls.{ReadsHeader, FindsWrongLink, IsNextOf, table}
 

@@ -10,13 +10,13 @@ use Rattle.std.proofs.lemmas.List.{take-append-drop}
 use Rattle.std.proofs.lemmas.List.Elements.{All-push}
 use Rattle.std.proofs.lemmas.List.FromFn.{length-range_with_len, get_or-range_with_len}
 use Rattle.std.proofs.lemmas.Option.{same_Some, slice_get-get_or, get_or_from_slice_get, slice_get_within}
-use Rattle.f11_header.specs.Fields.{map_area}
-use Rattle.f11_map.specs.HeaderBlock.{segment_number, blocks_named, runs_named}
+use Rattle.f11_index.specs.header.Fields.{map_area}
+use Rattle.f11_index.specs.map.HeaderBlock.{segment_number, blocks_named, runs_named}
 use Rattle.f11_index.specs.Table.{Table}
 use Rattle.f11_index.proofs.PlaceLemmas.{slice_get-append_front}
-use Rattle.f11_map.specs.MapArea.{runs_of, blocks_in, LiesIn}
-use Rattle.f11_map.proofs.MapLemmas.{blocks_in-append, slice_get-append_back}
-use Rattle.f11_map.proofs.RunLemmas.{slice_get-blocks_in}
+use Rattle.f11_index.specs.map.MapArea.{runs_of, blocks_in, LiesIn}
+use Rattle.f11_index.proofs.map.MapLemmas.{blocks_in-append, slice_get-append_back}
+use Rattle.f11_index.proofs.map.RunLemmas.{slice_get-blocks_in}
 use Rattle.f11_chain.specs.FileHeaders.{file_blocks, blocks_before, block_by_vbn}
 use Rattle.f11_chain.specs.Windows.{runs_held, blocks_held, StandsIn, IsWindowOf, HoldsBlock, HoldsAt, HoldsRuns, LiesOn, Fills, IsPast}
 use Rattle.f11_chain.specs.Windows.{IsWindowAt, empty_window}

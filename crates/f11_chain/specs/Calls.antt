@@ -3,9 +3,9 @@ use Rattle.std.specs.Prelude.{◌≡◌, ◌≢◌, ℕ, ◌+◌, ◌-◌, ◌*�
 use Rattle.std.specs.List.{slice_get}
 use Rattle.f11_dev.specs.Disk.{Disk}
 use Rattle.f11_dev.specs.Looked.{Looked}
-use Rattle.f11_header.specs.Fields.{file_sequence}
-use Rattle.f11_header.specs.Header.{IsHeader}
-use Rattle.f11_map.specs.HeaderBlock.{segment_number, link_of, blocks_named, LinksToNone}
+use Rattle.f11_index.specs.header.Fields.{file_sequence}
+use Rattle.f11_index.specs.header.Header.{IsHeader}
+use Rattle.f11_index.specs.map.HeaderBlock.{segment_number, link_of, blocks_named, LinksToNone}
 use Rattle.f11_index.specs.Headers.{headers_of, IsLastOf}
 use Rattle.f11_index.specs.IndexFile.{Index, is_in_use}
 use Rattle.f11_index.specs.Table.{Table, table_in, IsLive, IsFile, IsHeaderOf, IsWholeFile}

@@ -1,7 +1,7 @@
 -- The blocks of a file laid end to end (Files-11 On-Disk Structure Level 1, "File Header" and "Map Area").
 use Rattle.std.specs.Prelude.{ℕ, ◌-◌, ◌<◌, List, length, take, flat_map, Option, All}
 use Rattle.std.specs.List.{slice_get}
-use Rattle.f11_map.specs.HeaderBlock.{segment_number, blocks_named}
+use Rattle.f11_index.specs.map.HeaderBlock.{segment_number, blocks_named}
 use Rattle.f11_index.specs.Headers.{headers_of}
 use Rattle.f11_index.specs.Table.{Table, IsWholeFile}
 

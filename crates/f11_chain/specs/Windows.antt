@@ -4,8 +4,8 @@ use Rattle.std.specs.List.{slice_get}
 use Rattle.f11_dev.specs.Disk.{Disk, Reads, Writes}
 use Rattle.f11_index.specs.IndexFile.{Index}
 use Rattle.f11_index.specs.Table.{Table, IsHeaderOf}
-use Rattle.f11_map.specs.HeaderBlock.{blocks_named, runs_named, segment_number}
-use Rattle.f11_map.specs.MapArea.{blocks_in, LiesIn}
+use Rattle.f11_index.specs.map.HeaderBlock.{blocks_named, runs_named, segment_number}
+use Rattle.f11_index.specs.map.MapArea.{blocks_in, LiesIn}
 use Rattle.f11_chain.specs.Calls.{table, LooksAlongFile}
 use Rattle.f11_chain.specs.FileHeaders.{file_blocks, blocks_before, block_by_vbn}
 use Rattle.f11_chain.specs.declared.windows.Window.{Window}

@@ -2,17 +2,17 @@
 ghost use Rattle.std.specs.Prelude.{◌≡◌, ◌<◌, ◌≤◌, ◌+◌, ℕ, length, IfOk, IsErrOf, IsTrue, MatchOption};
 ghost use Rattle.f11_chain.specs.Calls.{HoldsFirst, Locates, Seeks, FindsEnd, FindsDamage, FindsBreak, FailsAlong, HasBlockAt, ReadsLast};
 ghost use Rattle.f11_chain.specs.Windows.{FindsWindow};
-ghost use Rattle.f11_header.specs.Header.{holds_header};
+ghost use Rattle.f11_index.specs.header.Header.{holds_header};
 ghost use Rattle.f11_index.specs.IndexFile.{slots};
 ghost use Rattle.f11_index.specs.Kept.{index_kept, IndexLiesWithin};
 
 use crate::fault::ChainFault;
 use crate::step::{first, next};
 use crate::windows::{Window, window_at};
-use f11_bytes::{BLOCK_SIZE, Block};
 use f11_dev::Device;
 use f11_index::IndexFile;
-use f11_map::in_hand::{lbn_of, len_blocks, segment};
+use f11_index::f11_bytes::{BLOCK_SIZE, Block};
+use f11_index::f11_map::in_hand::{lbn_of, len_blocks, segment};
 
 /// How many headers a file has at most (profile).
 const MOST_HEADERS: u16 = 256;

@@ -12,6 +12,7 @@ mod step;
 mod windows;
 
 pub use blocks::{FileEnd, Place, block_at, last, last_from, locate, seek, window};
+pub use f11_index::f11_map;
 pub use fault::ChainFault;
 pub use step::{first, next};
 pub use windows::{Window, window_at};

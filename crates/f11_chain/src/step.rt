@@ -2,17 +2,17 @@
 ghost use Rattle.std.specs.Prelude.{◌≡◌, ◌<◌, ◌≤◌, length, IsTrue, IfOk, IfSome, IfNone, IsOk, IsErrOf, OnOk, OnErr};
 ghost use Rattle.f11_chain.specs.Calls.{HoldsFirst, ReadsHeader, ReadsFirst, FindsNoFile, ReadsNext, FindsLast, FindsWrongLink, FailsToReadNext};
 ghost use Rattle.f11_dev.specs.Looked.{Looked};
-ghost use Rattle.f11_header.specs.Fields.{file_sequence};
-ghost use Rattle.f11_header.specs.Header.{holds_header};
+ghost use Rattle.f11_index.specs.header.Fields.{file_sequence};
+ghost use Rattle.f11_index.specs.header.Header.{holds_header};
 ghost use Rattle.f11_index.specs.IndexFile.{slots};
 ghost use Rattle.f11_index.specs.Kept.{index_kept, IndexLiesWithin};
 
 use crate::fault::ChainFault;
-use f11_bytes::Block;
 use f11_dev::{Device, DeviceFault};
-use f11_header::{Header, check};
 use f11_index::IndexFile;
-use f11_map::in_hand::{link, segment};
+use f11_index::f11_bytes::Block;
+use f11_index::f11_header::{Header, check};
+use f11_index::f11_map::in_hand::{link, segment};
 
 /// The greatest segment number: a header that has it has no next one.
 const LAST_SEGMENT: u8 = 255;

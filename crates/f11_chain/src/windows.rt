@@ -1,12 +1,12 @@
 //! Windows: a few of a file's retrieval pointers in a row, by which blocks are found without its headers.
 ghost use Rattle.std.specs.Prelude.{◌≡◌, ◌<◌, ◌-◌, ◌^◌, ℕ, length, IsTrue, MatchOption};
 ghost use Rattle.f11_chain.specs.Windows.{empty_window, Fills, HoldsAt, HoldsBlock, IsPast, LiesOn, ReadsIn, WritesIn};
-ghost use Rattle.f11_header.specs.Header.{holds_header};
-ghost use Rattle.f11_map.specs.HeaderBlock.{blocks_named};
+ghost use Rattle.f11_index.specs.header.Header.{holds_header};
+ghost use Rattle.f11_index.specs.map.HeaderBlock.{blocks_named};
 
-use f11_bytes::Block;
 use f11_dev::{Device, DeviceFault};
-use f11_map::in_hand::map;
+use f11_index::f11_bytes::Block;
+use f11_index::f11_map::in_hand::map;
 
 /// How many pointers a window holds at most (profile).
 const MOST_RUNS: usize = 7;
@@ -24,7 +24,7 @@ pub struct Window {
 
 /// The window of block `vbn` of a file, from 1, which is block number `left`, from 0, of those that the header in the block names: the pointer
 /// that names it, and those that follow it in the header, seven at most. `None` where one of these isn't on a device of so many blocks.
-#[tactic(auto, unfolding(f11_map::specs::HeaderBlock::runs_named, f11_map::specs::HeaderBlock::blocks_named))]
+#[tactic(auto, unfolding(crate::specs::Opened::runs_named, crate::specs::Opened::blocks_named))]
 pub fn window_at(block: &Block, left: u32, vbn: u32, blocks: u32) -> Option<Window>
     requires header { IsTrue (holds_header block.now) }
     requires named { left < length (blocks_named block.now) }

@@ -1,9 +1,9 @@
 -- What holds of commands that serve any volume: what was read or verified before, and whose directory a name is.
-use Rattle.std.proofs.Common.{◌≡◌, ℕ, Bool, IsTrue, List, Option, Ok, Err, not, ap, subst, sym, ◌∙◌}
+use Rattle.std.proofs.Common.{◌≡◌, ℕ, Bool, IsTrue, List, Option, Ok, not, ap, subst, sym, ◌∙◌}
 use Rattle.f11_catalog.proofs.ListingLemmas.{reads-then}
-use Rattle.f11_catalog.specs.Listing.{FindsId, FindsNoId, id_entered}
+use Rattle.f11_catalog.specs.Listing.{FindsId, id_entered}
 use Rattle.f11_catalog.specs.Records.{Reads}
-use Rattle.f11_chain.specs.Calls.{table}
+use Rattle.f11_catalog.specs.chain.Calls.{table}
 use Rattle.f11_dev.specs.Disk.{Disk}
 use Rattle.f11_dev.specs.Image.{Image}
 use Rattle.f11_findings.specs.declared.finding.Finding.{Finding}
@@ -12,8 +12,7 @@ use Rattle.f11_index.specs.IndexFile.{Index}
 use Rattle.f11_index.specs.Table.{Table, table_in, table_of}
 use Rattle.f11_store.specs.declared.callers.Uic.{Uic}
 use Rattle.f11_store.specs.declared.files.FileId.{FileId}
-use Rattle.f11_store.specs.declared.refusals.Refusal.{Refusal}
-use Rattle.f11_vfy.specs.Verify.{Examines}
+use Rattle.f11_serving.specs.vfy.Verify.{Examines}
 use Rattle.f11_commands.specs.AnyVolume.{CannotBeRead, FailsToServe, FindsVolume, IsVerified, TellsFault, user_directory}
 use Rattle.f11_commands.specs.Copying.{directory_name, master_directory}
 use Rattle.f11_commands.specs.DumpCommand.{HasFault}
@@ -28,10 +27,6 @@ module _ (index : Index) (user : Uic) (name : List ℕ) (is : name ≡ directory
   pub directory-of-user : {id : FileId} → FindsId index master_directory name id old new → IsTrue old.honest
       → user_directory old.image (table index old) user ≡ Ok id
   directory-of-user found honest = ap (id_entered old.image (table index old) master_directory) (sym is) ∙ found.found honest
-
-  pub none-of-user : {refusal : Refusal} → FindsNoId index master_directory name refusal old new → IsTrue old.honest
-      → user_directory old.image (table index old) user ≡ Err refusal
-  none-of-user none honest = ap (id_entered old.image (table index old) master_directory) (sym is) ∙ none.refused honest
 
 -- the index file was read: what is said of the files that it has is said of the volume's
 pub said-of-volume : (home : HomeFields) (index : Index) (old new : Disk) → FindsVolume home index old new → {X : Type 0}

@@ -3,12 +3,12 @@
 use Rattle.std.proofs.Common.{◌≡◌, ◌≢◌, ◌⊎◌, inl, inr, ℕ, ◌<◌, ◌≤◌, ◌+◌, ◌||◌, if◌then◌else◌, Bool, true, false, IsTrue, List, [], ◌∷◌}
 use Rattle.std.proofs.Common.{Result, Ok, Err, refl, sym, ap, subst, ◌∙◌, arith}
 use Rattle.f11_dev.specs.declared.device.Device.{Ghosts}
-use Rattle.f11_fcp.specs.Handles.{State, is_damage}
-use Rattle.f11_fcp.specs.Lengths.{AnswersLength}
-use Rattle.f11_fcp.specs.Lists.{ServesCall, failures_of}
-use Rattle.f11_fcp.specs.Serving.{is_spent, state_in}
-use Rattle.f11_fcp.specs.declared.volume.Volume.{Volume}
-use Rattle.f11_files.specs.Answers.{is_fatal, is_fault, is_refused}
+use Rattle.f11_serving.specs.fcp.Handles.{State, is_damage}
+use Rattle.f11_serving.specs.fcp.Lengths.{AnswersLength}
+use Rattle.f11_serving.specs.fcp.Lists.{ServesCall, failures_of}
+use Rattle.f11_serving.specs.fcp.Serving.{is_spent, state_in}
+use Rattle.f11_serving.specs.fcp.declared.volume.Volume.{Volume}
+use Rattle.f11_serving.specs.files.Answers.{is_fatal, is_fault, is_refused}
 use Rattle.f11_flx.proofs.VolumeLemmas.{IsFared, denied-fared, granted-fared}
 use Rattle.f11_flx.specs.Asking.{Asking, Denies, Grants, Tried, Who, asks, counts, reads, told, writes}
 use Rattle.f11_flx.specs.Copying.{of_volume}

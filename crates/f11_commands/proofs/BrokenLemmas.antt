@@ -3,8 +3,8 @@ use Rattle.std.proofs.Common.{◌≡◌, ◌⊎◌, inl, inr, ℕ, true, false, 
 use Rattle.std.proofs.lemmas.List.Elements.{All-cons, All-weaker}
 use Rattle.f11_dev.specs.Disk.{Disk}
 use Rattle.f11_dev.specs.declared.device.Device.{Ghosts}
-use Rattle.f11_fcp.specs.Lists.{is_sound, store_of_volume}
-use Rattle.f11_fcp.specs.declared.volume.Volume.{Volume}
+use Rattle.f11_serving.specs.fcp.Lists.{is_sound, store_of_volume}
+use Rattle.f11_serving.specs.fcp.declared.volume.Volume.{Volume}
 use Rattle.f11_flx.proofs.RtCopyLemmas.{has-written, took-puts}
 use Rattle.f11_flx.proofs.RtOutcomeLemmas.{locked-leaves}
 use Rattle.f11_flx.proofs.SeenLemmas.{granted-seen}

@@ -4,18 +4,18 @@ use Rattle.f11_dev.specs.Disk.{Disk}
 use Rattle.f11_dev.specs.Image.{Image, IsImage}
 use Rattle.f11_dev.specs.declared.device.Device.{Ghosts}
 use Rattle.f11_home.specs.Home.{HomeFields}
-use Rattle.f11_fcp.specs.Accesses.{AccessTable, held_in, no_entries}
-use Rattle.f11_fcp.specs.Lists.{is_sound, store_of_volume}
-use Rattle.f11_fcp.specs.Mounting.{Mounts}
-use Rattle.f11_fcp.specs.Serving.{is_spent, state_in}
-use Rattle.f11_fcp.specs.declared.volume.Volume.{Volume}
+use Rattle.f11_serving.specs.fcp.Accesses.{AccessTable, held_in, no_entries}
+use Rattle.f11_serving.specs.fcp.Lists.{is_sound, store_of_volume}
+use Rattle.f11_serving.specs.fcp.Mounting.{Mounts}
+use Rattle.f11_serving.specs.fcp.Serving.{is_spent, state_in}
+use Rattle.f11_serving.specs.fcp.declared.volume.Volume.{Volume}
 use Rattle.f11_flx.specs.declared.refusal.FlxRefusal.{FlxRefusal}
-use Rattle.f11_image_store.specs.StoreOf.{store_of}
+use Rattle.f11_catalog.specs.image_store.StoreOf.{store_of}
 use Rattle.f11_store.specs.Store.{Store}
 use Rattle.f11_volume.specs.Verdict.{IsAccepted}
-use Rattle.f11_writes.proofs.InOrderLemmas.{order-accepted, order-looked, order-then}
-use Rattle.f11_writes.specs.Moments.{StandsAccepted}
-use Rattle.f11_writes.specs.Order.{WritesInOrder}
+use Rattle.f11_serving.proofs.writes.InOrderLemmas.{order-accepted, order-looked, order-then}
+use Rattle.f11_serving.specs.writes.Moments.{StandsAccepted}
+use Rattle.f11_serving.specs.writes.Order.{WritesInOrder}
 use Rattle.rt11_volume.specs.Calls.{has_failed, volume_device}
 use Rattle.rt11_volume.specs.Verifying.Verdict.{IsRtAccepted, IsSoundDisk}
 use Rattle.rt11_volume.specs.declared.volume.RtAccepted.{RtAccepted}

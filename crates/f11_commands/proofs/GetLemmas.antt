@@ -7,7 +7,7 @@ use Rattle.f11_catalog.proofs.ListingLemmas.{reads-then, said-later}
 use Rattle.f11_catalog.proofs.OpenLemmas.{attr-is}
 use Rattle.f11_catalog.specs.Listing.{FindsId, FindsNoId}
 use Rattle.f11_catalog.specs.Records.{Reads}
-use Rattle.f11_chain.specs.Calls.{table}
+use Rattle.f11_catalog.specs.chain.Calls.{table}
 use Rattle.f11_dev.specs.Disk.{Disk}
 use Rattle.f11_dev.specs.Image.{Image}
 use Rattle.f11_header.specs.Fields.{attributes}
@@ -34,7 +34,7 @@ use Rattle.f11_commands.specs.TakingText.{file_to_come}
 use Rattle.f11_commands.specs.declared.outcome.Answer.{Answer}
 use Rattle.f11_commands.specs.declared.outcome.Failure.{Failure}
 use Rattle.f11_commands.specs.declared.outcome.Failure.TheVariants.{DeviceFault, NoMemory, CannotWrite}
-use Rattle.f11_commands.proofs.AnyVolumeLemmas.{directory-of-user, fault-behind, hindered-behind, none-of-user, said-of-volume}
+use Rattle.f11_commands.proofs.AnyVolumeLemmas.{directory-of-user, fault-behind, hindered-behind, said-of-volume}
 use Rattle.f11_commands.proofs.TakingOutLemmas.{contents-stay}
 
 -- the file with an identification was opened
@@ -120,14 +120,6 @@ module _ (index : Index) (user : Uic) (text : List ℕ) (is : text ≡ directory
       → file_sought old.image (table index old) user name ≡ file_entered old.image (table index old) name id
   sought-is id found honest =
       ap (unless_refused (file_entered old.image (table index old) name)) (directory-of-user index user text is old new found honest)
-
-  pub none-sought : (refusal : Refusal) → FindsNoId index master_directory text refusal old new
-      → LacksSought (λ image t. file_sought image t user name) index refusal old new
-  none-sought refusal none = record {
-    refused = λ honest.
-        ap (unless_refused (file_entered old.image (table index old) name)) (none-of-user index user text is old new none honest);
-    reads = none.reads;
-  }
 
 -- the index file was read before
 module _ (home : HomeFields) (index : Index) (old mid : Disk) (found : FindsVolume home index old mid) (user : Uic) (name : List ℕ)

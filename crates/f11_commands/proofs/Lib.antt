@@ -21,3 +21,5 @@ mod RtFileLemmas
 mod RtGetLemmas
 mod RtFillLemmas
 mod RtPutLemmas
+pub use Rattle.f11_serving.proofs as serving
+pub use Rattle.f11_flx.proofs as flx

@@ -1,12 +1,12 @@
 -- What is listed of a volume.
-use Rattle.std.proofs.Common.{◌≡◌, ℕ, Bool, IsTrue, List, Option, Ok, Err, sym}
+use Rattle.std.proofs.Common.{◌≡◌, ℕ, Bool, IsTrue, List, Option, Ok, sym}
 use Rattle.std.proofs.Common.{ap, subst, ◌∙◌}
 use Rattle.std.proofs.Common.{not}
 use Rattle.f11_catalog.proofs.ListingLemmas.{reads-then, said-later}
-use Rattle.f11_catalog.specs.Lines.{all_user_lines, record_lines}
-use Rattle.f11_catalog.specs.Listing.{FindsId, FindsNoId, IsRefused, Lists}
+use Rattle.f11_catalog.specs.Lines.{record_lines}
+use Rattle.f11_catalog.specs.Listing.{FindsId, IsRefused, Lists}
 use Rattle.f11_catalog.specs.Records.{Reads, records_of}
-use Rattle.f11_chain.specs.Calls.{table}
+use Rattle.f11_catalog.specs.chain.Calls.{table}
 use Rattle.f11_dev.specs.Disk.{Disk}
 use Rattle.f11_dev.specs.Image.{Image}
 use Rattle.f11_findings.specs.declared.finding.Finding.{Finding}
@@ -16,53 +16,21 @@ use Rattle.f11_index.specs.Table.{Table, table_of}
 use Rattle.f11_store.specs.declared.callers.Uic.{Uic}
 use Rattle.f11_store.specs.declared.files.FileId.{FileId}
 use Rattle.f11_store.specs.declared.refusals.Refusal.{Refusal}
-use Rattle.f11_vfy.specs.Verify.{Examines}
+use Rattle.f11_serving.specs.vfy.Verify.{Examines}
 use Rattle.f11_commands.specs.Copying.{directory_name, master_directory}
 use Rattle.f11_commands.specs.AnyVolume.{FailsToServe, FindsVolume, IsReadable, unless_refused}
 use Rattle.f11_commands.specs.LsCommand.{FailsToListIndex, IsNotListed, ListsIndex, ListsVolume, lists, tells}
 use Rattle.f11_commands.specs.LsCommand.{PrintsListing, WritesListing, directory_listed, lines_or, listed}
-use Rattle.f11_commands.specs.LsCommand.{listing_answer, listing_text, user_listed, users_listed}
-use Rattle.f11_commands.specs.Output.{WriterTakes}
+use Rattle.f11_commands.specs.LsCommand.{listing_answer, listing_text, user_listed}
 use Rattle.f11_commands.specs.VfyCommand.{IsVerdict}
-use Rattle.f11_commands.proofs.AnyVolumeLemmas.{directory-of-user, fault-behind, none-of-user, said-of-volume, verified-first}
+use Rattle.f11_commands.proofs.AnyVolumeLemmas.{directory-of-user, fault-behind, said-of-volume, verified-first}
 use Rattle.f11_commands.specs.declared.ls.Served.{Served}
 use Rattle.f11_commands.specs.declared.outcome.Answer.{Answer}
-use Rattle.f11_commands.specs.declared.outcome.Answer.TheVariants.{Done, Fault}
 use Rattle.f11_commands.specs.declared.outcome.Failure.{Failure}
 use Rattle.f11_commands.specs.declared.outcome.Failure.TheVariants.{DeviceFault, NoMemory, CannotWrite}
 
 module _ {W : Type 0} (index : Index) (contents : W → Option (List ℕ)) where
-  -- all users' directories
-  pub users-lists : (old new : Disk) (before after : W) → Lists all_user_lines index master_directory old new contents before after
-      → WritesListing (λ image t. users_listed image t) index old new contents before after
-  users-lists old new before after all = record {
-    lines = all.writes.written;
-    lines_are = λ honest.
-        ap (λ r. lines_or r (all_user_lines old.image (table index old) (records_of old.image (table index old) master_directory)))
-        (all.readable honest) ∙ ap Ok (sym (all.writes.is honest));
-    takes = all.writes.takes;
-    reads = all.writes.reads;
-  }
-
-  pub users-refused : (refusal : Refusal) (old new : Disk) → IsRefused index master_directory refusal old new
-      → IsNotListed (λ image t. users_listed image t) index refusal old new
-  users-refused refusal old new none = record {
-    refused = λ honest.
-        ap (λ r. lines_or r (all_user_lines old.image (table index old) (records_of old.image (table index old) master_directory)))
-        (none.refused honest);
-    reads = none.reads;
-  }
-
   module _ (user : Uic) (name : List ℕ) (is : name ≡ directory_name user) (old mid : Disk) where
-    -- one that isn't found
-    pub user-absent : (refusal : Refusal) → FindsNoId index master_directory name refusal old mid
-        → IsNotListed (λ image t. user_listed image t user) index refusal old mid
-    user-absent refusal none = record {
-      refused = λ honest. ap (unless_refused (directory_listed old.image (table index old)))
-          (none-of-user index user name is old mid none honest);
-      reads = none.reads;
-    }
-
     module _ (id : FileId) (found : FindsId index master_directory name id old mid) where
       is-listed : IsTrue old.honest → user_listed old.image (table index old) user ≡ directory_listed old.image (table index old) id
       is-listed honest =
@@ -96,30 +64,6 @@ module _ {W : Type 0} (index : Index) (contents : W → Option (List ℕ)) where
             (none.refused honest');
         reads = reads-then found.reads none.reads;
       }
-
-  module _ (user : Option Uic) (old new : Disk) (before after : W) where
-    -- it was listed
-    pub index-lists : WritesListing (λ image t. listed image t user) index old new contents before after
-        → ListsIndex index user Done old new contents before after
-    index-lists writes = record {
-      text = writes.lines;
-      text_is = λ honest. ap listing_text (sym (writes.lines_are honest));
-      answer_is = λ honest. ap listing_answer (sym (writes.lines_are honest));
-      takes = writes.takes;
-      reads = writes.reads;
-    }
-
-    -- or it is told why it isn't
-    pub index-refused : (refusal : Refusal) → IsNotListed (λ image t. listed image t user) index refusal old new
-        → WriterTakes contents before after (listing_text (Err refusal))
-        → ListsIndex index user Fault old new contents before after
-    index-refused refusal none takes = record {
-      text = listing_text (Err refusal);
-      text_is = λ honest. ap listing_text (sym (none.refused honest));
-      answer_is = λ honest. ap listing_answer (sym (none.refused honest));
-      takes = takes;
-      reads = none.reads;
-    }
 
 -- the index file was read before
 pub volume-lists : {W : Type 0} (home : HomeFields) (index : Index) (user : Option Uic) (answer : Answer) (old mid new : Disk)

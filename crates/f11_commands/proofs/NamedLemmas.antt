@@ -3,10 +3,10 @@ use Rattle.std.proofs.Common.{◌≡◌, ◌≢◌, inl, inr, ℕ, ◌+◌, ◌|
 use Rattle.std.proofs.Common.{IfErr, refl, sym, ap, subst, ◌∙◌, arith}
 use Rattle.f11_dev.specs.Disk.{Disk}
 use Rattle.f11_dev.specs.declared.device.Device.{Ghosts}
-use Rattle.f11_fcp.specs.Lists.{failures_of, is_sound, store_of_volume}
-use Rattle.f11_fcp.specs.Serving.{is_spent, state_in}
-use Rattle.f11_fcp.specs.declared.volume.Volume.{Volume}
-use Rattle.f11_files.specs.Answers.{is_fatal, is_fault}
+use Rattle.f11_serving.specs.fcp.Lists.{failures_of, is_sound, store_of_volume}
+use Rattle.f11_serving.specs.fcp.Serving.{is_spent, state_in}
+use Rattle.f11_serving.specs.fcp.declared.volume.Volume.{Volume}
+use Rattle.f11_serving.specs.files.Answers.{is_fatal, is_fault}
 use Rattle.f11_flx.proofs.KeptLemmas.{denied-live, rt-apart, same-refusal}
 use Rattle.f11_flx.proofs.VolumeLemmas.{IsFared, denied-fared, granted-fared, volume-seen}
 use Rattle.f11_flx.proofs.TriedLemmas.{asked-for-one}
@@ -28,7 +28,7 @@ use Rattle.f11_store.specs.declared.refusals.Refusal.TheVariants.{Damaged, Volum
 use Rattle.f11_store.specs.declared.requests.Reply.{Reply}
 use Rattle.f11_store.specs.declared.requests.Reply.TheVariants as reply
 use Rattle.f11_store.specs.declared.requests.Request.TheVariants as request
-use Rattle.f11_writes.proofs.InOrderLemmas.{order-then}
+use Rattle.f11_serving.proofs.writes.InOrderLemmas.{order-then}
 use Rattle.rt11_volume.specs.Calls.{has_failed, volume_device}
 use Rattle.rt11_volume.specs.Files.{is_fault as is_rt_fault}
 use Rattle.rt11_volume.specs.Named.{files_named}

@@ -10,7 +10,7 @@ use Rattle.f11_flx.proofs.GainedLemmas.{enters-from, not-index}
 use Rattle.f11_flx.specs.Asking.{Asking, Denies, Grants, Tried, asks, counts, plain, reads, told, writes}
 use Rattle.f11_flx.specs.Copying.{Creates, IsMakingOf, MakesBy}
 use Rattle.f11_home.specs.Home.{HomeFields}
-use Rattle.f11_image_store.specs.StoreOf.{store_of}
+use Rattle.f11_catalog.specs.image_store.StoreOf.{store_of}
 use Rattle.f11_index.specs.IndexFile.{is_in_use}
 use Rattle.f11_index.specs.Table.{table_in}
 use Rattle.f11_runs.proofs.AccessLemmas.{there-is, true-false}

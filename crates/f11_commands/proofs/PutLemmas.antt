@@ -5,11 +5,11 @@ use Rattle.std.proofs.KnownBytes.{Consumes-nil}
 use Rattle.f11_dev.specs.Disk.{Disk}
 use Rattle.f11_dev.specs.Image.{IsImage}
 use Rattle.f11_dev.specs.declared.device.Device.{Ghosts}
-use Rattle.f11_fcp.specs.Lists.{is_sound, store_of_volume}
-use Rattle.f11_fcp.specs.Accesses.{held_in}
-use Rattle.f11_fcp.specs.Mounting.{Mounts}
-use Rattle.f11_fcp.specs.Serving.{state_in}
-use Rattle.f11_fcp.specs.declared.volume.Volume.{Volume}
+use Rattle.f11_serving.specs.fcp.Lists.{is_sound, store_of_volume}
+use Rattle.f11_serving.specs.fcp.Accesses.{held_in}
+use Rattle.f11_serving.specs.fcp.Mounting.{Mounts}
+use Rattle.f11_serving.specs.fcp.Serving.{state_in}
+use Rattle.f11_serving.specs.fcp.declared.volume.Volume.{Volume}
 use Rattle.f11_flx.proofs.VolumeLemmas.{volume-seen}
 use Rattle.f11_flx.proofs.TriedLemmas.{asked-for-one}
 use Rattle.f11_flx.specs.Asking.{Asking, Fails, Grants, Tried, Who, told, who_asks}
@@ -22,7 +22,7 @@ use Rattle.f11_host.specs.CopyTextFromHost.{CopiesTextFromHost, FailsToCopyTextF
 use Rattle.f11_host.specs.Refusal.{as_copy, copy_result}
 use Rattle.f11_host.specs.declared.refusal.HostRefusal.{HostRefusal}
 use Rattle.f11_host.specs.declared.refusal.HostRefusal.TheVariants.{Files, LineTooLong, Unread}
-use Rattle.f11_image_store.specs.StoreOf.{store_of}
+use Rattle.f11_catalog.specs.image_store.StoreOf.{store_of}
 use Rattle.f11_store.specs.Store.{Store}
 use Rattle.f11_store.specs.declared.files.FileId.{FileId}
 use Rattle.f11_store.specs.declared.refusals.Refusal.{Refusal}

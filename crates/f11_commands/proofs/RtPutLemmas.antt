@@ -4,7 +4,7 @@ use Rattle.std.proofs.Common.{[], if◌then◌else◌, refl, sym, ap, ◌∙◌,
 use Rattle.f11_dev.specs.Disk.{Disk}
 use Rattle.f11_dev.specs.declared.device.Device.{Ghosts}
 use Rattle.f11_flx.specs.CopyToRt.{HasCopy}
-use Rattle.f11_flx.specs.Target.{DeletesRtFile, FailsDeleting, FailsMaking, Makes, rt_disk, rt_store}
+use Rattle.f11_flx.specs.Target.{DeletesRtFile, FailsDeleting, Makes, rt_disk, rt_store}
 use Rattle.f11_flx.proofs.RtCopyLemmas.{has-copy, has-gone, has-written, still-lies}
 use Rattle.f11_flx.proofs.SmallLemmas.{or-false}
 use Rattle.rt11_volume.specs.Calls.{has_failed}
@@ -26,17 +26,6 @@ never h = absurd (cc)
 
 module _ {E : Type 0} {met : Ghosts E} (disk : E → Disk) (name : List ℕ) (bytes : ℕ) (unread : Option (List ℕ)) (old : RtAccepted E met)
   where
-    -- no file was made
-    pub not-made : (e : RtRefusal) (new : RtAccepted E met) → has_failed old ≡ false → FailsMaking disk name (blocks_for bytes) e old new
-        → MakesTransfers (rt_disk disk old) (rt_disk disk new) create_transfers (faults_in {T = Unit} (Err e))
-        → IsNotStored name bytes e (rt_disk disk old) (rt_disk disk new)
-    not-made e new fresh fails went = record {
-      fresh = fails.refused.alive fresh;
-      why = λ none s. fails.why;
-      stays = λ none s. fails.refused.stays none;
-      went = transfers-within went (omega arith);
-    }
-
     module _ (made : RtAccepted E met) (makes : Makes disk name (blocks_for bytes) 0 old made)
         (went : MakesTransfers (rt_disk disk old) (rt_disk disk made) create_transfers 0) where
       made-fresh : has_failed made ≡ false

@@ -6,12 +6,12 @@ use Rattle.f11_dev.specs.Image.{Image, IsImage}
 use Rattle.f11_dev.specs.Looked.{Looked}
 use Rattle.f11_dev.specs.declared.device.Device.{Ghosts}
 use Rattle.f11_home.specs.Home.{IsHomeOf}
-use Rattle.f11_fcp.specs.Accesses.{held_in, no_entries}
-use Rattle.f11_fcp.specs.Lists.{ServesCall, failures_of, store_of_volume}
-use Rattle.f11_fcp.specs.Mounting.{Mounts}
-use Rattle.f11_fcp.specs.Serving.{StaysAccepted, is_spent, state_in}
-use Rattle.f11_fcp.specs.declared.volume.Volume.{Volume}
-use Rattle.f11_image_store.specs.StoreOf.{store_of}
+use Rattle.f11_serving.specs.fcp.Accesses.{held_in, no_entries}
+use Rattle.f11_serving.specs.fcp.Lists.{ServesCall, failures_of, store_of_volume}
+use Rattle.f11_serving.specs.fcp.Mounting.{Mounts}
+use Rattle.f11_serving.specs.fcp.Serving.{StaysAccepted, is_spent, state_in}
+use Rattle.f11_serving.specs.fcp.declared.volume.Volume.{Volume}
+use Rattle.f11_catalog.specs.image_store.StoreOf.{store_of}
 use Rattle.f11_runs.specs.Each.{Steps}
 use Rattle.f11_script.specs.declared.errors.ScriptError.{ScriptError}
 use Rattle.f11_serving.specs.Scripts.{ServesScriptRun}
@@ -19,8 +19,8 @@ use Rattle.f11_serving.specs.Serving.{RunsScript}
 use Rattle.f11_serving.proofs.VolumeLemmas.{KeepsVolume, script-keeps-volume}
 use Rattle.f11_store.specs.Store.{Store}
 use Rattle.f11_volume.specs.Verdict.{IsAccepted}
-use Rattle.f11_writes.proofs.InOrderLemmas.{order-looked, order-then}
-use Rattle.f11_writes.specs.Order.{WritesInOrder}
+use Rattle.f11_serving.proofs.writes.InOrderLemmas.{order-looked, order-then}
+use Rattle.f11_serving.specs.writes.Order.{WritesInOrder}
 use Rattle.f11_commands.proofs.CopyLemmas.{first-is, last-is, sound-first, stands-accepted}
 use Rattle.f11_commands.specs.RunCommand.{EndsRun, EndsServing, HasFaults, ServesImage, WritesNothing, outcome_of}
 use Rattle.f11_commands.specs.declared.outcome.Answer.{Answer}

@@ -5,12 +5,12 @@ use Rattle.std.proofs.lemmas.List.Elements.{All-head}
 use Rattle.f11_dev.specs.Image.{Image}
 use Rattle.f11_dev.specs.Went.{newest}
 use Rattle.f11_dev.specs.declared.device.Device.{Ghosts}
-use Rattle.f11_fcp.specs.Accesses.{AccessTable, held_in}
-use Rattle.f11_fcp.specs.Handles.{Handles, State, WhileServing}
-use Rattle.f11_fcp.specs.Lists.{ServesCall, is_sound, store_of_volume}
-use Rattle.f11_fcp.specs.Serving.{is_spent, state_in}
-use Rattle.f11_fcp.specs.declared.volume.Volume.{Volume}
-use Rattle.f11_files.specs.Answers.{is_fatal, is_fault, is_refused}
+use Rattle.f11_serving.specs.fcp.Accesses.{AccessTable, held_in}
+use Rattle.f11_serving.specs.fcp.Handles.{Handles, State, WhileServing}
+use Rattle.f11_serving.specs.fcp.Lists.{ServesCall, is_sound, store_of_volume}
+use Rattle.f11_serving.specs.fcp.Serving.{is_spent, state_in}
+use Rattle.f11_serving.specs.fcp.declared.volume.Volume.{Volume}
+use Rattle.f11_serving.specs.files.Answers.{is_fatal, is_fault, is_refused}
 use Rattle.f11_flx.proofs.VolumeLemmas.{denied-fared, unused, volume-seen}
 use Rattle.f11_flx.specs.Asking.{Asking, Denies, Fails, Grants, Tried, asks, counts, plain, reads, told, writes}
 use Rattle.f11_flx.specs.Copying.{AsksForOne, AsksOnly, FaresFiles, IsMakingOf, ReadsFiles, is_reading, creation, making, nothing, of_files}
@@ -19,7 +19,7 @@ use Rattle.f11_flx.specs.Refusal.{is_lethal}
 use Rattle.f11_flx.specs.declared.refusal.FlxRefusal.{FlxRefusal}
 use Rattle.f11_flx.specs.declared.refusal.FlxRefusal.TheVariants.{Files, Rt, BadRecord, LineTooLong}
 use Rattle.f11_home.specs.Home.{HomeFields}
-use Rattle.f11_image_store.specs.StoreOf.{store_of}
+use Rattle.f11_catalog.specs.image_store.StoreOf.{store_of}
 use Rattle.f11_runs.specs.Each.{call_with}
 use Rattle.f11_store.specs.Causes.{first_refusal}
 use Rattle.f11_store.specs.Lags.{Lags, no_work, work_if}

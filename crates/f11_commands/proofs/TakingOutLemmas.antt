@@ -12,7 +12,7 @@ use Rattle.f11_dev.proofs.LookedLemmas.{looked_none, looked_more, looked_within}
 use Rattle.f11_index.specs.IndexFile.{Index}
 use Rattle.f11_index.specs.Table.{table_in}
 use Rattle.f11_index.proofs.PlaceLemmas.{take-append-back}
-use Rattle.f11_map.specs.HeaderBlock.{segment_number}
+use Rattle.f11_catalog.specs.map.HeaderBlock.{segment_number}
 use Rattle.f11_reader.specs.Reading.{FailsToReadOn, IsReading, ReadsOn, HasEnded, blocks_to_come, contents_to_come, header_in_hand}
 use Rattle.f11_reader.specs.Reading.{headers_left}
 use Rattle.f11_reader.specs.declared.file.FileReader.{FileReader}

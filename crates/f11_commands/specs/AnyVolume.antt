@@ -15,7 +15,7 @@ use Rattle.f11_index.specs.Table.{Table}
 use Rattle.f11_store.specs.declared.files.FileId.{FileId}
 use Rattle.f11_store.specs.declared.callers.Uic.{Uic}
 use Rattle.f11_store.specs.declared.refusals.Refusal.{Refusal}
-use Rattle.f11_vfy.specs.Verify.{Verifies}
+use Rattle.f11_serving.specs.vfy.Verify.{Verifies}
 use Rattle.f11_commands.specs.Copying.{directory_name, master_directory}
 use Rattle.f11_commands.specs.DumpCommand.{HasFault, fault_line, index_reads}
 use Rattle.f11_commands.specs.Output.{WriterTakes}

@@ -4,20 +4,20 @@ use Rattle.std.specs.Prelude.{Option, Some, None, Result, Ok, Err, codes}
 use Rattle.std.specs.Fmt.{decimal}
 use Rattle.std.specs.Io.KnownBytes.{Keeps}
 use Rattle.f11_dev.specs.Disk.{Disk}
-use Rattle.f11_fcp.specs.Accesses.{AccessTable, held_in, no_entries}
-use Rattle.f11_files.specs.Answers.{is_fatal, is_fault as is_files_fault}
+use Rattle.f11_serving.specs.fcp.Accesses.{AccessTable, held_in, no_entries}
+use Rattle.f11_serving.specs.files.Answers.{is_fatal, is_fault as is_files_fault}
 use Rattle.f11_findings.specs.declared.finding.Finding.{Finding}
 use Rattle.f11_flx.specs.Copying.{is_whole, of_files, of_rt}
 use Rattle.f11_flx.specs.Refusal.{flx_refusal_name}
 use Rattle.f11_flx.specs.declared.refusal.FlxRefusal.{FlxRefusal}
 use Rattle.f11_flx.specs.declared.refusal.FlxRefusal.TheVariants.{Files, Rt, BadRecord, LineTooLong}
 use Rattle.f11_home.specs.Home.{HomeFields, IsHomeOf}
-use Rattle.f11_image_store.specs.StoreOf.{store_of}
+use Rattle.f11_catalog.specs.image_store.StoreOf.{store_of}
 use Rattle.f11_store.specs.declared.refusals.Refusal.{Refusal}
 use Rattle.f11_store.specs.declared.refusals.Refusal.TheVariants as files_refusal
-use Rattle.f11_vfy.specs.Verify.{Examines}
+use Rattle.f11_serving.specs.vfy.Verify.{Examines}
 use Rattle.f11_volume.specs.Verdict.{IsAccepted}
-use Rattle.f11_writes.specs.Moments.{StandsAccepted}
+use Rattle.f11_serving.specs.writes.Moments.{StandsAccepted}
 use Rattle.rt11_volume.specs.Calls.{Accepts, Rejects, most_transfers}
 use Rattle.rt11_volume.specs.Files.{is_fault as is_rt_fault}
 use Rattle.rt11_volume.specs.Store.{rt_store_of}

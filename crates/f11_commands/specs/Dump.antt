@@ -14,7 +14,7 @@ use Rattle.f11_header.specs.Fields.{
   map_area,
 }
 use Rattle.f11_header.specs.Header.{IsDead, IsHeader}
-use Rattle.f11_map.specs.MapArea.{link, runs_of, segment}
+use Rattle.f11_catalog.specs.map.MapArea.{link, runs_of, segment}
 use Rattle.f11_rad50.specs.Name.{IsName, name_text}
 use Rattle.f11_store.specs.File.{name_words}
 use Rattle.f11_store.specs.Text.{octal_digits, uic_text, id_text}

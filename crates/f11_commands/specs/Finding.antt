@@ -2,14 +2,14 @@
 use Rattle.std.specs.Prelude.{◌≡◌, ◌≢◌, ◌++◌, ℕ, Bool, true, false, IsTrue, List, Result, Err, codes}
 use Rattle.f11_dev.specs.Disk.{Disk}
 use Rattle.f11_dev.specs.declared.device.Device.{Ghosts}
-use Rattle.f11_fcp.specs.Lists.{is_sound, store_of_volume}
-use Rattle.f11_fcp.specs.Serving.{is_spent, state_in}
-use Rattle.f11_fcp.specs.declared.volume.Volume.{Volume}
-use Rattle.f11_files.specs.Answers.{is_fatal, is_fault}
+use Rattle.f11_serving.specs.fcp.Lists.{is_sound, store_of_volume}
+use Rattle.f11_serving.specs.fcp.Serving.{is_spent, state_in}
+use Rattle.f11_serving.specs.fcp.declared.volume.Volume.{Volume}
+use Rattle.f11_serving.specs.files.Answers.{is_fatal, is_fault}
 use Rattle.f11_flx.specs.Copying.{FaresFiles, FaresRt, is_whole, of_files, of_rt}
 use Rattle.f11_flx.specs.declared.refusal.FlxRefusal.{FlxRefusal}
 use Rattle.f11_flx.specs.declared.refusal.FlxRefusal.TheVariants.{Files, Rt}
-use Rattle.f11_image_store.specs.StoreOf.{store_of}
+use Rattle.f11_catalog.specs.image_store.StoreOf.{store_of}
 use Rattle.f11_store.specs.Store.{Store}
 use Rattle.f11_store.specs.declared.callers.Uic.{Uic}
 use Rattle.f11_store.specs.declared.files.FileId.{FileId}

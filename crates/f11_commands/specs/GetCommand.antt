@@ -5,7 +5,7 @@ use Rattle.std.specs.List.{concat}
 use Rattle.std.specs.Option.{ok_or}
 use Rattle.f11_catalog.specs.Listing.{id_entered}
 use Rattle.f11_catalog.specs.Records.{Reads, file_named}
-use Rattle.f11_chain.specs.Calls.{table}
+use Rattle.f11_catalog.specs.chain.Calls.{table}
 use Rattle.f11_dev.specs.Disk.{Disk}
 use Rattle.f11_dev.specs.Image.{Image}
 use Rattle.f11_dev.specs.Looked.{Looked}

@@ -5,8 +5,8 @@ use Rattle.f11_dev.specs.Disk.{Disk}
 use Rattle.f11_commands.specs.Output.{WriterTakes}
 use Rattle.f11_commands.specs.declared.outcome.Failure.{Failure}
 use Rattle.f11_commands.specs.declared.outcome.Failure.TheVariants.{DeviceFault, NoMemory, CannotWrite}
-use Rattle.f11_layout.specs.declared.params.InitParams.{InitParams}
-use Rattle.f11_vfy.specs.Init.{Inits, RefusesToInit, FailsToInit}
+use Rattle.f11_volume.specs.layout.declared.params.InitParams.{InitParams}
+use Rattle.f11_serving.specs.vfy.Init.{Inits, RefusesToInit, FailsToInit}
 
 -- the line where a volume was made
 abbrev pub done_line : List ℕ

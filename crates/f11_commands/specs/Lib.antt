@@ -33,3 +33,5 @@ pub mod TakingOut
 pub mod TakingText
 pub mod VfyCommand
 pub mod UpdateCommand
+pub use Rattle.f11_flx.specs as flx
+pub use Rattle.f11_serving.specs as serving

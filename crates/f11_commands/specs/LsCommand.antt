@@ -2,7 +2,7 @@
 use Rattle.std.specs.Prelude.{◌≡◌, ℕ, IsTrue, List, Option, Some, None, Result, Ok, Err}
 use Rattle.f11_catalog.specs.Lines.{all_user_lines, record_lines}
 use Rattle.f11_catalog.specs.Records.{Reads, directory_refusal, file_named, records_of}
-use Rattle.f11_chain.specs.Calls.{table}
+use Rattle.f11_catalog.specs.chain.Calls.{table}
 use Rattle.f11_dev.specs.Disk.{Disk}
 use Rattle.f11_dev.specs.Image.{Image}
 use Rattle.f11_flx.specs.declared.refusal.FlxRefusal.TheVariants.{Files}

@@ -3,11 +3,11 @@ use Rattle.std.specs.Prelude.{◌≡◌, ◌≢◌, ◌⊎◌, ℕ, ◌+◌, tru
 use Rattle.std.specs.Io.KnownBytes.{Keeps}
 use Rattle.f11_dev.specs.Disk.{Disk}
 use Rattle.f11_dev.specs.declared.device.Device.{Ghosts}
-use Rattle.f11_fcp.specs.Accesses.{AccessTable, held_in, no_entries}
-use Rattle.f11_fcp.specs.Lists.{is_sound, store_of_volume}
-use Rattle.f11_fcp.specs.Serving.{state_in}
-use Rattle.f11_fcp.specs.declared.volume.Volume.{Volume}
-use Rattle.f11_files.specs.Answers.{is_fault}
+use Rattle.f11_serving.specs.fcp.Accesses.{AccessTable, held_in, no_entries}
+use Rattle.f11_serving.specs.fcp.Lists.{is_sound, store_of_volume}
+use Rattle.f11_serving.specs.fcp.Serving.{state_in}
+use Rattle.f11_serving.specs.fcp.declared.volume.Volume.{Volume}
+use Rattle.f11_serving.specs.files.Answers.{is_fault}
 use Rattle.f11_flx.specs.Copying.{is_whole, of_files}
 use Rattle.f11_flx.specs.CopyFromRt.{IsAsBefore}
 use Rattle.f11_flx.specs.declared.refusal.FlxRefusal.TheVariants as copy
@@ -19,13 +19,13 @@ use Rattle.f11_host.specs.CopyTextFromHost.{CopiesTextFromHost, FailsToCopyTextF
 use Rattle.f11_host.specs.Refusal.{copy_result}
 use Rattle.f11_host.specs.declared.refusal.HostRefusal.{HostRefusal}
 use Rattle.f11_host.specs.declared.refusal.HostRefusal.TheVariants.{Files, LineTooLong, Unread}
-use Rattle.f11_image_store.specs.StoreOf.{store_of}
+use Rattle.f11_catalog.specs.image_store.StoreOf.{store_of}
 use Rattle.f11_store.specs.Store.{Store}
 use Rattle.f11_store.specs.declared.files.FileId.{FileId}
 use Rattle.f11_store.specs.declared.refusals.Refusal.{Refusal}
 use Rattle.f11_store.specs.declared.refusals.Refusal.TheVariants.{Damaged, VolumeFailed}
 use Rattle.f11_volume.specs.Verdict.{IsAccepted}
-use Rattle.f11_writes.specs.Moments.{StandsAccepted}
+use Rattle.f11_serving.specs.writes.Moments.{StandsAccepted}
 use Rattle.f11_commands.specs.CopyCommand.{EndsFiles, FailsToMount, TellsCopy, VerifiesFiles}
 use Rattle.f11_commands.specs.Copying.{FindsName, FindsNoName, directory_name, master_directory, operator}
 use Rattle.f11_commands.specs.Finding.{FaresAlone}

@@ -4,8 +4,8 @@ use Rattle.std.specs.Io.KnownBytes.{Keeps}
 use Rattle.f11_dev.specs.Disk.{Disk}
 use Rattle.f11_findings.specs.declared.finding.Finding.{Finding}
 use Rattle.f11_home.specs.Home.{HomeFields, IsHomeOf}
-use Rattle.f11_fcp.specs.Accesses.{AccessTable, held_in, no_entries}
-use Rattle.f11_image_store.specs.StoreOf.{store_of}
+use Rattle.f11_serving.specs.fcp.Accesses.{AccessTable, held_in, no_entries}
+use Rattle.f11_catalog.specs.image_store.StoreOf.{store_of}
 use Rattle.f11_runs.specs.Each.{Steps}
 use Rattle.f11_script.specs.declared.errors.ScriptError.{ScriptError}
 use Rattle.f11_serving.specs.Serving.{RunsScript}
@@ -16,8 +16,8 @@ use Rattle.f11_commands.specs.declared.outcome.Failure.TheVariants.{DeviceFault,
 use Rattle.f11_commands.specs.declared.run.RunFailure.{RunFailure}
 use Rattle.f11_commands.specs.declared.run.RunFailure.TheVariants.{Command, Script}
 use Rattle.f11_volume.specs.Verdict.{IsAccepted}
-use Rattle.f11_writes.specs.Moments.{StandsAccepted}
-use Rattle.f11_vfy.specs.Verify.{Examines}
+use Rattle.f11_serving.specs.writes.Moments.{StandsAccepted}
+use Rattle.f11_serving.specs.vfy.Verify.{Examines}
 
 -- A script was served on an image. Where the disk is honest the image is accepted then, so was each that stood meanwhile, and blocks were
 -- written in order; and where no transfer failed, it was served by steps of the plain store, from that of the image, in which nobody holds

@@ -1,6 +1,6 @@
 -- What stands on a Files-11 volume where a transfer of it failed while a file was made (profile).
 use Rattle.std.specs.Prelude.{◌≡◌, ℕ, ◌==◌, ◌&&◌, Bool, false, List, All, Some, None}
-use Rattle.f11_fcp.specs.Accesses.{AccessTable, held_in}
+use Rattle.f11_serving.specs.fcp.Accesses.{AccessTable, held_in}
 use Rattle.f11_flx.specs.Asking.{Asking, Grants, Tried, asks, counts, plain, reads, told, writes}
 use Rattle.f11_flx.specs.Copying.{Creates, IsMakingOf}
 use Rattle.f11_store.specs.File.{File}

@@ -8,7 +8,7 @@ use Rattle.f11_commands.specs.declared.outcome.Answer.{Answer}
 use Rattle.f11_commands.specs.declared.outcome.Answer.TheVariants.{Done, Fault}
 use Rattle.f11_commands.specs.declared.outcome.Failure.{Failure}
 use Rattle.f11_commands.specs.declared.outcome.Failure.TheVariants.{DeviceFault, NoMemory, CannotWrite}
-use Rattle.f11_vfy.specs.Reclaiming.Whole.{IsSoundWith, GoesOn, LacksRoom, Reclaims, reclaim_reads}
+use Rattle.f11_serving.specs.vfy.Reclaiming.Whole.{IsSoundWith, GoesOn, LacksRoom, Reclaims, reclaim_reads}
 
 -- the line between the two reports
 abbrev pub updated_line : List ℕ

@@ -8,7 +8,7 @@ use Rattle.f11_commands.specs.Lines.{report_lines}
 use Rattle.f11_commands.specs.declared.outcome.Failure.{Failure}
 use Rattle.f11_commands.specs.declared.outcome.Failure.TheVariants.{DeviceFault, NoMemory, CannotWrite}
 use Rattle.f11_commands.specs.declared.report.System.TheVariants.{Files11}
-use Rattle.f11_vfy.specs.Verify.{Examines, LooksOver}
+use Rattle.f11_serving.specs.vfy.Verify.{Examines, LooksOver}
 
 -- an image that is accepted has no fault, and one that is faulty has one at least
 abbrev pub IsVerdict : Bool → List Finding → Type 0

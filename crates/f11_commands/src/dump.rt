@@ -2,14 +2,14 @@
 ghost use Rattle.std.specs.Prelude.{◌≡◌, IfErr, IfOk, OnOk};
 ghost use Rattle.f11_header.specs.Fields.{file_number};
 ghost use Rattle.f11_header.specs.Header.{IsHeader};
-ghost use Rattle.f11_map.specs.Map.{area_of};
+ghost use Rattle.f11_catalog.specs.map.Map.{area_of};
 ghost use Rattle.f11_commands.specs.Dump.{IsDump, IsHeaderText, IsNamePart, fields_line, map_lines, name_line};
 ghost use Rattle.f11_commands.specs.Output.{WriterTakes, TakesText};
 
 use crate::outcome::{Answer, Failure};
 use f11_bytes::Block;
+use f11_catalog::f11_map::Map;
 use f11_header::{Header, check};
-use f11_map::Map;
 use f11_rad50::Name;
 use f11_store::{FileId, Uic, name_words};
 use std::io::{self, Write};

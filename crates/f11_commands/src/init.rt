@@ -5,7 +5,7 @@ ghost use Rattle.f11_commands.specs.Output.{WriterTakes};
 
 use crate::outcome::{Answer, Failure};
 use f11_dev::Device;
-use f11_vfy::{InitError, InitParams, init};
+use f11_serving::f11_vfy::{InitError, InitParams, init};
 use std::io::Write;
 
 /// Makes a fresh volume on a device, as [`init`] does, and writes `ok`. The device comes back.

@@ -11,8 +11,8 @@ use crate::volume::read_index;
 use f11_catalog::{ListFault, find, list_directory, list_users};
 use f11_dev::{Device, DeviceFault};
 use f11_index::IndexFile;
+use f11_serving::f11_vfy::{Report, VfyError, verify};
 use f11_store::{Refusal, Uic};
-use f11_vfy::{Report, VfyError, verify};
 use std::alloc::Global;
 use std::io::Write;
 

@@ -1,6 +1,6 @@
 //! The command `put`.
 
-ghost use Rattle.f11_vfy.specs.Accepted.{device_of};
+ghost use Rattle.f11_serving.specs.vfy.Accepted.{device_of};
 ghost use Rattle.f11_commands.specs.PutCommand.{EndsAccepted, EndsPutting, PutsByName, PutsInto, PutsNamed};
 ghost use Rattle.f11_commands.specs.PutCommand.{TellsPutting, hosts};
 ghost use Rattle.f11_commands.specs.Stopping.{StopsMaking, StopsNamed, WhereUnheld};
@@ -15,13 +15,13 @@ use crate::copy::verifying::accept_files;
 use crate::outcome::Failure;
 use crate::rt_put::{PutFailure, as_put};
 use f11_dev::Device;
-use f11_fcp::Volume;
-use f11_files::OpenFault;
 use f11_flx::{CopyMode, FlxRefusal};
 use f11_host::{HostRefusal, copy_from_host, copy_text_from_host};
 use f11_rad50::Name;
+use f11_serving::f11_fcp::Volume;
+use f11_serving::f11_files::OpenFault;
+use f11_serving::f11_vfy::Accepted;
 use f11_store::{FileId, Uic};
-use f11_vfy::Accepted;
 use std::alloc::Global;
 use std::io::{Read, Write};
 

@@ -1,17 +1,17 @@
 //! The command `run`.
 ghost use Rattle.std.specs.Prelude.{◌≡◌};
 ghost use Rattle.f11_commands.specs.RunCommand.{EndsRun, EndsServing, outcome_of};
-ghost use Rattle.f11_fcp.specs.Serving.{device_in, is_spent};
-ghost use Rattle.f11_vfy.specs.Accepted.{device_of};
+ghost use Rattle.f11_serving.specs.fcp.Serving.{device_in, is_spent};
+ghost use Rattle.f11_serving.specs.vfy.Accepted.{device_of};
 
 use crate::outcome::{Answer, Failure};
 use crate::report::{System, write_faulty};
 use f11_dev::Device;
-use f11_fcp::{Failed, Volume};
-use f11_files::OpenFault;
 use f11_script::ScriptError;
+use f11_serving::f11_fcp::{Failed, Volume};
+use f11_serving::f11_files::OpenFault;
+use f11_serving::f11_vfy::{Accepted, Report, VfyError, verify};
 use f11_serving::run_script;
-use f11_vfy::{Accepted, Report, VfyError, verify};
 use std::alloc::Global;
 use std::io::{Read, Write};
 

@@ -2,13 +2,13 @@
 ghost use Rattle.std.specs.Prelude.{OnOk};
 ghost use Rattle.f11_commands.specs.Output.{WriterTakes};
 ghost use Rattle.f11_commands.specs.UpdateCommand.{EndsUpdate, EndsReclaiming, EndsAgain, updated_line};
-ghost use Rattle.f11_vfy.specs.Accepted.{device_of};
+ghost use Rattle.f11_serving.specs.vfy.Accepted.{device_of};
 
 use crate::outcome::{Answer, Failure};
 use crate::report::{System, write_accepted, write_faulty};
 use crate::vfy::print_vfy;
 use f11_dev::Device;
-use f11_vfy::{Accepted, Report, VfyError, reclaim, verify};
+use f11_serving::f11_vfy::{Accepted, Report, VfyError, reclaim, verify};
 use std::alloc::Global;
 use std::io::{self, Write};
 

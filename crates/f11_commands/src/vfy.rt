@@ -5,7 +5,7 @@ ghost use Rattle.f11_commands.specs.VfyCommand.{PrintsReport, FailsToPrintReport
 use crate::outcome::{Answer, Failure};
 use crate::report::{System, write_accepted, write_faulty};
 use f11_dev::Device;
-use f11_vfy::{Report, VfyError, verify};
+use f11_serving::f11_vfy::{Report, VfyError, verify};
 use std::alloc::Global;
 use std::io::Write;
 

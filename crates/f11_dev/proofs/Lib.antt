@@ -3,3 +3,4 @@ pub mod LookedLemmas
 pub mod WentLemmas
 pub mod ImageLemmas
 pub mod FileLemmas
+pub use Rattle.f11_bytes.proofs as bytes

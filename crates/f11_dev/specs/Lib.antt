@@ -11,3 +11,4 @@ pub mod Fuse
 pub mod FailOnce
 pub mod Liar
 pub mod Laws
+pub use Rattle.f11_bytes.specs as bytes

@@ -19,6 +19,7 @@ mod outcomes;
 mod written;
 
 pub use device::{Device, DeviceFault};
+pub use f11_bytes;
 pub use f11_bytes::{BLOCK_SIZE, Block, NoMemory};
 pub use fail_once::FailOnce;
 pub use file_image::{CannotOpen, FileImage, MAX_BLOCKS};

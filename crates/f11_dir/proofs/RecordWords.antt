@@ -3,7 +3,7 @@ use Rattle.std.proofs.Common.{◌≡◌, ℕ, ◌+◌, ◌*◌, ◌<◌, ◌≤�
 use Rattle.std.specs.List.{flat_map}
 use Rattle.std.proofs.lemmas.List.{get_or-take, get_or-drop}
 use Rattle.f11_bytes.specs.Words.{word, word_bytes}
-use Rattle.f11_rad50.specs.Name.{IsName, words_of}
+use Rattle.f11_store.specs.rad50.Name.{IsName, words_of}
 use Rattle.f11_store.specs.declared.files.FileId.{FileId}
 use Rattle.f11_store.specs.Directory.{record_in, record_bytes}
 use Rattle.f11_store.specs.Laws.{IsFiveWords}

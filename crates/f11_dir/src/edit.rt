@@ -8,8 +8,8 @@ ghost use Rattle.f11_dir.specs.Records.{record_under, record_of_bytes};
 
 use crate::RECORD_SIZE;
 use f11_bytes::{Block, write_word};
-use f11_rad50::Name;
 use f11_store::FileId;
+use f11_store::f11_rad50::Name;
 
 /// Puts a file's identification under a name in the place of record `i`, which is below 32. The other
 /// records stay. Under a file number of 0 the record is an empty one.

@@ -1,9 +1,9 @@
 //! One record of a directory.
 ghost use Rattle.std.specs.Prelude.{◌≡◌, ◌≢◌, ◌↔◌, IsTrue, SomeIff};
-ghost use Rattle.f11_rad50.specs.Name.{IsName};
+ghost use Rattle.f11_store.specs.rad50.Name.{IsName};
 
-use f11_rad50::Name;
 use f11_store::FileId;
+use f11_store::f11_rad50::Name;
 
 /// A record of a directory: a file's identification, and the five words of its name
 /// (Files-11 On-Disk Structure Level 1, directories).

@@ -7,8 +7,8 @@ ghost use Rattle.f11_dir.specs.Records.{place_of_name, records_in, record_of_byt
 use crate::record::Record;
 use crate::{RECORD_SIZE, RECORDS};
 use f11_bytes::{Block, read_word};
-use f11_rad50::Name;
 use f11_store::FileId;
+use f11_store::f11_rad50::Name;
 
 const EMPTY: Record = Record {
     id: FileId {

@@ -1,5 +1,5 @@
 -- What stands while a record is entered.
-use Rattle.std.proofs.Common.{◌≡◌, ℕ, ◌+◌, ◌-◌, ◌*◌, ◌/◌, ◌%◌, get_or, set, ◌==◌, ◌||◌, Bool, true, false, List, [], ◌∷◌, length, Option}
+use Rattle.std.proofs.Common.{◌≡◌, ℕ, ◌+◌, ◌-◌, ◌*◌, ◌/◌, ◌%◌, get_or, set, ◌==◌, ◌||◌, Bool, true, false, List, [], ◌∷◌, Option}
 use Rattle.std.proofs.Common.{Some, None, option_map, if◌then◌else◌, refl, sym, ◌∙◌, ap, subst, arith, append_assoc}
 use Rattle.std.proofs.lemmas.List.{append-nil}
 use Rattle.std.proofs.lemmas.Bool.{or_parts}
@@ -8,7 +8,7 @@ use Rattle.f11_store.specs.declared.refusals.Refusal.{Refusal}
 use Rattle.f11_store.specs.declared.requests.Request.TheVariants as request
 use Rattle.f11_store.specs.File.{File}
 use Rattle.f11_store.specs.Store.{Store, file_named}
-use Rattle.f11_store.specs.Directory.{index_of_empty, entry_count, needs_block, with_bytes, with_record, with_end}
+use Rattle.f11_store.specs.Directory.{index_of_empty, entry_count, needs_block, with_bytes, with_record}
 use Rattle.f11_store.specs.Changes.{with_change, with_entry, with_end_after, EntersAtEnd, EntersAt, Enters}
 use Rattle.f11_store.specs.Lags.{file_changes, Work, no_work, one_part, and_then, lengthen_work, end_work, append_work, enter_work}
 use Rattle.f11_store.specs.Lags.{served_work, work_if, LagsBy}

@@ -4,3 +4,4 @@ pub mod Entering
 pub mod Looks
 pub mod Seen
 pub mod Writing
+pub use Rattle.f11_dir.specs as dir

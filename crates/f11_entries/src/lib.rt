@@ -13,5 +13,6 @@ mod look;
 mod spot;
 
 pub use attributes::{entry_count, is_directory, moved_end};
+pub use f11_dir;
 pub use look::or_first_empty;
 pub use spot::{Looked, Spot};

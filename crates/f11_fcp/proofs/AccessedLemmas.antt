@@ -36,7 +36,7 @@ use Rattle.f11_files.specs.Operations.{length_causes, extend_causes, attr_of}
 use Rattle.f11_files.specs.Finding.Blocks.{ReadsBlock, StoresBlock, FailsToStore, block_work}
 use Rattle.f11_files.specs.Extending.Runs.{headers_for, IsLengthAfter, ExtendsFile, FailsToExtend}
 use Rattle.f11_files.proofs.Overall.{extends-is}
-use Rattle.f11_image_store.specs.StoreOf.{store_of}
+use Rattle.f11_files.specs.image_store.StoreOf.{store_of}
 use Rattle.f11_fcp.proofs.RequestLemmas.{still}
 use Rattle.f11_fcp.specs.Accesses.{AccessTable, Entry, access_of, accesses, held_in, mark_there, mark_kept, HasAccessed}
 use Rattle.f11_store.specs.Accesses.{mark_of}

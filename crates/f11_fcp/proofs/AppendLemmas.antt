@@ -32,12 +32,11 @@ use Rattle.f11_entries.proofs.SeenLemmas.{new_block_is_zeros}
 use Rattle.f11_entries.proofs.WritingLemmas.{entering_by_writes, entering_in_place_by_write}
 use Rattle.f11_files.specs.Answers.{Breaks, FailsToRead, FailsToWrite, IsRight, IsUnderWay, Meanwhile, ReadsAtMost, WritesAtMost, faults_of}
 use Rattle.f11_files.specs.Answers.{is_among, is_cause, is_fatal}
-use Rattle.f11_files.specs.Finding.Blocks.{ReadsBlock}
 use Rattle.f11_files.specs.Extending.Runs.{ExtendsFile, FailsToExtend}
 use Rattle.f11_files.specs.Overall.{ExtendsOverall}
 use Rattle.f11_files.proofs.Overall.{extends-is}
 use Rattle.f11_files.specs.Operations.{extend_causes}
-use Rattle.f11_image_store.specs.StoreOf.{store_of}
+use Rattle.f11_files.specs.image_store.StoreOf.{store_of}
 use Rattle.f11_dev.proofs.WentLemmas.{went_looked, went_weaker}
 use Rattle.f11_fcp.specs.Entries.{HasBlocks, put_work, ReplacesEntry, BreaksReplacing, IsDirectoryTail, IsAppending, putting, moving}
 use Rattle.f11_fcp.specs.Entries.{Appending, Appends, cause_if, entry_causes, entry_wants, entry_work, IsDirectoryEnd, IsFull, HasEmpty}
@@ -83,23 +82,6 @@ end-there found s d room end = record {
   there = end.there;
   more = let long = end.length_is in omega (arith, room, long);
 }
-
--- where the records don't end with a block it is the last one that was read
-pub end-in-hand : (found : Search) (s : Store) (d : FileId) → found.count % 32 ≢ 0 → IsDirectoryEnd found s d
-    → slice_get (file_named s d).blocks (found.count / 32) ≡ Some found.last
-end-in-hand found s d inside end =
-    let counted = end.count_is in
-    let some : 0 < entry_count (file_named s d) = omega (arith, inside, counted) in
-    let place : found.count / 32 ≡ (entry_count (file_named s d) - 1) / 32 = omega (arith, inside, counted) in
-    ap (slice_get (file_named s d).blocks) place ∙ end.last_is some
-
--- or it was read now
-pub end-read : (home : HomeFields) (d : FileId) (number : ℕ) (block : List ℕ) (old new : Disk)
-    → ReadsBlock home d (number + 1) block old new → IsTrue old.honest
-    → slice_get (file_named (store_of old.image home) d).blocks number ≡ Some block
-end-read home d number block old new read honest =
-    let place : number ≡ number + 1 - 1 = omega arith in ap (slice_get (file_named (store_of old.image home) d).blocks) place
-    ∙ read.block_is honest
 
 -- the first empty record is in hand
 pub place-of : (found : Search) (spot : Spot) (s : Store) (d : FileId) (empty : Option Spot) → empty ≡ Some spot → HasEmpty empty found s d

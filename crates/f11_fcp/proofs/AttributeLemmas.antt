@@ -22,7 +22,7 @@ use Rattle.f11_store.specs.declared.requests.Request.TheVariants as request
 use Rattle.f11_files.specs.Answers.{ReadsAtMost, FailsToRead, is_among, is_clean}
 use Rattle.f11_files.specs.Changing.Fields.{Alters, FailsToAlter}
 use Rattle.f11_files.specs.Operations.{attr_of, file_causes}
-use Rattle.f11_image_store.specs.StoreOf.{store_of}
+use Rattle.f11_files.specs.image_store.StoreOf.{store_of}
 use Rattle.f11_files.proofs.AnswerLemmas.{reads-within}
 use Rattle.f11_fcp.specs.Accesses.{AccessTable, held_in}
 use Rattle.f11_fcp.specs.Handles.{State, store_at, own_causes, Handles}

@@ -28,7 +28,7 @@ use Rattle.f11_files.specs.Answers.{FailsToRead, IsRight, ReadsAtMost, is_among,
 use Rattle.f11_files.specs.LayingOut.Whole.{FailsToLayOut, LaysOutFile}
 use Rattle.f11_files.specs.Operations.{attr_of, contiguous_causes}
 use Rattle.f11_files.proofs.AnswerLemmas.{reads-within}
-use Rattle.f11_image_store.specs.StoreOf.{store_of}
+use Rattle.f11_files.specs.image_store.StoreOf.{store_of}
 use Rattle.f11_store.proofs.HeldLaws.{contiguous-causes-held, laid-out-held}
 use Rattle.f11_fcp.specs.Accesses.{AccessTable, Entry, accesses, held_in}
 use Rattle.f11_fcp.specs.Handles.{State, store_at, own_causes, Handles, of_accessed}

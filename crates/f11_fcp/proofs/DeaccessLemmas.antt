@@ -20,7 +20,7 @@ use Rattle.f11_store.specs.declared.requests.Request.TheVariants as request
 use Rattle.f11_dev.specs.Disk.{Disk}
 use Rattle.f11_files.specs.Answers.{WritesAtMost, is_fatal}
 use Rattle.f11_files.specs.Removing.Delete.{Deletes, FailsToDelete}
-use Rattle.f11_image_store.specs.StoreOf.{store_of}
+use Rattle.f11_files.specs.image_store.StoreOf.{store_of}
 use Rattle.f11_fcp.specs.Accesses.{AccessTable, Entry, access_of, with_table_entry, held_in, is_held_in, any_mode, mark_there, mark_kept}
 use Rattle.f11_fcp.specs.Accesses.{HasAccessed}
 use Rattle.f11_store.specs.Accesses.{mark_of}

@@ -24,7 +24,7 @@ use Rattle.f11_files.specs.Answers.{ReadsAtMost, FailsToRead, is_among, is_clean
 use Rattle.f11_files.specs.Removing.Delete.{Deletes, FailsToDelete}
 use Rattle.f11_files.specs.Changing.Fields.{Alters, FailsToAlter}
 use Rattle.f11_files.specs.Operations.{attr_of, file_causes}
-use Rattle.f11_image_store.specs.StoreOf.{store_of}
+use Rattle.f11_files.specs.image_store.StoreOf.{store_of}
 use Rattle.f11_files.proofs.AnswerLemmas.{reads-within}
 use Rattle.f11_fcp.specs.Accesses.{AccessTable, held_in, is_held_in, any_mode, with_marks}
 use Rattle.f11_fcp.specs.Handles.{State, store_at, own_causes, Handles}

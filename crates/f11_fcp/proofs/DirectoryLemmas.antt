@@ -24,7 +24,7 @@ use Rattle.f11_files.specs.Answers.{FailsToRead, ReadsAtMost, faults_of, is_amon
 use Rattle.f11_files.specs.Calls.{ReadsAttr}
 use Rattle.f11_files.specs.Finding.Length.{CountsBlocks}
 use Rattle.f11_files.specs.Operations.{attr_of, file_causes}
-use Rattle.f11_image_store.specs.StoreOf.{store_of}
+use Rattle.f11_files.specs.image_store.StoreOf.{store_of}
 use Rattle.f11_files.proofs.AnswerLemmas.{fails-more, reads-more, reads-within, right-cause}
 use Rattle.f11_fcp.specs.Accesses.{AccessTable, is_held_in}
 use Rattle.f11_fcp.specs.Directories.{right_for, lacks_for_purpose, is_barred_to, conflict_causes, opening_causes, OpensDirectory}
@@ -40,10 +40,6 @@ use Rattle.f11_fcp.proofs.NamedLemmas.{found, marks-read}
 not-so : (b : Bool) → true ≡ b → not b ≡ false
 not-so true h = refl
 not-so false h = absurd (cc)
-
-so-not : (b : Bool) → false ≡ b → not b ≡ true
-so-not true h = absurd (cc)
-so-not false h = refl
 
 -- the causes against a change of a directory, whatever is held of it
 abbrev pub opening_barred : Bool → AccessTable → Store → Uic → FileId → List Cause

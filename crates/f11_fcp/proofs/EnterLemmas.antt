@@ -34,7 +34,7 @@ use Rattle.f11_entries.proofs.CostLemmas.{enter_fits}
 use Rattle.f11_entries.proofs.FateLemmas.{fate-enter}
 use Rattle.f11_files.specs.Answers.{FailsToRead, is_among, is_fatal, is_clean, is_refused}
 use Rattle.f11_files.specs.Open.{disk_in, has_failed, home_in}
-use Rattle.f11_image_store.specs.StoreOf.{store_of}
+use Rattle.f11_files.specs.image_store.StoreOf.{store_of}
 use Rattle.f11_files.specs.declared.files.Files.{Files}
 use Rattle.f11_fcp.specs.Accesses.{AccessTable, accesses, held_in}
 use Rattle.f11_fcp.specs.Directories.{opening_causes, Searches}

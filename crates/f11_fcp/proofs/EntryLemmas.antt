@@ -26,7 +26,7 @@ use Rattle.f11_files.specs.Answers.{Breaks, Meanwhile, WritesAtMost}
 use Rattle.f11_files.specs.Finding.Blocks.{StoresBlock, block_work}
 use Rattle.f11_files.specs.Changing.Fields.{Alters}
 use Rattle.f11_files.specs.Operations.{file_causes, length_causes}
-use Rattle.f11_image_store.specs.StoreOf.{store_of}
+use Rattle.f11_files.specs.image_store.StoreOf.{store_of}
 use Rattle.f11_fcp.specs.Entries.{HoldsSpot, HasBlocks, put_at, put_work, ReplacesEntry, BreaksReplacing, IsDirectoryTail, move_at, putting}
 use Rattle.f11_fcp.specs.Entries.{moving, Appending, Appends}
 use Rattle.f11_fcp.specs.declared.tail.Tail.{Tail}

@@ -19,7 +19,7 @@ use Rattle.f11_entries.specs.declared.spot.Looked.TheVariants as looked
 use Rattle.f11_entries.specs.declared.spot.Spot.{Spot}
 use Rattle.f11_entries.proofs.CostLemmas.{find_fits}
 use Rattle.f11_files.specs.Answers.{FailsToRead, is_among}
-use Rattle.f11_image_store.specs.StoreOf.{store_of}
+use Rattle.f11_files.specs.image_store.StoreOf.{store_of}
 use Rattle.f11_fcp.specs.Directories.{opening_causes, Searches}
 use Rattle.f11_fcp.specs.Handles.{State, store_at, own_causes, Handles}
 use Rattle.f11_fcp.specs.declared.purpose.Purpose.TheVariants as purpose

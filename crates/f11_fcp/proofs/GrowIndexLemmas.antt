@@ -20,7 +20,7 @@ use Rattle.f11_store.proofs.HeldLaws.{growth-held, index-grows-held}
 use Rattle.f11_files.specs.Answers.{is_among, is_clean}
 use Rattle.f11_files.specs.GrowingIndex.Runs.{GrowsIndexFile, IsSlotsAfter, FailsToGrow}
 use Rattle.f11_files.specs.Operations.{grow_causes}
-use Rattle.f11_image_store.specs.StoreOf.{store_of}
+use Rattle.f11_files.specs.image_store.StoreOf.{store_of}
 use Rattle.f11_fcp.specs.Accesses.{AccessTable, accesses, held_in}
 use Rattle.f11_fcp.specs.Handles.{State, store_at, own_causes, Handles}
 use Rattle.f11_fcp.proofs.AccessedLemmas.{drop-false, take-true, refused-early}

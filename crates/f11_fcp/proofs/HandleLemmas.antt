@@ -19,10 +19,10 @@ use Rattle.f11_store.specs.declared.requests.Reply.{Reply}
 use Rattle.f11_store.specs.declared.requests.Request.{Request}
 use Rattle.f11_files.specs.Answers.{ReadsAtMost, WritesAtMost, FailsOrWants, FailsToWrite, Does, is_among, is_fatal, is_clean, is_cause}
 use Rattle.f11_files.specs.Answers.{faults_of, Meanwhile}
-use Rattle.f11_image_store.specs.StoreOf.{store_of}
+use Rattle.f11_files.specs.image_store.StoreOf.{store_of}
 use Rattle.f11_files.proofs.AnswerLemmas.{reads-more, reads-looked}
 use Rattle.f11_dev.proofs.LookedLemmas.{looked_none}
-use Rattle.f11_volume.specs.Volume.{Volume}
+use Rattle.f11_files.specs.volume.Volume.{Volume}
 use Rattle.f11_fcp.specs.Accesses.{AccessTable, held_in, accesses}
 use Rattle.f11_fcp.specs.Handles.{State, store_at, WhileServing, is_failed, is_damage, own_causes, Handles}
 use Rattle.f11_store.proofs.HeldLaws.{lags-held}

@@ -7,7 +7,7 @@ use Rattle.f11_bits.specs.Run.{IsFirstRunOf, NoRunOf}
 use Rattle.f11_chain.specs.FileHeaders.{file_blocks}
 use Rattle.f11_dev.specs.Image.{Image}
 use Rattle.f11_home.specs.Home.{HomeFields}
-use Rattle.f11_index.specs.Table.{table_of}
+use Rattle.f11_files.specs.index.Table.{table_of}
 use Rattle.f11_store.specs.Causes.{first_refusal}
 use Rattle.f11_store.specs.Step.{MayRefuse}
 use Rattle.f11_store.specs.Store.{id_held}
@@ -17,8 +17,8 @@ use Rattle.f11_store.specs.declared.refusals.Refusal.TheVariants.{NoRun}
 use Rattle.f11_store.specs.declared.requests.Reply.{Reply}
 use Rattle.f11_store.specs.declared.requests.Request.{Request}
 use Rattle.f11_store.specs.declared.requests.Request.TheVariants as request
-use Rattle.f11_volume.specs.Space.{storage_bitmap}
-use Rattle.f11_volume.specs.Volume.{Volume, volume_of}
+use Rattle.f11_files.specs.volume.Space.{storage_bitmap}
+use Rattle.f11_files.specs.volume.Volume.{Volume, volume_of}
 use Rattle.f11_files.specs.LayingOut.Whole.{GainsRun}
 use Rattle.f11_fcp.specs.Handles.{Handles, State, store_at}
 use Rattle.f11_fcp.specs.InOneRun.{free_in, InOneRun, LiesInRun, run_of}

@@ -15,7 +15,7 @@ use Rattle.f11_files.specs.Finding.Length.{CountsBlocks}
 use Rattle.f11_files.specs.Open.{disk_in, has_failed, home_in}
 use Rattle.f11_files.specs.Operations.{file_causes}
 use Rattle.f11_files.specs.declared.files.Files.{Files}
-use Rattle.f11_image_store.specs.StoreOf.{store_of}
+use Rattle.f11_files.specs.image_store.StoreOf.{store_of}
 use Rattle.f11_fcp.specs.Accesses.{Entry, HasAccessed, AccessTable, access_of}
 use Rattle.f11_fcp.specs.Handles.{IsOpen, State, of_accessed, store_at}
 use Rattle.f11_fcp.specs.Lengths.{Measures, length_causes, length_cost}

@@ -30,3 +30,5 @@ mod SlotsLemmas
 mod TableLemmas
 mod TruncateLemmas
 mod WindowLemmas
+pub use Rattle.f11_files.proofs.image_store as image_store
+pub use Rattle.f11_files.proofs.writes as writes

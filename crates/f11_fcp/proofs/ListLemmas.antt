@@ -16,9 +16,9 @@ use Rattle.f11_store.specs.declared.refusals.Refusal.TheVariants.{DeviceFault, D
 use Rattle.f11_store.specs.declared.requests.Reply.{Reply}
 use Rattle.f11_files.specs.Answers.{is_fatal, is_refused}
 use Rattle.f11_files.specs.Open.{store_in}
-use Rattle.f11_image_store.proofs.StoreLemmas.{unused-is-empty}
-use Rattle.f11_writes.specs.Order.{WritesInOrder}
-use Rattle.f11_writes.proofs.InOrderLemmas.{order-none, order-then}
+use Rattle.f11_files.proofs.image_store.StoreLemmas.{unused-is-empty}
+use Rattle.f11_files.specs.writes.Order.{WritesInOrder}
+use Rattle.f11_files.proofs.writes.InOrderLemmas.{order-none, order-then}
 use Rattle.f11_fcp.specs.Accesses.{Entry, HasAccessed, AccessTable, access_of, held_in, mark_kept, mark_there}
 use Rattle.f11_fcp.specs.Handles.{State, faults_in, is_damage}
 use Rattle.f11_fcp.specs.Lists.{AreAnswered, IsServed, KeepsCosts, KeepsLocks, ServesCall, ServesRun, answer_and, answers_in, asked_in}

@@ -13,11 +13,11 @@ use Rattle.f11_store.specs.Store.{Store, file_named}
 use Rattle.f11_store.specs.declared.refusals.Refusal.{Refusal}
 use Rattle.f11_store.specs.Directory.{is_empty, record_in, record_id}
 use Rattle.f11_store.specs.Cost.{header_count}
-use Rattle.f11_dir.specs.Records.{records_in, place_of_name}
+use Rattle.f11_entries.specs.dir.Records.{records_in, place_of_name}
 use Rattle.f11_files.specs.Answers.{FailsToRead, ReadsAtMost}
 use Rattle.f11_files.specs.Finding.Blocks.{ReadsBlock}
 use Rattle.f11_files.specs.Operations.{length_causes}
-use Rattle.f11_image_store.specs.StoreOf.{store_of}
+use Rattle.f11_files.specs.image_store.StoreOf.{store_of}
 use Rattle.f11_files.proofs.AnswerLemmas.{reads-looked, reads-more, reads-within}
 use Rattle.f11_entries.specs.Costs.{reading_cost}
 use Rattle.f11_entries.specs.Seen.{here, first_place, LookedAt}

@@ -16,7 +16,7 @@ use Rattle.f11_store.specs.declared.refusals.Refusal.TheVariants.{NoSuchFile, Vo
 use Rattle.f11_store.specs.declared.requests.Request.{Request}
 use Rattle.f11_files.specs.Answers.{ReadsAtMost, FailsToRead, is_among, is_fatal, faults_of}
 use Rattle.f11_files.specs.Operations.{attr_of, file_causes}
-use Rattle.f11_image_store.specs.StoreOf.{store_of}
+use Rattle.f11_files.specs.image_store.StoreOf.{store_of}
 use Rattle.f11_files.proofs.AnswerLemmas.{reads-within}
 use Rattle.f11_fcp.specs.Handles.{State, store_at, own_causes, Handles}
 use Rattle.f11_fcp.proofs.HandleLemmas.{clean-cause, handled-clean, handled-fatal}

@@ -11,8 +11,8 @@ use Rattle.f11_store.specs.declared.requests.Reply.{Reply}
 use Rattle.f11_store.specs.declared.requests.Request.{Request}
 use Rattle.f11_files.specs.Answers.{is_fatal, is_refused}
 use Rattle.f11_files.specs.Open.{has_failed, disk_in, home_in, is_honest, store_in}
-use Rattle.f11_image_store.proofs.StoreLemmas.{unused-is-empty}
-use Rattle.f11_image_store.specs.StoreOf.{store_of}
+use Rattle.f11_files.proofs.image_store.StoreLemmas.{unused-is-empty}
+use Rattle.f11_files.specs.image_store.StoreOf.{store_of}
 use Rattle.f11_files.specs.declared.files.Files.{Files}
 use Rattle.f11_fcp.specs.Accesses.{AccessTable, Entry, held_in, mark_there, mark_kept, HasAccessed, access_of}
 use Rattle.f11_dev.proofs.WentLemmas.{went_weaker}

@@ -10,7 +10,7 @@ use Rattle.f11_dev.specs.Went.{Went}
 use Rattle.f11_dev.proofs.LookedLemmas.{looked_none, looked_read}
 use Rattle.f11_dev.proofs.WentLemmas.{went_weaker}
 use Rattle.f11_home.specs.Home.{HomeFields}
-use Rattle.f11_index.specs.Table.{table_of}
+use Rattle.f11_files.specs.index.Table.{table_of}
 use Rattle.f11_store.specs.Causes.{Cause, first_of}
 use Rattle.f11_store.specs.Changes.{with_block, with_change}
 use Rattle.f11_store.specs.Cost.{header_count}
@@ -18,7 +18,7 @@ use Rattle.f11_store.specs.Lags.{work_if}
 use Rattle.f11_store.specs.Store.{Store, file_named}
 use Rattle.f11_store.specs.declared.refusals.Refusal.{Refusal}
 use Rattle.f11_store.specs.declared.refusals.Refusal.TheVariants.{DeviceFault, VolumeFailed}
-use Rattle.f11_volume.specs.Volume.{volume_of}
+use Rattle.f11_files.specs.volume.Volume.{volume_of}
 use Rattle.f11_files.specs.Answers.{FailsToRead, IsRight, IsUnderWay, Meanwhile, is_fatal}
 use Rattle.f11_files.specs.Finding.Blocks.{FailsToStore, ReadsBlock, StoresBlock, block_work}
 use Rattle.f11_files.specs.Finding.Windows.{FailsToReadBy, FindsFileWindow, HasWindow, IsOfFailure, IsWindowOn, ReadsBy}
@@ -26,8 +26,8 @@ use Rattle.f11_files.specs.Open.{IsIdFrom, disk_in, home_in, is_honest, store_in
 use Rattle.f11_files.specs.Operations.{length_causes}
 use Rattle.f11_files.proofs.AnswerLemmas.{reads-looked, reads-more, right-fault}
 use Rattle.f11_files.proofs.WriteLemmas.{fails-unread, writes-behind}
-use Rattle.f11_image_store.specs.Allocation.{KeepsBlocks}
-use Rattle.f11_image_store.specs.StoreOf.{store_of}
+use Rattle.f11_files.specs.image_store.Allocation.{KeepsBlocks}
+use Rattle.f11_files.specs.image_store.StoreOf.{store_of}
 use Rattle.f11_fcp.specs.Accesses.{Entry, with_window}
 use Rattle.f11_fcp.specs.Windows.{FindsNext, KeepsWindow, LeavesRows}
 use Rattle.f11_fcp.proofs.WindowLemmas.{as-slice, begins-at, window-kept}
@@ -58,10 +58,6 @@ next-found home e vbn w old new other finds = record {
   has = finds.has;
   reads = finds.reads;
 }
-
--- one transfer at most was made where the window was found without one
-pub once-after : (old mid new : Disk) → mid ≡ old → new.transfers ≤ mid.transfers + 1 → new.transfers ≤ old.transfers + 1
-once-after old mid new same few = subst (λ (d : Disk). new.transfers ≤ d.transfers + 1) same few
 
 pub once-none : (old mid : Disk) → mid ≡ old → mid.transfers ≤ old.transfers + 1
 once-none old mid same = let none = ap (λ (d : Disk). d.transfers) same in omega (arith, none)
@@ -117,9 +113,6 @@ module _ (home : HomeFields) (e : Entry) (vbn : ℕ) (w : Window) (old mid : Dis
 
   pub on-here : (here : HomeFields) → here ≡ home → IsWindowOn here e.file w mid
   on-here here at = subst (λ (h : HomeFields). IsWindowOn h e.file w mid) (sym at) on-mid
-
-  pub on-still : LiesOn w (length mid.image)
-  on-still = subst (λ (i : Image). LiesOn w (length i)) (sym same) finds.on
 
   -- the block was read
   pub read-through : (block : List ℕ) (new : Disk) → ReadsBy home w vbn block mid new → ReadsBlock home e.file vbn block old new

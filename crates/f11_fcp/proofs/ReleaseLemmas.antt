@@ -4,7 +4,7 @@ use Rattle.std.proofs.Common.{subst, arith, is_none, option_map}
 use Rattle.f11_dev.specs.Image.{Image}
 use Rattle.f11_dev.proofs.WentLemmas.{went_more, went_weaker}
 use Rattle.f11_home.specs.Home.{HomeFields}
-use Rattle.f11_volume.specs.Sound.{HasSoundVolume}
+use Rattle.f11_files.specs.volume.Sound.{HasSoundVolume}
 use Rattle.f11_store.specs.Causes.{first_refusal, holds_none}
 use Rattle.f11_store.specs.Changes.{after_deaccess, after_giving_up}
 use Rattle.f11_store.specs.Cost.{deaccess_cost}
@@ -19,7 +19,7 @@ use Rattle.f11_store.specs.declared.requests.Reply.TheVariants as reply
 use Rattle.f11_store.specs.declared.requests.Request.TheVariants as request
 use Rattle.f11_store.proofs.ReleaseLaws.{release_lags, release_goes_on, release_cost_goes_on, release_fits}
 use Rattle.f11_files.specs.Answers.{WritesAtMost, is_fatal}
-use Rattle.f11_image_store.specs.StoreOf.{store_of}
+use Rattle.f11_files.specs.image_store.StoreOf.{store_of}
 use Rattle.f11_files.proofs.WriteLemmas.{writes-within}
 use Rattle.f11_fcp.specs.Accesses.{Entry, access_of}
 use Rattle.f11_fcp.specs.Handles.{State, store_at, WhileServing, faults_in, Handles}

@@ -27,7 +27,7 @@ use Rattle.f11_entries.specs.declared.spot.Spot.{Spot}
 use Rattle.f11_entries.proofs.CostLemmas.{remove_fits}
 use Rattle.f11_entries.proofs.WritingLemmas.{removing_is_one_write}
 use Rattle.f11_files.specs.Answers.{FailsToRead, Meanwhile, is_among}
-use Rattle.f11_image_store.specs.StoreOf.{store_of}
+use Rattle.f11_files.specs.image_store.StoreOf.{store_of}
 use Rattle.f11_fcp.specs.Accesses.{AccessTable, held_in}
 use Rattle.f11_fcp.specs.Directories.{opening_causes, Searches}
 use Rattle.f11_fcp.specs.Entries.{HoldsSpot, put_at, put_work, ReplacesEntry, BreaksReplacing}

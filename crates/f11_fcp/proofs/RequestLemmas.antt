@@ -19,7 +19,7 @@ use Rattle.f11_files.specs.Answers.{is_among, is_clean, FailsToWrite}
 use Rattle.f11_files.specs.Create.{Creates, FailsToCreate}
 use Rattle.f11_files.specs.Operations.{IsSpaceOf}
 use Rattle.f11_files.proofs.Overall.{creates-is}
-use Rattle.f11_image_store.specs.StoreOf.{store_of}
+use Rattle.f11_files.specs.image_store.StoreOf.{store_of}
 use Rattle.f11_fcp.specs.Accesses.{AccessTable, held_in, accesses}
 use Rattle.f11_fcp.specs.Handles.{State, store_at, own_causes, WhileServing, Handles}
 use Rattle.f11_store.proofs.HeldLaws.{create-causes-held, free-held, make-work-held, makes-held}

@@ -8,7 +8,7 @@ use Rattle.f11_store.specs.Changes.{with_delete_mark, with_replacement}
 use Rattle.f11_store.specs.declared.callers.Uic.{Uic}
 use Rattle.f11_store.specs.declared.files.Change.{Change}
 use Rattle.f11_store.specs.declared.files.FileId.{FileId}
-use Rattle.f11_volume.specs.Sound.{HasSoundVolume}
+use Rattle.f11_files.specs.volume.Sound.{HasSoundVolume}
 use Rattle.f11_files.proofs.Rows.{altered-rows, created-rows, cut-rows, deleted-rows, extended-rows, grown-rows, laid-rows, replaced-rows}
 use Rattle.f11_files.proofs.Rows.{stored-rows}
 use Rattle.f11_files.specs.Changing.Fields.{Alters}

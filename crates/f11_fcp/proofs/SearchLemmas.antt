@@ -10,7 +10,7 @@ use Rattle.f11_store.specs.declared.refusals.Refusal.{Refusal}
 use Rattle.f11_store.specs.declared.refusals.Refusal.TheVariants.{VolumeFailed}
 use Rattle.f11_store.specs.declared.requests.Request.{Request}
 use Rattle.f11_files.specs.Answers.{FailsToRead, ReadsAtMost, is_among, is_cause, is_fatal}
-use Rattle.f11_image_store.specs.StoreOf.{store_of}
+use Rattle.f11_files.specs.image_store.StoreOf.{store_of}
 use Rattle.f11_files.proofs.AnswerLemmas.{reads-within}
 use Rattle.f11_fcp.specs.Directories.{opening_causes}
 use Rattle.f11_fcp.specs.Handles.{State, store_at, own_causes, Handles}

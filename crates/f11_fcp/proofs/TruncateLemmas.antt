@@ -19,7 +19,7 @@ use Rattle.f11_store.proofs.HeldLaws.{cut-held}
 use Rattle.f11_files.specs.Answers.{is_among, is_clean}
 use Rattle.f11_files.specs.Removing.Truncate.{Cuts, FailsToCut, cut_work}
 use Rattle.f11_files.specs.Operations.{length_causes}
-use Rattle.f11_image_store.specs.StoreOf.{store_of}
+use Rattle.f11_files.specs.image_store.StoreOf.{store_of}
 use Rattle.f11_fcp.specs.Accesses.{AccessTable, Entry, accesses, held_in}
 use Rattle.f11_fcp.specs.Handles.{State, store_at, own_causes, Handles, of_accessed}
 use Rattle.f11_fcp.proofs.AccessedLemmas.{drop-false, take-true, refused-early, accessed-refused, held-id, held-file, held-writes}

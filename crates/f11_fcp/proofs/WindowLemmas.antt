@@ -11,7 +11,7 @@ use Rattle.f11_chain.specs.declared.windows.Window.{Window}
 use Rattle.f11_dev.specs.Image.{Image, IsImage}
 use Rattle.f11_dev.specs.declared.device.Device.{Ghosts}
 use Rattle.f11_home.specs.Home.{HomeFields}
-use Rattle.f11_index.specs.Table.{table_of, last_sequence, IsFile, Table as IndexTable}
+use Rattle.f11_files.specs.index.Table.{table_of, last_sequence, IsFile, Table as IndexTable}
 use Rattle.f11_store.specs.Accesses.{mark_of, with_accesses}
 use Rattle.f11_store.specs.Causes.{is_missing}
 use Rattle.f11_store.specs.Step.{Step}
@@ -23,15 +23,15 @@ use Rattle.f11_store.specs.declared.refusals.Refusal.TheVariants.{DeviceFault, D
 use Rattle.f11_store.specs.declared.requests.Reply.{Reply}
 use Rattle.f11_store.specs.declared.requests.Request.{Request}
 use Rattle.f11_store.proofs.FateLaws.{held-at}
-use Rattle.f11_volume.specs.Sound.{HasSoundVolume}
+use Rattle.f11_files.specs.volume.Sound.{HasSoundVolume}
 use Rattle.f11_files.specs.Answers.{ReadsAtMost, WritesAtMost, is_clean, is_fatal}
 use Rattle.f11_files.specs.Open.{disk_in, home_in, is_honest, store_in}
 use Rattle.f11_files.specs.Rows.{KeepsRows, no_number, this_number}
 use Rattle.f11_files.specs.declared.files.Files.{Files}
 use Rattle.f11_files.proofs.Finding.Windows.{is-there}
 use Rattle.f11_files.proofs.Opening.Kept.{accepted-opened}
-use Rattle.f11_image_store.specs.Allocation.{BeginsWith}
-use Rattle.f11_image_store.specs.StoreOf.{store_of}
+use Rattle.f11_files.specs.image_store.Allocation.{BeginsWith}
+use Rattle.f11_files.specs.image_store.StoreOf.{store_of}
 use Rattle.f11_fcp.specs.Accesses.{Entry, HasAccessed, AccessTable, access_of, accesses, any_mode, emptied_if, held_in, is_held_in}
 use Rattle.f11_fcp.specs.Accesses.{mark_kept, mark_there, marked_if, with_empty_windows, with_table_entry, with_marks, with_window}
 use Rattle.f11_fcp.specs.Handles.{Handles, IsOpen, State, store_at}

@@ -19,7 +19,7 @@ use Rattle.f11_entries.specs.Looks.{Tells, IsLastBlock}
 use Rattle.f11_entries.specs.declared.spot.Looked.{Looked}
 use Rattle.f11_files.specs.Answers.{ReadsAtMost}
 use Rattle.f11_files.specs.Operations.{attr_of}
-use Rattle.f11_image_store.specs.StoreOf.{store_of}
+use Rattle.f11_files.specs.image_store.StoreOf.{store_of}
 use Rattle.f11_fcp.specs.Accesses.{AccessTable, is_held_in}
 use Rattle.f11_fcp.specs.declared.purpose.Purpose.{Purpose}
 use Rattle.f11_fcp.specs.declared.purpose.Purpose.TheVariants as purpose

@@ -40,9 +40,9 @@ use Rattle.f11_entries.specs.Looks.{IsInHand, place_of}
 use Rattle.f11_entries.specs.Writing.{put_in, end_put}
 use Rattle.f11_entries.specs.declared.spot.Spot.{Spot}
 use Rattle.f11_files.specs.Answers.{Breaks, Does, FailsOrWants, Meanwhile, WritesAtMost}
-use Rattle.f11_image_store.specs.StoreOf.{store_of}
-use Rattle.f11_volume.specs.Sound.{HasSoundVolume}
-use Rattle.f11_volume.specs.Volume.{Volume}
+use Rattle.f11_files.specs.image_store.StoreOf.{store_of}
+use Rattle.f11_files.specs.volume.Sound.{HasSoundVolume}
+use Rattle.f11_files.specs.volume.Volume.{Volume}
 use Rattle.f11_fcp.specs.declared.search.Search.{Search}
 use Rattle.f11_fcp.specs.declared.tail.Tail.{Tail}
 

@@ -17,10 +17,10 @@ use Rattle.f11_store.specs.declared.refusals.Refusal.TheVariants.{NoMemory, NoRu
 use Rattle.f11_store.specs.declared.requests.Reply.{Reply}
 use Rattle.f11_store.specs.declared.requests.Request.{Request}
 use Rattle.f11_store.specs.declared.requests.Request.TheVariants as request
-use Rattle.f11_volume.specs.Sound.{HasSoundVolume}
+use Rattle.f11_files.specs.volume.Sound.{HasSoundVolume}
 use Rattle.f11_files.specs.Answers.{WritesAtMost, is_among, is_cause, is_fatal, is_clean, is_refused, faults_of}
 use Rattle.f11_files.specs.Open.{disk_in, home_in, counts_in, has_failed, is_honest, store_in}
-use Rattle.f11_image_store.specs.StoreOf.{store_of}
+use Rattle.f11_files.specs.image_store.StoreOf.{store_of}
 use Rattle.f11_files.specs.declared.files.Files.{Files}
 use Rattle.f11_fcp.specs.Accesses.{AccessTable, held_in, HasAccessed}
 use Rattle.f11_fcp.specs.Windows.{HasWindows}

@@ -5,7 +5,7 @@ use Rattle.f11_bits.specs.Bitmap.{is_free}
 use Rattle.f11_bits.specs.Run.{IsFirstRunOf, NoRunOf}
 use Rattle.f11_chain.specs.FileHeaders.{file_blocks}
 use Rattle.f11_files.specs.Answers.{is_fatal, is_refused}
-use Rattle.f11_index.specs.Table.{table_of}
+use Rattle.f11_files.specs.index.Table.{table_of}
 use Rattle.f11_store.specs.Causes.{first_refusal}
 use Rattle.f11_store.specs.Store.{id_held}
 use Rattle.f11_store.specs.declared.callers.Uic.{Uic}
@@ -14,7 +14,7 @@ use Rattle.f11_store.specs.declared.refusals.Refusal.TheVariants.{NoRun}
 use Rattle.f11_store.specs.declared.requests.Reply.{Reply}
 use Rattle.f11_store.specs.declared.requests.Request.{Request}
 use Rattle.f11_store.specs.declared.requests.Request.TheVariants as request
-use Rattle.f11_volume.specs.Space.{storage_bitmap}
+use Rattle.f11_files.specs.volume.Space.{storage_bitmap}
 use Rattle.f11_fcp.specs.Handles.{State, store_at}
 
 -- a block of a state's volume is free

@@ -6,7 +6,7 @@ use Rattle.f11_store.specs.declared.refusals.Refusal.{Refusal}
 use Rattle.f11_store.specs.declared.requests.Reply.{Reply}
 use Rattle.f11_store.specs.declared.requests.Request.{Request}
 use Rattle.f11_files.specs.Answers.{is_refused}
-use Rattle.f11_volume.specs.Verdict.{IsAccepted}
+use Rattle.f11_files.specs.volume.Verdict.{IsAccepted}
 use Rattle.f11_fcp.specs.Handles.{State, Stands, Handles, is_damage}
 
 -- an image that stands while a request is handled has no fault

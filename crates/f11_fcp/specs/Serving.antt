@@ -9,8 +9,8 @@ use Rattle.f11_store.specs.declared.requests.Request.{Request}
 use Rattle.f11_store.specs.declared.requests.Request.TheVariants as request
 use Rattle.f11_files.specs.Answers.{is_fatal, is_refused}
 use Rattle.f11_files.specs.Open as files
-use Rattle.f11_volume.specs.Verdict.{IsAccepted}
-use Rattle.f11_writes.specs.Order.{WritesInOrder}
+use Rattle.f11_files.specs.volume.Verdict.{IsAccepted}
+use Rattle.f11_files.specs.writes.Order.{WritesInOrder}
 use Rattle.f11_fcp.specs.Handles.{State, state_of, Handles}
 use Rattle.f11_fcp.specs.InOneRun.{InOneRun}
 use Rattle.f11_fcp.specs.Places.{access_table_of}

@@ -6,7 +6,7 @@ use Rattle.f11_chain.specs.declared.windows.Window.{Window}
 use Rattle.f11_dev.specs.Disk.{Disk}
 use Rattle.f11_dev.specs.declared.device.Device.{Ghosts}
 use Rattle.f11_home.specs.Home.{HomeFields}
-use Rattle.f11_index.specs.Table.{table_of}
+use Rattle.f11_files.specs.index.Table.{table_of}
 use Rattle.f11_store.specs.Causes.{is_missing}
 use Rattle.f11_store.specs.Cost.{header_count}
 use Rattle.f11_store.specs.Store.{file_named}
@@ -15,7 +15,7 @@ use Rattle.f11_files.specs.Finding.Windows.{HasWindow}
 use Rattle.f11_files.specs.Open.{disk_in, has_failed, home_in, is_honest, store_in}
 use Rattle.f11_files.specs.Rows.{KeepsRows, no_number}
 use Rattle.f11_files.specs.declared.files.Files.{Files}
-use Rattle.f11_image_store.specs.StoreOf.{store_of}
+use Rattle.f11_files.specs.image_store.StoreOf.{store_of}
 use Rattle.f11_fcp.specs.Accesses.{Entry, AccessTable, with_window}
 
 -- A window's blocks are a slice of a file's, from the VBN of its first one on.

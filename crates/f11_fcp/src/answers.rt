@@ -6,7 +6,7 @@ ghost use Rattle.f11_fcp.specs.InOneRun.{InOneRun};
 ghost use Rattle.f11_fcp.specs.Places.{access_table_of};
 ghost use Rattle.f11_fcp.specs.Serving.{fills_block};
 ghost use Rattle.f11_files.specs.Open.{disk_in};
-ghost use Rattle.f11_writes.specs.Order.{WritesInOrder};
+ghost use Rattle.f11_files.specs.writes.Order.{WritesInOrder};
 
 use crate::table::Accesses;
 use f11_bytes::Block;

@@ -10,7 +10,7 @@ ghost use Rattle.f11_fcp.specs.Windows.{LeavesRows};
 ghost use Rattle.f11_store.specs.Cost.{header_count};
 ghost use Rattle.f11_store.specs.Directory.{record_bytes};
 ghost use Rattle.f11_store.specs.Store.{file_named};
-ghost use Rattle.f11_writes.specs.Order.{WritesInOrder};
+ghost use Rattle.f11_files.specs.writes.Order.{WritesInOrder};
 
 use crate::answer::of_known;
 use crate::entry::replace_entry;

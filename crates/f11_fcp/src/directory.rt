@@ -6,7 +6,7 @@ ghost use Rattle.f11_entries.specs.Costs.{look_cost};
 ghost use Rattle.f11_fcp.specs.Directories.{lacks_for_purpose, is_barred_to, opening_causes, OpensDirectory, Searches};
 ghost use Rattle.f11_fcp.specs.Places.{access_table_of};
 ghost use Rattle.f11_store.specs.Store.{file_named};
-ghost use Rattle.f11_writes.specs.Order.{WritesInOrder};
+ghost use Rattle.f11_files.specs.writes.Order.{WritesInOrder};
 
 use crate::answer::of_known;
 use crate::look::look_through;

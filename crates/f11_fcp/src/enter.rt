@@ -4,7 +4,7 @@ ghost use Rattle.f11_fcp.specs.Handles.{Handles, IsOpen, StaysOpen, state_of};
 ghost use Rattle.f11_fcp.specs.Places.{access_table_of};
 ghost use Rattle.f11_store.specs.declared.requests.Request.TheVariants as asked;
 ghost use Rattle.f11_files.specs.Open.{disk_in};
-ghost use Rattle.f11_writes.specs.Order.{WritesInOrder};
+ghost use Rattle.f11_files.specs.writes.Order.{WritesInOrder};
 
 use crate::append::put_entry;
 use crate::purpose::Purpose;

@@ -8,13 +8,13 @@ ghost use Rattle.f11_fcp.specs.Windows.{LeavesRows};
 ghost use Rattle.f11_store.specs.Cost.{header_count};
 ghost use Rattle.f11_store.specs.Directory.{empty_record, record_bytes};
 ghost use Rattle.f11_store.specs.Store.{file_named};
-ghost use Rattle.f11_writes.specs.Order.{WritesInOrder};
+ghost use Rattle.f11_files.specs.writes.Order.{WritesInOrder};
 
 use crate::answer::of_known;
 use f11_bytes::Block;
 use f11_dev::Device;
-use f11_dir::{clear, put};
 use f11_entries::Spot;
+use f11_entries::f11_dir::{clear, put};
 use f11_files::Files;
 use f11_rad50::Name;
 use f11_store::{FileId, Refusal};

@@ -5,7 +5,7 @@ ghost use Rattle.f11_fcp.specs.Handles.{IsOpen, state_of};
 ghost use Rattle.f11_fcp.specs.Lengths.{Measures};
 ghost use Rattle.f11_fcp.specs.Places.{access_table_of};
 ghost use Rattle.f11_files.specs.Open.{disk_in};
-ghost use Rattle.f11_writes.specs.Order.{WritesInOrder};
+ghost use Rattle.f11_files.specs.writes.Order.{WritesInOrder};
 
 use crate::answer::{is_fatal, of_accessed};
 use crate::table::Accesses;

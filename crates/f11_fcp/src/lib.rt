@@ -39,4 +39,6 @@ mod volume;
 mod windows;
 
 pub use call::Call;
+pub use f11_files;
+pub use f11_files::f11_vfy;
 pub use volume::{Failed, Volume};

@@ -3,7 +3,7 @@ ghost use Rattle.f11_runs.specs.Each.{Each, answer_with, call_with};
 ghost use Rattle.f11_runs.specs.Standing.{IsTasks};
 ghost use Rattle.f11_fcp.specs.Lists.{AreAnswered, IsServed, KeepsCosts, KeepsLocks, ServesCall, ServesRun, answers_in, asked_in};
 ghost use Rattle.f11_fcp.specs.Serving.{state_in};
-ghost use Rattle.f11_writes.specs.Order.{WritesInOrder};
+ghost use Rattle.f11_files.specs.writes.Order.{WritesInOrder};
 
 use crate::call::Call;
 use crate::volume::Volume;

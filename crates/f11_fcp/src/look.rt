@@ -5,12 +5,12 @@ ghost use Rattle.f11_files.specs.Answers.{FailsToRead};
 ghost use Rattle.f11_files.specs.Open.{counts_in, disk_in, has_failed, home_in, is_honest, store_in, IsIdFrom};
 ghost use Rattle.f11_fcp.specs.Directories.{IsDirectoryOf, LooksThroughDirectory};
 ghost use Rattle.f11_store.specs.Store.{file_named};
-ghost use Rattle.f11_writes.specs.Order.{WritesInOrder};
+ghost use Rattle.f11_files.specs.writes.Order.{WritesInOrder};
 
 use crate::answer::of_known;
 use f11_bytes::Block;
 use f11_dev::Device;
-use f11_dir::find;
+use f11_entries::f11_dir::find;
 use f11_entries::{Looked, Spot, or_first_empty};
 use f11_files::Files;
 use f11_rad50::Name;

@@ -9,9 +9,9 @@ use crate::answer::is_fatal;
 use crate::table::Accesses;
 use f11_bytes::Block;
 use f11_dev::Device;
+use f11_files::f11_vfy::Accepted;
 use f11_files::{Files, OpenFault};
 use f11_store::{Refusal, Reply, Request, Task, Uic};
-use f11_vfy::Accepted;
 use std::alloc::Global;
 
 /// The device of a volume that a request has failed.
@@ -37,7 +37,7 @@ pub struct Volume<D: Device> {
 impl<D: Device> Volume<D> {
     ghost use Rattle.std.specs.Prelude.{true, IfOk, IfErr};
     ghost use Rattle.f11_files.specs.Opening.Opened.{FailsToOpen};
-    ghost use Rattle.f11_vfy.specs.Accepted.{device_of};
+    ghost use Rattle.f11_files.specs.vfy.Accepted.{device_of};
     ghost use Rattle.f11_fcp.specs.ByWindow.{ServesWithWindows};
     ghost use Rattle.f11_fcp.specs.Mounting.{Mounts};
     ghost use Rattle.f11_fcp.specs.Serving.{Serving, StaysAccepted, device_in, is_spent, state_in};

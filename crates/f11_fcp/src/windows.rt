@@ -9,7 +9,7 @@ ghost use Rattle.f11_files.specs.Open.{counts_in, disk_in, has_failed, home_in, 
 ghost use Rattle.f11_files.specs.Operations.{length_causes};
 ghost use Rattle.f11_store.specs.Cost.{header_count};
 ghost use Rattle.f11_store.specs.Store.{file_named};
-ghost use Rattle.f11_writes.specs.Order.{WritesInOrder};
+ghost use Rattle.f11_files.specs.writes.Order.{WritesInOrder};
 
 use crate::table::Held;
 use f11_bytes::Block;

@@ -14,3 +14,6 @@ pub mod Rows
 pub mod Readied
 pub mod Overall
 pub mod Behind
+pub use Rattle.f11_image_store.proofs as image_store
+pub use Rattle.f11_volume.proofs as volume
+pub use Rattle.f11_writes.proofs as writes

@@ -14,3 +14,8 @@ pub mod LayingOut
 pub mod GrowingIndex
 pub mod Rows
 pub mod Overall
+pub use Rattle.f11_vfy.specs as vfy
+pub use Rattle.f11_image_store.specs as image_store
+pub use Rattle.f11_volume.specs as volume
+pub use Rattle.f11_writes.specs as writes
+pub use Rattle.f11_index.specs as index

@@ -18,5 +18,6 @@ mod open;
 mod remove;
 mod structure;
 
+pub use f11_vfy;
 pub use files::Files;
 pub use open::OpenFault;

@@ -109,13 +109,6 @@ among-more P found k holds old now new finds test adds =
     go code a b r (inl h) = inl (record { number = r.number; below = h; holds = r.holds; is = r.is })
     go code a b r (inr h) = inr (let e : r.number ≡ k = omega (arith, r.below) in (subst P e r.holds, r.is ∙ ap found e))
 
--- and where the test is of the number alone
-pub among-test : (p : ℕ → Bool) (found : ℕ → Finding) (k : ℕ) (holds : Bool) (old now new : List Finding)
-    → Finds (FoundAmong (λ i. p i ≡ true) found k) old now → holds ≡ p k
-    → AddsFindings now new (if_so holds (found k)) → Finds (FoundAmong (λ i. p i ≡ true) found (k + 1)) old new
-among-test p found k holds old now new finds is adds = among-more (λ i. p i ≡ true) found k holds old now new finds
-    (λ h. sym is ∙ h, λ h. is ∙ h) adds
-
 -- the findings of a list
 pub among-list : (more old new : List Finding) (d : Finding) (n : ℕ) → length more ≤ n → n ≤ length more
     → Finds (FoundAmong (λ _. Unit) (λ i. get_or more i d) n) old new

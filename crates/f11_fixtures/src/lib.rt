@@ -15,5 +15,6 @@ pub mod volumes;
 pub use blocks::{
     SEVENS, ZEROS, get, has_front, has_words, has_written, keep, memory, put, put_words, sevens,
 };
+pub use f11_vfy;
 pub use headers::{SYSTEM, blank_of, directory_header, file, linked};
 pub use text::{Lines, are_found, lines, text_of};

@@ -14,11 +14,11 @@ use Rattle.f11_store.specs.declared.requests.Reply.{Reply}
 use Rattle.f11_store.specs.declared.requests.Request.{Request}
 use Rattle.f11_store.specs.declared.requests.Request.TheVariants as request
 use Rattle.f11_runs.proofs.AccessLemmas.{true-false}
-use Rattle.f11_files.specs.Answers.{is_fatal, is_fault}
+use Rattle.f11_fcp.specs.files.Answers.{is_fatal, is_fault}
 use Rattle.f11_fcp.specs.Lists.{failures_of, is_sound}
 use Rattle.f11_fcp.specs.Serving.{StaysAccepted, is_spent, state_in}
 use Rattle.f11_fcp.specs.declared.volume.Volume.{Volume}
-use Rattle.f11_writes.proofs.InOrderLemmas.{order-none, order-then}
+use Rattle.f11_fcp.proofs.writes.InOrderLemmas.{order-none, order-then}
 use Rattle.rt11_volume.specs.declared.volume.RtAccepted.{RtAccepted}
 use Rattle.f11_flx.specs.Asking.{Asking, BreaksOffAsking, Denies, Fails, Granted, Grants, Who, asks, told, writes_of}
 use Rattle.f11_flx.specs.Copying.{FaresFiles, of_files, of_volume}

@@ -14,7 +14,7 @@ use Rattle.f11_store.specs.declared.requests.Request.{Request}
 use Rattle.f11_store.specs.declared.requests.Request.TheVariants as request
 use Rattle.f11_store.specs.Run.{Answer, Call}
 use Rattle.f11_runs.proofs.AccessLemmas.{true-false}
-use Rattle.f11_files.specs.Answers.{is_refused}
+use Rattle.f11_fcp.specs.files.Answers.{is_refused}
 use Rattle.f11_fcp.specs.Handles.{is_failed}
 use Rattle.f11_fcp.specs.Lengths.{AnswersLength}
 use Rattle.f11_fcp.specs.Lists.{ServesCall}

@@ -15,7 +15,7 @@ use Rattle.f11_store.specs.declared.requests.Reply.{Reply}
 use Rattle.f11_store.specs.declared.requests.Reply.TheVariants as reply
 use Rattle.f11_store.specs.declared.requests.Request.TheVariants as request
 use Rattle.f11_runs.specs.Each.{answer_with, call_with}
-use Rattle.f11_files.specs.Answers.{is_fatal, is_fault, is_refused}
+use Rattle.f11_fcp.specs.files.Answers.{is_fatal, is_fault, is_refused}
 use Rattle.f11_fcp.specs.Handles.{State, faults_in}
 use Rattle.f11_fcp.specs.Lengths.{Measures}
 use Rattle.f11_fcp.specs.Lists.{ServesCall, failures_of, is_sound, store_of_volume}
@@ -35,8 +35,8 @@ use Rattle.f11_flx.specs.declared.refusal.FlxRefusal.TheVariants.{BadRecord, Fil
 use Rattle.f11_flx.specs.Refusal.{is_lethal}
 use Rattle.f11_flx.specs.ToRt.{CopiesFileToRt, CopiesLocked, CountsAs, FailsLocked, FailsToCopyFileToRt, FailsToFillToRt, GaveUp}
 use Rattle.f11_flx.specs.ToRt.{UndoesToRt, nowhere_refuses, nowhere_takes, rt_refuses, rt_takes}
-use Rattle.f11_writes.proofs.InOrderLemmas.{order-looked, order-none, order-then}
-use Rattle.f11_writes.specs.Order.{WritesInOrder}
+use Rattle.f11_fcp.proofs.writes.InOrderLemmas.{order-looked, order-none, order-then}
+use Rattle.f11_fcp.specs.writes.Order.{WritesInOrder}
 use Rattle.rt11_volume.specs.Files.{is_fault as rt_fault}
 use Rattle.rt11_volume.specs.declared.volume.RtAccepted.{RtAccepted}
 use Rattle.f11_flx.proofs.KeptLemmas.{refused}

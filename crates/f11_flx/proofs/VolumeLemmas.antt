@@ -14,10 +14,10 @@ use Rattle.f11_store.specs.declared.requests.Reply.{Reply}
 use Rattle.f11_runs.specs.Each.{Steps}
 use Rattle.f11_runs.specs.Standing.{AccessesStand, is_lost}
 use Rattle.f11_runs.proofs.AccessLemmas.{true-false}
-use Rattle.f11_files.specs.Answers.{is_cause, is_fatal, is_fault, is_refused}
-use Rattle.f11_files.specs.Open.{store_in}
-use Rattle.f11_image_store.proofs.StoreLemmas.{unused-is-empty}
-use Rattle.f11_image_store.specs.StoreOf.{store_of}
+use Rattle.f11_fcp.specs.files.Answers.{is_cause, is_fatal, is_fault, is_refused}
+use Rattle.f11_fcp.specs.files.Open.{store_in}
+use Rattle.f11_fcp.proofs.image_store.StoreLemmas.{unused-is-empty}
+use Rattle.f11_fcp.specs.image_store.StoreOf.{store_of}
 use Rattle.f11_fcp.specs.Accesses.{Entry, HasAccessed, AccessTable, access_of, held_in, mark_kept, mark_there}
 use Rattle.f11_fcp.specs.Handles.{State, faults_in}
 use Rattle.f11_fcp.specs.Lengths.{AnswersLength, Measures}
@@ -25,8 +25,8 @@ use Rattle.f11_fcp.specs.Lists.{ServesCall, failures_of, is_sound, store_of_volu
 use Rattle.f11_fcp.specs.Places.{access_table_of}
 use Rattle.f11_fcp.specs.Serving.{StaysAccepted, is_spent, state_in}
 use Rattle.f11_fcp.specs.declared.volume.Volume.{Volume}
-use Rattle.f11_writes.proofs.InOrderLemmas.{order-looked, order-none}
-use Rattle.f11_writes.specs.Order.{WritesInOrder}
+use Rattle.f11_fcp.proofs.writes.InOrderLemmas.{order-looked, order-none}
+use Rattle.f11_fcp.specs.writes.Order.{WritesInOrder}
 use Rattle.f11_flx.specs.Asking.{Asking, Denies, Grants, IsMeasured, Who, asks, counts, plain, reads, told, writes}
 use Rattle.f11_flx.specs.Copying.{of_volume}
 use Rattle.f11_flx.specs.Refusal.{is_lethal}

@@ -13,13 +13,13 @@ use Rattle.f11_dev.specs.declared.device.Device.{Ghosts}
 use Rattle.f11_fcp.specs.Lists.{store_of_volume}
 use Rattle.f11_fcp.specs.Serving.{state_in}
 use Rattle.f11_fcp.specs.declared.volume.Volume.{Volume}
-use Rattle.f11_image_store.specs.StoreOf.{as_seen, file_at, is_first, store_of}
-use Rattle.f11_index.specs.Table.{Table, table_of}
+use Rattle.f11_fcp.specs.image_store.StoreOf.{as_seen, file_at, is_first, store_of}
+use Rattle.f11_fcp.specs.index.Table.{Table, table_of}
 use Rattle.f11_store.specs.File.{File, no_file}
 use Rattle.f11_store.specs.Store.{file_named, of_sequence}
 use Rattle.f11_store.specs.declared.files.FileId.{FileId}
-use Rattle.f11_volume.specs.Contents.{block_or_zeros, file_of, headers_reached}
-use Rattle.f11_chain.specs.FileHeaders.{blocks_by}
+use Rattle.f11_fcp.specs.of_volume.Contents.{block_or_zeros, file_of, headers_reached}
+use Rattle.f11_fcp.specs.chain.FileHeaders.{blocks_by}
 use Rattle.f11_flx.specs.CopyToRt.{HasWholeBlocks}
 
 module _ (image : Image) (is_image : IsImage image) where

@@ -11,12 +11,12 @@ use Rattle.f11_store.specs.declared.refusals.Refusal.TheVariants.{VolumeFailed}
 use Rattle.f11_store.specs.declared.requests.Reply.TheVariants as reply
 use Rattle.f11_store.specs.declared.requests.Request.{Request}
 use Rattle.f11_store.specs.declared.requests.Request.TheVariants as request
-use Rattle.f11_files.specs.Answers.{is_fatal, is_fault}
+use Rattle.f11_fcp.specs.files.Answers.{is_fatal, is_fault}
 use Rattle.f11_fcp.specs.Lengths.{AnswersLength}
 use Rattle.f11_fcp.specs.Lists.{ServesCall, failures_of, is_sound, store_of_volume}
 use Rattle.f11_fcp.specs.Serving.{StaysAccepted, is_spent, state_in}
 use Rattle.f11_fcp.specs.declared.volume.Volume.{Volume}
-use Rattle.f11_writes.specs.Order.{WritesInOrder}
+use Rattle.f11_fcp.specs.writes.Order.{WritesInOrder}
 use Rattle.rt11_volume.specs.Calls.{has_failed, volume_device}
 use Rattle.rt11_volume.specs.Files.{is_fault as is_rt_fault}
 use Rattle.rt11_volume.specs.Store.{rt_store_of}

@@ -36,3 +36,5 @@ pub mod Worked
 pub mod Writing
 pub use Rattle.f11_store.specs.File
 pub use Rattle.f11_store.specs.Directory
+pub use Rattle.f11_fcp.specs.files as files
+pub use Rattle.f11_fcp.specs as fcp

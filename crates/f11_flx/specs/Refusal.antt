@@ -1,7 +1,7 @@
 -- The names of the refusals of copies (profile).
 use Rattle.std.specs.Prelude.{ℕ, Bool, false, List, codes}
 use Rattle.f11_store.specs.Refusal.{refusal_name as files_refusal_name}
-use Rattle.f11_files.specs.Answers.{is_fatal}
+use Rattle.f11_fcp.specs.files.Answers.{is_fatal}
 use Rattle.rt11_volume.specs.Files.{is_fault}
 use Rattle.rt11_volume.specs.Refusal.{refusal_name as rt_refusal_name}
 use Rattle.f11_flx.specs.declared.refusal.FlxRefusal.{FlxRefusal}

@@ -53,6 +53,7 @@ pub use attributes::{
     MOST_BLOCKS, image_attributes, image_attributes_to, image_blocks, text_attributes,
 };
 pub use dry::Dry;
+pub use f11_fcp;
 pub use filling::Filling;
 pub use from_rt::copy_from_rt;
 pub use into_rt::copy_to_rt;

@@ -129,13 +129,6 @@ impl ToRecords {
         Ok(())
     }
 
-    /// Whether bytes are to come for which no more of the text is read.
-    pub fn is_giving(&self) -> bool
-        ensures { result ≡ gives self.now }
-    {
-        matches!(self.stage, Stage::Giving(_))
-    }
-
     /// The length of the longest line whose record was given whole.
     pub fn longest(&self) -> u16
         ensures { result ≡ longest_given self.now }

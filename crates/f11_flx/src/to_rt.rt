@@ -1,6 +1,6 @@
 //! A copy to an RT-11 volume, of whatever answers for the Files-11 volume.
 ghost use Rattle.std.specs.Prelude.{◌≡◌, ◌≤◌, IfErr, IfOk, OnErr, OnOk};
-ghost use Rattle.f11_files.specs.Answers.{is_fatal};
+ghost use Rattle.f11_fcp.specs.files.Answers.{is_fatal};
 ghost use Rattle.f11_flx.specs.Asking.{who_asks};
 ghost use Rattle.f11_flx.specs.Refusal.{is_lethal};
 ghost use Rattle.rt11_volume.specs.Files.{is_fault};

@@ -1,11 +1,11 @@
 -- Facts about the bytes of a header: where its areas stand, and what stays of them where bytes change.
 use Rattle.std.proofs.Common.{◌≡◌, ◌⊎◌, inl, inr, ⊎_elim, ℕ, ◌+◌, ◌-◌, ◌*◌, ◌<◌, ◌≤◌, List, length, ap, ◌∙◌, arith}
 use Rattle.std.specs.Prelude.{slice_index, slice_range}
-use Rattle.f11_bytes.specs.Part.{with_bytes}
-use Rattle.f11_bytes.specs.Words.{word, with_word}
-use Rattle.f11_bytes.proofs.WordLemmas.{length-with_word, slice_index-with_word}
-use Rattle.f11_bytes.proofs.PartLemmas.{length-with_bytes, slice_index-with_bytes_before, slice_index-with_bytes_behind}
-use Rattle.f11_bytes.proofs.PartLemmas.{slice_index-slice_range, length-slice_range, slice_range-same, with_bytes-slice_range}
+use Rattle.f11_store.specs.bytes.Part.{with_bytes}
+use Rattle.f11_store.specs.bytes.Words.{word, with_word}
+use Rattle.f11_store.proofs.bytes.WordLemmas.{length-with_word, slice_index-with_word}
+use Rattle.f11_store.proofs.bytes.PartLemmas.{length-with_bytes, slice_index-with_bytes_before, slice_index-with_bytes_behind}
+use Rattle.f11_store.proofs.bytes.PartLemmas.{length-slice_range, slice_range-same, with_bytes-slice_range}
 use Rattle.f11_header.specs.Fields.{ident_offset, map_offset, ident_area, ident_end, ident_words, map_area}
 use Rattle.f11_header.specs.MapFields.{segment}
 use Rattle.f11_header.specs.Writing.{with_map}
@@ -13,11 +13,6 @@ use Rattle.f11_header.specs.Writing.{with_map}
 -- the size of the map area
 pub length-map_area : (b : List ℕ) → length b ≡ 512 → length (map_area b) ≡ 510 - 2 * map_offset b
 length-map_area b long = length-slice_range b (2 * map_offset b) 510 (omega arith)
-
--- a byte of the map area
-pub slice_index-map_area : (b : List ℕ) (i : ℕ) → 2 * map_offset b + i < 510
-    → slice_index (map_area b) i ≡ slice_index b (2 * map_offset b + i)
-slice_index-map_area b i within = slice_index-slice_range b (2 * map_offset b) 510 i within
 
 -- the block keeps its size with another map area
 pub length-with_map : (b map : List ℕ) → length b ≡ 512 → map_offset b ≤ 250 → length map ≡ 510 - 2 * map_offset b

@@ -5,9 +5,9 @@ use Rattle.std.specs.Prelude.{slice_index, slice_range, IsTrue, option_map}
 use Rattle.std.specs.Cmp.{both_ways}
 use Rattle.std.proofs.Math.ListN.{set}
 use Rattle.std.proofs.lemmas.List.{length-set, get_or-set_same, get_or-set_other}
-use Rattle.f11_bytes.specs.Words.{word, with_word, word_sum}
-use Rattle.f11_bytes.proofs.WordLemmas.{length-with_word, word-with_word, word-with_word_apart, word_sum-with_word}
-use Rattle.f11_bytes.proofs.PartLemmas.{slice_range-same, slice_range-with_bytes}
+use Rattle.f11_store.specs.bytes.Words.{word, with_word, word_sum}
+use Rattle.f11_store.proofs.bytes.WordLemmas.{length-with_word, word-with_word, word-with_word_apart, word_sum-with_word}
+use Rattle.f11_store.proofs.bytes.PartLemmas.{slice_range-same, slice_range-with_bytes}
 use Rattle.f11_header.specs.Fields.{ident_offset, map_offset, file_number, file_sequence, level, owner, protection, characteristics}
 use Rattle.f11_header.specs.Fields.{attributes, ident_area, ident_end, ident_room, ident_words, map_area, HeaderFields, header_fields}
 use Rattle.f11_header.specs.MapFields.{segment, holds_pointers, IsMapArea}

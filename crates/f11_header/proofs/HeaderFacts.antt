@@ -2,7 +2,7 @@
 use Rattle.std.proofs.Common.{◌≡◌, ◌≢◌, ℕ, ◌+◌, ◌*◌, ◌%◌, ◌<◌, ◌≤◌, List, Some, ◌∙◌, ap, sym, inl, inr, eqb-true, eq-eqb, arith}
 use Rattle.std.specs.Prelude.{IsTrue, option_map}
 use Rattle.std.proofs.lemmas.Bool.{cases_Bool, and_parts, and_from, leb-true, le-leb, ltb-true, lt-ltb, cond-true, cond-false}
-use Rattle.f11_bytes.specs.Words.{word_sum}
+use Rattle.f11_store.specs.bytes.Words.{word_sum}
 use Rattle.f11_header.specs.Fields.{ident_offset, map_offset, file_number, file_sequence, level, check_word, map_area, ident_end}
 use Rattle.f11_header.specs.Fields.{ident_words, HeaderFields, header_fields}
 use Rattle.f11_header.specs.MapFields.{segment, count_size, lbn_size, words_in_use, places, holds_pointers}

@@ -1,6 +1,6 @@
 -- The fields of a file header (Files-11 On-Disk Structure Level 1, "File Header").
 use Rattle.std.specs.Prelude.{ℕ, ◌+◌, ◌*◌, ◌==◌, if◌then◌else◌, List, slice_index, slice_range}
-use Rattle.f11_bytes.specs.Words.{word}
+use Rattle.f11_store.specs.bytes.Words.{word}
 use Rattle.f11_header.specs.MapFields.{segment}
 use Rattle.f11_store.specs.declared.callers.Uic.{Uic}
 

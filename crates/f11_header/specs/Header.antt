@@ -1,7 +1,7 @@
 -- When a block is a file header (Files-11 On-Disk Structure Level 1, "File Header"; profile: which fields are tested).
 use Rattle.std.specs.Prelude.{◌≡◌, ℕ, ◌==◌, nat_lt, nat_le, Bool, ◌&&◌, IsTrue, if◌then◌else◌}
 use Rattle.std.specs.Prelude.{List, Option, Some, None, option_map, replicate}
-use Rattle.f11_bytes.specs.Words.{word_sum}
+use Rattle.f11_store.specs.bytes.Words.{word_sum}
 use Rattle.f11_header.specs.Fields.{ident_offset, map_offset, file_number, file_sequence, level, owner, protection, characteristics}
 use Rattle.f11_header.specs.Fields.{attributes, check_word, map_area, ident_end, ident_room, HeaderFields, header_fields}
 use Rattle.f11_header.specs.MapFields.{segment, link, words_in_use, places, holds_pointers}

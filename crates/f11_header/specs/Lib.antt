@@ -6,5 +6,8 @@ pub mod Writing
 pub mod Laws
 pub mod Lent
 pub mod Lending
-pub use Rattle.f11_bytes.specs.Block
-pub use Rattle.f11_bytes.specs.Words
+pub use Rattle.f11_store.specs.bytes.Block
+pub use Rattle.f11_store.specs.bytes.Words
+pub use Rattle.f11_store.specs as store
+pub use Rattle.f11_store.specs.bytes as bytes
+pub use Rattle.f11_store.specs.rad50 as rad50

@@ -1,7 +1,7 @@
 -- The map area of a file header, the bytes from M.ESQN up to the check word (Files-11 On-Disk Structure Level 1, "Map
 -- Area").
 use Rattle.std.specs.Prelude.{ℕ, ◌-◌, ◌*◌, ◌/◌, ◌%◌, ◌≤◌, ◌==◌, nat_le, min, Bool, ◌&&◌, IsTrue, List, length, slice_index}
-use Rattle.f11_bytes.specs.Words.{word}
+use Rattle.f11_store.specs.bytes.Words.{word}
 use Rattle.f11_store.specs.declared.files.FileId.{FileId}
 
 -- M.ESQN: the segment number, 0 in the first header of a file

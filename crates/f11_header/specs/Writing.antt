@@ -1,8 +1,8 @@
 -- What writers leave of a header's block (Files-11 On-Disk Structure Level 1, "File Header").
 use Rattle.std.specs.Prelude.{◌≡◌, ◌⊎◌, ℕ, ◌+◌, ◌*◌, ◌<◌, ◌≤◌, List, length, slice_index}
-use Rattle.f11_bytes.specs.Block.{zero_block}
-use Rattle.f11_bytes.specs.Words.{with_word, word_sum}
-use Rattle.f11_bytes.specs.Part.{with_bytes}
+use Rattle.f11_store.specs.bytes.Block.{zero_block}
+use Rattle.f11_store.specs.bytes.Words.{with_word, word_sum}
+use Rattle.f11_store.specs.bytes.Part.{with_bytes}
 use Rattle.f11_header.specs.Fields.{ident_offset, ident_end, map_offset, file_number, check_word}
 use Rattle.f11_header.specs.Header.{holds_header}
 use Rattle.f11_store.specs.declared.callers.Uic.{Uic}

@@ -6,7 +6,7 @@ use crate::fields::{
     PROTECTION, SEQUENCE,
 };
 use crate::map_fields::SEGMENT;
-use f11_bytes::{Block, read_word};
+use f11_store::f11_bytes::{Block, read_word};
 use f11_store::{FileId, Uic};
 
 /// A file header, read in the block that holds it, without a copy.

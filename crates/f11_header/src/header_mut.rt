@@ -10,7 +10,7 @@ use crate::fields::{
 };
 use crate::lifecycle::owner_word;
 use f11_bits::word_sum;
-use f11_bytes::{Block, bytes_mut, put_bytes, write_word};
+use f11_store::f11_bytes::{Block, bytes_mut, put_bytes, write_word};
 use f11_store::{FileId, Uic};
 
 /// A file header, written in the block that holds it, without a copy. Each writer changes its field alone, and what is

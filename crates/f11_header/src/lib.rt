@@ -13,6 +13,8 @@ mod lifecycle;
 pub mod map_fields;
 mod validity;
 
+pub use f11_store;
+pub use f11_store::f11_bytes;
 pub use header::Header;
 pub use header_mut::HeaderMut;
 pub use lifecycle::{blank, kill};

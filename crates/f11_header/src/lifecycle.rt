@@ -6,7 +6,7 @@ ghost use Rattle.f11_header.specs.Writing.{owner_word, with_format, blank_header
 
 use crate::fields::{CHECK_WORD, IDENT_OFFSET, LEVEL, NUMBER, OWNER, PROTECTION, SEQUENCE};
 use crate::map_fields::{COUNT_SIZE, IN_USE, SEGMENT};
-use f11_bytes::{Block, write_word, zeros};
+use f11_store::f11_bytes::{Block, write_word, zeros};
 use f11_store::{FileId, Uic};
 
 /// The word at which the ident area of a new header begins.

@@ -1,6 +1,6 @@
 //! When a block is a valid file header.
 ghost use Rattle.std.specs.Prelude.{◌≡◌, ◌≢◌, ◌*◌, ◌%◌, ◌≤◌, ◌↔◌, length, IsTrue, IsErrOf, IsOk};
-ghost use Rattle.f11_bytes.specs.Words.{word_sum};
+ghost use Rattle.f11_store.specs.bytes.Words.{word_sum};
 ghost use Rattle.f11_header.specs.Fields.{ident_offset, map_offset, file_number, file_sequence, level, check_word, ident_end, ident_words};
 ghost use Rattle.f11_header.specs.MapFields.{count_size, lbn_size, words_in_use, places};
 ghost use Rattle.f11_header.specs.Header.{IsHeader, IsDead};
@@ -9,7 +9,7 @@ use crate::fields::{CHECK_WORD, IDENT_OFFSET, LEVEL, MAP_OFFSET, NUMBER, SEQUENC
 use crate::header::Header;
 use crate::map_fields::{COUNT_SIZE, IN_USE, LBN_SIZE, MOST};
 use f11_bits::word_sum as sum_of_words;
-use f11_bytes::{Block, read_word};
+use f11_store::f11_bytes::{Block, read_word};
 use std::error::Error;
 use std::fmt;
 

@@ -9,9 +9,9 @@ use Rattle.f11_store.specs.declared.files.FileId.{FileId}
 use Rattle.f11_store.specs.declared.refusals.Refusal.{Refusal}
 use Rattle.f11_store.specs.declared.refusals.Refusal.TheVariants.{TooManySegments, VolumeFailed}
 use Rattle.f11_store.specs.declared.requests.Request.TheVariants as request
-use Rattle.f11_fcp.specs.Lists.{is_sound, store_of_volume}
-use Rattle.f11_fcp.specs.Serving.{is_spent}
-use Rattle.f11_fcp.specs.declared.volume.Volume.{Volume}
+use Rattle.f11_flx.specs.fcp.Lists.{is_sound, store_of_volume}
+use Rattle.f11_flx.specs.fcp.Serving.{is_spent}
+use Rattle.f11_flx.specs.fcp.declared.volume.Volume.{Volume}
 use Rattle.rt11_volume.specs.declared.refusal.RtRefusal.TheVariants.{Failed}
 use Rattle.f11_flx.specs.Asking.{BreaksOffAsking, FilesService, Granted, Who}
 use Rattle.f11_flx.specs.Copying.{MayMakeFile, is_whole, of_volume}

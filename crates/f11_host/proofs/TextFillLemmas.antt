@@ -1,5 +1,5 @@
 -- A file that is accessed is filled with the copy of a text of the host.
-use Rattle.std.proofs.Common.{◌≡◌, inl, inr, ℕ, zero, suc, ◌<◌, false, List, [], ◌∷◌, ◌++◌, Option, None, refl}
+use Rattle.std.proofs.Common.{◌≡◌, inl, ℕ, zero, suc, ◌<◌, List, [], ◌∷◌, ◌++◌, Option, None, refl}
 use Rattle.std.proofs.Common.{sym, ◌∙◌, subst, arith}
 use Rattle.std.proofs.KnownBytes.{Consumes-nil}
 use Rattle.f11_store.specs.declared.refusals.Refusal.{Refusal}
@@ -13,9 +13,9 @@ use Rattle.f11_flx.specs.declared.refusal.FlxRefusal.TheVariants.{BadRecord, Fil
 use Rattle.f11_flx.proofs.AskingLemmas.{breaks-before, granted-append}
 use Rattle.f11_flx.proofs.MakingLemmas.{breaks-filling, breaks-giving}
 use Rattle.f11_host.specs.Filling.{HostFile, host_file}
-use Rattle.f11_host.specs.TextFilling.{BreaksFillingText, CopiesAgain, FailsToCopyAgain, FailsToFillFromText, FillsFromText, MeetsNoText}
-use Rattle.f11_host.specs.TextFilling.{are_same, as_unread}
-use Rattle.f11_host.specs.TextPasses.{CopiesText, FailsToCopyText, HasNoCopy}
+use Rattle.f11_host.specs.TextFilling.{BreaksFillingText, CopiesAgain, FailsToCopyAgain, FailsToFillFromText, FillsFromText}
+use Rattle.f11_host.specs.TextFilling.{as_unread}
+use Rattle.f11_host.specs.TextPasses.{FailsToCopyText, HasNoCopy}
 use Rattle.f11_host.specs.Texts.{IsCopiedText, copied_text, crs_behind}
 use Rattle.f11_host.proofs.FillLemmas.{same-text}
 use Rattle.f11_host.proofs.TextLemmas.{same-copies}
@@ -39,24 +39,6 @@ module _ {V : Type 0} (S : FilesService V) (who : Who) (lun bytes : ℕ) (plan :
   again-fails BadRecord taken new h = record { why = inl h.some; pieces = h.pieces; granted = h.granted }
   again-fails LineTooLong taken new h =
       record { why = inl (has-copy bytes taken unread unread' h.has); pieces = h.pieces; granted = h.granted }
-
-  -- another text was read
-  pub again-other : (other : Extent) (taken : List ℕ) (new : V) → are_same other plan ≡ false
-      → CopiesText S who lun bytes taken other.blocks other.end other.longest unread unread' old new
-      → MeetsNoText S who lun bytes plan taken unread unread' old new
-  again-other other taken new differs h = record {
-    why = inr (record {
-      size = h.size;
-      takes = h.takes;
-      other = other;
-      pieces = h.pieces;
-      count = h.count;
-      copied = h.copied;
-      differs = differs;
-    });
-    pieces = h.pieces;
-    granted = h.granted;
-  }
 
 module _ {V : Type 0} (S : FilesService V) (who : Who) (lun bytes : ℕ) (plan : Extent) (unread : Option (List ℕ)) (old : V) where
   -- blocks weren't allocated

@@ -5,7 +5,7 @@ use Rattle.f11_store.specs.Store.{Store}
 use Rattle.f11_store.specs.declared.files.FileId.{FileId}
 use Rattle.f11_store.specs.declared.refusals.Refusal.{Refusal}
 use Rattle.f11_store.specs.declared.refusals.Refusal.TheVariants.{TooManySegments, VolumeFailed}
-use Rattle.f11_files.specs.Answers.{is_fatal}
+use Rattle.f11_flx.specs.files.Answers.{is_fatal}
 use Rattle.f11_flx.specs.Asking.{Granted, Who, plain}
 use Rattle.f11_flx.specs.CopyFromRt.{FailsToMakeFile, Making, as_file, making_of, new_id}
 use Rattle.f11_flx.specs.Making.{IsCutShort}

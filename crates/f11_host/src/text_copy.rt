@@ -1,7 +1,7 @@
 //! Texts of the host, made files on a Files-11 volume.
 ghost use Rattle.std.specs.Prelude.{◌≡◌, ◌≤◌, true, IfErr, IfOk, IsErrAnd};
-ghost use Rattle.f11_fcp.specs.Lists.{is_sound, store_of_volume};
-ghost use Rattle.f11_fcp.specs.Serving.{is_spent};
+ghost use Rattle.f11_flx.specs.fcp.Lists.{is_sound, store_of_volume};
+ghost use Rattle.f11_flx.specs.fcp.Serving.{is_spent};
 ghost use Rattle.f11_flx.specs.Asking.{who_asks};
 ghost use Rattle.f11_flx.specs.Copying.{MayMakeFile, is_whole, of_volume};
 ghost use Rattle.f11_flx.specs.Ended.{Ends};
@@ -13,7 +13,7 @@ use crate::refusal::{HostRefusal, told};
 use crate::text::judge_text;
 use crate::text_making::make_text;
 use f11_dev::Device;
-use f11_fcp::Volume;
+use f11_flx::f11_fcp::Volume;
 use f11_flx::{Asker, Entry};
 use f11_rad50::Name;
 use f11_store::{FileId, Lun, Refusal, Task, Uic};

@@ -10,7 +10,7 @@ use Rattle.f11_bits.proofs.CountLemmas.{count_below-zero, count_below-suc, one_i
 use Rattle.f11_index.specs.Headers.{is_live, headers_of}
 use Rattle.f11_index.proofs.ChainLemmas.{live_of-header}
 use Rattle.f11_index.proofs.HeadersLemmas.{place-has}
-use Rattle.f11_chain.specs.FileHeaders.{blocks_by, file_blocks}
+use Rattle.f11_volume.specs.chain.FileHeaders.{blocks_by, file_blocks}
 use Rattle.f11_index.specs.Table.{Table, IsLive}
 use Rattle.f11_index.proofs.NextLemmas.{live-tested}
 use Rattle.f11_index.proofs.PlaceLemmas.{range_with_len-more}

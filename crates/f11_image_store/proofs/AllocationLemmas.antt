@@ -11,17 +11,17 @@ use Rattle.f11_dev.specs.Image.{Image}
 use Rattle.f11_header.specs.Fields.{file_number, check_word, owner, protection, characteristics, attributes, ident_area, ident_room}
 use Rattle.f11_header.specs.Header.{holds_header}
 use Rattle.f11_bytes.specs.Words.{word_sum}
-use Rattle.f11_home.specs.Home.{HomeFields}
+use Rattle.f11_volume.specs.home.Home.{HomeFields}
 use Rattle.f11_store.proofs.RangeLemmas.{range_with_len-append}
-use Rattle.f11_map.specs.HeaderBlock.{link_of, blocks_named}
+use Rattle.f11_volume.specs.map.HeaderBlock.{link_of, blocks_named}
 use Rattle.f11_index.specs.Headers.{is_live, IsInFile, IsLastOf}
 use Rattle.f11_index.specs.IndexFile.{Index}
 use Rattle.f11_index.specs.Table.{Table, table_of, IsFile, IsLive, IsNext, IsHeaderOf, first, next}
 use Rattle.f11_index.proofs.ChainLemmas.{file_of-header, live_of-header}
 use Rattle.f11_index.proofs.HeadersLemmas.{last-whole, link_number, listed-are}
 use Rattle.f11_index.proofs.NextLemmas.{live-tested}
-use Rattle.f11_chain.specs.FileHeaders.{file_blocks}
-use Rattle.f11_chain.proofs.ChangeLemmas.{file-stays}
+use Rattle.f11_volume.specs.chain.FileHeaders.{file_blocks}
+use Rattle.f11_volume.proofs.chain.ChangeLemmas.{file-stays}
 use Rattle.f11_store.specs.declared.callers.Uic.{Uic}
 use Rattle.f11_volume.specs.Volume.{Volume}
 use Rattle.f11_writes.specs.Kept.{KeepsButSlot}

@@ -3,10 +3,10 @@ use Rattle.std.proofs.Common.{◌≡◌, ◌≢◌, ◌↔◌, ◌≤◌, ℕ, t
 use Rattle.std.proofs.lemmas.Bool.{both_ways}
 use Rattle.f11_dev.specs.Image.{Image}
 use Rattle.f11_header.specs.Header.{IsHeader}
-use Rattle.f11_home.specs.Home.{HomeFields}
+use Rattle.f11_volume.specs.home.Home.{HomeFields}
 use Rattle.f11_index.specs.Calls.{SetsBit}
 use Rattle.f11_index.specs.Growth.{with_header}
-use Rattle.f11_map.specs.HeaderBlock.{segment_number, link_of}
+use Rattle.f11_volume.specs.map.HeaderBlock.{segment_number, link_of}
 use Rattle.f11_index.specs.Headers.{IsInFile}
 use Rattle.f11_index.specs.IndexFile.{Index, index_of, slots, is_in_use}
 use Rattle.f11_index.specs.Table.{Table, table_in, table_of, IsNext, IsHeaderOf, IsWholeFile, first, next}

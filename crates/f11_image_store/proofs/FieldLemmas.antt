@@ -12,16 +12,16 @@ use Rattle.f11_header.specs.Fields.{attributes, ident_area}
 use Rattle.f11_header.specs.Header.{IsHeader, holds_header, header_in}
 use Rattle.f11_header.specs.MapFields.{places, link, segment}
 use Rattle.f11_header.proofs.HeaderFacts.{header_in-held}
-use Rattle.f11_home.specs.Home.{HomeFields}
-use Rattle.f11_map.specs.MapArea.{runs_of, blocks_of}
+use Rattle.f11_volume.specs.home.Home.{HomeFields}
+use Rattle.f11_volume.specs.map.MapArea.{runs_of, blocks_of}
 use Rattle.f11_index.specs.Growth.{with_header}
-use Rattle.f11_map.specs.HeaderBlock.{segment_number, link_of, blocks_named}
+use Rattle.f11_volume.specs.map.HeaderBlock.{segment_number, link_of, blocks_named}
 use Rattle.f11_index.specs.Headers.{headers_of}
 use Rattle.f11_index.specs.Table.{Table, table_of, IsFile, IsLive, IsHeaderOf, IsWholeFile, first}
 use Rattle.f11_index.proofs.ChainLemmas.{live_of-header}
 use Rattle.f11_index.proofs.HeadersLemmas.{listed-are, headers_from-some, live-some}
-use Rattle.f11_chain.specs.FileHeaders.{file_blocks}
-use Rattle.f11_chain.proofs.ChangeLemmas.{file-alike}
+use Rattle.f11_volume.specs.chain.FileHeaders.{file_blocks}
+use Rattle.f11_volume.proofs.chain.ChangeLemmas.{file-alike}
 use Rattle.f11_store.specs.Changes.{with_delete_mark, with_replacement}
 use Rattle.f11_store.specs.File.{File, with_contiguous, with_mark, without_contiguous}
 use Rattle.f11_store.specs.Lags.{with_contiguous_mark, with_no_mark}

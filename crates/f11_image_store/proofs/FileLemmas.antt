@@ -11,9 +11,9 @@ use Rattle.f11_dev.specs.Image.{Image}
 use Rattle.f11_header.specs.Fields.{file_sequence, owner, protection, characteristics, attributes, ident_area, ident_room, map_area}
 use Rattle.f11_header.specs.Header.{IsHeader}
 use Rattle.f11_header.specs.MapFields.{places}
-use Rattle.f11_home.specs.Home.{HomeFields}
+use Rattle.f11_volume.specs.home.Home.{HomeFields}
 use Rattle.f11_index.specs.ChangeLaws.{IsAsGood}
-use Rattle.f11_map.specs.HeaderBlock.{segment_number, link_of, blocks_named}
+use Rattle.f11_volume.specs.map.HeaderBlock.{segment_number, link_of, blocks_named}
 use Rattle.f11_index.specs.Headers.{headers_of, headers_from, IsLastOf}
 use Rattle.f11_index.specs.Table.{Table, table_in, table_of, IsLive, IsNext, IsHeaderOf, IsWholeFile, first, next}
 use Rattle.f11_index.proofs.ChainLemmas.{file_of-header, live_of-header}
@@ -21,11 +21,11 @@ use Rattle.f11_index.specs.IndexFile.{index_of}
 use Rattle.f11_index.proofs.InUseLemmas.{in_use-slot}
 use Rattle.f11_index.proofs.HeadersLemmas.{Comes, Comes-header, Comes-last, Comes-split, last-whole, link_number, live-some, place-has}
 use Rattle.f11_index.proofs.PlaceLemmas.{slice_get-append_front}
-use Rattle.f11_map.proofs.MapLemmas.{slice_get-append_back}
+use Rattle.f11_volume.proofs.map.MapLemmas.{slice_get-append_back}
 use Rattle.f11_index.proofs.UpLemmas.{header-up}
-use Rattle.f11_chain.specs.FileHeaders.{file_blocks, blocks_before}
-use Rattle.f11_chain.specs.Laws.{HasMore, HasHeaderMore}
-use Rattle.f11_chain.proofs.ChangeLemmas.{has-more, has-header, ends-with, is-cut}
+use Rattle.f11_volume.specs.chain.FileHeaders.{file_blocks, blocks_before}
+use Rattle.f11_volume.specs.chain.Laws.{HasMore, HasHeaderMore}
+use Rattle.f11_volume.proofs.chain.ChangeLemmas.{has-more, has-header, ends-with, is-cut}
 use Rattle.f11_volume.specs.Contents.{block_or_zeros, file_of, headers_reached, pointer_count, room_left}
 use Rattle.f11_volume.proofs.FileLemmas.{image-files, reached-are, file-blocks-are}
 use Rattle.f11_volume.specs.Sound.{HasSoundVolume}

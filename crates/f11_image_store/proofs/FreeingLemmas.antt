@@ -12,7 +12,7 @@ use Rattle.f11_header.specs.Header.{IsDead, IsHeader}
 use Rattle.f11_header.specs.Writing.{dead_header}
 use Rattle.f11_header.proofs.AreaLemmas.{changes-with_word, word-kept}
 use Rattle.f11_header.proofs.HeaderFacts.{dead-not-valid}
-use Rattle.f11_home.specs.Home.{HomeFields}
+use Rattle.f11_volume.specs.home.Home.{HomeFields}
 use Rattle.f11_index.specs.Calls.{SetsBit, with_bitmap_block}
 use Rattle.f11_index.specs.Growth.{with_header}
 use Rattle.f11_index.specs.Headers.{IsInFile}

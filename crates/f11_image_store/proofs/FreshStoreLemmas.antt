@@ -11,13 +11,13 @@ use Rattle.f11_bytes.specs.Block.{zero_block}
 use Rattle.f11_dev.specs.Image.{Image, IsImage}
 use Rattle.f11_header.specs.Fields.{file_sequence, map_area}
 use Rattle.f11_header.specs.MapFields.{places}
-use Rattle.f11_home.specs.Home.{HomeFields, fields_of, IsHomeOf}
-use Rattle.f11_home.proofs.HomeLemmas.{home-unique}
+use Rattle.f11_volume.specs.home.Home.{HomeFields, fields_of, IsHomeOf}
+use Rattle.f11_volume.proofs.home.HomeLemmas.{home-unique}
 use Rattle.f11_index.specs.Table.{Table, table_in, table_of, last_sequence, first}
-use Rattle.f11_layout.specs.FreshHome.{fresh_home}
-use Rattle.f11_layout.specs.Places.{first_header, bit_blocks}
-use Rattle.f11_layout.specs.declared.layout.Layout.{Layout}
-use Rattle.f11_layout.proofs.HomeLemmas.{fresh-max_files}
+use Rattle.f11_volume.specs.layout.FreshHome.{fresh_home}
+use Rattle.f11_volume.specs.layout.Places.{first_header, bit_blocks}
+use Rattle.f11_volume.specs.layout.declared.layout.Layout.{Layout}
+use Rattle.f11_volume.proofs.layout.HomeLemmas.{fresh-max_files}
 use Rattle.f11_store.specs.File.{File}
 use Rattle.f11_volume.specs.Contents.{block_or_zeros, file_of, headers_reached, pointer_count, room_left}
 use Rattle.f11_volume.specs.Fresh.{used_by, IsFreshUpTo, IsFreshVolume}

@@ -5,7 +5,7 @@ use Rattle.std.proofs.lemmas.Bool.{both_ways, cases_eq, eq-eqb, ne_eqb, le-leb, 
 use Rattle.f11_dev.specs.Image.{Image}
 use Rattle.f11_header.specs.Fields.{file_sequence}
 use Rattle.f11_header.specs.Header.{IsDead, IsHeader}
-use Rattle.f11_home.specs.Home.{HomeFields}
+use Rattle.f11_volume.specs.home.Home.{HomeFields}
 use Rattle.f11_index.specs.IndexFile.{Index, slots}
 use Rattle.f11_index.specs.Table.{Table, table_in, table_of, last_sequence, IsLive, IsFile, IsHeaderOf, first, next}
 use Rattle.f11_index.proofs.ChainLemmas.{file_of-header, live_of-header}
@@ -57,9 +57,6 @@ not-first v f n apart of file = first-alone v f n (λ same. apart (sym same)) fi
 -- a header out of use, or a dead one, is one of no file
 pub unlive-fileless : (v : Table) (n : ℕ) → ¬ IsLive v n → IsFileless v n
 unlive-fileless v n none f of = none (live_of-header of)
-
-fileless-no-file : (v : Table) (n : ℕ) → IsFileless v n → ¬ IsFile v n
-fileless-no-file v n fileless file = fileless n (first file)
 
 module _ (old new : Image) (home : HomeFields) (n : ℕ) where
   abbrev t : Table

@@ -15,3 +15,4 @@ pub mod FreeingLemmas
 pub mod ConfinesLemmas
 pub mod KeptBlocksLemmas
 pub mod PointerLemmas
+pub use Rattle.f11_writes.proofs as writes

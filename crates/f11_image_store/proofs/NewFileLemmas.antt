@@ -10,11 +10,11 @@ use Rattle.f11_header.specs.Fields.{file_sequence, map_area, owner, protection, 
 use Rattle.f11_header.specs.Header.{IsHeader}
 use Rattle.f11_header.specs.MapFields.{places, link, segment, words_in_use}
 use Rattle.f11_header.proofs.HeaderFacts.{header_facts}
-use Rattle.f11_home.specs.Home.{HomeFields}
-use Rattle.f11_map.specs.MapArea.{run_at, runs_of, blocks_in}
+use Rattle.f11_volume.specs.home.Home.{HomeFields}
+use Rattle.f11_volume.specs.map.MapArea.{run_at, runs_of, blocks_in}
 use Rattle.f11_index.specs.Calls.{SetsBit}
 use Rattle.f11_index.specs.Growth.{with_header}
-use Rattle.f11_map.specs.HeaderBlock.{segment_number, link_of, blocks_named}
+use Rattle.f11_volume.specs.map.HeaderBlock.{segment_number, link_of, blocks_named}
 use Rattle.f11_index.specs.IndexFile.{Index, index_of, slots, is_in_use, free_slots_in as free_in_index}
 use Rattle.f11_index.specs.Slots.{IsLeastFree}
 use Rattle.f11_index.specs.Table.{Table, table_in, table_of, last_sequence, IsFile, IsWholeFile, first}

@@ -8,13 +8,13 @@ use Rattle.std.proofs.lemmas.List.FromFn.{length-range_with_len}
 use Rattle.std.proofs.lemmas.List.Sums.{sum_by-cons}
 use Rattle.f11_dev.specs.Image.{Image, IsImage, image_block}
 use Rattle.f11_header.specs.Fields.{map_area, map_offset}
-use Rattle.f11_home.specs.Home.{HomeFields}
+use Rattle.f11_volume.specs.home.Home.{HomeFields}
 use Rattle.f11_index.specs.IndexFile.{header_lbn, index_of}
 use Rattle.f11_index.specs.Table.{Table, table_in, table_of}
 use Rattle.f11_index.proofs.SegmentLemmas.{image_block-bytes}
-use Rattle.f11_map.specs.HeaderBlock.{blocks_named}
-use Rattle.f11_map.specs.MapArea.{blocks_in, blocks_of, run_at, runs_of, words_in_use}
-use Rattle.f11_chain.specs.FileHeaders.{blocks_by}
+use Rattle.f11_volume.specs.map.HeaderBlock.{blocks_named}
+use Rattle.f11_volume.specs.map.MapArea.{blocks_in, blocks_of, run_at, runs_of, words_in_use}
+use Rattle.f11_volume.specs.chain.FileHeaders.{blocks_by}
 use Rattle.f11_volume.specs.Contents.{block_or_zeros, file_of, headers_reached, pointer_count}
 
 -- the blocks of pointers that name 1 to 256 each

@@ -3,10 +3,10 @@ use Rattle.std.proofs.Common.{◌≡◌, ◌≢◌, ◌+◌, ◌-◌, ◌<◌, �
 use Rattle.std.proofs.lemmas.List.{length-map}
 use Rattle.std.proofs.lemmas.List.FromFn.{length-range_with_len}
 use Rattle.std.specs.List.{range_with_len, slice_get}
-use Rattle.f11_chain.specs.FileHeaders.{file_blocks}
-use Rattle.f11_chain.proofs.FileOneLemmas.{file-one}
+use Rattle.f11_volume.specs.chain.FileHeaders.{file_blocks}
+use Rattle.f11_volume.proofs.chain.FileOneLemmas.{file-one}
 use Rattle.f11_dev.specs.Image.{Image, image_block}
-use Rattle.f11_home.specs.Home.{HomeFields}
+use Rattle.f11_volume.specs.home.Home.{HomeFields}
 use Rattle.f11_index.specs.IndexFile.{index_file_blocks, index_of, header_lbn}
 use Rattle.f11_index.specs.Table.{Table, table_of, IsFile}
 use Rattle.f11_index.proofs.PlaceLemmas.{slice_get-header}

@@ -2,13 +2,13 @@
 use Rattle.std.proofs.Common.{◌≡◌, ◌≤◌, ◌+◌, ℕ, List, ap, sym, subst, ◌∙◌, arith}
 use Rattle.f11_dev.specs.Image.{Image}
 use Rattle.f11_header.specs.Fields.{file_sequence}
-use Rattle.f11_home.specs.Home.{HomeFields}
+use Rattle.f11_volume.specs.home.Home.{HomeFields}
 use Rattle.f11_index.specs.Growth.{with_header}
-use Rattle.f11_map.specs.HeaderBlock.{segment_number, link_of, blocks_named}
+use Rattle.f11_volume.specs.map.HeaderBlock.{segment_number, link_of, blocks_named}
 use Rattle.f11_index.specs.Headers.{IsInFile}
 use Rattle.f11_index.specs.Table.{Table, table_of, IsLive, IsNext, IsHeaderOf}
 use Rattle.f11_index.proofs.ChainLemmas.{live_of-header}
-use Rattle.f11_chain.specs.FileHeaders.{blocks_before}
+use Rattle.f11_volume.specs.chain.FileHeaders.{blocks_before}
 use Rattle.f11_store.specs.Changes.{with_change}
 use Rattle.f11_store.specs.File.{File}
 use Rattle.f11_volume.specs.Sound.{HasSoundVolume}

@@ -5,8 +5,8 @@ use Rattle.std.proofs.lemmas.Bool.{and_from, and_parts, cases_eq, eq-eqb, eqb-tr
 use Rattle.f11_bits.specs.Bitmap.{Bitmap, count_below, is_free, free_blocks, Marks}
 use Rattle.f11_bits.proofs.BitmapLemmas.{free_blocks-given, free_blocks-taken}
 use Rattle.f11_dev.specs.Image.{Image}
-use Rattle.f11_home.specs.Home.{HomeFields}
-use Rattle.f11_map.specs.HeaderBlock.{segment_number}
+use Rattle.f11_volume.specs.home.Home.{HomeFields}
+use Rattle.f11_volume.specs.map.HeaderBlock.{segment_number}
 use Rattle.f11_index.specs.Headers.{is_live}
 use Rattle.f11_index.specs.Table.{Table, table_of, IsFile}
 use Rattle.f11_index.proofs.NextLemmas.{live-tested}

@@ -6,10 +6,10 @@ use Rattle.std.specs.List.{range_with_len, slice_get}
 use Rattle.f11_bytes.specs.Block.{zero_block}
 use Rattle.f11_header.specs.Fields.{owner, protection, characteristics, attributes, ident_room}
 use Rattle.f11_header.specs.Writing.{dead_header}
-use Rattle.f11_map.specs.HeaderBlock.{link_of, blocks_named}
+use Rattle.f11_volume.specs.map.HeaderBlock.{link_of, blocks_named}
 use Rattle.f11_index.specs.Headers.{headers_of, is_live}
 use Rattle.f11_index.specs.Table.{Table, IsFile, IsLive, IsHeaderOf}
-use Rattle.f11_chain.specs.FileHeaders.{blocks_by, file_blocks}
+use Rattle.f11_volume.specs.chain.FileHeaders.{blocks_by, file_blocks}
 use Rattle.f11_store.specs.Changes.{is_in}
 use Rattle.f11_store.specs.Store.{no_id}
 use Rattle.f11_store.specs.declared.callers.Uic.{Uic}

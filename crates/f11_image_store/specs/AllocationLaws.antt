@@ -2,10 +2,10 @@
 use Rattle.std.specs.Prelude.{◌≡◌, ◌↔◌, ℕ, ◌+◌, length, flat_map, Some, option_map}
 use Rattle.std.specs.List.{slice_get}
 use Rattle.f11_dev.specs.Image.{Image}
-use Rattle.f11_home.specs.Home.{HomeFields}
+use Rattle.f11_volume.specs.home.Home.{HomeFields}
 use Rattle.f11_index.specs.Headers.{headers_of}
 use Rattle.f11_index.specs.Table.{Table, table_of, IsFile, IsHeaderOf, IsWholeFile}
-use Rattle.f11_chain.specs.FileHeaders.{file_blocks}
+use Rattle.f11_volume.specs.chain.FileHeaders.{file_blocks}
 use Rattle.f11_volume.specs.Sound.{HasSoundVolume}
 use Rattle.f11_volume.specs.Volume.{Volume, volume_of, IsCell}
 use Rattle.f11_image_store.specs.Allocation.{named_by, free_list, GainsBlocks}

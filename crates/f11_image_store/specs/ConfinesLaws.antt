@@ -2,9 +2,9 @@
 -- File" and "Storage Bitmap File").
 use Rattle.std.specs.Prelude.{◌≡◌, ℕ, ◌≤◌, Bool, Some}
 use Rattle.std.specs.List.{slice_get}
-use Rattle.f11_chain.specs.FileHeaders.{file_blocks}
+use Rattle.f11_volume.specs.chain.FileHeaders.{file_blocks}
 use Rattle.f11_dev.specs.Image.{Image}
-use Rattle.f11_home.specs.Home.{HomeFields}
+use Rattle.f11_volume.specs.home.Home.{HomeFields}
 use Rattle.f11_index.specs.IndexFile.{index_of}
 use Rattle.f11_index.specs.Table.{table_of, IsFile}
 use Rattle.f11_volume.specs.Sound.{HasSoundVolume}

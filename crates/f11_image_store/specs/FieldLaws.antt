@@ -6,7 +6,7 @@ use Rattle.f11_dev.specs.Image.{Image}
 use Rattle.f11_header.specs.Fields.{HeaderFields, file_number, file_sequence, owner, protection}
 use Rattle.f11_header.specs.Fields.{characteristics, attributes, ident_area, map_area, check_word}
 use Rattle.f11_header.specs.Header.{holds_header, header_in, header_with}
-use Rattle.f11_home.specs.Home.{HomeFields}
+use Rattle.f11_volume.specs.home.Home.{HomeFields}
 use Rattle.f11_index.specs.Growth.{with_header}
 use Rattle.f11_index.specs.Table.{table_of, IsFile}
 use Rattle.f11_store.specs.Changes.{with_delete_mark, with_replacement}

@@ -4,13 +4,13 @@ use Rattle.std.specs.List.{range_with_len}
 use Rattle.f11_dev.specs.Image.{Image}
 use Rattle.f11_header.specs.Fields.{file_sequence, owner, protection, characteristics, attributes, ident_area, ident_room, map_area}
 use Rattle.f11_header.specs.MapFields.{places}
-use Rattle.f11_home.specs.Home.{HomeFields}
-use Rattle.f11_map.specs.MapArea.{runs_of}
+use Rattle.f11_volume.specs.home.Home.{HomeFields}
+use Rattle.f11_volume.specs.map.MapArea.{runs_of}
 use Rattle.f11_index.specs.Growth.{IsGoodFor, with_header}
-use Rattle.f11_map.specs.HeaderBlock.{segment_number, link_of, blocks_named, LinksToNone}
+use Rattle.f11_volume.specs.map.HeaderBlock.{segment_number, link_of, blocks_named, LinksToNone}
 use Rattle.f11_index.specs.Headers.{headers_of, IsInFile}
 use Rattle.f11_index.specs.Table.{Table, table_of, last_sequence, IsLive, IsNext, IsHeaderOf}
-use Rattle.f11_chain.specs.FileHeaders.{blocks_before}
+use Rattle.f11_volume.specs.chain.FileHeaders.{blocks_before}
 use Rattle.f11_store.specs.Changes.{with_change, with_more_slots}
 use Rattle.f11_store.specs.File.{File}
 use Rattle.f11_volume.specs.Contents.{block_or_zeros, pointer_count}

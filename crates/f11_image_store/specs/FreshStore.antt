@@ -1,12 +1,12 @@
 -- The store of a fresh volume (profile: what a fresh volume is).
 use Rattle.std.specs.Prelude.{◌≡◌, ℕ, ◌-◌, ◌≤◌, ◌&&◌, nat_lt, nat_le, Bool, [], ◌∷◌, length, Some, None, if◌then◌else◌}
 use Rattle.f11_dev.specs.Image.{Image, IsImage}
-use Rattle.f11_home.specs.Home.{HomeFields, IsHomeOf}
-use Rattle.f11_layout.specs.Files.{own_file}
-use Rattle.f11_layout.specs.OwnFields.{own_ident, own_attributes}
-use Rattle.f11_layout.specs.Places.{bit_blocks}
-use Rattle.f11_layout.specs.declared.layout.Layout.{Layout}
-use Rattle.f11_map.specs.MapWriting.{fewest_runs}
+use Rattle.f11_volume.specs.home.Home.{HomeFields, IsHomeOf}
+use Rattle.f11_volume.specs.layout.Files.{own_file}
+use Rattle.f11_volume.specs.layout.OwnFields.{own_ident, own_attributes}
+use Rattle.f11_volume.specs.layout.Places.{bit_blocks}
+use Rattle.f11_volume.specs.layout.declared.layout.Layout.{Layout}
+use Rattle.f11_volume.specs.map.MapWriting.{fewest_runs}
 use Rattle.f11_store.specs.File.{File}
 use Rattle.f11_store.specs.Store.{Store}
 use Rattle.f11_volume.specs.Fresh.{used_by, IsFreshVolume}

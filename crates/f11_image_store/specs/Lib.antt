@@ -12,3 +12,4 @@ pub mod FreshStore
 pub mod ExtensionLaws
 pub mod Freeing
 pub mod FreeingLaws
+pub use Rattle.f11_writes.specs as writes

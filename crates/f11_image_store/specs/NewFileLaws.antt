@@ -5,7 +5,7 @@ use Rattle.f11_bytes.specs.Words.{word_sum}
 use Rattle.f11_dev.specs.Image.{Image}
 use Rattle.f11_header.specs.Fields.{check_word}
 use Rattle.f11_header.specs.Header.{holds_header, header_in, header_with, IsEmptyHeader}
-use Rattle.f11_home.specs.Home.{HomeFields}
+use Rattle.f11_volume.specs.home.Home.{HomeFields}
 use Rattle.f11_index.specs.Calls.{SetsBit}
 use Rattle.f11_index.specs.Growth.{with_header}
 use Rattle.f11_index.specs.IndexFile.{Index, index_of, slots, is_in_use, free_slots_in}

@@ -2,7 +2,7 @@
 use Rattle.std.specs.Prelude.{◌≡◌, ℕ, ◌+◌, ◌-◌, ◌<◌, ◌≤◌, true, false, List}
 use Rattle.f11_bits.specs.Bitmap.{is_free, Marks}
 use Rattle.f11_dev.specs.Image.{Image}
-use Rattle.f11_home.specs.Home.{HomeFields}
+use Rattle.f11_volume.specs.home.Home.{HomeFields}
 use Rattle.f11_index.specs.Table.{Table, IsFile}
 use Rattle.f11_store.specs.Accesses.{FreeIsEmpty}
 use Rattle.f11_store.specs.Changes.{with_block, with_change}

@@ -3,8 +3,8 @@
 use Rattle.std.specs.Prelude.{ℕ, ◌==◌, ◌&&◌, Bool, nat_lt, nat_le, min, [], length, Option, Some, None, if◌then◌else◌}
 use Rattle.f11_bits.specs.Bitmap.{free_blocks}
 use Rattle.f11_dev.specs.Image.{Image}
-use Rattle.f11_home.specs.Home.{HomeFields}
-use Rattle.f11_map.specs.HeaderBlock.{segment_number}
+use Rattle.f11_volume.specs.home.Home.{HomeFields}
+use Rattle.f11_volume.specs.map.HeaderBlock.{segment_number}
 use Rattle.f11_index.specs.Headers.{is_live}
 use Rattle.f11_index.specs.IndexFile.{most_slots}
 use Rattle.f11_index.specs.Table.{Table, table_of, last_sequence}

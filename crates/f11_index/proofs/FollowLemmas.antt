@@ -9,8 +9,8 @@ use Rattle.f11_dev.specs.Disk.{Disk}
 use Rattle.f11_dev.specs.Image.{Image, IsImage, image_block}
 use Rattle.f11_dev.specs.Looked.{Looked}
 use Rattle.f11_dev.proofs.LookedLemmas.{looked_more, looked_within}
-use Rattle.f11_header.specs.Fields.{file_sequence}
-use Rattle.f11_header.specs.Header.{IsHeader}
+use Rattle.f11_map.specs.header.Fields.{file_sequence}
+use Rattle.f11_map.specs.header.Header.{IsHeader}
 use Rattle.f11_home.specs.Home.{HomeFields, IsSound}
 use Rattle.f11_home.specs.HomeBlock as HomeBlock
 use Rattle.f11_map.specs.HeaderBlock.{segment_number, link_of, blocks_named}
@@ -24,7 +24,7 @@ use Rattle.f11_index.specs.Walk.{IsFileOne, Follows, Strays}
 use Rattle.f11_index.specs.Calls.{LooksAlong}
 use Rattle.f11_index.specs.declared.blocks.Blocks.{Blocks}
 use Rattle.f11_index.specs.declared.walk.Due.{Due}
-use Rattle.f11_store.specs.declared.files.FileId.{FileId}
+use Rattle.f11_map.specs.store.declared.files.FileId.{FileId}
 use Rattle.f11_index.proofs.BitLemmas.{is_in_use-within, is_in_use-past}
 use Rattle.f11_index.proofs.BlockLemmas.{Adds-none, Adds-append, Adds-few, FitFrom-none, FitFrom-append, FitFrom-back, fit-IsPlaced}
 use Rattle.f11_index.proofs.PlaceLemmas.{slice_get-header}

@@ -17,7 +17,7 @@ use Rattle.f11_index.specs.IndexFile.{Index, slots, is_in_use, bit_of_slot, free
 use Rattle.f11_index.specs.Slots.{IsLeastFree, free_between}
 use Rattle.f11_index.proofs.BitLemmas.{is_in_use-within}
 use Rattle.f11_index.proofs.PlaceLemmas.{slice_get-append_front}
-use Rattle.f11_store.proofs.RangeLemmas.{range_with_len-append}
+use Rattle.f11_map.proofs.store.RangeLemmas.{range_with_len-append}
 
 -- a list without a first element
 no-first : (xs : List ℕ) → None ≡ slice_get xs 0 → xs ≡ []

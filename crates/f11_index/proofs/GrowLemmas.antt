@@ -10,8 +10,8 @@ use Rattle.std.proofs.lemmas.List.Elements.{All-append}
 use Rattle.std.proofs.lemmas.Option.{same_Some, slice_get_within}
 use Rattle.f11_dev.specs.Image.{Image, image_block}
 use Rattle.f11_dev.proofs.ImageLemmas.{image_block-written}
-use Rattle.f11_header.specs.Fields.{file_sequence}
-use Rattle.f11_header.specs.Header.{IsHeader}
+use Rattle.f11_map.specs.header.Fields.{file_sequence}
+use Rattle.f11_map.specs.header.Header.{IsHeader}
 use Rattle.f11_home.specs.Home.{HomeFields}
 use Rattle.f11_index.specs.Calls.{with_blocks_behind}
 use Rattle.f11_index.specs.ChangeLaws.{IsAsGood}
@@ -234,9 +234,6 @@ module _ (image : Image) (home : HomeFields) (good : IsIndexFile image home) whe
 
       -- Its headers are as good, where the one that was written is.
       module _ (is_good : IsGoodFor t n block) (last : IsLastOf t 1 n) where
-        new_t : Table
-        new_t = table_of new home
-
         within_of : (m : ℕ) → IsHeaderOf t 1 m → (0 < m) × (m ≤ slots index)
         within_of m of = in_use-within image home m (live_of-header of).in_use
 

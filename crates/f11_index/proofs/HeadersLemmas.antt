@@ -6,7 +6,7 @@ use Rattle.std.specs.List.{slice_get}
 use Rattle.std.proofs.lemmas.Bool.{cases_lt}
 use Rattle.std.proofs.lemmas.List.{length-append}
 use Rattle.std.proofs.lemmas.Option.{none-some, same_Some, slice_get-get_or, slice_get_within, get_or_from_slice_get}
-use Rattle.f11_header.proofs.HeaderFacts.{header_facts}
+use Rattle.f11_map.proofs.header.HeaderFacts.{header_facts}
 use Rattle.f11_map.proofs.MapLemmas.{slice_get-append_back}
 use Rattle.f11_map.specs.HeaderBlock.{segment_number, link_of}
 use Rattle.f11_index.specs.Headers.{headers_from, headers_of, IsLastOf, IsChained, HasByteSegments}

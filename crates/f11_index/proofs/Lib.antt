@@ -16,3 +16,5 @@ pub mod SegmentLemmas
 pub mod StayLemmas
 pub mod UpLemmas
 pub mod WalkLemmas
+pub use Rattle.f11_map.proofs as map
+pub use Rattle.f11_home.proofs as home

@@ -3,7 +3,7 @@ use Rattle.std.proofs.Common.{◌≡◌, ◌↔◌, ℕ, Some, None, refl, ap, s
 use Rattle.std.specs.Prelude.{IsTrue}
 use Rattle.std.proofs.lemmas.Bool.{cases_Bool, and_parts, and_from, cond-true, cond-false}
 use Rattle.std.proofs.lemmas.Option.{same_Some}
-use Rattle.f11_header.specs.Fields.{file_sequence}
+use Rattle.f11_map.specs.header.Fields.{file_sequence}
 use Rattle.f11_map.specs.HeaderBlock.{segment_number, link_of}
 use Rattle.f11_index.specs.Table.{Table, IsLive, IsNext}
 use Rattle.f11_index.specs.Headers.{is_live, has_next, next_of}

@@ -8,7 +8,7 @@ use Rattle.std.proofs.lemmas.Bool.{cases_lt}
 use Rattle.std.proofs.lemmas.List.{length-append, length-take, length-drop, get_or_append_left, get_or-take, get_or-drop, take_all}
 use Rattle.std.proofs.lemmas.Option.{slice_get_within, slice_get-get_or, get_or_from_slice_get}
 use Rattle.f11_map.proofs.RunLemmas.{take-range_with_len}
-use Rattle.f11_store.proofs.RangeLemmas.{range_with_len-append}
+use Rattle.f11_map.proofs.store.RangeLemmas.{range_with_len-append}
 
 -- a block stays where it is when others come behind it
 pub slice_get-append_front : (xs ys : List ℕ) (i x : ℕ) → slice_get xs i ≡ Some x → slice_get (xs ++ ys) i ≡ Some x

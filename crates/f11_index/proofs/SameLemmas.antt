@@ -9,7 +9,7 @@ use Rattle.f11_index.specs.IndexFile.{index_file_blocks, blocks_on, header_place
 use Rattle.f11_index.specs.Laws.{LeadsAlike}
 use Rattle.f11_index.specs.Sound.{IsIndexFile}
 use Rattle.f11_index.specs.Table.{table_of, IsHeaderOf, first, next}
-use Rattle.f11_store.specs.declared.files.FileId.{FileId}
+use Rattle.f11_map.specs.store.declared.files.FileId.{FileId}
 use Rattle.f11_index.proofs.ChainLemmas.{live_of-header}
 use Rattle.f11_index.proofs.WalkLemmas.{so_far, ends, header_among-some, header_is, in_use-within, few-slots}
 

@@ -5,7 +5,7 @@ use Rattle.std.proofs.lemmas.Bool.{cases_lt}
 use Rattle.std.proofs.lemmas.List.{get_or-take, get_or-drop, get_or_past}
 use Rattle.f11_dev.specs.Image.{Image, IsImage, image_block}
 use Rattle.f11_dev.proofs.ImageLemmas.{slice_get-image_block}
-use Rattle.f11_header.specs.Fields.{map_offset}
+use Rattle.f11_map.specs.header.Fields.{map_offset}
 use Rattle.f11_map.specs.HeaderBlock.{segment_number}
 use Rattle.f11_index.specs.Headers.{HasByteSegments}
 use Rattle.f11_index.specs.IndexFile.{Index, header_lbn}

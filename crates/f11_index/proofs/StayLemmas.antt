@@ -3,7 +3,7 @@ use Rattle.std.proofs.Common.{◌≡◌, ◌↔◌, ℕ, ◌<◌, List, length, 
 use Rattle.std.specs.List.{All}
 use Rattle.f11_dev.specs.Image.{Image}
 use Rattle.f11_home.specs.Home.{HomeFields}
-use Rattle.f11_store.specs.declared.files.FileId.{FileId}
+use Rattle.f11_map.specs.store.declared.files.FileId.{FileId}
 use Rattle.f11_map.specs.HeaderBlock.{link_of}
 use Rattle.f11_index.specs.IndexFile.{index_file_blocks}
 use Rattle.f11_index.specs.ChangeLaws.{StaysHeader}

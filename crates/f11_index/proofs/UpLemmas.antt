@@ -1,6 +1,6 @@
 -- The headers of a file up to one, in a table in which they are as good.
 use Rattle.std.proofs.Common.{◌≡◌, ℕ, ◌+◌, sym, ap, ◌∙◌, arith}
-use Rattle.f11_store.specs.declared.files.FileId.{FileId}
+use Rattle.f11_map.specs.store.declared.files.FileId.{FileId}
 use Rattle.f11_index.specs.ChangeLaws.{IsAsGood, StayUpTo}
 use Rattle.f11_map.specs.HeaderBlock.{link_of}
 use Rattle.f11_index.specs.Headers.{IsLastOf}

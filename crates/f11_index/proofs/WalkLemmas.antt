@@ -6,7 +6,7 @@ use Rattle.std.proofs.lemmas.Bool.{both_ways, cases_lt, cases_eq}
 use Rattle.std.proofs.lemmas.List.{length-take, length-drop}
 use Rattle.std.proofs.lemmas.Option.{none-some, slice_get-get_or}
 use Rattle.f11_dev.specs.Image.{Image, image_block}
-use Rattle.f11_header.specs.Fields.{file_sequence}
+use Rattle.f11_map.specs.header.Fields.{file_sequence}
 use Rattle.f11_home.specs.Home.{HomeFields}
 use Rattle.f11_map.specs.HeaderBlock.{segment_number, link_of, blocks_named}
 use Rattle.f11_index.specs.IndexFile.{index_of, index_file_blocks, blocks_on, header_place, header_among, header_lbn, most_slots, slots}

@@ -1,8 +1,8 @@
 -- Laws of the headers of a file where headers change (Files-11 On-Disk Structure Level 1, "File Header"). Each speaks of two tables,
 -- the headers before and after.
 use Rattle.std.specs.Prelude.{◌≡◌, ◌↔◌, ℕ, ◌<◌, ◌≤◌, true}
-use Rattle.f11_header.specs.Fields.{file_sequence}
-use Rattle.f11_header.specs.Header.{IsHeader}
+use Rattle.f11_map.specs.header.Fields.{file_sequence}
+use Rattle.f11_map.specs.header.Header.{IsHeader}
 use Rattle.f11_map.specs.HeaderBlock.{segment_number, link_of, LinksToNone}
 use Rattle.f11_index.specs.Headers.{IsLastOf}
 use Rattle.f11_index.specs.Table.{Table, IsNext, IsHeaderOf, IsWholeFile}

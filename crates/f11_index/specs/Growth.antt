@@ -4,8 +4,8 @@ use Rattle.std.specs.Prelude.{◌≡◌, ◌≢◌, ℕ, ◌+◌, ◌<◌, ◌�
 use Rattle.std.specs.List.{range_with_len}
 use Rattle.f11_dev.specs.Disk.{Disk, with_transfer, with_block_at}
 use Rattle.f11_dev.specs.Image.{Image}
-use Rattle.f11_header.specs.Fields.{file_sequence}
-use Rattle.f11_header.specs.Header.{IsHeader}
+use Rattle.f11_map.specs.header.Fields.{file_sequence}
+use Rattle.f11_map.specs.header.Header.{IsHeader}
 use Rattle.f11_home.specs.Home.{HomeFields}
 use Rattle.f11_index.specs.Calls.{with_blocks_behind}
 use Rattle.f11_map.specs.HeaderBlock.{segment_number, link_of, blocks_named, LinksToNone}

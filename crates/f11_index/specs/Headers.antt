@@ -2,8 +2,8 @@
 -- "File Header" and "Map Area"; profile: a file has 256 headers at most).
 use Rattle.std.specs.Prelude.{◌≡◌, ℕ, zero, suc, ◌+◌, ◌<◌, ◌==◌, ◌&&◌, Bool, List, [], ◌∷◌, Option, Some, None, if◌then◌else◌}
 use Rattle.f11_bytes.specs.Words.{word_sum}
-use Rattle.f11_header.specs.Fields.{file_number, file_sequence, check_word}
-use Rattle.f11_header.specs.Header.{holds_header}
+use Rattle.f11_map.specs.header.Fields.{file_number, file_sequence, check_word}
+use Rattle.f11_map.specs.header.Header.{holds_header}
 use Rattle.f11_map.specs.HeaderBlock.{segment_number, link_of, LinksToNone}
 use Rattle.f11_index.specs.Table.{Table, IsNext, IsHeaderOf, LinksRightly}
 

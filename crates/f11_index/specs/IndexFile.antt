@@ -6,7 +6,7 @@ use Rattle.f11_bytes.specs.Bits.{bit}
 use Rattle.f11_dev.specs.Image.{Image, image_block}
 use Rattle.f11_home.specs.Home.{HomeFields}
 use Rattle.f11_map.specs.HeaderBlock.{blocks_named, link_of}
-use Rattle.f11_store.specs.Store.{free_among}
+use Rattle.f11_map.specs.store.Store.{free_among}
 
 -- The virtual blocks of the index file are, from 1 on: the boot block, the home block, the H.IBSZ blocks of the index bitmap,
 -- and the headers. Header n is block 2 + H.IBSZ + n, whose place in a list is one less.

@@ -16,3 +16,9 @@ pub use Rattle.f11_dev.specs.Disk
 pub use Rattle.f11_dev.specs.Looked
 pub use Rattle.f11_dev.specs.Went
 pub use Rattle.f11_home.specs.Home
+pub use Rattle.f11_map.specs.header as header
+pub use Rattle.f11_map.specs.store as store
+pub use Rattle.f11_map.specs as map
+pub use Rattle.f11_home.specs.bits as of_bits
+pub use Rattle.f11_map.specs.rad50 as rad50
+pub use Rattle.f11_home.specs as home

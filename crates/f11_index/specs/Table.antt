@@ -3,8 +3,8 @@
 use Rattle.std.specs.Prelude.{◌≡◌, ◌⊎◌, ℕ, ◌+◌, Bool, true, List}
 use Rattle.f11_dev.specs.Image.{Image, image_block}
 use Rattle.f11_home.specs.Home.{HomeFields}
-use Rattle.f11_header.specs.Fields.{file_number, file_sequence}
-use Rattle.f11_header.specs.Header.{IsHeader}
+use Rattle.f11_map.specs.header.Fields.{file_number, file_sequence}
+use Rattle.f11_map.specs.header.Header.{IsHeader}
 use Rattle.f11_map.specs.HeaderBlock.{segment_number, link_of, LinksToNone}
 use Rattle.f11_index.specs.IndexFile.{Index, index_of, slots, is_in_use, header_lbn}
 

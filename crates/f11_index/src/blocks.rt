@@ -1,7 +1,7 @@
 //! The blocks that the headers of an index file name, counted while the headers are read.
 ghost use Rattle.std.specs.Prelude.{◌≡◌, ℕ, ◌+◌, ◌-◌, ◌<◌, ◌≤◌, ◌^◌, ◌↔◌, ◌++◌, [], min, length, IsTrue, IfOk, OnOk, vec_capacity};
 ghost use Rattle.std.specs.List.{range_with_len};
-ghost use Rattle.f11_header.specs.Header.{holds_header};
+ghost use Rattle.f11_map.specs.header.Header.{holds_header};
 ghost use Rattle.f11_map.specs.HeaderBlock.{blocks_named};
 ghost use Rattle.f11_index.specs.IndexFile.{most_slots};
 ghost use Rattle.f11_index.specs.Walk.{lbn_due, first_place, FitFrom, AddsTo, AddsIf};

@@ -16,5 +16,8 @@ mod load;
 mod slots;
 mod walk;
 
+pub use f11_bytes;
+pub use f11_map;
+pub use f11_map::f11_header;
 pub use fault::IndexFault;
 pub use index_file::IndexFile;

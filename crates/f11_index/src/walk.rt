@@ -12,10 +12,10 @@ use crate::blocks::Blocks;
 use crate::fault::IndexFault;
 use f11_bytes::{BLOCK_SIZE, Block};
 use f11_dev::Device;
-use f11_header::{Header, check};
 use f11_home::Home;
+use f11_map::f11_header::{Header, check};
+use f11_map::f11_store::FileId;
 use f11_map::in_hand::map;
-use f11_store::FileId;
 
 /// A header that is looked for.
 #[derive(Clone, Copy)]

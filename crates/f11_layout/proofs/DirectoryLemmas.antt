@@ -9,7 +9,7 @@ use Rattle.f11_bytes.specs.Block.{zero_block}
 use Rattle.f11_layout.specs.Files.{own_file}
 use Rattle.f11_layout.specs.declared.files.OwnFile.{OwnFile}
 use Rattle.f11_layout.specs.declared.layout.Layout.{Layout}
-use Rattle.f11_store.specs.Directory.{record_in, record_bytes, empty_record}
+use Rattle.f11_map.specs.store.Directory.{record_in, record_bytes, empty_record}
 
 -- the record of file i + 1
 abbrev pub own_record : Layout → ℕ → List ℕ

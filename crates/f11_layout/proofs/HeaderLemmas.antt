@@ -6,12 +6,12 @@ use Rattle.std.proofs.lemmas.Bool.{cases_lt, and_from, lt-ltb}
 use Rattle.std.proofs.lemmas.List.{get_or-replicate, get_or-drop, get_or_past, length-replicate}
 use Rattle.std.proofs.lemmas.Option.{same_Some}
 use Rattle.f11_bytes.specs.Block.{zero_block}
-use Rattle.f11_header.specs.Fields.{map_area, HeaderFields, header_fields}
-use Rattle.f11_header.specs.Header.{holds_header, header_in, header_with, IsEmptyHeader}
-use Rattle.f11_header.specs.MapFields.{segment, link, most_words, places, words_in_use}
-use Rattle.f11_header.specs.Writing.{blank_header, KeepsHeader, IsSealed}
-use Rattle.f11_header.proofs.BlankLemmas.{holds-blank_header}
-use Rattle.f11_header.proofs.HeaderFacts.{header_in-held}
+use Rattle.f11_map.specs.header.Fields.{map_area, HeaderFields, header_fields}
+use Rattle.f11_map.specs.header.Header.{holds_header, header_in, header_with, IsEmptyHeader}
+use Rattle.f11_map.specs.header.MapFields.{segment, link, most_words, places, words_in_use}
+use Rattle.f11_map.specs.header.Writing.{blank_header, KeepsHeader, IsSealed}
+use Rattle.f11_map.proofs.header.BlankLemmas.{holds-blank_header}
+use Rattle.f11_map.proofs.header.HeaderFacts.{header_in-held}
 use Rattle.f11_map.specs.MapArea.{run_at, runs_of}
 use Rattle.f11_layout.specs.Files.{own_file}
 use Rattle.f11_layout.specs.FreshHeader.{IsBareHeader, IsFreshHeader}
@@ -19,7 +19,7 @@ use Rattle.f11_layout.specs.NamesBlocks.{NamesBlocks}
 use Rattle.f11_layout.specs.OwnFields.{own_ident, own_attributes}
 use Rattle.f11_layout.specs.declared.files.OwnFile.{OwnFile}
 use Rattle.f11_layout.specs.declared.layout.Layout.{Layout}
-use Rattle.f11_store.specs.declared.files.FileId.{FileId}
+use Rattle.f11_map.specs.store.declared.files.FileId.{FileId}
 
 -- what a header says that was changed
 says : (old new : List ℕ) (change : HeaderFields → HeaderFields) → IsTrue (holds_header old) → IsTrue (holds_header new)

@@ -1,13 +1,13 @@
 -- Blocks in a row, named in a header that names none.
 use Rattle.std.proofs.Common.{◌≡◌, ◌-◌, ◌*◌, ◌≤◌, ℕ, List, ◌++◌, length, ap, ◌∙◌, arith}
 use Rattle.std.specs.List.{range_with_len}
-use Rattle.f11_header.specs.Fields.{map_area}
-use Rattle.f11_header.specs.MapFields.{places}
+use Rattle.f11_map.specs.header.Fields.{map_area}
+use Rattle.f11_map.specs.header.MapFields.{places}
 use Rattle.f11_map.specs.InHand.{AppendsRuns}
 use Rattle.f11_map.specs.MapArea.{runs_of, blocks_in}
 use Rattle.f11_map.specs.MapWriting.{fewest_runs}
 use Rattle.f11_map.proofs.PointerLemmas.{places-written}
-use Rattle.f11_store.specs.File.{run_pointers}
+use Rattle.f11_map.specs.store.File.{run_pointers}
 use Rattle.f11_layout.specs.NamesBlocks.{HasNoPointers, NamesBlocks}
 
 -- there is a place for each pointer

@@ -14,7 +14,7 @@ use Rattle.f11_layout.specs.FreshBitmaps.{fresh_control, IsFreshBitmap}
 use Rattle.f11_layout.specs.FreshDirectory.{IsFreshDirectory}
 use Rattle.f11_layout.specs.Places.{bit_blocks, used_blocks, first_header, control_lbn, directory_lbn}
 use Rattle.f11_layout.specs.declared.layout.Layout.{Layout}
-use Rattle.f11_store.specs.Directory.{record_in}
+use Rattle.f11_map.specs.store.Directory.{record_in}
 
 -- the name of the format in a home block begins with its first letter
 format-letter : (b : List ℕ) (blocks : ℕ) → IsHomeBlock b blocks → slice_index b 496 ≡ 68

@@ -2,7 +2,7 @@
 use Rattle.std.specs.Prelude.{◌≡◌, ℕ, ◌+◌, ◌≤◌, ◌<◌, List, length}
 use Rattle.f11_layout.specs.Files.{own_file}
 use Rattle.f11_layout.specs.declared.layout.Layout.{Layout}
-use Rattle.f11_store.specs.Directory.{record_in, record_bytes, empty_record}
+use Rattle.f11_map.specs.store.Directory.{record_in, record_bytes, empty_record}
 
 -- Its records 0 to 4 are those of files 1,1 to 5,5 under their names, and the others are empty.
 pub record IsFreshDirectory (l : Layout) (b : List ℕ) : Type 0 where

@@ -1,9 +1,9 @@
 -- The headers of a fresh volume's own files (Files-11 On-Disk Structure Level 1, "File Header"; profile: what they say).
 use Rattle.std.specs.Prelude.{◌≡◌, ℕ, ◌+◌, ◌*◌, ◌≤◌, List, length, drop, replicate, slice_index}
 use Rattle.std.specs.List.{range_with_len}
-use Rattle.f11_header.specs.Fields.{file_number, file_sequence, owner, protection, characteristics, attributes, ident_area, map_area}
-use Rattle.f11_header.specs.Header.{IsHeader}
-use Rattle.f11_header.specs.MapFields.{segment, link, most_words, places}
+use Rattle.f11_map.specs.header.Fields.{file_number, file_sequence, owner, protection, characteristics, attributes, ident_area, map_area}
+use Rattle.f11_map.specs.header.Header.{IsHeader}
+use Rattle.f11_map.specs.header.MapFields.{segment, link, most_words, places}
 use Rattle.f11_map.specs.MapArea.{runs_of, blocks_of}
 use Rattle.f11_map.specs.MapWriting.{fewest_runs}
 use Rattle.f11_layout.specs.Files.{own_file}

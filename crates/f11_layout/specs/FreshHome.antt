@@ -8,7 +8,7 @@ use Rattle.f11_layout.specs.Layout.{label_in}
 use Rattle.f11_layout.specs.Places.{bit_blocks}
 use Rattle.f11_layout.specs.declared.layout.Layout.{Layout}
 use Rattle.f11_layout.specs.Texts.{owner_text}
-use Rattle.f11_store.specs.declared.callers.Uic.{Uic}
+use Rattle.f11_map.specs.store.declared.callers.Uic.{Uic}
 
 -- its texts: the label over zeros (H.VNAM), the date (H.VDAT), the label over spaces (H.INDN), the owner (H.INDO), and the name
 -- of the format (H.INDF)

@@ -2,10 +2,10 @@
 use Rattle.std.specs.Prelude.{◌≡◌, ℕ, IsTrue, List, []}
 use Rattle.std.specs.List.{range_with_len}
 use Rattle.f11_bytes.specs.Words.{word_sum}
-use Rattle.f11_header.specs.Fields.{check_word, map_area}
-use Rattle.f11_header.specs.Header.{holds_header, header_in, header_with}
-use Rattle.f11_header.specs.MapFields.{places}
-use Rattle.f11_header.specs.Writing.{KeepsHeader}
+use Rattle.f11_map.specs.header.Fields.{check_word, map_area}
+use Rattle.f11_map.specs.header.Header.{holds_header, header_in, header_with}
+use Rattle.f11_map.specs.header.MapFields.{places}
+use Rattle.f11_map.specs.header.Writing.{KeepsHeader}
 use Rattle.f11_map.specs.MapArea.{runs_of, blocks_of}
 use Rattle.f11_map.specs.MapWriting.{fewest_runs, WritesPointers}
 

@@ -1,6 +1,6 @@
 -- The texts of a fresh home block (Files-11 On-Disk Structure Level 1, "Home Block").
 use Rattle.std.specs.Prelude.{ℕ, ◌+◌, ◌/◌, ◌%◌, List, [], ◌∷◌, ◌++◌}
-use Rattle.f11_store.specs.declared.callers.Uic.{Uic}
+use Rattle.f11_map.specs.store.declared.callers.Uic.{Uic}
 
 -- a number below 512 as three octal digits
 abbrev pub three_digits : ℕ → List ℕ

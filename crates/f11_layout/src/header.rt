@@ -6,9 +6,9 @@ ghost use Rattle.f11_layout.specs.OwnFields.{own_ident, own_attributes};
 use crate::files::OwnFile;
 use crate::layout::Layout;
 use f11_bytes::{Block, write_long, write_word};
-use f11_header::{HeaderMut, blank};
+use f11_map::f11_header::{HeaderMut, blank};
+use f11_map::f11_store::FileId;
 use f11_map::in_hand::append_runs;
-use f11_store::FileId;
 
 /// The protection of a fresh volume's own files.
 const PROTECTION: u16 = 0o160000;

@@ -5,7 +5,7 @@ ghost use Rattle.f11_layout.specs.Texts.{owner_text, three_digits};
 use crate::layout::{Layout, bit_blocks};
 use f11_bytes::{Block, put_bytes, write_long, write_word, zeros};
 use f11_home::{fields, seal};
-use f11_store::Uic;
+use f11_map::f11_store::Uic;
 
 impl Layout {
     ghost use Rattle.f11_layout.specs.FreshHome.{with_texts, with_numbers, fresh_home};

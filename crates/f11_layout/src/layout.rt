@@ -4,7 +4,7 @@ ghost use Rattle.f11_layout.specs.Places.{bit_blocks, used_blocks, AreNumbers};
 
 use crate::params::{InitParams, is_label};
 use f11_bytes::put_bytes;
-use f11_store::Uic;
+use f11_map::f11_store::Uic;
 
 /// How many bits a block has.
 pub(crate) const BITS: u32 = 4096;

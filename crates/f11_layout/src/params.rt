@@ -3,7 +3,7 @@ ghost use Rattle.std.specs.Prelude.{◌≡◌, ◌↔◌, IsTrue};
 ghost use Rattle.std.specs.List.{AllPass};
 ghost use Rattle.f11_layout.specs.Places.{IsLabel, is_label_byte};
 
-use f11_store::Uic;
+use f11_map::f11_store::Uic;
 
 /// What a volume is made with.
 #[derive(Clone, Copy)]

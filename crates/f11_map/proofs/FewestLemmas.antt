@@ -11,8 +11,8 @@ use Rattle.f11_map.specs.MapWriting.{joins, joins_last, with_blocks, fewest_runs
 use Rattle.f11_map.proofs.MapLemmas.{blocks_in-append}
 use Rattle.f11_map.proofs.PointerLemmas.{WritesPointers-then}
 use Rattle.f11_map.proofs.RunLemmas.{length-blocks_in-cons, joins-fits, with_blocks-apart}
-use Rattle.f11_store.proofs.RangeLemmas.{range_with_len-append}
-use Rattle.f11_store.specs.File.{run_pointers}
+use Rattle.f11_header.proofs.store.RangeLemmas.{range_with_len-append}
+use Rattle.f11_header.specs.store.File.{run_pointers}
 
 -- pointer i of them
 abbrev pub fewest_run : ℕ → ℕ → ℕ → ℕ × ℕ

@@ -2,7 +2,7 @@
 use Rattle.std.proofs.Common.{◌≡◌, ℕ, ◌-◌, ◌<◌, ◌≤◌, List, [], ◌++◌, length, take, subst, Option, Some, IsTrue, refl, sym, ap, ◌∙◌, arith}
 use Rattle.std.specs.Prelude.{unwrap_or, option_map, Result, Ok, Err, IsErr, OnOk}
 use Rattle.std.specs.List.{range_with_len}
-use Rattle.f11_bytes.specs.Words.{word_sum}
+use Rattle.f11_header.specs.bytes.Words.{word_sum}
 use Rattle.f11_header.specs.Fields.{ident_room, map_area, map_offset, file_number, check_word, HeaderFields, header_fields}
 use Rattle.f11_header.specs.MapFields.{segment, places, IsMapArea}
 use Rattle.f11_header.specs.Header.{holds_header, header_in, header_with}
@@ -15,8 +15,8 @@ use Rattle.f11_map.specs.InHand.{RewritesMap, AppendsBlocks, AppendsRuns, CutsBl
 use Rattle.f11_map.specs.MapArea.{runs_of, blocks_of}
 use Rattle.f11_map.specs.MapWriting.{with_blocks, fewest_runs, cut_to, WritesPointers, WritesLink}
 use Rattle.f11_map.proofs.FewestLemmas.{length-behind}
-use Rattle.f11_store.specs.File.{run_pointers}
-use Rattle.f11_store.specs.declared.files.FileId.{FileId}
+use Rattle.f11_header.specs.store.File.{run_pointers}
+use Rattle.f11_header.specs.store.declared.files.FileId.{FileId}
 
 -- the map area that the header of a block says
 said : Option HeaderFields → List ℕ

@@ -8,13 +8,13 @@ use Rattle.std.proofs.lemmas.Grind.{same_number_lists}
 use Rattle.std.proofs.lemmas.List.{length-set, length-take, length-drop, get_or-take, get_or-drop, get_or-set_same, get_or-set_other}
 use Rattle.std.proofs.lemmas.List.{take_all}
 use Rattle.std.proofs.lemmas.List.FromFn.{fill_by_all, get_or-map-range_with_len, map-range_with_len_more}
-use Rattle.f11_bytes.specs.Words.{word, with_word}
-use Rattle.f11_bytes.proofs.WordLemmas.{length-with_word, slice_index-with_word, word-with_word, word-with_word_apart}
+use Rattle.f11_header.specs.bytes.Words.{word, with_word}
+use Rattle.f11_header.proofs.bytes.WordLemmas.{length-with_word, slice_index-with_word, word-with_word, word-with_word_apart}
 use Rattle.f11_header.specs.MapFields.{IsMapArea, words_in_use, most_words, places}
 use Rattle.f11_header.proofs.HeaderFacts.{PointerFacts, pointer_facts, holds_pointers-from}
 use Rattle.f11_map.specs.MapArea.{run_at, runs_of}
 use Rattle.f11_map.specs.MapWriting.{with_run, with_words_in_use, WritesPointers, WritesLink}
-use Rattle.f11_store.specs.declared.files.FileId.{FileId}
+use Rattle.f11_header.specs.store.declared.files.FileId.{FileId}
 use Rattle.f11_map.proofs.MapLemmas.{length-runs_of}
 
 -- the size of an area with another pointer

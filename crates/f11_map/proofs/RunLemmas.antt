@@ -12,7 +12,7 @@ use Rattle.f11_header.specs.MapFields.{words_in_use}
 use Rattle.f11_map.specs.MapArea.{run_at, runs_of, blocks_in, LiesIn}
 use Rattle.f11_map.specs.MapWriting.{joins, joins_last, with_blocks, cut_to}
 use Rattle.f11_map.proofs.MapLemmas.{blocks_in-append, slice_get-append_back, block_here}
-use Rattle.f11_store.proofs.RangeLemmas.{range_with_len-append}
+use Rattle.f11_header.proofs.store.RangeLemmas.{range_with_len-append}
 
 -- the block that lies in a pointer
 pub slice_get-blocks_in : (runs : List (ℕ × ℕ)) (place i left : ℕ) (run : ℕ × ℕ) → slice_get runs i ≡ Some run → LiesIn runs place i left

@@ -4,7 +4,7 @@ use Rattle.std.specs.Prelude.{◌≡◌, ℕ, List}
 use Rattle.f11_header.specs.Fields.{map_area}
 use Rattle.f11_header.specs.MapFields.{segment, link}
 use Rattle.f11_map.specs.MapArea.{blocks_of, runs_of}
-use Rattle.f11_store.specs.declared.files.FileId.{FileId}
+use Rattle.f11_header.specs.store.declared.files.FileId.{FileId}
 
 -- M.ESQN: the number of the file's segment that the header describes, 0 in the file's first header
 unfoldable pub segment_number : List ℕ → ℕ

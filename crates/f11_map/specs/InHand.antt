@@ -6,8 +6,8 @@ use Rattle.f11_header.specs.Header.{header_in, header_with}
 use Rattle.f11_header.specs.Writing.{IsSealed}
 use Rattle.f11_map.specs.MapArea.{runs_of, blocks_of}
 use Rattle.f11_map.specs.MapWriting.{with_blocks, fewest_runs, cut_to, WritesPointers, WritesLink}
-use Rattle.f11_store.specs.File.{run_pointers}
-use Rattle.f11_store.specs.declared.files.FileId.{FileId}
+use Rattle.f11_header.specs.store.File.{run_pointers}
+use Rattle.f11_header.specs.store.declared.files.FileId.{FileId}
 
 -- The block is sealed, and holds the same header with another map area: number, sequence number, owner, protection,
 -- characteristics, user attributes and ident area are as they were, and so is each byte behind the ident area's offset.

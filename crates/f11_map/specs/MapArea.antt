@@ -2,7 +2,7 @@
 -- "Retrieval Pointers").
 use Rattle.std.specs.Prelude.{◌≡◌, ℕ, ◌+◌, ◌*◌, ◌/◌, ◌<◌, List, [], ◌∷◌, ◌++◌, length, take, map, slice_index, slice_index_or}
 use Rattle.std.specs.List.{range_with_len}
-use Rattle.f11_bytes.specs.Words.{word}
+use Rattle.f11_header.specs.bytes.Words.{word}
 pub use Rattle.f11_header.specs.MapFields.{segment, link, words_in_use, most_words, places, IsMapArea}
 
 -- retrieval pointer i, of format 1: the high byte of the LBN, the count less one, the low word of the LBN. It names so many

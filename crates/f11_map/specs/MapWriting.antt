@@ -3,11 +3,11 @@
 use Rattle.std.specs.Prelude.{◌≡◌, ℕ, ◌+◌, ◌-◌, ◌*◌, ◌/◌, ◌%◌, ◌≤◌, ◌==◌, nat_le, min, Bool, false, ◌&&◌, if◌then◌else◌}
 use Rattle.std.specs.Prelude.{List, [], ◌∷◌, length, map, take, drop, slice_index, slice_set}
 use Rattle.std.specs.List.{range_with_len}
-use Rattle.f11_bytes.specs.Words.{with_word}
+use Rattle.f11_header.specs.bytes.Words.{with_word}
 use Rattle.f11_header.specs.MapFields.{segment, link, most_words, IsMapArea}
 use Rattle.f11_map.specs.MapArea.{runs_of}
-use Rattle.f11_store.specs.File.{run_pointers}
-use Rattle.f11_store.specs.declared.files.FileId.{FileId}
+use Rattle.f11_header.specs.store.File.{run_pointers}
+use Rattle.f11_header.specs.store.declared.files.FileId.{FileId}
 
 -- So many blocks from an LBN on join a pointer where they follow its last block and both are 256 blocks at most.
 abbrev pub joins : ℕ × ℕ → ℕ → ℕ → Bool

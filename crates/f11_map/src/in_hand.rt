@@ -10,13 +10,13 @@ ghost use Rattle.f11_map.specs.InHand.{AppendsBlocks, AppendsRuns, CutsBlocks, S
 ghost use Rattle.f11_map.specs.Map.{area_of};
 ghost use Rattle.f11_map.specs.MapArea.{runs_of, blocks_of};
 ghost use Rattle.f11_map.specs.MapWriting.{joins_last, with_blocks, fewest_runs, cut_to, WritesPointers, WritesLink};
-ghost use Rattle.f11_store.specs.File.{run_pointers};
+ghost use Rattle.f11_header.specs.store.File.{run_pointers};
 
 use crate::map::Map;
 use crate::map_mut::{MapFull, MapMut};
-use f11_bytes::Block;
+use f11_header::f11_bytes::Block;
+use f11_header::f11_store::FileId;
 use f11_header::{Header, HeaderMut};
-use f11_store::FileId;
 
 /// The retrieval pointers of the header, to be read.
 pub fn map(block: &Block) -> Map<'_>

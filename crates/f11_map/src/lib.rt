@@ -8,6 +8,8 @@ mod map;
 mod map_mut;
 mod pointer;
 
+pub use f11_header;
+pub use f11_header::f11_store;
 pub use map::Map;
 pub use map_mut::{MapFull, MapMut};
 pub use pointer::{POINTER_BLOCKS, run_pointers};

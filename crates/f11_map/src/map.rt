@@ -1,7 +1,7 @@
 //! The retrieval pointers of a header.
 ghost use Rattle.std.specs.Prelude.{◌≡◌, ◌<◌, ◌≤◌, ◌+◌, ◌-◌, ◌^◌, length, IsTrue, Some, MatchOption, IfSome};
 ghost use Rattle.std.specs.List.{slice_get};
-ghost use Rattle.f11_bytes.specs.Words.{word};
+ghost use Rattle.f11_header.specs.bytes.Words.{word};
 ghost use Rattle.f11_header.specs.Fields.{map_area};
 ghost use Rattle.f11_header.specs.MapFields.{IsMapArea, segment, link, places};
 ghost use Rattle.f11_header.specs.Header.{holds_header};
@@ -9,12 +9,12 @@ ghost use Rattle.f11_map.specs.MapArea.{LiesIn, runs_of, blocks_of};
 ghost use Rattle.f11_map.specs.MapWriting.{joins_last};
 
 use crate::pointer::POINTER_BLOCKS;
-use f11_bytes::read_word;
 use f11_header::Header;
+use f11_header::f11_bytes::read_word;
+use f11_header::f11_store::FileId;
 use f11_header::map_fields::{
     IN_USE, LINK_NUMBER, LINK_SEQUENCE, LINK_VOLUME, MOST, POINTERS, SEGMENT,
 };
-use f11_store::FileId;
 
 /// The map area of a header, read where it stands.
 #[derive(Clone, Copy)]

@@ -4,11 +4,11 @@ ghost use Rattle.std.specs.List.{range_with_len};
 ghost use Rattle.f11_header.specs.MapFields.{IsMapArea, places};
 ghost use Rattle.f11_map.specs.MapArea.{runs_of, blocks_of};
 ghost use Rattle.f11_map.specs.MapWriting.{joins_last, with_blocks, fewest_runs, cut_to, WritesPointers, WritesLink};
-ghost use Rattle.f11_store.specs.File.{run_pointers};
+ghost use Rattle.f11_header.specs.store.File.{run_pointers};
 
 use crate::map::Map;
 use crate::pointer::{keep, put_last, put_link, put_runs, run_pointers};
-use f11_store::FileId;
+use f11_header::f11_store::FileId;
 use std::error::Error;
 use std::fmt;
 

@@ -1,14 +1,14 @@
 //! Bytes of a map area that are written.
 ghost use Rattle.std.specs.Prelude.{◌≡◌, ◌+◌, ◌*◌, ◌<◌, ◌≤◌, ◌^◌, ◌++◌, [], ◌∷◌, length, take};
-ghost use Rattle.f11_bytes.specs.Words.{with_word};
+ghost use Rattle.f11_header.specs.bytes.Words.{with_word};
 ghost use Rattle.f11_header.specs.MapFields.{IsMapArea, places};
 ghost use Rattle.f11_map.specs.MapArea.{runs_of};
 ghost use Rattle.f11_map.specs.MapWriting.{fewest_runs, with_run, with_words_in_use, WritesPointers, WritesLink};
-ghost use Rattle.f11_store.specs.File.{run_pointers};
+ghost use Rattle.f11_header.specs.store.File.{run_pointers};
 
-use f11_bytes::write_word;
+use f11_header::f11_bytes::write_word;
+use f11_header::f11_store::FileId;
 use f11_header::map_fields::{IN_USE, LINK_NUMBER, LINK_SEQUENCE, LINK_VOLUME, POINTERS};
-use f11_store::FileId;
 
 /// How many blocks a retrieval pointer names at most (Files-11 On-Disk Structure Level 1, "Retrieval Pointers").
 pub const POINTER_BLOCKS: u32 = 256;

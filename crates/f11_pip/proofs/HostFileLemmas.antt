@@ -5,13 +5,13 @@ use Rattle.std.specs.List.{list_all}
 use Rattle.clap.specs.Simple.{Shape, built, built_leaf, entered, names_of}
 use Rattle.clap.specs.Takes.{built_takes, default_passes, is_valid, level_passes, settle_passes, walk_passes}
 use Rattle.clap.specs.Walk.{Held, Text, Walk, finished, nothing_held, option, walk, walk_from, walked}
-use Rattle.clap.specs.Words.{Row, first_value, found_of, rows_of, subcommand_of, takes}
+use Rattle.clap.specs.Words.{Row, found_of, rows_of, subcommand_of, takes}
 use Rattle.clap.specs.declared.parser.matches.ArgMatches.{ArgMatches}
 use Rattle.clap.proofs.WalkLemmas.{first_value-rows, one_text-rows}
 use Rattle.clap.proofs.OnLiterals.{clap_on_literals}
-use Rattle.f11_pip.specs.Commands.{HasGetWords, MeetsGet, MeetsPut, command_and_words, get_app, host_names, program_app}
-use Rattle.f11_pip.specs.Commands.{put_app, words_in}
-use Rattle.f11_pip.specs.Words.{get_all_line, get_line, is_option, mode_words, put_line, texts_of, words_given}
+use Rattle.f11_pip.specs.Commands.{HasGetWords, MeetsGet, MeetsPut, get_app, host_names, program_app}
+use Rattle.f11_pip.specs.Commands.{put_app}
+use Rattle.f11_pip.specs.Words.{get_line, is_option, mode_words, put_line, texts_of, words_given}
 use Rattle.f11_pip.proofs.CopyLemmas.{ArePlain, mode_met, passes-none}
 use Rattle.f11_pip.proofs.PlainLemmas.{fold-plain, fold-value, passes-plain, passes-value, standing, takes-command, walk-command}
 use Rattle.f11_pip.proofs.PlainLemmas.{with_option_value, with_positional}

@@ -1,8 +1,8 @@
 -- The words of the command line (profile).
 use Rattle.std.specs.Prelude.{◌≡◌, ◌⊎◌, ℕ, ◌==◌, All, Bool, true, false, List, [], ◌∷◌, ◌++◌, Option, Some, None, codes}
 use Rattle.std.specs.Prelude.{option_to_list}
-use Rattle.f11_flx.specs.declared.mode.CopyMode.{CopyMode}
-use Rattle.f11_flx.specs.declared.mode.CopyMode.TheVariants.{Image, Text}
+use Rattle.f11_commands.specs.flx.declared.mode.CopyMode.{CopyMode}
+use Rattle.f11_commands.specs.flx.declared.mode.CopyMode.TheVariants.{Image, Text}
 use Rattle.f11_store.specs.declared.callers.Uic.{Uic}
 use Rattle.f11_numbers.specs.Decimal.{IsCount, IsNumber, SpellsNumber, SpellsCount}
 use Rattle.f11_numbers.specs.Octal.{IsProtection, SpellsProtection, SpellsUic}

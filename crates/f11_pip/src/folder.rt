@@ -3,7 +3,7 @@ use crate::host_files::made;
 use crate::outcome::Failure;
 use crate::remarks::{Remark, Which, Why};
 use crate::{judged, opened};
-use f11_catalog::Place;
+use f11_commands::f11_catalog::Place;
 use f11_commands::{Answer, TakingAll, begin_all};
 use f11_dev::{CannotOpen, FileImage};
 use f11_store::{FileId, Uic};

@@ -2,12 +2,12 @@
 use crate::outcome::Failure;
 use crate::remarks::{self, Remark, Which, Why};
 use crate::{judged, opened};
+use f11_commands::f11_flx::CopyMode;
 use f11_commands::{
     Answer, FileAnswer, FoundFile, PutFailure, Putting, Served, print_put, read_name, refuse_names,
     seek_file, write_file,
 };
 use f11_dev::{CannotOpen, FileImage};
-use f11_flx::CopyMode;
 use f11_store::Uic;
 use std::fs::{self, File, OpenOptions};
 use std::io::Write;

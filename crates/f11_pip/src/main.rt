@@ -13,15 +13,15 @@ mod remarks;
 mod rt_files;
 mod words;
 
+use f11_commands::f11_flx::CopyMode;
+use f11_commands::f11_vfy::{InitParams, MOST_BLOCKS};
 use f11_commands::{
     Answer, Copying, Direction, FileAnswer, Served, System, print_copy, print_header, print_home,
     print_init, print_ls, print_name, print_rights, print_rt_init, print_rt_list, print_rt_vfy,
     print_run, print_vfy, print_vfy_update, read_names, refuse_init, refuse_names,
 };
 use f11_dev::{CannotOpen, FileImage};
-use f11_flx::CopyMode;
 use f11_store::Uic;
-use f11_vfy::{InitParams, MOST_BLOCKS};
 use folder::get_all;
 use host_files::Named;
 use outcome::{Failure, status};

@@ -1,6 +1,6 @@
 //! What is said on standard error beside the lines that are fixed: which word is meant, and why.
+use f11_commands::f11_layout::{InitParams, MOST_BLOCKS, is_label};
 use f11_dev::{CannotOpen, MAX_BLOCKS};
-use f11_layout::{InitParams, MOST_BLOCKS, is_label};
 use std::env::{Env, FillError};
 use std::fs::{self, File};
 use std::io::Read;

@@ -23,7 +23,7 @@ use crate::words::volumes::{
     dump, dump_of, home, home_of, init, init_of, ls, ls_of, run, run_of, vfy, vfy_of,
 };
 use clap::{ArgMatches, Command};
-use f11_flx::CopyMode;
+use f11_commands::f11_flx::CopyMode;
 use f11_store::Uic;
 use std::alloc::{AllocError, Global};
 use std::convert::AsStr;

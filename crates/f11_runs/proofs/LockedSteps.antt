@@ -11,13 +11,12 @@ use Rattle.f11_store.specs.declared.files.Mode.{Mode}
 use Rattle.f11_store.specs.declared.files.Mode.TheVariants as mode
 use Rattle.f11_store.specs.declared.protection.Right.TheVariants as right
 use Rattle.f11_store.specs.declared.refusals.Refusal.{Refusal}
-use Rattle.f11_store.specs.declared.refusals.Refusal.TheVariants.{NoHeader}
 use Rattle.f11_store.specs.declared.requests.Reply.{Reply}
 use Rattle.f11_store.specs.declared.requests.Request.{Request}
 use Rattle.f11_store.specs.declared.requests.Request.TheVariants as request
 use Rattle.f11_store.specs.Accesses.{FreeIsEmpty}
 use Rattle.f11_store.specs.File.{File, is_marked}
-use Rattle.f11_store.specs.Store.{Store, Access, file_named, id_in, id_held, least_free, free_headers, is_same, is_held, is_accessed, bars}
+use Rattle.f11_store.specs.Store.{Store, Access, file_named, id_in, id_held, least_free, is_same, is_held, is_accessed, bars}
 use Rattle.f11_store.specs.Store.{bars_writing}
 use Rattle.f11_store.specs.Causes.{is_missing, is_no_writer, cannot_write, first_refusal, is_bad, lacks, lacks_for}
 use Rattle.f11_store.specs.Changes.{with_access, with_change, with_replacement, with_delete_mark, without_file_at, with_marked_file, is_due}
@@ -26,7 +25,6 @@ use Rattle.f11_store.specs.Changes.{with_more_slots, EntersAt, EntersAtEnd, Exte
 use Rattle.f11_store.specs.Step.{Step}
 use Rattle.f11_store.proofs.FateLaws.{held-accesses, marked-there, Keeps}
 use Rattle.f11_store.proofs.FateLaws as fate
-use Rattle.f11_store.proofs.FileLaws.{least_free_is_free}
 use Rattle.f11_store.proofs.StepFates.{may-be-made, MayBeMade, replacement-sequence}
 use Rattle.f11_store.specs.Directory.{entry_count, needs_block}
 use Rattle.f11_store.proofs.StoreLemmas.{none_first, none_rest}

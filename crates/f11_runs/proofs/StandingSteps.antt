@@ -8,13 +8,12 @@ use Rattle.f11_store.specs.declared.files.FileId.{FileId}
 use Rattle.f11_store.specs.declared.files.Change.{Change}
 use Rattle.f11_store.specs.declared.files.Change.TheVariants as change
 use Rattle.f11_store.specs.declared.refusals.Refusal.{Refusal}
-use Rattle.f11_store.specs.declared.refusals.Refusal.TheVariants.{NoHeader}
 use Rattle.f11_store.specs.declared.requests.Reply.{Reply}
 use Rattle.f11_store.specs.declared.requests.Request.{Request}
 use Rattle.f11_store.specs.declared.requests.Request.TheVariants as request
 use Rattle.f11_store.specs.Accesses.{FreeIsEmpty}
 use Rattle.f11_store.specs.File.{File}
-use Rattle.f11_store.specs.Store.{Store, Access, id_held, least_free, free_headers, is_same, is_accessed}
+use Rattle.f11_store.specs.Store.{Store, Access, id_held, least_free, is_same, is_accessed}
 use Rattle.f11_store.specs.Causes.{is_missing, first_refusal, is_bad}
 use Rattle.f11_store.specs.Changes.{is_in, with_access, with_change, with_block, with_replacement, with_delete_mark, without_file_at}
 use Rattle.f11_store.specs.Changes.{with_marked_file, is_due, after_giving_up, after_deaccess, after_delete, GetsSlots, Grows, GrowsIndex}

@@ -4,3 +4,4 @@ pub mod PartLemmas
 pub mod RunLemmas
 pub mod ScriptLemmas
 pub mod VolumeLemmas
+pub use Rattle.f11_fcp.proofs.writes as writes

@@ -6,7 +6,7 @@ use Rattle.f11_store.specs.Run.{Call, Answer}
 use Rattle.f11_store.specs.declared.refusals.Refusal.{Refusal}
 use Rattle.f11_store.specs.declared.refusals.Refusal.TheVariants.{DeviceFault, Damaged}
 use Rattle.f11_store.specs.declared.requests.Reply.{Reply}
-use Rattle.f11_files.specs.Answers.{is_fatal, is_refused}
+use Rattle.f11_fcp.specs.files.Answers.{is_fatal, is_refused}
 use Rattle.f11_runs.specs.Each.{AddsCost, IsSeenAs, Steps}
 use Rattle.f11_script.specs.declared.errors.ScriptError.{ScriptError}
 use Rattle.f11_script.specs.declared.errors.ScriptError.TheVariants.{ReadFault, WriteFault, TooLong}
@@ -15,8 +15,8 @@ use Rattle.f11_fcp.specs.Handles.{State, faults_in, is_damage}
 use Rattle.f11_fcp.specs.Serving.{is_spent, state_in}
 use Rattle.f11_fcp.specs.declared.volume.Volume.{Volume}
 use Rattle.f11_fcp.proofs.ListLemmas.{grows, seen-as-steps}
-use Rattle.f11_writes.proofs.InOrderLemmas.{order-none, order-then}
-use Rattle.f11_writes.specs.Order.{WritesInOrder}
+use Rattle.f11_fcp.proofs.writes.InOrderLemmas.{order-none, order-then}
+use Rattle.f11_fcp.specs.writes.Order.{WritesInOrder}
 use Rattle.f11_serving.specs.Served.{Service, zeros}
 use Rattle.f11_serving.specs.Serving.{AnswersLines, Place, RunsScript, StopsReading}
 use Rattle.f11_serving.specs.Scripts.{KeepsScriptCosts, ServesScriptRun}

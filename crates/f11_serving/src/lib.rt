@@ -13,6 +13,8 @@ mod script;
 mod serves;
 mod volume;
 
+pub use f11_fcp;
+pub use f11_fcp::{f11_files, f11_vfy};
 pub use script::{run_lines, serve_lines};
 pub use serves::Serves;
 pub use volume::run_script;

@@ -3,7 +3,7 @@ ghost use Rattle.f11_fcp.specs.Lists.{ServesCall};
 ghost use Rattle.f11_fcp.specs.Serving.{StaysAccepted, state_in};
 ghost use Rattle.f11_serving.specs.Scripts.{KeepsScriptCosts, ServesScriptRun};
 ghost use Rattle.f11_serving.specs.Serving.{RunsScript};
-ghost use Rattle.f11_writes.specs.Order.{WritesInOrder};
+ghost use Rattle.f11_fcp.specs.writes.Order.{WritesInOrder};
 
 use crate::script::run_lines;
 use crate::serves::Serves;

@@ -1,5 +1,5 @@
 -- Laws of files that are created, deleted, cut and extended.
-use Rattle.std.proofs.Common.{◌≡◌, ℕ, ◌+◌, ◌-◌, ◌<◌, ◌≤◌, ◌==◌, Bool, true, false, List, [], Option, Some, length, take, get_or, refl, sym}
+use Rattle.std.proofs.Common.{◌≡◌, ℕ, ◌+◌, ◌-◌, ◌<◌, ◌≤◌, ◌==◌, Bool, true, false, List, [], Some, length, take, get_or, refl, sym}
 use Rattle.std.proofs.Common.{◌∙◌, subst, arith, if◌then◌else◌, IsSomeAnd, ◌∷◌, zero, suc, ◌++◌, not, filter, slice_index, ap}
 use Rattle.std.proofs.lemmas.Bool.Decides.{nat_tests}
 use Rattle.std.proofs.lemmas.Bool.{ltb-false}
@@ -12,7 +12,7 @@ use Rattle.f11_store.specs.declared.requests.Request.TheVariants as request
 use Rattle.f11_store.specs.File.{File, need, length_of, with_mark, zero_block, zero_blocks}
 use Rattle.std.specs.List.{range_with_len}
 use Rattle.f11_store.specs.Store.{Store, file_named, id_held, file_held, is_accessed, free_slots, free_headers, least_free}
-use Rattle.f11_store.specs.Changes.{Truncates, Grows, next_sequence, with_file, with_marked_file, without_file_at, with_cut_file}
+use Rattle.f11_store.specs.Changes.{Truncates, Grows, next_sequence, with_marked_file, without_file_at, with_cut_file}
 use Rattle.f11_store.specs.Step.{Serves, next_id, block_at}
 use Rattle.f11_store.specs.Changes.{GetsSlots, Lengthens, with_slots_first, with_slots_added}
 use Rattle.f11_store.specs.Headroom.{slots_first}
@@ -116,14 +116,6 @@ zero_past bs to n vbn long above below =
   where
     length-taken : length (take to bs) ≡ to
     length-taken = simp length-take (omega arith)
-
--- the file in the place that was just given it
-file_there : (s : Store) (k : ℕ) (f g : File) → (with_file s k (Some f)).file k ≡ Some g → f ≡ g
-file_there s k f g h = by_test (k == k) (same_number k) (s.file k) h
-  where
-    by_test : (b : Bool) → b ≡ true → (o : Option File) → (if b then Some f else o) ≡ Some g → f ≡ g
-    by_test true t o e = cc
-    by_test false t o e = absurd (cc)
 
 -- a served Truncate is within the file
 can_cut :

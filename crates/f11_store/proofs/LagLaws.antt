@@ -8,23 +8,22 @@ use Rattle.std.proofs.lemmas.Bool.Decides.{nat_tests}
 use Rattle.f11_store.specs.declared.callers.Uic.{Uic}
 use Rattle.f11_store.specs.declared.files.FileId.{FileId}
 use Rattle.f11_store.specs.declared.requests.Request.{Request}
-use Rattle.f11_store.specs.File.{File, need, zero_blocks, without_contiguous}
-use Rattle.f11_store.specs.Store.{Store, file_named, index_file, least_free, free_slots, free_headers}
+use Rattle.f11_store.specs.File.{File, need, without_contiguous}
+use Rattle.f11_store.specs.Store.{Store, index_file, least_free, free_slots, free_headers}
 use Rattle.f11_store.specs.Causes.{first_refusal}
-use Rattle.std.specs.List.{range_with_len}
-use Rattle.f11_store.specs.Changes.{Changes, with_marked_file, is_in, next_sequence, file_created, after_create, with_first_blocks}
-use Rattle.f11_store.specs.Changes.{with_cut_file, with_grown_file, MayGrow, GrowsIndex, with_more_slots, with_delete_mark, with_end_after}
-use Rattle.f11_store.specs.Changes.{with_entry_at_end, Extends, EntersAtEnd, EntersAt, with_change, with_block, with_entry}
-use Rattle.f11_store.specs.Changes.{with_replacement, with_access, is_due, without_file_at, after_giving_up, after_deaccess, after_release}
-use Rattle.f11_store.specs.Lags.{file_changes, with_parts, with_part, SameLimits, Work, and_then, no_work, one_part, create_work}
-use Rattle.f11_store.specs.Lags.{extend_work, grow_work, go_work, mark_work, end_work, append_work, enter_work, give_up_work, deaccess_work}
-use Rattle.f11_store.specs.Lags.{release_work, served_work, work_if, work_of, with_no_mark, grow_parts, extend_parts, AreLike, last_of}
+use Rattle.f11_store.specs.Changes.{Changes, is_in, next_sequence, file_created, after_create, with_first_blocks}
+use Rattle.f11_store.specs.Changes.{with_cut_file, with_grown_file, MayGrow, GrowsIndex, with_more_slots, with_end_after}
+use Rattle.f11_store.specs.Changes.{with_entry_at_end, with_change, with_entry}
+use Rattle.f11_store.specs.Changes.{without_file_at}
+use Rattle.f11_store.specs.Lags.{file_changes, with_parts, SameLimits, Work, one_part, create_work}
+use Rattle.f11_store.specs.Lags.{grow_work, go_work, end_work}
+use Rattle.f11_store.specs.Lags.{served_work, work_if, work_of, with_no_mark, grow_parts, AreLike, last_of}
 use Rattle.f11_store.specs.Lags.{LagsBy}
-use Rattle.f11_store.specs.Laws.{LagsItself, StepLags}
+use Rattle.f11_store.specs.Laws.{LagsItself}
 use Rattle.f11_store.specs.Moments.{Did, DidLags}
-use Rattle.f11_store.proofs.Frees.{Frees, same_limits, frees_change, frees_access, frees_without_file, frees_deaccess, frees_release}
-use Rattle.f11_store.proofs.Growth.{alike, headers_taken, last_or_next, stays_unused, grown_alike, extend_and_slots, slots_one_by_one}
-use Rattle.f11_store.proofs.Growth.{room-file_named, StoresAlike, entry_at_end_alike}
+use Rattle.f11_store.proofs.Frees.{Frees, same_limits, frees_change, frees_without_file}
+use Rattle.f11_store.proofs.Growth.{alike, headers_taken, last_or_next, stays_unused, slots_one_by_one}
+use Rattle.f11_store.proofs.Growth.{StoresAlike, entry_at_end_alike}
 use Rattle.f11_store.proofs.SlotLemmas.{filter_no_less}
 
 -- a slot that is there was last given what it was last given

@@ -31,3 +31,4 @@ pub mod GrowsLemmas
 pub mod GrowsLagLemmas
 pub mod ContiguousLaws
 pub mod LayingLemmas
+pub use Rattle.f11_bytes.proofs as bytes

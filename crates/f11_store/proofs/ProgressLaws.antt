@@ -5,7 +5,6 @@ use Rattle.std.proofs.lemmas.Bool.{leb-true, or_parts}
 use Rattle.std.proofs.lemmas.Bool.Decides.{nat_tests}
 use Rattle.std.proofs.lemmas.List.{take-append-le, take_min}
 use Rattle.std.proofs.lemmas.List.Sums.{fold-append}
-use Rattle.std.proofs.Math.Seq.{take-length}
 use Rattle.f11_store.specs.declared.files.FileId.{FileId}
 use Rattle.f11_store.specs.File.{File, zero_blocks}
 use Rattle.f11_store.specs.Store.{Store, file_named, free_slots, free_headers}

@@ -12,7 +12,7 @@ use Rattle.f11_store.proofs.Frees.{Frees, frees_given_up}
 use Rattle.f11_store.proofs.Growth.{alike}
 use Rattle.f11_store.specs.Moments.{AreRespectful, Did}
 use Rattle.f11_store.proofs.Respects.{both_respectful}
-use Rattle.f11_store.specs.Release.{released, DeaccessDid, ReleasedDid, ReleaseLags, ReleaseGoesOn, ReleaseEnds, released_cost}
+use Rattle.f11_store.specs.Release.{released, DeaccessDid, ReleasedDid, ReleaseLags, ReleaseGoesOn, released_cost}
 use Rattle.f11_store.specs.Release.{ReleaseCostGoesOn, ReleaseFits}
 use Rattle.f11_store.proofs.ProgressLaws.{frees_did, more_work_lags, lags_after, did_both, nothing_did}
 
@@ -144,9 +144,6 @@ release_goes_on s task k =
     let e : 0 + k ≡ k = omega arith in
     ap (fold (λ t lun. after_deaccess t task lun) s) (one_more 0 k ∙ ap (λ n. range_with_len 0 k ++ n ∷ []) e)
     ∙ fold-append (λ t lun. after_deaccess t task lun) s (range_with_len 0 k) (k ∷ [])
-
-pub release_ends : ReleaseEnds
-release_ends s task = refl
 
 -- costs add up
 cost_more : (before luns : List ℕ) (s : Store) (task : ℕ) →

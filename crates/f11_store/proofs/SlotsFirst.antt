@@ -1,11 +1,11 @@
 -- The index file of the plain store grows before headers are taken.
 use Rattle.std.proofs.Common.{◌≡◌, ℕ, zero, suc, ◌+◌, ◌-◌, ◌≤◌, ◌<◌, ◌==◌, ◌&&◌, ◌⊎◌, ◌∷◌, ◌++◌, Bool, true, false, not, nat_le, nat_lt}
-use Rattle.std.proofs.Common.{List, [], Option, Some, None, length, take, unwrap_or, filter, slice_index, option_map, option_and_then, refl}
+use Rattle.std.proofs.Common.{List, [], Option, Some, length, take, unwrap_or, filter, slice_index, option_map, option_and_then, refl}
 use Rattle.std.proofs.Common.{sym, ◌∙◌, ap, subst, arith, if◌then◌else◌}
 use Rattle.std.proofs.lemmas.Bool.Decides.{nat_tests}
 use Rattle.std.proofs.lemmas.List.Elements.{filter-append}
 use Rattle.f11_store.proofs.RangeLemmas.{range_with_len-append}
-use Rattle.f11_store.specs.Changes.{next_sequence, GetsSlots, Grows, GrowsIndex, MayGrow, grown_file, with_grown_file, with_more_slots}
+use Rattle.f11_store.specs.Changes.{next_sequence, GetsSlots, GrowsIndex, grown_file, with_grown_file, with_more_slots}
 use Rattle.f11_store.specs.Changes.{with_slots_added}
 use Rattle.f11_store.specs.File.{File, no_file, need}
 use Rattle.f11_store.specs.Headroom.{lacking, lacks_headers, may_get_slots, slots_first}
@@ -24,8 +24,6 @@ use Rattle.f11_store.proofs.Respects.{extend_respectful}
 use Rattle.std.proofs.lemmas.Bool.{eqb-true, or_parts}
 use Rattle.std.proofs.lemmas.List.{append-nil, length-append}
 use Rattle.std.specs.List.{range_with_len}
-use Rattle.f11_store.specs.Causes.{◌⇐◌, first_of}
-use Rattle.f11_store.specs.declared.refusals.Refusal.TheVariants.{TooManySegments, DeviceFull, NoHeader}
 use Rattle.f11_store.proofs.StoreLemmas.{none_first, none_rest}
 use Rattle.f11_store.proofs.Frees.{same_limits, same_limits_then}
 use Rattle.f11_store.proofs.Growth.{alike, StoresAlike}

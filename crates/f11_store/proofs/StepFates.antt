@@ -23,7 +23,7 @@ use Rattle.f11_store.specs.Step.{Step}
 use Rattle.f11_store.specs.declared.requests.Reply.{Reply}
 use Rattle.f11_store.specs.Accesses.{FreeIsEmpty}
 use Rattle.f11_store.proofs.FateLaws.{Fate, Keeps, kept, changed, fate-after, fate-grows-index, gained-keeps, stays, new, fate-none}
-use Rattle.f11_store.proofs.FateLaws.{fate-change, fate-grows, fate-cut, fate-gone, fate-given-up, fate-laid, fate-set, mark-of-cleared}
+use Rattle.f11_store.proofs.FateLaws.{fate-change, fate-grows, fate-cut, fate-gone, fate-given-up, fate-laid}
 
 -- a file that is made
 fate-made : (s : Store) (slot n : ℕ) (f : File) (s' : Store) → s.file slot ≡ None → s'.file n ≡ (if n == slot then Some f else s.file n)

@@ -22,3 +22,5 @@ pub mod WorkedRuns
 pub mod Pieces
 pub mod SlotsFirst
 pub mod Contiguous
+pub use Rattle.f11_rad50.specs as rad50
+pub use Rattle.f11_bytes.specs as bytes

@@ -4,7 +4,7 @@ use Rattle.std.specs.List.{range_with_len}
 use Rattle.f11_store.specs.declared.callers.Uic.{Uic}
 use Rattle.f11_store.specs.declared.requests.Request.TheVariants as request
 use Rattle.f11_store.specs.Store.{Store}
-use Rattle.f11_store.specs.Changes.{after_deaccess, after_release}
+use Rattle.f11_store.specs.Changes.{after_deaccess}
 use Rattle.f11_store.specs.Cost.{deaccess_cost, release_cost, cost}
 use Rattle.f11_store.specs.Lags.{deaccess_work, release_work, LagsBy, Lags}
 use Rattle.f11_store.specs.Moments.{Did}
@@ -31,10 +31,6 @@ ReleaseLags =
 -- one lun more
 abbrev pub ReleaseGoesOn : Type 0
 ReleaseGoesOn = (s : Store) (task k : ℕ) → released s task (k + 1) ≡ after_deaccess (released s task k) task k
-
--- the last store is Release's
-abbrev pub ReleaseEnds : Type 0
-ReleaseEnds = (s : Store) (task : ℕ) → released s task 4 ≡ after_release s task
 
 -- the cost of the first so many luns
 abbrev pub released_cost : Store → ℕ → ℕ → ℕ

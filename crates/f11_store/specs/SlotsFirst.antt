@@ -1,7 +1,7 @@
 -- What the index file's growth makes of a store before headers are taken, and what stands meanwhile (profile).
-use Rattle.std.specs.Prelude.{◌≡◌, ℕ, suc, ◌-◌, ◌+◌, ◌<◌, ◌≤◌, ◌==◌, false, length, None}
+use Rattle.std.specs.Prelude.{◌≡◌, ℕ, suc, ◌-◌, ◌<◌, ◌≤◌, ◌==◌, false, None}
 use Rattle.f11_store.specs.Causes.{first_of, extend_causes, growth_causes}
-use Rattle.f11_store.specs.Changes.{GetsSlots, GrowsIndex, with_slots_added}
+use Rattle.f11_store.specs.Changes.{GetsSlots, with_slots_added}
 use Rattle.f11_store.specs.File.{File, need}
 use Rattle.f11_store.specs.Headroom.{lacks_headers, slots_first}
 use Rattle.f11_store.specs.Lags.{SameLimits, Work, LagsBy, grow_work, with_headers_first}

@@ -14,6 +14,8 @@ mod requests;
 pub mod worked;
 
 pub use callers::{Lun, Task, Uic};
+pub use f11_bytes;
+pub use f11_rad50;
 pub use files::{Attr, Change, FileId, Mode, name_words};
 pub use ident::ident_with;
 pub use protection::{Class, Right, Rights, allowed, is_of, may};

@@ -63,19 +63,6 @@ module _ (v : Table) (slots : List Slot) (is : KeepsTable v slots) (k : ℕ) (wi
       let high : m ≤ v.slots = is.fit.high m n.to.in_use in
       (alive, ap (λ (i : FileId). i.number) one.link ∙ n.number, is.fit.low m n.to.in_use, omega (arith, is.keeps.count, high))
 
-  next_follows : (m : ℕ) → IsNext v (k + 1) m → Follows (get_or slots k d) (get_or slots (m - 1) d)
-  next_follows m n =
-      let at = next_is m n in
-      let there : KeepsSlot v m (get_or slots (m - 1) d) = kept_at m at.2 at.3 in
-      let alive : (get_or slots (m - 1) d).state ≡ Live = live-to v m _ there.state n.to in
-      let one : KeepsValidHeader (v.header (k + 1)) (get_or slots k d) = kept.header at.0 in
-      let other : KeepsValidHeader (v.header m) (get_or slots (m - 1) d) = there.header alive in (
-        alive,
-        ap (λ (i : FileId). i.sequence) one.link ∙ n.sequence ∙ sym other.sequence,
-        other.segment ∙ n.segment
-            ∙ ap (λ (s : ℕ). s + 1) (sym one.segment),
-      )
-
   pub first_is : ((get_or slots k d).state ≡ Live) × ((get_or slots k d).segment ≡ 0) → IsFile v (k + 1)
   first_is e = record { live = live-from v (k + 1) _ kept.state e.0; first = sym (kept.header e.0).segment ∙ e.1 }
 

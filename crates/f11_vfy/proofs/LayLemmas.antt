@@ -12,9 +12,9 @@ use Rattle.f11_dev.proofs.ImageLemmas.{image_block-written, image_block-other}
 use Rattle.f11_bits.proofs.BitmapLemmas.{slice_get-set_other}
 use Rattle.f11_home.specs.Home.{candidate, HasNoHome, IsCandidate}
 use Rattle.f11_home.specs.HomeBlock.{IsHomeBlock}
-use Rattle.f11_layout.proofs.NoHomeLemmas.{fresh-no-home}
-use Rattle.f11_layout.specs.Fresh.{IsFreshBlock}
-use Rattle.f11_layout.specs.declared.layout.Layout.{Layout}
+use Rattle.f11_volume.proofs.layout.NoHomeLemmas.{fresh-no-home}
+use Rattle.f11_volume.specs.layout.Fresh.{IsFreshBlock}
+use Rattle.f11_volume.specs.layout.declared.layout.Layout.{Layout}
 use Rattle.f11_volume.specs.Fresh.{used_by, IsFreshVolume, KeepsBehind, MakesNoHome, MayStand}
 use Rattle.f11_vfy.specs.Init.{Lays, FailsToLay, MakesFreshVolume, FailsToMakeFreshVolume}
 

@@ -2,11 +2,11 @@
 use Rattle.std.specs.Prelude.{◌≡◌, ◌⊎◌, ℕ, List, false, length, true}
 use Rattle.f11_dev.specs.Disk.{Disk, with_block_at, with_transfer}
 use Rattle.f11_dev.specs.Went.{Went}
-use Rattle.f11_layout.specs.Fresh.{IsFreshBlock}
-use Rattle.f11_layout.specs.Layout.{label_of, IsLayoutOf}
-use Rattle.f11_layout.specs.Places.{CanBeMade}
-use Rattle.f11_layout.specs.declared.layout.Layout.{Layout}
-use Rattle.f11_layout.specs.declared.params.InitParams.{InitParams}
+use Rattle.f11_volume.specs.layout.Fresh.{IsFreshBlock}
+use Rattle.f11_volume.specs.layout.Layout.{label_of, IsLayoutOf}
+use Rattle.f11_volume.specs.layout.Places.{CanBeMade}
+use Rattle.f11_volume.specs.layout.declared.layout.Layout.{Layout}
+use Rattle.f11_volume.specs.layout.declared.params.InitParams.{InitParams}
 use Rattle.f11_vfy.specs.declared.fresh.InitError.{InitError}
 use Rattle.f11_vfy.specs.declared.fresh.InitError.TheVariants.{BadParameter, DeviceFault}
 use Rattle.f11_volume.specs.Fresh.{used_by, IsFreshVolume, MayStand}

@@ -8,7 +8,7 @@ use Rattle.f11_home.specs.Home.{HomeFields, HasNoHome}
 use Rattle.f11_index.specs.Headers.{IsInFile}
 use Rattle.f11_index.specs.IndexFile.{index_of}
 use Rattle.f11_index.specs.Table.{Table, table_of}
-use Rattle.f11_layout.specs.declared.layout.Layout.{Layout}
+use Rattle.f11_volume.specs.layout.declared.layout.Layout.{Layout}
 use Rattle.f11_store.specs.Directory.{is_directory}
 use Rattle.f11_volume.specs.Contents.{file_of}
 use Rattle.f11_volume.specs.Fresh.{MayStand}

@@ -7,7 +7,7 @@ ghost use Rattle.f11_vfy.specs.Accepted.{device_of};
 use crate::accepted::Accepted;
 use f11_bytes::{Block, zeros};
 use f11_dev::{Device, DeviceFault};
-use f11_layout::{InitParams, Layout};
+use f11_volume::f11_layout::{InitParams, Layout};
 
 /// Why no volume was made; the device comes back.
 #[derive(Drop)]

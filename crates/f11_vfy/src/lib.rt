@@ -27,7 +27,7 @@ mod verifier;
 
 pub use accepted::Accepted;
 pub use f11_findings::Finding;
-pub use f11_layout::{InitParams, MOST_BLOCKS};
+pub use f11_volume::f11_layout::{InitParams, MOST_BLOCKS};
 pub use frame::framing::{Frame, Framing};
 pub use frame::read::read_frame;
 pub use fresh::{InitError, init};

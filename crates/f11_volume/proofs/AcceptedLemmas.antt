@@ -6,19 +6,19 @@ use Rattle.std.proofs.lemmas.Bool.{cases_eq}
 use Rattle.std.proofs.lemmas.Option.{none-some}
 use Rattle.f11_bytes.specs.Words.{word, word_sum}
 use Rattle.f11_dev.specs.Image.{Image, IsImage, image_block}
-use Rattle.f11_header.specs.Header.{holds_header}
-use Rattle.f11_header.specs.Fields.{file_number, check_word}
-use Rattle.f11_home.specs.Home.{HomeFields, candidate, candidates, IsCandidate, fields_of, IsHomeOf, HasNoHome}
-use Rattle.f11_home.specs.HomeBlock.{index_blocks, index_lbn, HasHomeFields, IsHomeBlock}
-use Rattle.f11_home.proofs.HomeLemmas.{home-unique, HasNoHome-all}
-use Rattle.f11_map.specs.HeaderBlock.{segment_number, link_of, blocks_named}
-use Rattle.f11_index.specs.IndexFile.{Index, index_of, slots, slot_bit, header_lbn, IsPastSlots, IsFirstPast, HasNonePast}
-use Rattle.f11_index.specs.Sound.{IsPlaced, IsIndexFile}
-use Rattle.f11_index.specs.Table.{Table, table_in, table_of, IsFile, IsNext, IsHeaderOf, IsWholeFile, first, next}
-use Rattle.f11_index.proofs.ChainLemmas.{file_of-header, Links, same-segment, links-before}
+use Rattle.f11_chain.specs.header.Header.{holds_header}
+use Rattle.f11_chain.specs.header.Fields.{file_number, check_word}
+use Rattle.f11_chain.specs.home.Home.{HomeFields, candidate, candidates, IsCandidate, fields_of, IsHomeOf, HasNoHome}
+use Rattle.f11_chain.specs.home.HomeBlock.{index_blocks, index_lbn, HasHomeFields, IsHomeBlock}
+use Rattle.f11_chain.proofs.home.HomeLemmas.{home-unique, HasNoHome-all}
+use Rattle.f11_chain.specs.map.HeaderBlock.{segment_number, link_of, blocks_named}
+use Rattle.f11_chain.specs.index.IndexFile.{Index, index_of, slots, slot_bit, header_lbn, IsPastSlots, IsFirstPast, HasNonePast}
+use Rattle.f11_chain.specs.index.Sound.{IsPlaced, IsIndexFile}
+use Rattle.f11_chain.specs.index.Table.{Table, table_in, table_of, IsFile, IsNext, IsHeaderOf, IsWholeFile, first, next}
+use Rattle.f11_chain.proofs.index.ChainLemmas.{file_of-header, Links, same-segment, links-before}
 use Rattle.f11_chain.specs.FileHeaders.{file_blocks}
-use Rattle.f11_index.proofs.SegmentLemmas.{segment_number-byte}
-use Rattle.f11_index.specs.Headers.{next_of}
+use Rattle.f11_chain.proofs.index.SegmentLemmas.{segment_number-byte}
+use Rattle.f11_chain.specs.index.Headers.{next_of}
 use Rattle.f11_volume.specs.Earlier.{IsNamedIn}
 use Rattle.f11_volume.specs.Faults.{EarlierAreNamed, IsOwnFile, IsBitmapFile, HasIndexFile, HasOwnFiles, HasBitmapFile, HasControlBlock}
 use Rattle.f11_volume.specs.Faults.{IsFramed, IsFaultBehindHome, index_misplaced, own_file_bad, bitmap_file_bad, control_block_wrong}
@@ -29,7 +29,7 @@ use Rattle.f11_volume.specs.Verdict.{of_frame, of_volume, IsAccepted}
 use Rattle.f11_volume.specs.Volume.{volume_of}
 use Rattle.f11_volume.proofs.DecideLemmas.{Decided, stable, like, both, either, less, at-most, truth, same-list, is-some, member, least}
 use Rattle.f11_volume.proofs.FrameLemmas.{frame-none}
-use Rattle.f11_index.proofs.NextLemmas.{next-found}
+use Rattle.f11_chain.proofs.index.NextLemmas.{next-found}
 use Rattle.f11_volume.proofs.SoundLemmas.{same-stable, less-stable, live-stable, next-stable, no-fault-sound}
 
 -- whether a block is a home block

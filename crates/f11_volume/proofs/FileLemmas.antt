@@ -6,15 +6,15 @@ use Rattle.std.proofs.lemmas.Bool.{cases_eq, cases_lt}
 use Rattle.std.proofs.lemmas.List.{length-append, length-take, length-drop}
 use Rattle.std.proofs.lemmas.Option.{slice_get-get_or}
 use Rattle.f11_dev.specs.Image.{Image}
-use Rattle.f11_home.specs.Home.{HomeFields}
-use Rattle.f11_map.specs.HeaderBlock.{segment_number, link_of, blocks_named}
-use Rattle.f11_index.specs.Headers.{next_of, headers_from, headers_of, IsChained}
-use Rattle.f11_index.specs.IndexFile.{index_file_blocks}
-use Rattle.f11_index.specs.Sound.{AreApart}
-use Rattle.f11_index.specs.Table.{Table, table_of, IsFile, IsHeaderOf, first, next, IsWholeFile}
-use Rattle.f11_index.proofs.ChainLemmas.{live_of-header}
-use Rattle.f11_index.proofs.NextLemmas.{next-found}
-use Rattle.f11_index.proofs.HeadersLemmas.{live-some, headers_from-some, headers_from-none, place-has, chained-whole, chained-apart}
+use Rattle.f11_chain.specs.home.Home.{HomeFields}
+use Rattle.f11_chain.specs.map.HeaderBlock.{segment_number, link_of, blocks_named}
+use Rattle.f11_chain.specs.index.Headers.{next_of, headers_from, headers_of, IsChained}
+use Rattle.f11_chain.specs.index.IndexFile.{index_file_blocks}
+use Rattle.f11_chain.specs.index.Sound.{AreApart}
+use Rattle.f11_chain.specs.index.Table.{Table, table_of, IsFile, IsHeaderOf, first, next, IsWholeFile}
+use Rattle.f11_chain.proofs.index.ChainLemmas.{live_of-header}
+use Rattle.f11_chain.proofs.index.NextLemmas.{next-found}
+use Rattle.f11_chain.proofs.index.HeadersLemmas.{live-some, headers_from-some, headers_from-none, place-has, chained-whole, chained-apart}
 use Rattle.f11_chain.specs.FileHeaders.{blocks_by, file_blocks, IsSoundFile}
 use Rattle.f11_chain.proofs.FileOneLemmas.{file-one}
 use Rattle.f11_volume.specs.FileLaws.{HasOneOwner, AreSoundFiles}
@@ -23,9 +23,9 @@ use Rattle.f11_volume.specs.Volume.{Volume, volume_of, IsCell}
 use Rattle.f11_volume.specs.Contents.{following, block_or_zeros, file_of}
 use Rattle.f11_volume.specs.Space.{bitmap_count, bitmap_file, control_block, storage_bitmap}
 use Rattle.f11_volume.proofs.MemberLemmas.{contained, all-from, all-each, at-place}
-use Rattle.f11_index.proofs.PlaceLemmas.{slice_get-append_front, slice_get-header}
-use Rattle.f11_bits.specs.Bitmap.{IsBitmap, LiesWithin}
-use Rattle.f11_map.proofs.MapLemmas.{slice_get-append_back}
+use Rattle.f11_chain.proofs.index.PlaceLemmas.{slice_get-append_front, slice_get-header}
+use Rattle.f11_chain.specs.bits.Bitmap.{IsBitmap, LiesWithin}
+use Rattle.f11_chain.proofs.map.MapLemmas.{slice_get-append_back}
 
 -- Element i of lists laid end to end is one of the list of this number, at this place.
 pub record IsPiece (f : ℕ → List ℕ) (xs : List ℕ) (i x : ℕ) : Type 0 where

@@ -2,10 +2,10 @@
 use Rattle.std.proofs.Common.{◌≡◌, inl, inr, ℕ, refl, subst, arith}
 use Rattle.std.proofs.lemmas.Bool.{cases_lt}
 use Rattle.f11_dev.specs.Image.{Image}
-use Rattle.f11_home.specs.Home.{HomeFields}
-use Rattle.f11_home.proofs.HomeLemmas.{home-unique, home-some}
-use Rattle.f11_index.specs.IndexFile.{Index, IsFirstPast}
-use Rattle.f11_index.specs.Table.{Table}
+use Rattle.f11_chain.specs.home.Home.{HomeFields}
+use Rattle.f11_chain.proofs.home.HomeLemmas.{home-unique, home-some}
+use Rattle.f11_chain.specs.index.IndexFile.{Index, IsFirstPast}
+use Rattle.f11_chain.specs.index.Table.{Table}
 use Rattle.f11_volume.specs.Faults.{IsFramed, IsFirstNoFile, IsFaultBehindHome, index_misplaced, own_file_bad, bitmap_file_bad}
 use Rattle.f11_volume.specs.Faults.{control_block_wrong, bit_past_slots, IsFrameFault, no_home, behind_home}
 use Rattle.f11_volume.specs.Laws.{IsFramedBefore, FrameFaultIsFirst}

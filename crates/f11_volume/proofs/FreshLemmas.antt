@@ -13,21 +13,22 @@ use Rattle.f11_bytes.specs.Bits.{bit}
 use Rattle.f11_bytes.specs.Block.{zero_block}
 use Rattle.f11_bytes.specs.Words.{long}
 use Rattle.f11_bytes.proofs.WordLemmas.{slice_index-with_long, long-with_long}
-use Rattle.f11_bits.specs.Bitmap.{bitmap_bit, is_free}
+use Rattle.f11_chain.specs.bits.Bitmap.{bitmap_bit, is_free}
 use Rattle.f11_chain.specs.FileHeaders.{blocks_by, file_blocks}
-use Rattle.f11_index.specs.Headers.{headers_from, headers_of, IsInFile}
+use Rattle.f11_chain.specs.index.Headers.{headers_from, headers_of, IsInFile}
 use Rattle.f11_dev.specs.Image.{Image, IsImage, image_block}
-use Rattle.f11_home.specs.Home.{HomeFields, candidate, fields_of, IsHomeOf}
-use Rattle.f11_home.specs.HomeBlock.{IsHomeBlock}
-use Rattle.f11_map.specs.HeaderBlock.{segment_number, link_of, blocks_named}
-use Rattle.f11_index.specs.IndexFile.{Index, index_of, index_file_blocks, blocks_on, header_among, slots, slot_bit, bit_of_slot, is_in_use}
-use Rattle.f11_index.specs.IndexFile.{header_lbn, first_header_lbn, HasNonePast}
-use Rattle.f11_index.specs.Sound.{IsPlaced, IsIndexFile}
-use Rattle.f11_index.specs.Table.{Table, table_in, table_of, IsFile, IsNext, IsHeaderOf, IsWholeFile, first, next}
-use Rattle.f11_index.proofs.ChainLemmas.{file_of-header}
-use Rattle.f11_index.proofs.InUseLemmas.{in_use-some}
-use Rattle.f11_index.proofs.PlaceLemmas.{drop-range_with_len, take-range, slice_get-range, range-slice_get}
-use Rattle.f11_index.proofs.WalkLemmas.{ends, goes_on}
+use Rattle.f11_chain.specs.home.Home.{HomeFields, candidate, fields_of, IsHomeOf}
+use Rattle.f11_chain.specs.home.HomeBlock.{IsHomeBlock}
+use Rattle.f11_chain.specs.map.HeaderBlock.{segment_number, link_of, blocks_named}
+use Rattle.f11_chain.specs.index.IndexFile.{Index, index_of, index_file_blocks, blocks_on, header_among, slots, slot_bit, bit_of_slot}
+use Rattle.f11_chain.specs.index.IndexFile.{is_in_use}
+use Rattle.f11_chain.specs.index.IndexFile.{header_lbn, first_header_lbn, HasNonePast}
+use Rattle.f11_chain.specs.index.Sound.{IsPlaced, IsIndexFile}
+use Rattle.f11_chain.specs.index.Table.{Table, table_in, table_of, IsFile, IsNext, IsHeaderOf, IsWholeFile, first, next}
+use Rattle.f11_chain.proofs.index.ChainLemmas.{file_of-header}
+use Rattle.f11_chain.proofs.index.InUseLemmas.{in_use-some}
+use Rattle.f11_chain.proofs.index.PlaceLemmas.{drop-range_with_len, take-range, slice_get-range, range-slice_get}
+use Rattle.f11_chain.proofs.index.WalkLemmas.{ends, goes_on}
 use Rattle.f11_layout.specs.FreshBitmaps.{fresh_control}
 use Rattle.f11_layout.specs.FreshHeader.{IsFreshHeader}
 use Rattle.f11_layout.specs.FreshHome.{fresh_home}
@@ -36,7 +37,7 @@ use Rattle.f11_layout.specs.IndexBitmap.{fresh_index_bitmap}
 use Rattle.f11_layout.specs.Places.{bit_blocks, first_header, control_lbn, directory_lbn}
 use Rattle.f11_layout.specs.declared.layout.Layout.{Layout}
 use Rattle.f11_layout.proofs.HomeLemmas.{fresh-home, fresh-index_blocks, fresh-index_lbn}
-use Rattle.f11_store.specs.declared.files.FileId.{FileId}
+use Rattle.f11_chain.specs.store.declared.files.FileId.{FileId}
 use Rattle.f11_volume.specs.Fresh.{used_by, IsFreshUpTo}
 use Rattle.f11_volume.specs.Faults.{IsFramed}
 use Rattle.f11_volume.specs.Sound.{IsSoundVolume, IsSoundImage}

@@ -6,8 +6,8 @@ use Rattle.std.specs.List.{slice_get, range_with_len}
 use Rattle.std.proofs.lemmas.Bool.{cases_lt}
 use Rattle.std.proofs.lemmas.List.{get_or-take, length-take}
 use Rattle.std.proofs.lemmas.Option.{slice_get_within, slice_get-get_or, get_or_from_slice_get}
-use Rattle.f11_index.proofs.PlaceLemmas.{slice_get-append_front, slice_get-range, range-slice_get}
-use Rattle.f11_map.proofs.MapLemmas.{slice_get-append_back}
+use Rattle.f11_chain.proofs.index.PlaceLemmas.{slice_get-append_front, slice_get-range, range-slice_get}
+use Rattle.f11_chain.proofs.map.MapLemmas.{slice_get-append_back}
 
 pub at-place : (xs : List ℕ) (x : ℕ) (has : Contains xs x) → slice_get xs has.0 ≡ Some x
 at-place xs x has = slice_get-get_or xs has.0 x has.1 ∙ ap Some has.2

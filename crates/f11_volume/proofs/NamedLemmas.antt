@@ -5,10 +5,10 @@ use Rattle.std.specs.Prelude.{slice_index_or}
 use Rattle.std.proofs.lemmas.Bool.{cases_lt}
 use Rattle.std.proofs.lemmas.Option.{same_Some, slice_get_within, get_or_from_slice_get}
 use Rattle.std.proofs.lemmas.List.FromFn.{length-range_with_len}
-use Rattle.f11_index.proofs.PlaceLemmas.{slice_get-append_front, range-slice_get}
-use Rattle.f11_map.specs.MapArea.{blocks_in}
-use Rattle.f11_map.proofs.MapLemmas.{slice_get-append_back}
-use Rattle.f11_map.proofs.RunLemmas.{slice_get-blocks_in}
+use Rattle.f11_chain.proofs.index.PlaceLemmas.{slice_get-append_front, range-slice_get}
+use Rattle.f11_chain.specs.map.MapArea.{blocks_in}
+use Rattle.f11_chain.proofs.map.MapLemmas.{slice_get-append_back}
+use Rattle.f11_chain.proofs.map.RunLemmas.{slice_get-blocks_in}
 
 -- a pointer names a block at this place of all blocks that pointers name
 pub record IsNamedBy (runs : List (ℕ × ℕ)) (lbn : ℕ) : Type 0 where

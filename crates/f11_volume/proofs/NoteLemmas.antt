@@ -2,9 +2,9 @@
 use Rattle.std.proofs.Common.{◌≡◌, inl, inr, ℕ, zero, suc, ◌+◌, ◌-◌, ◌<◌, ◌≤◌, sym, subst, arith}
 use Rattle.std.proofs.lemmas.Bool.{cases_eq, cases_lt}
 use Rattle.f11_dev.specs.Image.{Image}
-use Rattle.f11_map.specs.HeaderBlock.{segment_number}
-use Rattle.f11_index.specs.Headers.{IsInFile}
-use Rattle.f11_index.specs.Table.{first}
+use Rattle.f11_chain.specs.map.HeaderBlock.{segment_number}
+use Rattle.f11_chain.specs.index.Headers.{IsInFile}
+use Rattle.f11_chain.specs.index.Table.{first}
 use Rattle.f11_volume.specs.Contents.{blocks_reached}
 use Rattle.f11_volume.specs.Notes.{IsLost, IsLostRun, IsEntered, AreContiguous, IsVolumeNote, blocks_lost, orphan, in_no_directory}
 use Rattle.f11_volume.specs.Notes.{not_contiguous}

@@ -3,12 +3,12 @@ use Rattle.std.proofs.Common.{◌≡◌, ◌≢◌, ◌<◌, ◌+◌, ◌-◌, �
 use Rattle.std.specs.Prelude.{IsTrue}
 use Rattle.std.proofs.lemmas.Bool.{cases_eq, cases_lt, false_from_ne_true}
 use Rattle.std.proofs.lemmas.Option.{slice_get_within, get_or_from_slice_get}
-use Rattle.f11_header.specs.Fields.{file_number, map_area}
-use Rattle.f11_header.specs.Header.{IsHeader, IsDead}
-use Rattle.f11_map.specs.HeaderBlock.{segment_number, blocks_named}
-use Rattle.f11_index.specs.Table.{Table, IsLive, IsNext}
-use Rattle.f11_map.specs.MapArea.{runs_of}
-use Rattle.f11_map.proofs.RunLemmas.{AreSome-runs_of}
+use Rattle.f11_chain.specs.header.Fields.{file_number, map_area}
+use Rattle.f11_chain.specs.header.Header.{IsHeader, IsDead}
+use Rattle.f11_chain.specs.map.HeaderBlock.{segment_number, blocks_named}
+use Rattle.f11_chain.specs.index.Table.{Table, IsLive, IsNext}
+use Rattle.f11_chain.specs.map.MapArea.{runs_of}
+use Rattle.f11_chain.proofs.map.RunLemmas.{AreSome-runs_of}
 use Rattle.f11_volume.specs.Faults.{IsVolumeFault, header_bad, pointer_outside, named_twice, named_free, wrong_link, linked_twice}
 use Rattle.f11_volume.specs.Faults.{link_past_last, link_to_volume}
 use Rattle.f11_volume.specs.Sound.{LinksOn, IsSoundVolume}

@@ -2,13 +2,13 @@
 use Rattle.std.specs.Prelude.{ℕ, zero, suc, ◌-◌, List, [], ◌∷◌, length, map, sum_by, slice_index_or, Option, Some, None}
 use Rattle.f11_bytes.specs.Block.{zero_block}
 use Rattle.f11_dev.specs.Image.{Image}
-use Rattle.f11_header.specs.Fields.{owner, protection, characteristics, attributes, ident_area, map_area}
-use Rattle.f11_header.specs.MapFields.{places}
-use Rattle.f11_map.specs.MapArea.{runs_of}
-use Rattle.f11_index.specs.Headers.{next_of}
-use Rattle.f11_index.specs.Table.{Table, last_sequence}
+use Rattle.f11_chain.specs.header.Fields.{owner, protection, characteristics, attributes, ident_area, map_area}
+use Rattle.f11_chain.specs.header.MapFields.{places}
+use Rattle.f11_chain.specs.map.MapArea.{runs_of}
+use Rattle.f11_chain.specs.index.Headers.{next_of}
+use Rattle.f11_chain.specs.index.Table.{Table, last_sequence}
 use Rattle.f11_chain.specs.FileHeaders.{blocks_by}
-use Rattle.f11_store.specs.File.{File}
+use Rattle.f11_chain.specs.store.File.{File}
 
 -- this header and those that follow it, each the next of the one before, so many at most
 unfoldable pub following : ℕ → Table → Option ℕ → List ℕ

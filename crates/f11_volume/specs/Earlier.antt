@@ -1,8 +1,8 @@
 -- Which candidates for the home block are blocks of a file (profile).
 use Rattle.std.specs.Prelude.{ℕ, ◌<◌, Contains}
-use Rattle.f11_home.specs.Home.{candidate}
-use Rattle.f11_map.specs.HeaderBlock.{blocks_named}
-use Rattle.f11_index.specs.Table.{Table, IsHeaderOf}
+use Rattle.f11_chain.specs.home.Home.{candidate}
+use Rattle.f11_chain.specs.map.HeaderBlock.{blocks_named}
+use Rattle.f11_chain.specs.index.Table.{Table, IsHeaderOf}
 
 -- a header of file f names this block
 abbrev pub IsNamedIn : Table → ℕ → ℕ → Type 0

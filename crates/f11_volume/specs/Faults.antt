@@ -2,13 +2,13 @@
 -- A section in parentheses is one of the Files-11 On-Disk Structure Level 1 specification; 'profile' is a rule of this project.
 use Rattle.std.specs.Prelude.{◌≡◌, ◌≢◌, ℕ, ◌+◌, ◌<◌, ◌≤◌, true, [], length, Contains}
 use Rattle.f11_dev.specs.Image.{Image}
-use Rattle.f11_header.specs.Header.{IsHeader, IsDead}
-use Rattle.f11_home.specs.Home.{HomeFields, candidate, IsHomeOf, HasNoHome}
-use Rattle.f11_map.specs.HeaderBlock.{segment_number, link_of, blocks_named}
-use Rattle.f11_index.specs.Headers.{IsInFile}
-use Rattle.f11_index.specs.IndexFile.{index_of, IsFirstPast, HasNonePast}
-use Rattle.f11_index.specs.Sound.{IsIndexFile}
-use Rattle.f11_index.specs.Table.{Table, table_of, last_sequence, IsFile, IsNext, IsHeaderOf}
+use Rattle.f11_chain.specs.header.Header.{IsHeader, IsDead}
+use Rattle.f11_chain.specs.home.Home.{HomeFields, candidate, IsHomeOf, HasNoHome}
+use Rattle.f11_chain.specs.map.HeaderBlock.{segment_number, link_of, blocks_named}
+use Rattle.f11_chain.specs.index.Headers.{IsInFile}
+use Rattle.f11_chain.specs.index.IndexFile.{index_of, IsFirstPast, HasNonePast}
+use Rattle.f11_chain.specs.index.Sound.{IsIndexFile}
+use Rattle.f11_chain.specs.index.Table.{Table, table_of, last_sequence, IsFile, IsNext, IsHeaderOf}
 use Rattle.f11_chain.specs.FileHeaders.{IsSoundFile}
 use Rattle.f11_volume.specs.Space.{bitmap_file, control_block, IsControlBlock}
 use Rattle.f11_volume.specs.Volume.{Volume, IsNamed, IsNamedTwice, HasPointer, IsLinked}

@@ -1,13 +1,13 @@
 -- Laws of the files of a sound volume (Files-11 On-Disk Structure Level 1, "File Header" and "Map Area").
 use Rattle.std.specs.Prelude.{◌≡◌, ℕ, length, map, Some}
 use Rattle.std.specs.List.{slice_get}
-use Rattle.f11_bits.specs.Bitmap.{IsBitmap, LiesWithin}
+use Rattle.f11_chain.specs.bits.Bitmap.{IsBitmap, LiesWithin}
 use Rattle.f11_dev.specs.Image.{Image}
-use Rattle.f11_home.specs.Home.{HomeFields}
-use Rattle.f11_index.specs.Headers.{headers_of, IsChained}
-use Rattle.f11_index.specs.IndexFile.{index_file_blocks}
-use Rattle.f11_index.specs.Sound.{AreApart}
-use Rattle.f11_index.specs.Table.{Table, table_of, IsFile, IsWholeFile}
+use Rattle.f11_chain.specs.home.Home.{HomeFields}
+use Rattle.f11_chain.specs.index.Headers.{headers_of, IsChained}
+use Rattle.f11_chain.specs.index.IndexFile.{index_file_blocks}
+use Rattle.f11_chain.specs.index.Sound.{AreApart}
+use Rattle.f11_chain.specs.index.Table.{Table, table_of, IsFile, IsWholeFile}
 use Rattle.f11_chain.specs.FileHeaders.{file_blocks, IsSoundFile}
 use Rattle.f11_volume.specs.Contents.{headers_reached, block_or_zeros, file_of}
 use Rattle.f11_volume.specs.Sound.{IsSoundVolume, HasSoundVolume}

@@ -2,7 +2,7 @@
 use Rattle.std.specs.Prelude.{◌≡◌, ◌⊎◌, ℕ, ◌<◌, ◌≤◌, length}
 use Rattle.std.specs.List.{slice_get}
 use Rattle.f11_dev.specs.Image.{Image, image_block}
-use Rattle.f11_home.specs.Home.{candidate, IsCandidate}
+use Rattle.f11_chain.specs.home.Home.{candidate, IsCandidate}
 use Rattle.f11_layout.specs.Fresh.{IsFreshBlock}
 use Rattle.f11_layout.specs.Places.{used_blocks}
 use Rattle.f11_layout.specs.declared.layout.Layout.{Layout}

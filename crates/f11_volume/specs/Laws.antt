@@ -1,6 +1,6 @@
 -- Laws of what a volume is, which show that its definitions say what is meant (profile).
 use Rattle.std.specs.Prelude.{◌≡◌, ◌↔◌, ℕ, ◌<◌, ◌≤◌, length}
-use Rattle.f11_home.specs.Home.{HomeFields, IsHomeOf}
+use Rattle.f11_chain.specs.home.Home.{HomeFields, IsHomeOf}
 use Rattle.f11_volume.specs.Faults.{IsFramed, IsFrameFault, IsVolumeFault, HasIndexFile, HasOwnFiles, HasBitmapFile, HasControlBlock}
 use Rattle.f11_volume.specs.Sound.{IsSoundVolume, HasSoundVolume, IsSoundImage}
 use Rattle.f11_volume.specs.Verdict.{IsFault, IsAccepted}

@@ -1,9 +1,9 @@
 -- Laws of what is noted, which show that the notes say all that they speak of (profile).
 use Rattle.std.specs.Prelude.{◌≡◌, ◌⊎◌, ◌↔◌, ℕ, ◌+◌, ◌<◌, ◌≤◌, IsTrue, List, length, slice_index}
 use Rattle.f11_dev.specs.Image.{Image}
-use Rattle.f11_index.specs.Headers.{IsInFile}
-use Rattle.f11_index.specs.Table.{IsLive, IsFile}
-use Rattle.f11_store.specs.File.{has_contiguous_mark}
+use Rattle.f11_chain.specs.index.Headers.{IsInFile}
+use Rattle.f11_chain.specs.index.Table.{IsLive, IsFile}
+use Rattle.f11_chain.specs.store.File.{has_contiguous_mark}
 use Rattle.f11_volume.specs.Contents.{blocks_reached, file_of}
 use Rattle.f11_volume.specs.Notes.{IsLost, IsEntered, IsVolumeNote}
 use Rattle.f11_volume.specs.Volume.{Volume}

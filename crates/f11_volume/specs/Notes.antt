@@ -3,13 +3,13 @@ use Rattle.std.specs.Prelude.{◌≡◌, ℕ, ◌+◌, ◌-◌, ◌<◌, ◌≤�
 use Rattle.std.specs.Int.{bit_at}
 use Rattle.std.specs.List.{slice_get, range_with_len}
 use Rattle.f11_dev.specs.Image.{Image}
-use Rattle.f11_rad50.specs.Name.{IsName}
-use Rattle.f11_map.specs.HeaderBlock.{segment_number}
-use Rattle.f11_index.specs.Headers.{IsInFile}
-use Rattle.f11_index.specs.Table.{Table, IsLive, IsDeadSlot, IsFile, last_sequence}
-use Rattle.f11_store.specs.Directory.{is_directory, entries_of, is_empty, record_id, record_name}
-use Rattle.f11_store.specs.File.{File, is_marked, has_contiguous_mark}
-use Rattle.f11_store.specs.declared.files.FileId.{FileId}
+use Rattle.f11_chain.specs.rad50.Name.{IsName}
+use Rattle.f11_chain.specs.map.HeaderBlock.{segment_number}
+use Rattle.f11_chain.specs.index.Headers.{IsInFile}
+use Rattle.f11_chain.specs.index.Table.{Table, IsLive, IsDeadSlot, IsFile, last_sequence}
+use Rattle.f11_chain.specs.store.Directory.{is_directory, entries_of, is_empty, record_id, record_name}
+use Rattle.f11_chain.specs.store.File.{File, is_marked, has_contiguous_mark}
+use Rattle.f11_chain.specs.store.declared.files.FileId.{FileId}
 use Rattle.f11_volume.specs.Contents.{blocks_reached, file_of}
 use Rattle.f11_volume.specs.Volume.{Volume, IsNamed}
 

@@ -2,13 +2,13 @@
 -- A section in parentheses is one of the Files-11 On-Disk Structure Level 1 specification.
 use Rattle.std.specs.Prelude.{◌≡◌, ◌⊎◌, ℕ, ◌<◌, true, false}
 use Rattle.f11_dev.specs.Image.{Image}
-use Rattle.f11_header.specs.Header.{IsHeader, IsDead}
-use Rattle.f11_home.specs.Home.{HomeFields}
-use Rattle.f11_map.specs.HeaderBlock.{segment_number, link_of}
-use Rattle.f11_index.specs.Table.{Table, IsNext}
+use Rattle.f11_chain.specs.header.Header.{IsHeader, IsDead}
+use Rattle.f11_chain.specs.home.Home.{HomeFields}
+use Rattle.f11_chain.specs.map.HeaderBlock.{segment_number, link_of}
+use Rattle.f11_chain.specs.index.Table.{Table, IsNext}
 use Rattle.f11_volume.specs.Faults.{IsFramed}
 use Rattle.f11_volume.specs.Volume.{Volume, volume_of, IsCell, IsLinked}
-use Rattle.f11_index.specs.Headers.{IsInFile}
+use Rattle.f11_chain.specs.index.Headers.{IsInFile}
 
 -- the link of header n is to its next one, on this volume, and another segment can follow (map area)
 pub record LinksOn (t : Table) (n : ℕ) : Type 0 where

@@ -1,10 +1,10 @@
 -- The blocks of a volume, and which of them are free (Files-11 On-Disk Structure Level 1, "Storage Bitmap File").
 use Rattle.std.specs.Prelude.{ℕ, ◌+◌, ◌*◌, ◌<◌, ◌≤◌, List, take, drop, slice_index}
 use Rattle.f11_bytes.specs.Words.{long}
-use Rattle.f11_bits.specs.Bitmap.{Bitmap}
+use Rattle.f11_chain.specs.bits.Bitmap.{Bitmap}
 use Rattle.f11_dev.specs.Image.{Image, image_block}
-use Rattle.f11_home.specs.Home.{HomeFields}
-use Rattle.f11_index.specs.Table.{Table, table_of}
+use Rattle.f11_chain.specs.home.Home.{HomeFields}
+use Rattle.f11_chain.specs.index.Table.{Table, table_of}
 use Rattle.f11_chain.specs.FileHeaders.{file_blocks}
 
 -- how many blocks of the bitmap the control block says there are

@@ -1,7 +1,7 @@
 -- What the verifier finds, and when an image is accepted (profile).
 use Rattle.std.specs.Prelude.{ℕ}
 use Rattle.f11_dev.specs.Image.{Image}
-use Rattle.f11_home.specs.Home.{HomeFields}
+use Rattle.f11_chain.specs.home.Home.{HomeFields}
 use Rattle.f11_volume.specs.Faults.{IsFramed, IsFrameFault, IsVolumeFault}
 use Rattle.f11_volume.specs.Notes.{IsVolumeNote}
 use Rattle.f11_volume.specs.Volume.{volume_of}

@@ -3,13 +3,13 @@
 use Rattle.std.specs.Prelude.{◌≡◌, ◌≢◌, ◌⊎◌, ℕ, Bool, Some}
 use Rattle.std.specs.List.{slice_get}
 use Rattle.f11_dev.specs.Image.{Image}
-use Rattle.f11_bits.specs.Bitmap.{is_free}
-use Rattle.f11_home.specs.Home.{HomeFields}
-use Rattle.f11_header.specs.Fields.{map_area}
-use Rattle.f11_map.specs.MapArea.{runs_of}
-use Rattle.f11_map.specs.HeaderBlock.{link_of, blocks_named}
-use Rattle.f11_index.specs.Headers.{IsInFile}
-use Rattle.f11_index.specs.Table.{Table, table_of, IsLive}
+use Rattle.f11_chain.specs.bits.Bitmap.{is_free}
+use Rattle.f11_chain.specs.home.Home.{HomeFields}
+use Rattle.f11_chain.specs.header.Fields.{map_area}
+use Rattle.f11_chain.specs.map.MapArea.{runs_of}
+use Rattle.f11_chain.specs.map.HeaderBlock.{link_of, blocks_named}
+use Rattle.f11_chain.specs.index.Headers.{IsInFile}
+use Rattle.f11_chain.specs.index.Table.{Table, table_of, IsLive}
 use Rattle.f11_volume.specs.Space.{storage_bitmap}
 
 pub record Volume : Type 0 where

@@ -6,3 +6,6 @@
 #![tactic(auto)]
 
 pub mod laws;
+
+pub use f11_chain::f11_map;
+pub use f11_layout;

@@ -7,19 +7,19 @@ use Rattle.f11_bytes.specs.Block.{zero_block}
 use Rattle.f11_bits.specs.Bitmap.{is_free, Marks}
 use Rattle.f11_bits.proofs.BitmapLemmas.{is_free-past}
 use Rattle.f11_dev.specs.Image.{Image}
-use Rattle.f11_header.specs.Header.{IsHeader}
-use Rattle.f11_header.specs.Fields.{file_sequence}
-use Rattle.f11_home.specs.Home.{HomeFields}
+use Rattle.f11_volume.specs.header.Header.{IsHeader}
+use Rattle.f11_volume.specs.header.Fields.{file_sequence}
+use Rattle.f11_volume.specs.home.Home.{HomeFields}
 use Rattle.f11_index.specs.ChangeLaws.{IsAsGood}
-use Rattle.f11_map.specs.HeaderBlock.{segment_number, link_of, blocks_named}
+use Rattle.f11_volume.specs.map.HeaderBlock.{segment_number, link_of, blocks_named}
 use Rattle.f11_index.specs.Table.{Table, table_of, IsFile, IsHeaderOf, IsWholeFile}
 use Rattle.f11_index.proofs.ChainLemmas.{file_of-header, live_of-header}
 use Rattle.f11_index.proofs.HeadersLemmas.{chained-apart}
 use Rattle.f11_index.proofs.UpLemmas.{header-up}
-use Rattle.f11_chain.specs.FileHeaders.{file_blocks}
-use Rattle.f11_chain.specs.Laws.{HasMore}
-use Rattle.f11_chain.proofs.ChangeLemmas.{has-more}
-use Rattle.f11_store.specs.File.{File}
+use Rattle.f11_volume.specs.chain.FileHeaders.{file_blocks}
+use Rattle.f11_volume.specs.chain.Laws.{HasMore}
+use Rattle.f11_volume.proofs.chain.ChangeLemmas.{has-more}
+use Rattle.f11_volume.specs.store.File.{File}
 use Rattle.f11_volume.specs.Contents.{block_or_zeros}
 use Rattle.f11_volume.specs.Sound.{HasSoundVolume}
 use Rattle.f11_volume.specs.Space.{storage_bitmap}

@@ -3,12 +3,12 @@ use Rattle.std.proofs.Common.{◌≡◌, ◌≢◌, ◌⊎◌, ℕ, ◌+◌, ◌
 use Rattle.std.specs.List.{slice_get}
 use Rattle.std.proofs.lemmas.List.{length-set}
 use Rattle.f11_dev.specs.Image.{Image}
-use Rattle.f11_header.specs.Header.{IsHeader, IsDead}
-use Rattle.f11_home.specs.Home.{HomeFields}
-use Rattle.f11_header.specs.Fields.{file_sequence}
+use Rattle.f11_volume.specs.header.Header.{IsHeader, IsDead}
+use Rattle.f11_volume.specs.home.Home.{HomeFields}
+use Rattle.f11_volume.specs.header.Fields.{file_sequence}
 use Rattle.f11_index.specs.Calls.{SetsBit, bitmap_place, bitmap_block, with_bitmap_block}
 use Rattle.f11_index.specs.ChangeLaws.{StaysHeader}
-use Rattle.f11_map.specs.HeaderBlock.{segment_number, link_of}
+use Rattle.f11_volume.specs.map.HeaderBlock.{segment_number, link_of}
 use Rattle.f11_index.specs.IndexFile.{Index, index_of, slots, is_in_use, HasNonePast}
 use Rattle.f11_index.specs.Laws.{KeepsButBit}
 use Rattle.f11_index.specs.Sound.{IsIndexFile}

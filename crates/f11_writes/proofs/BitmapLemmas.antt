@@ -4,7 +4,7 @@ use Rattle.std.proofs.Common.{inl, inr, arith}
 use Rattle.std.proofs.lemmas.Bool.{cases_eq, cases_lt}
 use Rattle.f11_bits.specs.Bitmap.{Bitmap, is_free, KeepsOthers, Marks}
 use Rattle.f11_dev.specs.Image.{Image, image_block}
-use Rattle.f11_home.specs.Home.{HomeFields, candidate}
+use Rattle.f11_volume.specs.home.Home.{HomeFields, candidate}
 use Rattle.f11_index.specs.Laws.{KeepsIndexFile}
 use Rattle.f11_index.specs.Table.{Table, table_of}
 use Rattle.f11_index.proofs.LawLemmas.{other_images}

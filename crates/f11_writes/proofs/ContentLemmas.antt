@@ -8,14 +8,14 @@ use Rattle.std.proofs.lemmas.List.Sums.{sum_by-cons}
 use Rattle.std.proofs.lemmas.Option.{same_Some, slice_get_within, slice_get-get_or}
 use Rattle.f11_bytes.specs.Block.{zero_block}
 use Rattle.f11_dev.specs.Image.{Image}
-use Rattle.f11_header.specs.Fields.{file_sequence, owner, protection, characteristics, attributes, ident_area, map_area}
-use Rattle.f11_header.specs.MapFields.{places}
-use Rattle.f11_map.specs.MapArea.{runs_of}
+use Rattle.f11_volume.specs.header.Fields.{file_sequence, owner, protection, characteristics, attributes, ident_area, map_area}
+use Rattle.f11_volume.specs.header.MapFields.{places}
+use Rattle.f11_volume.specs.map.MapArea.{runs_of}
 use Rattle.f11_index.specs.Headers.{headers_of}
 use Rattle.f11_index.proofs.HeadersLemmas.{header-placed}
 use Rattle.f11_index.specs.Laws.{BlocksStay}
 use Rattle.f11_index.specs.Table.{Table, IsWholeFile, first}
-use Rattle.f11_chain.specs.FileHeaders.{file_blocks, IsSoundFile}
+use Rattle.f11_volume.specs.chain.FileHeaders.{file_blocks, IsSoundFile}
 use Rattle.f11_volume.specs.Contents.{headers_reached, block_or_zeros, pointer_count, room_left, file_of}
 use Rattle.f11_volume.proofs.FileLemmas.{reached-are, file-blocks-are}
 use Rattle.f11_volume.proofs.MemberLemmas.{all-each, contained}

@@ -3,8 +3,8 @@ use Rattle.std.proofs.Common.{◌≡◌, ◌≢◌, ℕ, ◌+◌, ◌-◌, ◌<�
 use Rattle.std.specs.List.{slice_get}
 use Rattle.f11_bits.specs.Bitmap.{Bitmap, Marks}
 use Rattle.f11_dev.specs.Image.{Image}
-use Rattle.f11_header.specs.Fields.{file_number}
-use Rattle.f11_home.specs.Home.{HomeFields}
+use Rattle.f11_volume.specs.header.Fields.{file_number}
+use Rattle.f11_volume.specs.home.Home.{HomeFields}
 use Rattle.f11_index.specs.Calls.{SetsBit, with_bitmap_block}
 use Rattle.f11_index.specs.Growth.{with_header}
 use Rattle.f11_index.specs.IndexFile.{Index, index_of}

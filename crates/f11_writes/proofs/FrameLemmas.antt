@@ -4,8 +4,8 @@ use Rattle.std.specs.Prelude.{All}
 use Rattle.f11_bits.specs.Bitmap.{is_free, KeepsBitmap}
 use Rattle.f11_bits.proofs.LawLemmas.{is_free-kept}
 use Rattle.f11_dev.specs.Image.{Image, image_block}
-use Rattle.f11_home.specs.Home.{HomeFields, candidate, fields_of, IsCandidate, IsHomeOf}
-use Rattle.f11_home.specs.HomeBlock.{IsHomeBlock}
+use Rattle.f11_volume.specs.home.Home.{HomeFields, candidate, fields_of, IsCandidate, IsHomeOf}
+use Rattle.f11_volume.specs.home.HomeBlock.{IsHomeBlock}
 use Rattle.f11_index.specs.IndexFile.{index_of, HasNonePast}
 use Rattle.f11_index.specs.Laws.{KeepsIndexFile}
 use Rattle.f11_index.specs.Sound.{IsIndexFile}

@@ -3,7 +3,7 @@ use Rattle.std.proofs.Common.{◌≡◌, ◌≢◌, ℕ, ◌+◌, ◌<◌, ◌�
 use Rattle.std.specs.List.{slice_get, range_with_len}
 use Rattle.std.proofs.lemmas.Bool.{cases_lt}
 use Rattle.f11_dev.specs.Image.{Image}
-use Rattle.f11_home.specs.Home.{HomeFields}
+use Rattle.f11_volume.specs.home.Home.{HomeFields}
 use Rattle.f11_index.specs.Growth.{MayNameMore, MayLinkOn, AddsIndexBlocks, with_header}
 use Rattle.f11_index.specs.IndexFile.{index_of, index_file_blocks, slots, header_lbn}
 use Rattle.f11_index.specs.Table.{Table, table_in, table_of, IsHeaderOf, first}

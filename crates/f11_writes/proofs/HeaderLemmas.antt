@@ -4,12 +4,12 @@ use Rattle.std.specs.List.{slice_get}
 use Rattle.std.proofs.lemmas.Bool.{cases_eq}
 use Rattle.std.proofs.lemmas.List.{length-set}
 use Rattle.f11_dev.specs.Image.{Image}
-use Rattle.f11_header.specs.Fields.{file_number, file_sequence}
-use Rattle.f11_header.specs.Header.{IsHeader, IsDead}
-use Rattle.f11_home.specs.Home.{HomeFields}
+use Rattle.f11_volume.specs.header.Fields.{file_number, file_sequence}
+use Rattle.f11_volume.specs.header.Header.{IsHeader, IsDead}
+use Rattle.f11_volume.specs.home.Home.{HomeFields}
 use Rattle.f11_index.specs.ChangeLaws.{StaysHeader}
 use Rattle.f11_index.specs.Growth.{IsGoodFor, with_header}
-use Rattle.f11_map.specs.HeaderBlock.{segment_number, link_of}
+use Rattle.f11_volume.specs.map.HeaderBlock.{segment_number, link_of}
 use Rattle.f11_index.specs.IndexFile.{index_of, slots, header_lbn, HasNonePast, is_in_use}
 use Rattle.f11_index.specs.Laws.{LeadsAlike, KeepsButHeader}
 use Rattle.f11_index.specs.Sound.{IsIndexFile}

@@ -8,7 +8,7 @@ use Rattle.f11_dev.specs.Image.{Image, IsImage}
 use Rattle.f11_dev.specs.Looked.{Looked}
 use Rattle.f11_dev.specs.Went.{Went, newest}
 use Rattle.f11_bits.specs.Bitmap.{Bitmap, is_free, KeepsOthers}
-use Rattle.f11_home.specs.Home.{HomeFields}
+use Rattle.f11_volume.specs.home.Home.{HomeFields}
 use Rattle.f11_index.specs.Calls.{SetsBit, HasBitWritten, with_bitmap_block}
 use Rattle.f11_index.specs.IndexFile.{Index, index_of, slots}
 use Rattle.f11_index.specs.Table.{Table, table_of}
@@ -21,7 +21,7 @@ use Rattle.f11_writes.specs.Moments.{StandsAccepted}
 use Rattle.f11_writes.proofs.BitmapLemmas.{bitmap-keeps}
 use Rattle.f11_writes.proofs.NameLemmas.{free-unnamed}
 use Rattle.f11_writes.proofs.OrderLemmas.{bitmap-orderly, bit-again-orderly}
-use Rattle.f11_home.proofs.HomeLemmas.{home-unique}
+use Rattle.f11_volume.proofs.home.HomeLemmas.{home-unique}
 use Rattle.f11_volume.specs.Sound.{HasSoundVolume}
 use Rattle.f11_writes.specs.Order.{AreInOrder, IsInOrder, IsOrderlyWrite, MadeInOrder, WritesInOrder, image_before}
 

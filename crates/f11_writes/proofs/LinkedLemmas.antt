@@ -2,23 +2,23 @@
 use Rattle.std.proofs.Common.{◌≡◌, ◌≢◌, ℕ, ◌+◌, ◌<◌, true, List, [], ◌∷◌, ◌++◌, map, sym, ap, subst, ◌∙◌, arith}
 use Rattle.std.proofs.lemmas.List.{append-nil}
 use Rattle.f11_dev.specs.Image.{Image}
-use Rattle.f11_header.specs.Fields.{file_sequence}
-use Rattle.f11_header.specs.Header.{IsHeader}
-use Rattle.f11_home.specs.Home.{HomeFields}
-use Rattle.f11_store.specs.File.{File}
-use Rattle.f11_store.specs.declared.files.FileId.{FileId}
+use Rattle.f11_volume.specs.header.Fields.{file_sequence}
+use Rattle.f11_volume.specs.header.Header.{IsHeader}
+use Rattle.f11_volume.specs.home.Home.{HomeFields}
+use Rattle.f11_volume.specs.store.File.{File}
+use Rattle.f11_volume.specs.store.declared.files.FileId.{FileId}
 use Rattle.f11_index.specs.Calls.{SetsBit}
 use Rattle.f11_index.specs.ChangeLaws.{IsAsGood}
 use Rattle.f11_index.specs.Growth.{with_header}
-use Rattle.f11_map.specs.HeaderBlock.{segment_number, link_of, blocks_named}
+use Rattle.f11_volume.specs.map.HeaderBlock.{segment_number, link_of, blocks_named}
 use Rattle.f11_index.specs.Headers.{headers_of, IsInFile}
 use Rattle.f11_index.specs.IndexFile.{Index, index_of}
 use Rattle.f11_index.specs.Table.{Table, table_of, IsLive, IsFile, IsNext, IsHeaderOf}
 use Rattle.f11_index.proofs.ChainLemmas.{file_of-header, live_of-header}
 use Rattle.f11_index.proofs.UpLemmas.{header-up}
-use Rattle.f11_chain.specs.FileHeaders.{file_blocks}
-use Rattle.f11_chain.specs.Laws.{HasHeaderMore}
-use Rattle.f11_chain.proofs.ChangeLemmas.{has-header}
+use Rattle.f11_volume.specs.chain.FileHeaders.{file_blocks}
+use Rattle.f11_volume.specs.chain.Laws.{HasHeaderMore}
+use Rattle.f11_volume.proofs.chain.ChangeLemmas.{has-header}
 use Rattle.f11_volume.specs.Contents.{block_or_zeros}
 use Rattle.f11_volume.specs.Sound.{HasSoundVolume}
 use Rattle.f11_volume.specs.Volume.{volume_of}

@@ -1,18 +1,18 @@
 -- A new header is written and comes into use, in two writes, as that of an empty file.
 use Rattle.std.proofs.Common.{◌≡◌, ◌≢◌, ◌↔◌, ℕ, ◌≤◌, true, false, List, [], ◌∷◌, ◌++◌, map, sym, ap, subst, ◌∙◌, arith}
 use Rattle.f11_dev.specs.Image.{Image}
-use Rattle.f11_header.specs.Header.{IsHeader}
-use Rattle.f11_home.specs.Home.{HomeFields}
+use Rattle.f11_volume.specs.header.Header.{IsHeader}
+use Rattle.f11_volume.specs.home.Home.{HomeFields}
 use Rattle.f11_index.specs.Calls.{SetsBit}
 use Rattle.f11_index.specs.Growth.{with_header}
-use Rattle.f11_map.specs.HeaderBlock.{segment_number, link_of, blocks_named}
+use Rattle.f11_volume.specs.map.HeaderBlock.{segment_number, link_of, blocks_named}
 use Rattle.f11_index.specs.Headers.{headers_from, headers_of}
 use Rattle.f11_index.specs.IndexFile.{Index, index_of, slots, is_in_use}
 use Rattle.f11_index.specs.Table.{Table, table_in, table_of, IsLive, IsFile, IsHeaderOf, IsWholeFile}
 use Rattle.f11_index.proofs.BitLemmas.{SetsBit-in_use}
 use Rattle.f11_index.proofs.ChainLemmas.{live_of-header}
 use Rattle.f11_index.proofs.HeadersLemmas.{headers_from-some, headers_from-none}
-use Rattle.f11_chain.specs.FileHeaders.{blocks_by, file_blocks}
+use Rattle.f11_volume.specs.chain.FileHeaders.{blocks_by, file_blocks}
 use Rattle.f11_volume.specs.Contents.{block_or_zeros}
 use Rattle.f11_volume.specs.Sound.{HasSoundVolume}
 use Rattle.f11_volume.specs.Volume.{volume_of}

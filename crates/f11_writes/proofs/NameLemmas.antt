@@ -7,12 +7,12 @@ use Rattle.std.proofs.lemmas.List.{length-take, get_or-take}
 use Rattle.std.proofs.lemmas.Option.{slice_get_within, slice_get-get_or, get_or_from_slice_get}
 use Rattle.f11_bits.specs.Bitmap.{is_free, Marks}
 use Rattle.f11_dev.specs.Image.{Image}
-use Rattle.f11_header.specs.Header.{IsHeader}
-use Rattle.f11_home.specs.Home.{HomeFields}
-use Rattle.f11_map.specs.HeaderBlock.{blocks_named}
+use Rattle.f11_volume.specs.header.Header.{IsHeader}
+use Rattle.f11_volume.specs.home.Home.{HomeFields}
+use Rattle.f11_volume.specs.map.HeaderBlock.{blocks_named}
 use Rattle.f11_index.specs.Table.{Table, table_of, IsLive}
 use Rattle.f11_index.proofs.PlaceLemmas.{slice_get-append_front, slice_get-range}
-use Rattle.f11_map.proofs.MapLemmas.{slice_get-append_back}
+use Rattle.f11_volume.proofs.map.MapLemmas.{slice_get-append_back}
 use Rattle.f11_volume.specs.Sound.{IsSoundVolume, HasSoundVolume}
 use Rattle.f11_volume.specs.Space.{storage_bitmap}
 use Rattle.f11_volume.specs.Volume.{Volume, volume_of, IsCell, IsNamed}

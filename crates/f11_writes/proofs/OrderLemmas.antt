@@ -7,9 +7,9 @@ use Rattle.f11_bits.specs.Bitmap.{is_free, KeepsOthers}
 use Rattle.f11_bits.proofs.BitmapLemmas.{slice_get-set_other}
 use Rattle.f11_bytes.specs.Block.{zero_block}
 use Rattle.f11_dev.specs.Image.{Image, image_block}
-use Rattle.f11_header.specs.Fields.{file_number}
-use Rattle.f11_header.specs.Header.{IsHeader, IsDead}
-use Rattle.f11_home.specs.Home.{HomeFields}
+use Rattle.f11_volume.specs.header.Fields.{file_number}
+use Rattle.f11_volume.specs.header.Header.{IsHeader, IsDead}
+use Rattle.f11_volume.specs.home.Home.{HomeFields}
 use Rattle.f11_index.specs.Calls.{SetsBit, with_bitmap_block}
 use Rattle.f11_index.specs.Growth.{MayNameMore, MayLinkOn, with_header}
 use Rattle.f11_index.specs.Headers.{IsInFile}
@@ -20,8 +20,8 @@ use Rattle.f11_index.proofs.ChainLemmas.{live_of-header}
 use Rattle.f11_index.proofs.HeadersLemmas.{live-some}
 use Rattle.f11_index.proofs.LawLemmas.{header_at, at as block-at}
 use Rattle.f11_index.proofs.WalkLemmas.{in_use-within}
-use Rattle.f11_map.specs.HeaderBlock.{blocks_named}
-use Rattle.f11_chain.specs.FileHeaders.{file_blocks}
+use Rattle.f11_volume.specs.map.HeaderBlock.{blocks_named}
+use Rattle.f11_volume.specs.chain.FileHeaders.{file_blocks}
 use Rattle.f11_volume.specs.Sound.{HasSoundVolume}
 use Rattle.f11_volume.specs.Space.{storage_bitmap}
 use Rattle.f11_volume.specs.Volume.{volume_of, IsCell, IsNamed}
@@ -30,7 +30,7 @@ use Rattle.f11_writes.specs.HeaderLaws.{SparesOwnFiles}
 use Rattle.f11_writes.specs.Kept.{KeepsButSlot, WritesGrowth, WritesSlotBit}
 use Rattle.f11_writes.specs.Order.{IsOrderlyWrite}
 use Rattle.f11_writes.specs.OrderLaws.{NamesZeros}
-use Rattle.f11_writes.specs.Volumes.{MayName, MayBecome}
+use Rattle.f11_writes.specs.Volumes.{MayBecome}
 use Rattle.f11_writes.proofs.BitLemmas.{set-keeps, clear-keeps}
 use Rattle.f11_writes.proofs.BitmapLemmas.{bitmap-keeps}
 use Rattle.f11_writes.proofs.GrowLemmas.{names-keep, links-keep}
@@ -164,12 +164,6 @@ module _ (old : Image) (home : HomeFields) (is : HasSoundVolume old home) where
     header-spares : 0 < n → n ≤ slots (index_of old home) → (lbn : ℕ) → free lbn ≡ true → slice_get written lbn ≡ slice_get old lbn
     header-spares some few =
         spares-used (header_lbn (index_of old home) n) block (index-used _ _ (header_at old home is.framed.indexed.file n some few))
-
-    names-used : MayName (volume_of old home) n (blocks_named block) → NamesZeros old home block → (u : Table) → u.header n ≡ block
-        → (i lbn : ℕ) → IsCell u n i lbn → ¬ IsNamed t lbn → (free lbn ≡ false) × (image_block old lbn ≡ zero_block)
-    names-used may zeros u same i lbn cell none =
-        let at : slice_get (blocks_named block) i ≡ Some lbn = ap (λ (b : List ℕ). slice_get (blocks_named b) i) (sym same) ∙ cell.names in
-        (may.used i lbn at, elim (zeros i lbn at) [ inl named ↦ absurd (none named) | inr holds ↦ holds ])
 
     pub unused-orderly : 0 < n → n ≤ slots (index_of old home) → is_in_use (index_of old home) n ≡ false → IsOrderlyWrite home old written
     unfolding table_in

@@ -9,11 +9,11 @@ use Rattle.f11_bits.specs.Bitmap.{KeepsBitmap}
 use Rattle.f11_bits.proofs.LawLemmas.{KeepsBitmap-write}
 use Rattle.f11_dev.specs.Image.{Image, image_block}
 use Rattle.f11_dev.proofs.ImageLemmas.{image_block-other}
-use Rattle.f11_home.specs.Home.{HomeFields, candidate}
+use Rattle.f11_volume.specs.home.Home.{HomeFields, candidate}
 use Rattle.f11_index.specs.Laws.{BlocksStay, KeepsIndexFile}
 use Rattle.f11_index.specs.Table.{Table, table_of, IsFile}
 use Rattle.f11_index.proofs.LawLemmas.{other_write}
-use Rattle.f11_chain.specs.FileHeaders.{file_blocks}
+use Rattle.f11_volume.specs.chain.FileHeaders.{file_blocks}
 use Rattle.f11_volume.specs.Earlier.{IsNamedIn}
 use Rattle.f11_volume.specs.Contents.{file_of}
 use Rattle.f11_volume.specs.Sound.{IsSoundVolume, HasSoundVolume}

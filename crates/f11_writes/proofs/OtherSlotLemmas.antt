@@ -1,18 +1,18 @@
 -- Headers and their files where all slots but one are as they were.
 use Rattle.std.proofs.Common.{◌≡◌, ◌≢◌, ◌↔◌, ℕ, ◌+◌, true, false, List, sym, ap, subst, ◌∙◌, inl, inr, arith, Contains}
 use Rattle.std.proofs.lemmas.Bool.{cases_eq}
-use Rattle.f11_header.specs.Fields.{file_sequence}
-use Rattle.f11_header.specs.Header.{IsHeader}
+use Rattle.f11_volume.specs.header.Fields.{file_sequence}
+use Rattle.f11_volume.specs.header.Header.{IsHeader}
 use Rattle.f11_index.specs.ChangeLaws.{IsAsGood, StaysHeader, StayUpTo}
-use Rattle.f11_map.specs.HeaderBlock.{segment_number, link_of, blocks_named}
+use Rattle.f11_volume.specs.map.HeaderBlock.{segment_number, link_of, blocks_named}
 use Rattle.f11_index.specs.Headers.{headers_of, IsInFile}
 use Rattle.f11_index.specs.Table.{Table, IsLive, IsFile, IsNext, IsHeaderOf, first, next, IsWholeFile}
 use Rattle.f11_index.proofs.ChainLemmas.{live_of-header}
 use Rattle.f11_index.proofs.HeadersLemmas.{link_number, live-some, listed-are}
 use Rattle.f11_index.proofs.StayLemmas.{whole-stays}
-use Rattle.f11_chain.specs.FileHeaders.{file_blocks}
-use Rattle.f11_chain.specs.Laws.{StayBefore}
-use Rattle.f11_chain.proofs.ChangeLemmas.{file-stays}
+use Rattle.f11_volume.specs.chain.FileHeaders.{file_blocks}
+use Rattle.f11_volume.specs.chain.Laws.{StayBefore}
+use Rattle.f11_volume.proofs.chain.ChangeLemmas.{file-stays}
 use Rattle.f11_volume.specs.Earlier.{IsNamedIn}
 use Rattle.f11_volume.specs.Faults.{IsOwnFile}
 use Rattle.f11_volume.specs.Sound.{IsSoundVolume}

@@ -2,14 +2,14 @@
 use Rattle.std.proofs.Common.{◌≡◌, ℕ, ◌<◌, Some, sym, subst, arith}
 use Rattle.std.specs.List.{slice_get}
 use Rattle.f11_dev.specs.Image.{Image}
-use Rattle.f11_home.specs.Home.{HomeFields}
-use Rattle.f11_map.specs.HeaderBlock.{blocks_named}
+use Rattle.f11_volume.specs.home.Home.{HomeFields}
+use Rattle.f11_volume.specs.map.HeaderBlock.{blocks_named}
 use Rattle.f11_index.specs.IndexFile.{index_file_blocks}
 use Rattle.f11_index.specs.Table.{Table, table_of, IsFile, IsHeaderOf}
 use Rattle.f11_index.proofs.ChainLemmas.{live_of-header}
 use Rattle.f11_index.proofs.HeadersLemmas.{chained-apart}
-use Rattle.f11_chain.specs.FileHeaders.{file_blocks}
-use Rattle.f11_chain.proofs.FileOneLemmas.{file-one}
+use Rattle.f11_volume.specs.chain.FileHeaders.{file_blocks}
+use Rattle.f11_volume.proofs.chain.FileOneLemmas.{file-one}
 use Rattle.f11_volume.specs.Earlier.{IsNamedIn}
 use Rattle.f11_volume.specs.Sound.{IsSoundVolume, HasSoundVolume}
 use Rattle.f11_volume.specs.Space.{bitmap_file}

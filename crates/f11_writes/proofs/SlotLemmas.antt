@@ -8,12 +8,12 @@ use Rattle.f11_bits.specs.Bitmap.{KeepsBitmap}
 use Rattle.f11_bits.proofs.LawLemmas.{KeepsBitmap-write}
 use Rattle.f11_dev.specs.Image.{Image, image_block}
 use Rattle.f11_dev.proofs.ImageLemmas.{image_block-other}
-use Rattle.f11_home.specs.Home.{HomeFields, candidate}
+use Rattle.f11_volume.specs.home.Home.{HomeFields, candidate}
 use Rattle.f11_index.specs.IndexFile.{index_of, index_file_blocks, slots, header_lbn, HasNonePast}
 use Rattle.f11_index.proofs.LawLemmas.{header_at}
 use Rattle.f11_index.specs.Sound.{IsIndexFile}
 use Rattle.f11_index.specs.Table.{Table, table_of, IsFile, IsHeaderOf, IsWholeFile}
-use Rattle.f11_chain.specs.FileHeaders.{file_blocks}
+use Rattle.f11_volume.specs.chain.FileHeaders.{file_blocks}
 use Rattle.f11_volume.specs.Contents.{block_or_zeros}
 use Rattle.f11_volume.specs.Earlier.{IsNamedIn}
 use Rattle.f11_volume.specs.Faults.{IsOwnFile, IsFramed}

@@ -1,8 +1,8 @@
 -- Laws of writes of headers: what each leaves of a sound volume (Files-11 On-Disk Structure Level 1, "Index File" and "File Header").
 use Rattle.std.specs.Prelude.{◌≡◌, ℕ, ◌+◌, ◌<◌, ◌≤◌, true, false, List, length}
 use Rattle.f11_dev.specs.Image.{Image}
-use Rattle.f11_header.specs.Header.{IsDead}
-use Rattle.f11_home.specs.Home.{HomeFields}
+use Rattle.f11_volume.specs.header.Header.{IsDead}
+use Rattle.f11_volume.specs.home.Home.{HomeFields}
 use Rattle.f11_index.specs.Calls.{SetsBit, with_bitmap_block}
 use Rattle.f11_index.specs.Growth.{MayNameMore, MayLinkOn, with_header}
 use Rattle.f11_index.specs.Headers.{IsInFile}

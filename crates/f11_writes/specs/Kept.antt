@@ -3,14 +3,14 @@
 use Rattle.std.specs.Prelude.{◌≡◌, ◌≢◌, ℕ, List, [], map}
 use Rattle.f11_bits.specs.Bitmap.{is_free, KeepsBitmap}
 use Rattle.f11_dev.specs.Image.{Image}
-use Rattle.f11_home.specs.Home.{HomeFields}
+use Rattle.f11_volume.specs.home.Home.{HomeFields}
 use Rattle.f11_index.specs.Growth.{AddsIndexBlocks}
 use Rattle.f11_index.specs.IndexFile.{Index}
 use Rattle.f11_index.specs.Laws.{KeepsIndexFile, KeepsButBit, KeepsButHeader}
 use Rattle.f11_index.specs.Table.{table_of, IsFile, IsHeaderOf}
-use Rattle.f11_chain.specs.FileHeaders.{file_blocks}
-use Rattle.f11_store.specs.Changes.{with_block}
-use Rattle.f11_store.specs.File.{File}
+use Rattle.f11_volume.specs.chain.FileHeaders.{file_blocks}
+use Rattle.f11_volume.specs.store.Changes.{with_block}
+use Rattle.f11_volume.specs.store.File.{File}
 use Rattle.f11_volume.specs.Contents.{block_or_zeros, file_of}
 use Rattle.f11_volume.specs.Sound.{HasSoundVolume}
 use Rattle.f11_volume.specs.Space.{storage_bitmap}

@@ -2,11 +2,11 @@
 use Rattle.std.specs.Prelude.{◌≡◌, ◌≢◌, ◌⊎◌, ℕ, ◌+◌, ◌<◌, ◌≤◌, true, false, List, Some, slice_set}
 use Rattle.f11_bits.specs.Bitmap.{is_free, KeepsOthers, Marks}
 use Rattle.f11_dev.specs.Image.{Image}
-use Rattle.f11_home.specs.Home.{HomeFields, candidate}
+use Rattle.f11_volume.specs.home.Home.{HomeFields, candidate}
 use Rattle.f11_index.specs.IndexFile.{index_file_blocks}
 use Rattle.f11_index.specs.Sound.{IsNoneOf}
 use Rattle.f11_index.specs.Table.{table_of, IsFile}
-use Rattle.f11_chain.specs.FileHeaders.{block_by_vbn}
+use Rattle.f11_volume.specs.chain.FileHeaders.{block_by_vbn}
 use Rattle.f11_volume.specs.Sound.{HasSoundVolume}
 use Rattle.f11_volume.specs.Space.{bitmap_file, storage_bitmap}
 use Rattle.f11_volume.specs.Volume.{IsNamed}

@@ -4,8 +4,8 @@ use Rattle.std.specs.Prelude.{◌≡◌, ℕ, ◌+◌, ◌<◌, ◌≤◌, true,
 use Rattle.std.specs.List.{range_with_len}
 use Rattle.f11_bits.specs.Bitmap.{is_free, Marks}
 use Rattle.f11_dev.specs.Image.{Image}
-use Rattle.f11_home.specs.Home.{HomeFields}
-use Rattle.f11_map.specs.HeaderBlock.{blocks_named}
+use Rattle.f11_volume.specs.home.Home.{HomeFields}
+use Rattle.f11_volume.specs.map.HeaderBlock.{blocks_named}
 use Rattle.f11_index.specs.Table.{table_of, IsLive}
 use Rattle.f11_volume.specs.Sound.{IsSoundVolume, HasSoundVolume}
 use Rattle.f11_volume.specs.Space.{storage_bitmap}

@@ -6,8 +6,8 @@ use Rattle.f11_bytes.specs.Block.{zero_block}
 use Rattle.f11_dev.specs.Disk.{Disk}
 use Rattle.f11_dev.specs.Image.{Image, image_block}
 use Rattle.f11_dev.specs.Went.{newest}
-use Rattle.f11_header.specs.Header.{IsHeader, IsDead}
-use Rattle.f11_home.specs.Home.{HomeFields}
+use Rattle.f11_volume.specs.header.Header.{IsHeader, IsDead}
+use Rattle.f11_volume.specs.home.Home.{HomeFields}
 use Rattle.f11_index.specs.Headers.{IsInFile}
 use Rattle.f11_index.specs.Table.{table_of, IsLive, IsNext}
 use Rattle.f11_volume.specs.Sound.{HasSoundVolume}

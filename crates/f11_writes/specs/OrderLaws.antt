@@ -3,18 +3,18 @@ use Rattle.std.specs.Prelude.{◌≡◌, ◌≢◌, ◌⊎◌, ℕ, suc, ◌+◌
 use Rattle.std.specs.List.{slice_get}
 use Rattle.f11_bits.specs.Bitmap.{is_free, KeepsOthers}
 use Rattle.f11_bytes.specs.Block.{zero_block}
-use Rattle.f11_chain.specs.FileHeaders.{block_by_vbn}
+use Rattle.f11_volume.specs.chain.FileHeaders.{block_by_vbn}
 use Rattle.f11_dev.specs.Disk.{Disk, with_transfer, with_block_at}
 use Rattle.f11_dev.specs.Image.{Image, image_block}
 use Rattle.f11_dev.specs.Looked.{Looked}
-use Rattle.f11_header.specs.Header.{IsHeader, IsDead}
-use Rattle.f11_home.specs.Home.{HomeFields}
+use Rattle.f11_volume.specs.header.Header.{IsHeader, IsDead}
+use Rattle.f11_volume.specs.home.Home.{HomeFields}
 use Rattle.f11_index.specs.Calls.{SetsBit, with_bitmap_block}
 use Rattle.f11_index.specs.Growth.{MayNameMore, MayLinkOn, with_header}
 use Rattle.f11_index.specs.Headers.{IsInFile}
 use Rattle.f11_index.specs.IndexFile.{Index, index_of, slots, is_in_use}
 use Rattle.f11_index.specs.Table.{table_of, IsFile, IsLive, IsDeadSlot, IsNext, IsHeaderOf}
-use Rattle.f11_map.specs.HeaderBlock.{blocks_named}
+use Rattle.f11_volume.specs.map.HeaderBlock.{blocks_named}
 use Rattle.f11_volume.specs.Sound.{HasSoundVolume}
 use Rattle.f11_volume.specs.Space.{storage_bitmap}
 use Rattle.f11_volume.specs.Volume.{volume_of, IsNamed}

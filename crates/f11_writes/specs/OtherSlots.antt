@@ -1,10 +1,10 @@
 -- Headers and their files where all slots but one are as they were (Files-11 On-Disk Structure Level 1, "Index File" and "File Header").
 use Rattle.std.specs.Prelude.{◌≡◌, ◌≢◌, ◌↔◌, ℕ, true, false}
 use Rattle.f11_index.specs.ChangeLaws.{IsAsGood, StayUpTo}
-use Rattle.f11_map.specs.HeaderBlock.{LinksToNone}
+use Rattle.f11_volume.specs.map.HeaderBlock.{LinksToNone}
 use Rattle.f11_index.specs.Headers.{IsInFile}
 use Rattle.f11_index.specs.Table.{Table, IsLive, IsNext, IsHeaderOf, IsWholeFile}
-use Rattle.f11_chain.specs.Laws.{StayBefore}
+use Rattle.f11_volume.specs.chain.Laws.{StayBefore}
 use Rattle.f11_volume.specs.Sound.{IsSoundVolume}
 use Rattle.f11_volume.specs.Volume.{Volume}
 

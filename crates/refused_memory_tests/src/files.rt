@@ -1,7 +1,7 @@
 //! The files of a Files-11 volume, and its index file.
 use crate::volumes::verified;
+use f11_commands::f11_files::{Files, OpenFault};
 use f11_dev::{Device, DeviceFault, Memory};
-use f11_files::{Files, OpenFault};
 use f11_fixtures::volumes;
 use f11_store::Refusal;
 use f11_vfy::{Accepted, Report};

@@ -3,11 +3,11 @@
 use crate::files::opened;
 use crate::tasks::{ask, mounted};
 use crate::volumes::{rt_verified, verified, with_areas};
+use f11_commands::f11_fcp::Volume;
+use f11_commands::f11_files::Files;
+use f11_commands::f11_flx::{CopyMode, FlxRefusal, copy_from_rt};
 use f11_dev::{DeviceFault, Memory};
-use f11_fcp::Volume;
-use f11_files::Files;
 use f11_fixtures::{SEVENS, SYSTEM, file, get, keep, linked, put_words, volumes};
-use f11_flx::{CopyMode, FlxRefusal, copy_from_rt};
 use f11_rad50::Name;
 use f11_store::{FileId, Lun, Mode, Refusal, Reply, Request, Task};
 use f11_vfy::{Accepted, Report};

@@ -1,9 +1,9 @@
 //! Files of the host put on a volume.
 use crate::taking_out::{NOBODY, named};
+use f11_commands::f11_flx::CopyMode;
 use f11_commands::{Failure, FileAnswer, PutFailure, Putting, print_put};
 use f11_dev::{DeviceFault, Memory};
 use f11_fixtures::{Lines, has_words, lines, text_of, volumes};
-use f11_flx::CopyMode;
 use std::alloc::Global;
 use std::io::Cursor;
 use std::test::Fail;

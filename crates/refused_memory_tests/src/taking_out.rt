@@ -1,10 +1,10 @@
 //! A file taken out of a volume.
+use f11_commands::f11_flx::CopyMode;
 use f11_commands::{
     Answer, Failure, FoundFile, Served, TakingAll, begin_all, read_name, seek_file, write_file,
 };
 use f11_dev::{DeviceFault, Memory};
 use f11_fixtures::{Lines, lines, text_of, volumes};
-use f11_flx::CopyMode;
 use f11_rad50::Name;
 use f11_store::Uic;
 use std::alloc::Global;

@@ -1,8 +1,8 @@
 //! A volume that tasks share.
 use crate::volumes::verified;
+use f11_commands::f11_fcp::Volume;
+use f11_commands::f11_files::OpenFault;
 use f11_dev::{DeviceFault, Memory};
-use f11_fcp::Volume;
-use f11_files::OpenFault;
 use f11_fixtures::{SEVENS, SYSTEM, volumes};
 use f11_store::{Refusal, Reply, Request, Task};
 use f11_vfy::{Accepted, Report};

@@ -1,17 +1,15 @@
 -- The names of files: their words, and what they spell.
-use Rattle.std.proofs.Common.{◌+◌, zero, suc, ◌≡◌, ◌≢◌, ◌↔◌, ℕ, ◌<◌, ◌≤◌, ◌==◌, ◌&&◌, not, Bool, true, false, IsTrue, Option, Some, None}
+use Rattle.std.proofs.Common.{◌+◌, zero, suc, ◌≡◌, ◌≢◌, ◌↔◌, ℕ, ◌<◌, ◌≤◌, not, Bool, true, false, IsTrue, Option, Some, None}
 use Rattle.std.proofs.Common.{is_some, SomeIff, Result, Ok, Err, is_ok, OnErr, IsNone, slice_index_or, List, [], ◌∷◌, length, drop, get_or}
 use Rattle.std.proofs.Common.{refl, sym, ◌∙◌, ap, subst, arith}
 use Rattle.std.specs.List.{AllPass, All}
-use Rattle.std.proofs.lemmas.Bool.{and_parts, and_from}
-use Rattle.f11_rad50.proofs.Spelled.{is_name-true, IsName-from_test}
 use Rattle.std.proofs.lemmas.Bool.Decides.{nat_tests}
 use Rattle.std.proofs.lemmas.List.{length-drop}
 use Rattle.std.proofs.lemmas.List.Elements.{All-drop}
-use Rattle.f11_rad50.specs.Name.{is_name_character, IsProper, IsName, is_name, words_of, name_of, type_of}
+use Rattle.f11_rad50.specs.Name.{is_name_character, IsProper, IsName, words_of, name_of, type_of}
 use Rattle.f11_rad50.specs.Radix50.{IsCharacter, radix50, code_of}
 use Rattle.f11_rad50.proofs.Words.{IsCharacter-place, unpadded-padded, padded-append, characters_of-part, IsName-from_parts}
-use Rattle.rt11_volume.specs.RtName.{IsRtProper, IsRtName, is_rt_name, rt_words_of, rt_name_of, rt_type_of}
+use Rattle.rt11_volume.specs.RtName.{IsRtProper, IsRtName, rt_words_of, rt_name_of, rt_type_of}
 
 -- a character of a name has a code above 0
 code-some : (c : ℕ) → is_name_character c ≡ true → 0 < code_of c
@@ -127,26 +125,6 @@ pub name_tested : (r : Option (List ℕ)) (b : Bool) (x y z : ℕ) → x ≢ 0
 name_tested None b x y z some not is =
     (λ yes. absurd (let no : true ≡ false = sym yes ∙ is in cc), λ name. absurd (not (IsName-from_rt x y z name).1))
 name_tested (Some w) b x y z some found is = (λ yes. IsRtName-from_name x y z some found.0, λ name. is)
-
--- the test of three words
-pub is_rt_name-IsRtName : (x y z : ℕ) → IsTrue (is_rt_name (x ∷ y ∷ z ∷ [])) ↔ IsRtName (x ∷ y ∷ z ∷ [])
-is_rt_name-IsRtName x y z = (λ holds. to holds, λ name. back name)
-  where
-    words : List ℕ
-    words = x ∷ y ∷ 0 ∷ z ∷ 1 ∷ []
-
-    to : IsTrue (not (x == 0) && is_name words) → IsRtName (x ∷ y ∷ z ∷ [])
-    to holds =
-        let parts : (not (x == 0) ≡ true) × (is_name words ≡ true) = and_parts (not (x == 0)) (is_name words) holds in
-        let some : not (x == 0) ≡ true = parts.0 in
-        IsRtName-from_name x y z (λ none. grind (arith, nat_tests)) (IsName-from_test words parts.1)
-
-    back : IsRtName (x ∷ y ∷ z ∷ []) → IsTrue (not (x == 0) && is_name words)
-    back name =
-        let is = IsName-from_rt x y z name in
-        let some : x ≢ 0 = is.0 in
-        let test : not (x == 0) ≡ true = grind (arith, nat_tests) in
-        and_from (not (x == 0)) (is_name words) test (is_name-true words is.1)
 
 -- the words of parts, one by one
 pub rt_words-eq : (name type : List ℕ) (a b c : ℕ) → a ≡ radix50 name → b ≡ radix50 (drop 3 name) → c ≡ radix50 type

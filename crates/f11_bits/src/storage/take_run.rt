@@ -1,7 +1,7 @@
 //! Runs of free blocks that are as long as they are asked for.
 use super::{Storage, bits_in};
 use crate::bits::{BITS, next_room};
-use f11_bytes::{BLOCK_SIZE, Block};
+use f11_dev::f11_bytes::{BLOCK_SIZE, Block};
 use f11_dev::{Device, DeviceFault};
 
 impl Storage {

@@ -9,8 +9,8 @@ ghost use Rattle.f11_store.specs.declared.requests.Request.TheVariants as reques
 
 use f11_bytes::BLOCK_SIZE;
 use f11_dev::Device;
-use f11_fcp::Volume;
 use f11_rad50::Name;
+use f11_serving::f11_fcp::Volume;
 use f11_store::{FileId, Lun, Refusal, Reply, Request, Task, Uic};
 
 /// The user for whom a command asks, [1,1].

@@ -4,7 +4,7 @@ ghost use Rattle.f11_commands.specs.CopyCommand.{EndsFiles, EndsRt, VerifiesFile
 ghost use Rattle.f11_commands.specs.Lines.{report_lines};
 ghost use Rattle.f11_commands.specs.Output.{WriterTakes};
 ghost use Rattle.f11_commands.specs.declared.copy.FileAnswer.TheVariants as answers;
-ghost use Rattle.f11_vfy.specs.Accepted.{device_of};
+ghost use Rattle.f11_serving.specs.vfy.Accepted.{device_of};
 ghost use Rattle.rt11_volume.specs.Calls.{has_failed, volume_device};
 
 use crate::copy::FileAnswer;
@@ -12,7 +12,7 @@ use crate::outcome::Failure;
 use crate::report::{System, write_faulty};
 use f11_dev::Device;
 use f11_findings::Findings;
-use f11_vfy::{Accepted, Report, VfyError, verify};
+use f11_serving::f11_vfy::{Accepted, Report, VfyError, verify};
 use rt11_volume::{RtAccepted, RtReport, RtVfyError};
 use std::alloc::Global;
 use std::io::Write;

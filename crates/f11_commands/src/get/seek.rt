@@ -19,8 +19,8 @@ use f11_header::Header;
 use f11_index::IndexFile;
 use f11_rad50::Name;
 use f11_reader::FileReader;
+use f11_serving::f11_vfy::{Report, VfyError, verify};
 use f11_store::{FileId, Refusal, Uic};
-use f11_vfy::{Report, VfyError, verify};
 use std::alloc::Global;
 use std::io::Write;
 

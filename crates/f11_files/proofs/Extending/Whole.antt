@@ -18,7 +18,7 @@ use Rattle.f11_index.specs.IndexFile.{index_of}
 use Rattle.f11_index.specs.Table.{Table, table_of, IsFile, IsWholeFile}
 use Rattle.f11_index.proofs.HeadersLemmas.{header-placed, last-ends, whole-last}
 use Rattle.f11_index.proofs.SegmentLemmas.{table-bytes}
-use Rattle.f11_store.specs.Causes.{Cause, ◌⇐◌, first_of, growth_causes, header_causes, is_missing}
+use Rattle.f11_store.specs.Causes.{◌⇐◌, first_of, growth_causes, header_causes, is_missing}
 use Rattle.f11_store.specs.Causes as causes
 use Rattle.f11_store.specs.Changes.{Extends, GetsSlots}
 use Rattle.f11_store.proofs.Respects.{extend_respectful}

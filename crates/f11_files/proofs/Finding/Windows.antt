@@ -13,7 +13,7 @@ use Rattle.f11_chain.specs.Windows.{blocks_held, FindsWindow, HoldsAt, HoldsBloc
 use Rattle.f11_chain.specs.declared.windows.Window.{Window}
 use Rattle.f11_dev.specs.Disk.{Disk, with_transfer}
 use Rattle.f11_dev.specs.Image.{Image, IsImage}
-use Rattle.f11_dev.proofs.LookedLemmas.{looked_failed_read, looked_none, looked_read, looked_within}
+use Rattle.f11_dev.proofs.LookedLemmas.{looked_failed_read, looked_none, looked_read}
 use Rattle.f11_home.specs.Home.{HomeFields}
 use Rattle.f11_index.specs.Table.{Table, table_of, IsFile, last_sequence}
 use Rattle.f11_index.proofs.SegmentLemmas.{table-bytes}
@@ -22,7 +22,7 @@ use Rattle.f11_store.specs.File.{length_of}
 use Rattle.f11_store.specs.Store.{file_named}
 use Rattle.f11_store.specs.declared.files.FileId.{FileId}
 use Rattle.f11_store.specs.declared.refusals.Refusal.{Refusal}
-use Rattle.f11_store.specs.declared.refusals.Refusal.TheVariants.{DeviceFault, EndOfFile, NoSuchFile, VolumeFailed}
+use Rattle.f11_store.specs.declared.refusals.Refusal.TheVariants.{DeviceFault, EndOfFile, NoSuchFile}
 use Rattle.f11_volume.proofs.FileLemmas.{file-blocks-are, image-files}
 use Rattle.f11_writes.specs.Kept.{file_in}
 use Rattle.f11_image_store.proofs.StoreLemmas.{first-is-tested, seen-own}
@@ -151,11 +151,6 @@ module _ (s : Structure) (w : Window) (vbn : ℕ) (block : List ℕ) (old new : 
   pub read-stays : (r : Result Unit Refusal) → ReadsIn w vbn r block old new → IsStructureFor s new
   read-stays (Ok x) is = looked-for s old new 1 0 for (looked_read old new is.reads.counts)
   read-stays (Err e) is = looked-for s old new 1 1 for (looked_failed_read old new is.reads.counts)
-
--- the volume had failed, and nothing is read
-pub had-failed-read : {failed : Bool} (disk : Disk) → failed ≡ true → FailsToReadBy failed VolumeFailed disk disk
-had-failed-read disk is =
-    record { why = record { only = inl refl; volume = λ _. is }; looked = looked_within (looked_none disk) (omega arith) }
 
 -- the window was found behind the first header in hand
 module _ (s : Structure) (f : FileId) (block : List ℕ) (old new : Disk) (for : IsStructureFor s old)

@@ -1,7 +1,7 @@
 -- An accepted volume that is opened.
 use Rattle.std.proofs.Common.{◌≡◌, ◌≤◌, ◌+◌, ◌/◌, ℕ, IsTrue, length, refl, sym, ap, subst, ◌∙◌, arith}
 use Rattle.std.proofs.lemmas.Bool.Decides.{nat_tests}
-use Rattle.f11_bits.specs.Bitmap.{Bitmap, IsBitmap, LiesWithin as BitmapLiesWithin}
+use Rattle.f11_bits.specs.Bitmap.{Bitmap}
 use Rattle.f11_bits.specs.Storage.{LoadsBitmap}
 use Rattle.f11_dev.specs.Disk.{Disk}
 use Rattle.f11_dev.specs.Image.{Image, IsImage}
@@ -90,13 +90,6 @@ module _ (old : Disk) (image_is : IsImage old.image) (accepted : IsTrue old.hone
         looked = looked-behind now 0 reads.looked;
       }
 
-      pub is-bitmap : ArePlacesApart bitmap.places → IsBitmap bitmap
-      is-bitmap apart =
-          record { some = reads.lie.some; few = reads.lie.few; apart = apart; sized = reads.lie.sized; covered = reads.lie.covered }
-
-      pub lies-still : BitmapLiesWithin bitmap (length now.image)
-      lies-still = subst (λ (i : Image). BitmapLiesWithin bitmap (length i)) (sym reads.looked.image) reads.lie.bitmap_lies
-
       -- what is kept was read
       pub opens : (s : Structure) (new : Disk) → home_of s ≡ home → index_in s ≡ index → LoadsBitmap bitmap s.storage now new
           → OpensStructure s old new
@@ -133,14 +126,5 @@ module _ (old : Disk) (image_is : IsImage old.image) (accepted : IsTrue old.hone
           back : IsTrue new.honest → IsTrue old.honest
           back honest = sym finds.looked.honest ∙ sym reads.looked.honest ∙ sym loads.looked.honest ∙ honest
 
-          reads-same : frame_reads mid ≡ frame_reads old
-          reads-same = ap (λ (i : Image). candidates (length i) + 788) same
-
-      pub fails-load : (new : Disk) → Looked now new (length bitmap.places) 1 → Looked old new (opening_reads old) 1
-      fails-load new looked =
-          let all = looked_more (looked_more finds.looked reads.looked) looked in
-          let few = reads.lie.few in
-          looked_within all (omega (arith, finds.sound.within, few, reads-same))
-        where
           reads-same : frame_reads mid ≡ frame_reads old
           reads-same = ap (λ (i : Image). candidates (length i) + 788) same

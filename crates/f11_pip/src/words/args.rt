@@ -8,7 +8,7 @@ ghost use Rattle.f11_numbers.specs.Octal.{SpellsUic};
 
 use crate::outcome::Failure;
 use clap::{Arg, ArgAction, ArgMatches};
-use f11_flx::CopyMode;
+use f11_commands::f11_flx::CopyMode;
 use f11_numbers::read_uic;
 use f11_store::Uic;
 use std::alloc::Global;

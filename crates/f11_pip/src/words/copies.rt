@@ -8,7 +8,7 @@ use crate::outcome::Failure;
 use crate::words::Words;
 use crate::words::args::{mode_in, needed, option, uic_of, word_of};
 use clap::{ArgMatches, Command};
-use f11_flx::CopyMode;
+use f11_commands::f11_flx::CopyMode;
 use std::alloc::{AllocError, Global};
 
 /// The copy that the words named.

@@ -9,7 +9,7 @@ use crate::words::Words;
 use crate::words::args::{flag, mode_in, needed, option, uic_of, word, word_of};
 use crate::words::copies::with_file;
 use clap::{ArgMatches, Command};
-use f11_flx::CopyMode;
+use f11_commands::f11_flx::CopyMode;
 use std::alloc::{AllocError, Global};
 
 /// The command with these two behind its own.

@@ -4,9 +4,6 @@ use Rattle.std.proofs.lemmas.Bool.{cases_lt}
 use Rattle.f11_index.specs.Table.{Table}
 use Rattle.f11_vfy.specs.Directory.Flaws.{NamesFileAt, EntersIn}
 
-pub enters-none : (t : Table) (blocks : List (List ℕ)) (A : Type 0) (n : ℕ) → A ↔ (A ⊎ EntersIn t blocks 0 n)
-enters-none t blocks A n = (λ a. inl a, λ s. elim s [ inl a ↦ a | inr e ↦ absurd (omega (arith, e.below)) ])
-
 pub enters-more : (t : Table) (blocks : List (List ℕ)) (k n : ℕ) (A B C : Type 0) → B ↔ (A ⊎ EntersIn t blocks k n)
     → C ↔ (B ⊎ NamesFileAt t blocks k n) → C ↔ (A ⊎ EntersIn t blocks (k + 1) n)
 enters-more t blocks k n A B C before here = (λ c. first (here.0 c), λ s. here.1 (back s))

@@ -20,8 +20,8 @@ use Rattle.f11_index.proofs.BlockLemmas.{blocks_in-more}
 use Rattle.f11_index.proofs.HeadersLemmas.{link_number, last-whole}
 use Rattle.f11_index.proofs.PlaceLemmas.{take-append_take, range-below}
 use Rattle.f11_chain.specs.FileHeaders.{blocks_by, file_blocks}
-use Rattle.f11_chain.specs.Calls.{table, ReadsFirst, FindsNoFile, FindsLast, FindsWrongLink, next_reads}
-use Rattle.f11_chain.proofs.AlongLemmas.{Along, HoldsHeader-live, block-is, header-some, break-next, table-stays, honest-stays}
+use Rattle.f11_chain.specs.Calls.{table, ReadsFirst, FindsLast}
+use Rattle.f11_chain.proofs.AlongLemmas.{Along, HoldsHeader-live, block-is, header-some, table-stays, honest-stays}
 use Rattle.f11_chain.proofs.ReachedLemmas.{blocks-split, blocks-last}
 use Rattle.f11_volume.specs.Faults.{IsOwnFile}
 use Rattle.f11_vfy.specs.Frames.Parts.{JudgesOwnFile, FindsNoOwnFile, needed, KeepsIf, ReadsBitmapFile, FindsNoBitmapFile}
@@ -174,15 +174,6 @@ module _ (index : Index) (m k : ℕ) (behind : List ℕ) (block : List ℕ) (old
       looked = looked_within along.looked (omega (arith, along.few));
     }
 
-    -- its link is wrong
-    pub bad-link : (new : Disk) → FindsWrongLink index block now new → FindsNoBitmapFile index old new
-    bad-link new finds =
-        let break = break-next index 2 m k behind block old now along new finds in
-        record {
-          not = λ honest sound. break.broken honest sound.whole;
-          looked = looked_within break.looked.looked (omega (arith, break.looked.few));
-        }
-
     -- it is the last
     pub reads-file : (kept first : List ℕ) (after : List ℕ) (new : Disk) → (IsTrue old.honest → kept ≡ needed (blocks_by t behind))
         → (IsTrue old.honest → All (λ l. l < size) (blocks_by t behind))
@@ -213,13 +204,3 @@ module _ (index : Index) (m k : ℕ) (behind : List ℕ) (block : List ℕ) (old
             blocks-last t 2 m k behind (along.reached honest) some along.few (is-last honest).no_link
             ∙ sym (flat_map-append named behind (m ∷ []) ∙ ap (λ (b : List ℕ). blocks_by t behind ++ b)
             (append-nil (blocks_named (t.header m))))
-
-    pub looked-file : (new : Disk) (faults : ℕ) → Looked now new (next_reads block) faults → Looked old new 256 faults
-    looked-file new faults looked = looked_within (looked_more along.looked looked) (omega (arith, along.few, along.segment))
-
--- there is no file 2
-pub bad-first : (index : Index) (old new : Disk) → FindsNoFile index 2 old new → FindsNoBitmapFile index old new
-bad-first index old new finds = record {
-  not = λ honest sound. finds.no_file honest sound.whole.file;
-  looked = looked_within finds.looked (omega arith);
-}

@@ -51,9 +51,6 @@ module _ (L : HomeFields → Image → Type 0) (reads : HomeFields → ℕ) (n :
     went = went_looked (Moment L d0) looked;
   }
 
-  pub reads-lack : Looked d0 d1 n 0 → LacksRoom L reads d0 d1
-  reads-lack looked = record { most = n; few = few; looked = looked }
-
 -- it was, and then more was done
 module _ (K L : HomeFields → Image → Type 0) (less reads : HomeFields → ℕ) (n : ℕ) (d0 d1 d2 : Disk) (looked : Looked d0 d1 n 0)
     (known : IsTrue d0.honest → (home : HomeFields) → L home d0.image → K home d1.image)

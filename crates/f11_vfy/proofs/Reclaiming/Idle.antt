@@ -1,8 +1,7 @@
 -- Idle slots that leave use one after another.
-use Rattle.std.proofs.Common.{◌≡◌, ◌+◌, ◌*◌, ◌<◌, ◌≤◌, ℕ, true, false, IsTrue, [], List, length, inl, inr, refl, sym, ap, subst, ◌∙◌, arith}
+use Rattle.std.proofs.Common.{◌≡◌, ◌+◌, ◌*◌, ◌≤◌, ℕ, true, false, IsTrue, [], List, length, inl, inr, refl, sym, ap, subst, ◌∙◌, arith}
 use Rattle.std.proofs.lemmas.Bool.{both_ways, cases_eq}
 use Rattle.std.proofs.lemmas.List.{length-set}
-use Rattle.std.specs.Prelude.{All}
 use Rattle.f11_bits.specs.Bitmap.{KeepsBitmap}
 use Rattle.f11_dev.specs.Disk.{Disk}
 use Rattle.f11_dev.specs.Image.{Image}
@@ -14,7 +13,6 @@ use Rattle.f11_home.specs.Home.{HomeFields}
 use Rattle.f11_chain.proofs.StepLemmas.{table-in_use}
 use Rattle.f11_index.specs.Calls.{SetsBit, HasBitWritten, WritesBit, FailsToWriteBit, bitmap_place, bitmap_block, with_bitmap_block}
 use Rattle.f11_index.specs.IndexFile.{Index, index_of, slots, is_in_use}
-use Rattle.f11_index.specs.Kept.{IndexLiesWithin}
 use Rattle.f11_index.specs.Table.{Table, table_in, table_of, IsDeadSlot}
 use Rattle.f11_index.proofs.BitLemmas.{SetsBit-in_use}
 use Rattle.f11_index.proofs.LawLemmas.{at as block-at}
@@ -31,15 +29,8 @@ use Rattle.f11_vfy.proofs.Reclaiming.Storage.{storage-then, storage-write, past-
 use Rattle.f11_volume.specs.Space.{storage_bitmap}
 use Rattle.f11_volume.specs.Volume.{volume_of}
 use Rattle.f11_volume.proofs.FileLemmas.{index-apart}
-use Rattle.f11_writes.specs.Kept.{WritesSlotBit}
-use Rattle.f11_writes.proofs.SlotLemmas.{IsPlacedAt}
-
--- what lies on a device does so at the same places
-pub same-within : (index after : Index) (blocks : ℕ) → SamePlaces index after → IndexLiesWithin index blocks → IndexLiesWithin after blocks
-same-within index after blocks same within = record {
-  bitmap = let here = within.bitmap in omega (arith, here, same.bitmap_lbn, same.blocks);
-  headers = subst (All (λ lbn. lbn < blocks)) (sym same.headers) within.headers;
-}
+use Rattle.f11_image_store.specs.writes.Kept.{WritesSlotBit}
+use Rattle.f11_image_store.proofs.writes.SlotLemmas.{IsPlacedAt}
 
 bit-places : (n : ℕ) (index after : Index) → SetsBit false n index after → SamePlaces index after
 bit-places n index after bit = record {

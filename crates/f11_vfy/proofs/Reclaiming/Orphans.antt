@@ -44,8 +44,8 @@ use Rattle.f11_vfy.proofs.Scanning.Reading.{table-slots}
 use Rattle.f11_vfy.proofs.Surveying.Extensions.{extension-at, extension-counted, extension-passed, orphan-extension}
 use Rattle.f11_volume.specs.Space.{storage_bitmap}
 use Rattle.f11_volume.specs.Volume.{Volume, volume_of}
-use Rattle.f11_writes.specs.Kept.{WritesHeader}
-use Rattle.f11_writes.proofs.SlotLemmas.{header-placed-at}
+use Rattle.f11_image_store.specs.writes.Kept.{WritesHeader}
+use Rattle.f11_image_store.proofs.writes.SlotLemmas.{header-placed-at}
 
 -- what a reading tells of each volume that it is of
 shown-is : (P : Table → Type 0) (index : Index) (r : Reading) (e : Extensions) (home : HomeFields) (image : Image)

@@ -31,8 +31,8 @@ use Rattle.f11_volume.specs.Sound.{HasSoundVolume}
 use Rattle.f11_volume.specs.Space.{storage_bitmap}
 use Rattle.f11_volume.specs.Volume.{volume_of, IsNamed}
 use Rattle.f11_volume.proofs.FileLemmas.{bitmap-is}
-use Rattle.f11_writes.specs.Kept.{KeepsButFree}
-use Rattle.f11_writes.proofs.BitmapLemmas.{bitmap-keeps}
+use Rattle.f11_image_store.specs.writes.Kept.{KeepsButFree}
+use Rattle.f11_image_store.proofs.writes.BitmapLemmas.{bitmap-keeps}
 
 -- a free block is in the volume
 free-inside : (image : Image) (bitmap : Bitmap) (lbn : ℕ) → is_free image bitmap lbn ≡ true → lbn < bitmap.size

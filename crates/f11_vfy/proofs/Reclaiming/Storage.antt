@@ -11,8 +11,8 @@ use Rattle.f11_vfy.specs.Reclaiming.Steps.{IsChangedBlock}
 use Rattle.f11_volume.specs.Sound.{HasSoundVolume}
 use Rattle.f11_volume.specs.Space.{storage_bitmap}
 use Rattle.f11_volume.proofs.FileLemmas.{place-at}
-use Rattle.f11_writes.proofs.OwnerLemmas.{owned-once, in-index-file, in-bitmap-file}
-use Rattle.f11_writes.proofs.SlotLemmas.{IsPlacedAt}
+use Rattle.f11_image_store.proofs.writes.OwnerLemmas.{owned-once, in-index-file, in-bitmap-file}
+use Rattle.f11_image_store.proofs.writes.SlotLemmas.{IsPlacedAt}
 
 -- a property that holds of the same numbers
 pub counts-same : (P Q : ℕ → Type 0) (n count : ℕ) → ((m : ℕ) → m < n → P (m + 1) → Q (m + 1)) → ((m : ℕ) → m < n → Q (m + 1) → P (m + 1))

@@ -1,5 +1,5 @@
 -- The blocks that a header names, put into a set.
-use Rattle.std.proofs.Common.{◌≡◌, ◌≤◌, ◌<◌, ◌+◌, inl, inr, ℕ, sym, subst, arith, List, ◌++◌, Some, length, take, min}
+use Rattle.std.proofs.Common.{◌≡◌, ◌≤◌, ◌<◌, ◌+◌, inl, inr, ℕ, sym, subst, arith, List, ◌++◌, Some, length, take}
 use Rattle.std.specs.Prelude.{Contains}
 use Rattle.std.specs.List.{slice_get, range_with_len}
 use Rattle.std.proofs.lemmas.List.{take_all}
@@ -8,19 +8,9 @@ use Rattle.f11_map.specs.HeaderBlock.{blocks_named}
 use Rattle.f11_map.specs.MapArea.{runs_of, blocks_in}
 use Rattle.f11_index.proofs.BlockLemmas.{blocks_in-more}
 use Rattle.f11_vfy.specs.Frames.Earlier.{Puts}
-use Rattle.f11_vfy.specs.Surveying.Bits.{limit_of}
 use Rattle.f11_vfy.specs.declared.survey.bits.Bits.{Bits}
-use Rattle.f11_vfy.proofs.Frames.Earlier.{InRun, puts-none, puts-then, puts-same}
+use Rattle.f11_vfy.proofs.Frames.Earlier.{puts-none, puts-then}
 use Rattle.f11_volume.proofs.MemberLemmas.{in-front, in-back, in-either, in-range, range-has}
-
--- the numbers of a run
-pub range-all : (first end k stop : ℕ) (a b : Bits) → stop ≡ min end (limit_of a) → stop ≤ k → Puts (InRun first k stop) a b
-    → Puts (λ j. (first ≤ j) × (j < end)) a b
-range-all first end k stop a b is past puts =
-    puts-same (InRun first k stop) (λ j. (first ≤ j) × (j < end)) a b puts (λ j r. (r.low, omega (arith, r.high, is)))
-    (λ j below r.
-    let high : j < stop = omega (arith, r.1, below, is) in
-    record { low = r.0; so_far = omega (arith, high, past); high = high })
 
 -- the blocks of the pointers so far
 pub blocks-none : (runs : List (ℕ × ℕ)) (b : Bits) → Puts (Contains (blocks_in (take 0 runs))) b b

@@ -25,11 +25,6 @@ use Rattle.f11_vfy.specs.declared.findings.reading.Reading.{Reading}
 use Rattle.f11_volume.proofs.FrameLemmas.{frame-none}
 use Rattle.f11_vfy.proofs.Scanning.Reading.{volume-read}
 
--- the volume alone was read
-pub over-read : (index : Index) (bitmap : Bitmap) (old new : Disk) (faults : ℕ) → Looked old new (most_read index bitmap) faults
-    → LooksOverVolume index bitmap old new faults
-over-read index bitmap old new faults looked = record { reads = most_read index bitmap; looked = looked; few = λ honest. omega arith }
-
 module _ (index : Index) (bitmap : Bitmap) (r : Reading) (old mid : Disk) (read : ReadsVolume index bitmap r old mid) where
   honest-stays : IsTrue old.honest → IsTrue mid.honest
   honest-stays honest = read.looked.honest ∙ honest

@@ -1,5 +1,5 @@
 use Rattle.std.proofs.Common.{◌≡◌, ◌≤◌}
-use Rattle.f11_bytes.specs.Bits.{bit}
+use Rattle.f11_dev.specs.bytes.Bits.{bit}
 use Rattle.f11_bits.specs.Bitmap.{count_below}
 use Rattle.f11_bits.proofs.bits.count_free_below.Given as goal
 

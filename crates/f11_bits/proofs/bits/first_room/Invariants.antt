@@ -1,5 +1,5 @@
 use Rattle.std.proofs.Common.{ℕ, ◌<◌, ◌≤◌}
-use Rattle.f11_bytes.specs.Bits.{bit}
+use Rattle.f11_dev.specs.bytes.Bits.{bit}
 use Rattle.f11_bits.specs.Room.{IsRoom}
 use Rattle.f11_bits.proofs.bits.first_room.Given as goal
 

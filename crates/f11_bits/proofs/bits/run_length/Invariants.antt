@@ -1,5 +1,5 @@
 use Rattle.std.proofs.Common.{◌≡◌, ℕ, ◌<◌, ◌≤◌, true}
-use Rattle.f11_bytes.specs.Bits.{bit}
+use Rattle.f11_dev.specs.bytes.Bits.{bit}
 use Rattle.f11_bits.proofs.bits.run_length.Given as goal
 
 abbrev pub invariant-loop-k : goal.invariant-loop-k

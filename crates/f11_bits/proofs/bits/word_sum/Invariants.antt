@@ -1,5 +1,5 @@
 use Rattle.std.proofs.Common.{◌≡◌, ◌*◌, ◌%◌, sum}
-use Rattle.f11_bytes.specs.Words.{word_total}
+use Rattle.f11_dev.specs.bytes.Words.{word_total}
 use Rattle.f11_bits.proofs.bits.word_sum.Given as goal
 
 abbrev pub invariant-loop-i : goal.invariant-loop-i

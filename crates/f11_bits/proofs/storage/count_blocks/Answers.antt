@@ -1,5 +1,5 @@
 use Rattle.std.proofs.Common.{◌≡◌, ℕ, ◌+◌, ◌-◌, ◌*◌, min, get_or, refl, sym, ap, ◌∙◌, arith}
-use Rattle.f11_bytes.specs.Bits.{bit}
+use Rattle.f11_dev.specs.bytes.Bits.{bit}
 use Rattle.f11_dev.proofs.LookedLemmas.{looked_none, looked_read, looked_more}
 use Rattle.f11_bits.specs.Bitmap.{Bitmap, count_below, is_free}
 use Rattle.f11_bits.proofs.CountLemmas.{count_below-zero, count_below-le}

@@ -1,6 +1,6 @@
 use Rattle.std.proofs.Common.{sym, ap, ◌∙◌}
 use Rattle.f11_chain.proofs.StepLemmas.{FindsWrongLink-last}
-use Rattle.f11_store.specs.declared.files.FileId.{FileId}
+use Rattle.f11_index.specs.store.declared.files.FileId.{FileId}
 use Rattle.f11_chain.proofs.step.next.Goals as goal
 
 pub returns-then-before-clause-damaged : goal.returns-then-before-clause-damaged

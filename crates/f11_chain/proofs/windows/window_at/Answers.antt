@@ -1,7 +1,7 @@
 use Rattle.std.proofs.Common.{◌<◌, ◌∙◌, length, arith}
 use Rattle.std.proofs.lemmas.List.{length-set}
-use Rattle.f11_map.specs.Map.{area_of}
-use Rattle.f11_map.specs.MapArea.{runs_of}
+use Rattle.f11_index.specs.map.Map.{area_of}
+use Rattle.f11_index.specs.map.MapArea.{runs_of}
 use Rattle.f11_chain.proofs.WindowLemmas.{held-more, within-more, fills}
 use Rattle.f11_chain.proofs.windows.window_at.Goals as goal
 

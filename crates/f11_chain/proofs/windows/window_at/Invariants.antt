@@ -1,7 +1,7 @@
 use Rattle.std.proofs.Common.{◌≡◌, ◌+◌, ◌≤◌, ℕ, length, take, drop}
 use Rattle.std.specs.List.{All}
-use Rattle.f11_map.specs.Map.{area_of}
-use Rattle.f11_map.specs.MapArea.{runs_of}
+use Rattle.f11_index.specs.map.Map.{area_of}
+use Rattle.f11_index.specs.map.MapArea.{runs_of}
 use Rattle.f11_chain.proofs.windows.window_at.Given as goal
 
 -- the first pointers are held, and lie on the device

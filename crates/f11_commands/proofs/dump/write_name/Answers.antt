@@ -2,7 +2,7 @@ use Rattle.std.proofs.Common.{◌∙◌, [], ap, refl, sym}
 use Rattle.std.proofs.KnownBytes.{Appends-nil}
 use Rattle.std.proofs.lemmas.Result.{on_ok_weaker}
 use Rattle.f11_header.specs.Fields.{map_area}
-use Rattle.f11_map.specs.MapArea.{segment}
+use Rattle.f11_catalog.specs.map.MapArea.{segment}
 use Rattle.f11_commands.proofs.dump.write_name.Goals as goal
 
 -- no line

@@ -1,6 +1,6 @@
 use Rattle.std.proofs.KnownBytes.{Appends-trans}
-use Rattle.f11_map.specs.Map.{area_of}
-use Rattle.f11_map.specs.MapArea.{runs_of}
+use Rattle.f11_catalog.specs.map.Map.{area_of}
+use Rattle.f11_catalog.specs.map.MapArea.{runs_of}
 use Rattle.f11_commands.specs.Dump.{run_line}
 use Rattle.f11_commands.proofs.LineLemmas.{lines-more}
 use Rattle.f11_commands.proofs.dump.write_runs.Goals as goal

@@ -1,7 +1,7 @@
 use Rattle.std.proofs.Common.{take}
 use Rattle.std.specs.Io.KnownBytes.{Appends}
-use Rattle.f11_map.specs.Map.{area_of}
-use Rattle.f11_map.specs.MapArea.{runs_of}
+use Rattle.f11_catalog.specs.map.Map.{area_of}
+use Rattle.f11_catalog.specs.map.MapArea.{runs_of}
 use Rattle.f11_commands.specs.Dump.{run_lines}
 use Rattle.f11_commands.proofs.dump.write_runs.Given as goal
 

@@ -13,7 +13,7 @@ use crate::volume::read_index;
 use f11_catalog::{AllFiles, WalkFault};
 use f11_dev::Device;
 use f11_index::IndexFile;
-use f11_vfy::{Report, VfyError, verify};
+use f11_serving::f11_vfy::{Report, VfyError, verify};
 use std::alloc::Global;
 use std::io::Write;
 

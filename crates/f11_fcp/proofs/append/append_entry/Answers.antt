@@ -3,7 +3,7 @@ use Rattle.f11_entries.specs.Costs.{append_cost}
 use Rattle.f11_files.specs.Answers.{Breaks}
 use Rattle.f11_files.specs.Changing.Fields.{Alters, FailsToAlter}
 use Rattle.f11_files.specs.Open.{disk_in, has_failed, home_in, store_in}
-use Rattle.f11_image_store.specs.StoreOf.{store_of}
+use Rattle.f11_files.specs.image_store.StoreOf.{store_of}
 use Rattle.f11_home.specs.Home.{HomeFields}
 use Rattle.f11_store.specs.Changes.{with_replacement}
 use Rattle.f11_store.specs.Lags.{file_changes, one_part}
@@ -12,7 +12,7 @@ use Rattle.f11_files.specs.Operations.{file_causes}
 use Rattle.f11_store.specs.Directory.{record_bytes}
 use Rattle.f11_store.specs.Store.{file_named}
 use Rattle.f11_store.specs.declared.refusals.Refusal.{Refusal}
-use Rattle.f11_writes.proofs.InOrderLemmas.{order-then}
+use Rattle.f11_files.proofs.writes.InOrderLemmas.{order-then}
 use Rattle.f11_fcp.specs.Entries.{Appending}
 use Rattle.f11_fcp.proofs.RowLemmas.{leaves-then, replaced-leaves}
 use Rattle.f11_fcp.proofs.EntryLemmas.{append-there, appends, breaks-move, breaks-put}

@@ -1,9 +1,9 @@
 use Rattle.std.proofs.Common.{sym, subst}
 use Rattle.f11_files.specs.Open.{disk_in, home_in}
-use Rattle.f11_image_store.specs.StoreOf.{store_of}
+use Rattle.f11_files.specs.image_store.StoreOf.{store_of}
 use Rattle.f11_home.specs.Home.{HomeFields}
 use Rattle.f11_store.specs.Directory.{record_bytes}
-use Rattle.f11_writes.proofs.InOrderLemmas.{order-then}
+use Rattle.f11_files.proofs.writes.InOrderLemmas.{order-then}
 use Rattle.f11_fcp.specs.Entries.{IsDirectoryTail}
 use Rattle.f11_fcp.proofs.RowLemmas.{leaves-behind}
 use Rattle.f11_fcp.proofs.AppendLemmas.{appends-at-home, breaks-at-home, end-appended, end-not-appended, end-tail, end-unread, fatal-alone}

@@ -1,11 +1,11 @@
 use Rattle.std.proofs.Common.{◌∙◌, ◌||◌, ap, sym, subst}
 use Rattle.f11_files.specs.Answers.{is_clean, is_fatal}
 use Rattle.f11_files.specs.Open.{disk_in, home_in}
-use Rattle.f11_image_store.specs.StoreOf.{store_of}
+use Rattle.f11_files.specs.image_store.StoreOf.{store_of}
 use Rattle.f11_home.specs.Home.{HomeFields}
 use Rattle.f11_store.specs.Directory.{record_bytes}
 use Rattle.f11_store.specs.declared.refusals.Refusal.{Refusal}
-use Rattle.f11_writes.proofs.InOrderLemmas.{order-then}
+use Rattle.f11_files.proofs.writes.InOrderLemmas.{order-then}
 use Rattle.f11_fcp.specs.Entries.{FailsToPut, IsDirectoryTail}
 use Rattle.f11_fcp.proofs.RowLemmas.{extended-honest, extended-leaves, leaves-then}
 use Rattle.f11_fcp.proofs.AppendLemmas.{appends-at-home, breaks-at-home, new-appended, new-not-appended, new-tail, not-extended-by-one}

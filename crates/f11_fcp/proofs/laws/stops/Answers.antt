@@ -1,4 +1,4 @@
-use Rattle.f11_volume.proofs.AcceptedLemmas.{accepted-from}
+use Rattle.f11_files.proofs.volume.AcceptedLemmas.{accepted-from}
 use Rattle.f11_fcp.proofs.laws.stops.Goals as goal
 
 pub returns : goal.returns

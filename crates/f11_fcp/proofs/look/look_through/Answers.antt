@@ -4,7 +4,7 @@ use Rattle.f11_files.specs.Open.{disk_in, home_in, store_in}
 use Rattle.f11_entries.specs.Costs.{reading_cost}
 use Rattle.f11_store.specs.Store.{file_named}
 use Rattle.f11_store.specs.declared.refusals.Refusal.{Refusal}
-use Rattle.f11_writes.proofs.InOrderLemmas.{order-looked}
+use Rattle.f11_files.proofs.writes.InOrderLemmas.{order-looked}
 use Rattle.f11_fcp.proofs.LookLemmas.{through-begins, through-fails, through-finds, through-goes-on, through-ends, read-at-home}
 use Rattle.f11_fcp.proofs.LookLemmas.{fails-at-home}
 use Rattle.f11_fcp.proofs.look.look_through.Goals as goal

@@ -1,5 +1,5 @@
 use Rattle.std.proofs.Common.{ap, ◌∙◌, subst, sym, rules}
-use Rattle.f11_bytes.specs.Words.{with_word}
+use Rattle.f11_store.specs.bytes.Words.{with_word}
 use Rattle.f11_header.specs.Writing.{with_format, owner_word}
 use Rattle.f11_header.specs.Header.{holds_header, IsEmptyHeader}
 use Rattle.f11_header.proofs.BlankLemmas.{holds-blank_header, IsEmptyHeader-blank_header}

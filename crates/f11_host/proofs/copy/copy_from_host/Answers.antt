@@ -1,6 +1,6 @@
 use Rattle.std.proofs.Common.{◌≡◌, arith, false, le-ltb, lt-ltb, subst, sym, true}
-use Rattle.f11_fcp.specs.Lists.{is_sound, store_of_volume}
-use Rattle.f11_fcp.specs.Serving.{is_spent}
+use Rattle.f11_flx.specs.fcp.Lists.{is_sound, store_of_volume}
+use Rattle.f11_flx.specs.fcp.Serving.{is_spent}
 use Rattle.f11_flx.specs.Asking.{Who, who_asks}
 use Rattle.f11_flx.specs.Copying.{MayMakeFile, is_whole, of_volume}
 use Rattle.f11_flx.specs.Ended.{Ends}

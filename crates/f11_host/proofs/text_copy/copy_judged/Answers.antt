@@ -1,5 +1,5 @@
 use Rattle.std.proofs.Common.{◌≡◌, false, true, le-ltb, subst, sym}
-use Rattle.f11_fcp.specs.Lists.{is_sound, store_of_volume}
+use Rattle.f11_flx.specs.fcp.Lists.{is_sound, store_of_volume}
 use Rattle.f11_flx.specs.Asking.{Who, who_asks}
 use Rattle.f11_flx.specs.Copying.{MayMakeFile, is_whole, of_volume}
 use Rattle.f11_flx.specs.Ended.{Ends}

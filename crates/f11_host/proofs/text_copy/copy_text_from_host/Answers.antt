@@ -1,5 +1,5 @@
 use Rattle.std.proofs.Common.{◌≡◌, lt-ltb, true}
-use Rattle.f11_fcp.specs.Lists.{store_of_volume}
+use Rattle.f11_flx.specs.fcp.Lists.{store_of_volume}
 use Rattle.f11_flx.specs.Asking.{who_asks}
 use Rattle.f11_host.specs.CopyTextFromHost.{is_text_too_long}
 use Rattle.f11_host.proofs.HostLemmas.{too-long-files}

@@ -1,10 +1,10 @@
 use Rattle.std.proofs.Common.{◌≡◌, ◌≤◌, List, ℕ, sym, ap, subst, ◌∙◌, eqb-true, eq-eqb}
-use Rattle.f11_header.specs.Fields.{map_offset, map_area, file_sequence}
-use Rattle.f11_header.specs.MapFields.{segment}
-use Rattle.f11_header.proofs.HeaderFacts.{map_within}
+use Rattle.f11_map.specs.header.Fields.{map_offset, map_area, file_sequence}
+use Rattle.f11_map.specs.header.MapFields.{segment}
+use Rattle.f11_map.proofs.header.HeaderFacts.{map_within}
 use Rattle.f11_map.specs.HeaderBlock.{segment_number}
 use Rattle.f11_index.specs.IndexFile.{bit_of_slot}
-use Rattle.f11_store.specs.declared.files.FileId.{FileId}
+use Rattle.f11_map.specs.store.declared.files.FileId.{FileId}
 use Rattle.f11_index.proofs.walk.is_header_due.Goals as goal
 
 pub segment-requires : goal.segment-requires

@@ -10,7 +10,7 @@ use Rattle.f11_index.specs.declared.fault.IndexFault.TheVariants.{Misplaced}
 use Rattle.f11_index.specs.declared.walk.Due.{Due}
 use Rattle.f11_index.proofs.walk.step.Goals as goal
 use Rattle.f11_map.specs.MapArea.{link}
-use Rattle.f11_store.specs.declared.files.FileId.{FileId}
+use Rattle.f11_map.specs.store.declared.files.FileId.{FileId}
 
 linked-next : (headers : List ℕ) (to : FileId) (next : Option Due) → IsNextDue headers to next → to.number ≤ length headers
 linked-next headers to None is = omega arith

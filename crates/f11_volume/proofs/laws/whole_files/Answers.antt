@@ -1,4 +1,4 @@
-use Rattle.f11_index.specs.Table.{first}
+use Rattle.f11_chain.specs.index.Table.{first}
 use Rattle.f11_volume.proofs.FileLemmas.{reached-are, file-headers-are, file-blocks-are}
 use Rattle.f11_volume.proofs.laws.whole_files.Goals as goal
 

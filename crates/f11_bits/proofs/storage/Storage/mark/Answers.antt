@@ -1,7 +1,7 @@
 use Rattle.std.proofs.Common.{◌≡◌, ◌⊎◌, inl, inr, ℕ, ◌+◌, ◌-◌, ◌*◌, ◌/◌, ◌%◌, ◌<◌, ◌≤◌, min, max, subst, ◌∙◌, arith}
 use Rattle.std.proofs.lemmas.Bool.{cases_lt}
 use Rattle.f11_dev.proofs.WentLemmas.{went_within}
-use Rattle.f11_bytes.proofs.ResultLemmas.{OnErr-given}
+use Rattle.f11_dev.proofs.bytes.ResultLemmas.{OnErr-given}
 use Rattle.f11_bits.specs.Bitmap.{Bitmap, KeepsFrom}
 use Rattle.f11_bits.specs.Changes.{Changing}
 use Rattle.f11_bits.specs.Storage.{bitmap_of}

@@ -1,6 +1,6 @@
 use Rattle.std.proofs.Common.{◌≡◌, ℕ, ◌+◌, ◌-◌, ◌*◌, ◌/◌, ◌%◌, ◌<◌, ◌≤◌, false, inl, inr, arith}
 use Rattle.f11_dev.proofs.WentLemmas.{went_within}
-use Rattle.f11_bytes.proofs.ResultLemmas.{OnErr-given}
+use Rattle.f11_dev.proofs.bytes.ResultLemmas.{OnErr-given}
 use Rattle.f11_bits.specs.Changes.{Changing}
 use Rattle.f11_bits.specs.Storage.{bitmap_of}
 use Rattle.f11_bits.specs.Transfers.{giving_transfers}

@@ -1,6 +1,6 @@
 use Rattle.std.proofs.Common.{◌≢◌, ◌+◌, ◌/◌, ◌<◌, false, inl, inr, refl, subst, sym, Bool, IsTrue, length, arith}
 use Rattle.f11_dev.proofs.WentLemmas.{went_within}
-use Rattle.f11_bytes.proofs.ResultLemmas.{OnErr-given}
+use Rattle.f11_dev.proofs.bytes.ResultLemmas.{OnErr-given}
 use Rattle.f11_bits.specs.Bitmap.{Bitmap, LiesWithin}
 use Rattle.f11_bits.specs.Changes.{Changing}
 use Rattle.f11_bits.specs.Parts.{HasBitOf}

@@ -1,7 +1,7 @@
 use Rattle.std.proofs.Common.{false, Bool, IsTrue, subst, ap, arith}
 use Rattle.f11_dev.specs.Image.{Image}
 use Rattle.f11_dev.proofs.LookedLemmas.{looked_none, looked_within}
-use Rattle.f11_bytes.proofs.ResultLemmas.{OnErr-given}
+use Rattle.f11_dev.proofs.bytes.ResultLemmas.{OnErr-given}
 use Rattle.f11_bits.specs.Bitmap.{Marks, free_blocks}
 use Rattle.f11_bits.specs.Storage.{bitmap_of}
 use Rattle.f11_bits.proofs.BitmapLemmas.{free_blocks-taken}

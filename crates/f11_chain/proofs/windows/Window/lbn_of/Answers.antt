@@ -1,7 +1,7 @@
 use Rattle.std.proofs.Common.{◌<◌, ◌≤◌, length, refl, arith}
 use Rattle.std.specs.Prelude.{slice_index_or}
 use Rattle.f11_chain.specs.Windows.{runs_held}
-use Rattle.f11_map.proofs.MapLemmas.{length-blocks_in-more}
+use Rattle.f11_index.proofs.map.MapLemmas.{length-blocks_in-more}
 use Rattle.f11_chain.proofs.WindowLemmas.{run-held, held-at}
 use Rattle.f11_chain.proofs.windows.Window.lbn_of.Goals as goal
 

@@ -1,5 +1,5 @@
 use Rattle.std.proofs.Common.{◌≡◌, ◌+◌, ◌-◌, length, take}
-use Rattle.f11_map.specs.MapArea.{blocks_in}
+use Rattle.f11_index.specs.map.MapArea.{blocks_in}
 use Rattle.f11_chain.specs.Windows.{runs_held}
 use Rattle.f11_chain.proofs.windows.Window.lbn_of.Given as goal
 

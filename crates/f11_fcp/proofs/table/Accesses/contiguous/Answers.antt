@@ -2,7 +2,7 @@ use Rattle.std.proofs.Common.{[], ◌∙◌, ◌||◌, false, ap, sym, refl}
 use Rattle.std.proofs.lemmas.Bool.{ne_eqb}
 use Rattle.f11_files.specs.Answers.{is_fatal}
 use Rattle.f11_files.specs.Open.{store_in}
-use Rattle.f11_writes.proofs.InOrderLemmas.{order-then, order-looked}
+use Rattle.f11_files.proofs.writes.InOrderLemmas.{order-then, order-looked}
 use Rattle.f11_fcp.specs.Handles.{state_of}
 use Rattle.f11_fcp.specs.Places.{access_table_of, entry_of}
 use Rattle.f11_fcp.proofs.WindowLemmas.{windows-on}

@@ -5,8 +5,8 @@ use Rattle.f11_store.specs.Changes.{with_marked_file}
 use Rattle.f11_store.specs.Store.{Store}
 use Rattle.f11_files.specs.Answers.{is_fatal}
 use Rattle.f11_files.specs.Open.{store_in, disk_in, home_in}
-use Rattle.f11_image_store.specs.StoreOf.{store_of}
-use Rattle.f11_writes.proofs.InOrderLemmas.{order-then, order-looked}
+use Rattle.f11_files.specs.image_store.StoreOf.{store_of}
+use Rattle.f11_files.proofs.writes.InOrderLemmas.{order-then, order-looked}
 use Rattle.f11_fcp.specs.Accesses.{AccessTable, HasAccessed, with_marks}
 use Rattle.f11_fcp.specs.Handles.{state_of}
 use Rattle.f11_fcp.specs.Places.{access_table_of}

@@ -1,5 +1,5 @@
 use Rattle.std.proofs.Common.{◌≡◌, ℕ, [], Ok, Err, refl, sym, ◌∙◌, ap, subst, arith}
-use Rattle.f11_writes.proofs.InOrderLemmas.{order-none, order-then}
+use Rattle.f11_files.proofs.writes.InOrderLemmas.{order-none, order-then}
 use Rattle.f11_fcp.specs.Handles.{Handles, state_of}
 use Rattle.f11_fcp.specs.Places.{access_table_of, entry_of}
 use Rattle.f11_store.specs.declared.requests.Request.TheVariants as request

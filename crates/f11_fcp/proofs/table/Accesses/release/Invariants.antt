@@ -1,5 +1,5 @@
 use Rattle.f11_files.specs.Open.{disk_in}
-use Rattle.f11_writes.specs.Order.{WritesInOrder}
+use Rattle.f11_files.specs.writes.Order.{WritesInOrder}
 use Rattle.f11_fcp.specs.Handles.{IsOpen, state_of}
 use Rattle.f11_fcp.specs.Places.{access_table_of}
 use Rattle.f11_fcp.specs.ByWindow.{KeepsWindows}

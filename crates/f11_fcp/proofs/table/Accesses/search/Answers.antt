@@ -4,12 +4,12 @@ use Rattle.f11_files.specs.Answers.{FailsToRead, is_fatal}
 use Rattle.f11_files.specs.Finding.Length.{CountsBlocks}
 use Rattle.f11_files.specs.Open.{disk_in, has_failed, home_in, store_in}
 use Rattle.f11_files.specs.Operations.{file_causes}
-use Rattle.f11_image_store.specs.StoreOf.{store_of}
+use Rattle.f11_files.specs.image_store.StoreOf.{store_of}
 use Rattle.f11_home.specs.Home.{HomeFields}
 use Rattle.f11_store.specs.Cost.{header_count}
 use Rattle.f11_store.specs.Store.{file_named}
 use Rattle.f11_store.specs.declared.refusals.Refusal.{Refusal}
-use Rattle.f11_writes.proofs.InOrderLemmas.{order-looked}
+use Rattle.f11_files.proofs.writes.InOrderLemmas.{order-looked}
 use Rattle.f11_fcp.specs.Directories.{IsDirectoryOf, LooksThroughDirectory, opening_causes}
 use Rattle.f11_fcp.specs.Places.{access_table_of}
 use Rattle.f11_fcp.proofs.AppendLemmas.{fatal-alone}

@@ -1,7 +1,7 @@
 use Rattle.std.proofs.Common.{◌≡◌, ◌+◌, ◌*◌, ◌≤◌, ◌∙◌, length, refl, sym, ap, arith}
 use Rattle.std.specs.Prelude.{slice_range}
-use Rattle.f11_bytes.specs.Part.{with_bytes}
-use Rattle.f11_bytes.proofs.PartLemmas.{slice_range-within}
+use Rattle.f11_store.specs.bytes.Part.{with_bytes}
+use Rattle.f11_store.proofs.bytes.PartLemmas.{slice_range-within}
 use Rattle.f11_header.specs.Fields.{ident_offset, ident_end}
 use Rattle.f11_header.specs.Lending.{over}
 use Rattle.f11_header.proofs.FieldLemmas.{keeps-with_ident, ident_end-first}

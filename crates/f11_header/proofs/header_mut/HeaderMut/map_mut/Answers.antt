@@ -1,6 +1,6 @@
 use Rattle.std.proofs.Common.{◌-◌, ◌*◌, ◌∙◌, refl}
 use Rattle.std.specs.Prelude.{slice_range}
-use Rattle.f11_bytes.specs.Part.{with_bytes}
+use Rattle.f11_store.specs.bytes.Part.{with_bytes}
 use Rattle.f11_header.specs.Lending.{over}
 use Rattle.f11_header.proofs.header_mut.HeaderMut.map_mut.Goals as goal
 

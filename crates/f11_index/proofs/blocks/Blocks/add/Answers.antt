@@ -3,7 +3,7 @@ use Rattle.std.specs.List.{slice_get, range_with_len}
 use Rattle.std.proofs.lemmas.Bool.{both_ways}
 use Rattle.std.proofs.lemmas.List.FromFn.{length-range_with_len}
 use Rattle.std.proofs.lemmas.List.{take_all}
-use Rattle.f11_header.specs.Fields.{map_area}
+use Rattle.f11_map.specs.header.Fields.{map_area}
 use Rattle.f11_map.specs.HeaderBlock.{blocks_named}
 use Rattle.f11_index.specs.Walk.{FitFrom, AddsTo}
 use Rattle.f11_index.proofs.BlockLemmas.{Adds-none, Adds-append, FitFrom-none, FitFrom-append, FitFrom-pointer, blocks_in-more}

@@ -1,5 +1,5 @@
 use Rattle.std.proofs.Common.{◌+◌, ◌*◌, ◌≤◌, take}
-use Rattle.f11_header.specs.Fields.{map_area}
+use Rattle.f11_map.specs.header.Fields.{map_area}
 use Rattle.f11_index.specs.Walk.{AddsTo, FitFrom}
 use Rattle.f11_map.specs.MapArea.{runs_of, blocks_in}
 use Rattle.f11_index.proofs.blocks.Blocks.add.Given as goal

@@ -1,5 +1,0 @@
-use Rattle.f11_text_tests.proofs.ServedLemmas.{requests_counted}
-use Rattle.f11_text_tests.proofs.serving.requests_of.Goals as goal
-
-pub returns : goal.returns
-returns g c = requests_counted _ _ _ _ _ _ _ c.run_lines.ensures.runs
