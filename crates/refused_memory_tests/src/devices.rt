@@ -96,14 +96,14 @@ fn a_file_is_opened(rt: HostRuntime) -> Result<(), Fail> {
     fs::write(&rt, OPENED, [7; 1536].as_slice())?;
     let mut image = FileImage::open(&rt, OPENED)?;
     assert_eq!(rt; (image.blocks(), bytes_of(&mut image)), (3, [Some(7); 3]));
+    drop(image);
     let mut protected = FileImage::open_to_read(&rt, OPENED)?;
     let is_written = put(&mut protected, 1, &ZEROS).is_ok();
-    let found = [byte_of(&mut protected, 1), byte_of(&mut image, 1)];
-    assert!(rt; !is_written && found == [Some(7); 2]);
+    assert!(rt; !is_written && byte_of(&mut protected, 1) == Some(7));
     // what is cut away meanwhile can't be read
     fs::write(&rt, OPENED, [0; 1023].as_slice())?;
-    let cut = FileImage::open(&rt, OPENED)?;
-    assert_eq!(rt; (cut.blocks(), byte_of(&mut image, 1)), (1, None));
+    let cut = FileImage::open_to_read(&rt, OPENED)?;
+    assert_eq!(rt; (cut.blocks(), byte_of(&mut protected, 1)), (1, None));
     fs::remove_file(&rt, OPENED)?;
     Ok(())
 }
