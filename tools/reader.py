@@ -77,6 +77,21 @@ class Header:
         return word(self.b, 2 * self.b[0] + 6) == DIR and self.b[14] == 1 and word(self.b, 16) == 16
 
 
+def called(name):
+    """What the directory with a name is called, and the folder that its files are taken to."""
+    user = re.fullmatch(r"([0-3][0-7]{2})([0-3][0-7]{2})\.DIR;1", name)
+    if user:
+        return f"[{int(user[1], 8):o},{int(user[2], 8):o}]", f"[{user[1]},{user[2]}]"
+    text = f"[{name.removesuffix('.DIR;1')}]"
+    return text, text
+
+
+def word_name(header):
+    """The name that a header's ident area has, if it is one."""
+    words = [word(header.b, 2 * header.b[0] + 2 * k) for k in range(5)]
+    return shown(words) if is_name(words) else None
+
+
 class Wrong(Exception):
     """A fault of the frame."""
 
@@ -130,23 +145,26 @@ class Files:
         if any(lbn >= self.blocks for lbn in index) or index[:len(fixed)] != fixed:
             raise misplaced
         self.slots = min(len(index) - before, 4096 * self.bitmap_size, 65535)
-        self.used = {n: Header(self.block(index[before + n - 1])) for n in range(1, self.slots + 1) if self.bit(n)}
+        self.every = {n: Header(self.block(index[before + n - 1])) for n in range(1, self.slots + 1)}
+        self.valid = {n: h for n, h in self.every.items() if h.is_valid(n)}
+        self.used = {n: h for n, h in self.every.items() if self.bit(n)}
         self.live = {n: h for n, h in self.used.items() if h.is_valid(n)}
         self.files = {n: h for n, h in self.live.items() if h.segment == 0}
 
-    def next(self, header):
-        found = self.live.get(header.link)
+    def next(self, header, of=None):
+        found = (self.live if of is None else of).get(header.link)
         return found if found and header.links_to(found) else None
 
-    def chain(self, n):
-        headers, header = [], self.files[n]
+    def chain(self, n, of=None):
+        """The headers of a file, by those of slots in use, or by these."""
+        headers, header = [], (self.live if of is None else of)[n]
         while header:
             headers.append(header)
-            header = self.next(header)
+            header = self.next(header, of)
         return headers
 
-    def places(self, n):
-        return [lbn for h in self.chain(n) for lbn in h.blocks()]
+    def places(self, n, of=None):
+        return [lbn for h in self.chain(n, of) for lbn in h.blocks()]
 
     def records(self, n):
         """The records of a directory, each its eight words."""
@@ -158,6 +176,11 @@ class Files:
     def has(self, number, sequence, volume):
         return number in self.files and self.files[number].sequence == sequence and volume == 0
 
+    def is_there(self, number, sequence, volume):
+        """A header whose slot may be out of use is a file's first, and has this identification."""
+        header = self.valid.get(number)
+        return header is not None and header.segment == 0 and header.sequence == sequence and volume == 0
+
     def listed(self, number, sequence, volume):
         """The lines of a directory."""
         if not self.has(number, sequence, volume):
@@ -166,24 +189,29 @@ class Files:
             raise Refused("NotDirectory")
         for _, *found, name in self.records(number):
             what = f"{shown(name)} {identified(*found)}"
-            if found[0] and self.has(*found):
-                h, blocks = self.files[found[0]], len(self.places(found[0]))
+            if found[0] and self.is_there(*found):
+                of = self.live if self.has(*found) else self.valid
+                h, blocks = of[found[0]], len(self.places(found[0], of))
                 facts = f"blocks {blocks} bytes {min(h.end(), BLOCK * blocks)} owner {h.uic()} prot {word(h.b, 10):o}"
-                yield f"file {what} {facts}{h.marks()}"
+                yield f"file {what} {facts}{h.marks()}" + ("" if self.has(*found) else " out of use")
             elif found[0]:
                 yield f"entry {what} no file"
 
-    def users(self):
-        """The lines of all users' directories."""
+    def directories(self):
+        """What each directory is called that the master file directory names, the folder that its files are taken to, and its identification."""
+        for _, *found, name in self.records(4):
+            if found[0] and is_name(name) and self.has(*found) and self.files[found[0]].is_directory():
+                yield *called(shown(name)), found
+
+    def all_listed(self):
+        """The lines of all directories."""
         if not self.has(4, 4, 0):
             raise Refused("NoSuchFile")
         if not self.files[4].is_directory():
             raise Refused("NotDirectory")
-        for _, *found, name in self.records(4):
-            user = re.fullmatch(r"([0-3][0-7]{2})([0-3][0-7]{2})\.DIR;1", shown(name))
-            if found[0] and user and self.has(*found) and self.files[found[0]].is_directory():
-                yield f"[{int(user[1], 8):o},{int(user[2], 8):o}]"
-                yield from self.listed(*found)
+        for text, _, found in self.directories():
+            yield text
+            yield from self.listed(*found)
 
     def found(self, directory, name):
         """What the first record of a directory with a name has: number, sequence number and volume."""
@@ -224,29 +252,35 @@ class Files:
                 return i + 1
         return None
 
-    def entered(self):
-        """The files that users' directories name: the user's two numbers, in three octal digits each, the name, and the file's number."""
-        if not (self.has(4, 4, 0) and self.files[4].is_directory()):
-            return
-        for _, *found, name in self.records(4):
-            user = re.fullmatch(r"([0-3][0-7]{2})([0-3][0-7]{2})\.DIR;1", shown(name))
-            if found[0] and user and self.has(*found) and self.files[found[0]].is_directory():
-                for _, *file, words in self.records(found[0]):
-                    if file[0] and is_name(words) and self.has(*file):
-                        yield user[1], user[2], shown(words), file[0]
+    def whole(self, n, of):
+        """As taken, of a file by these headers: all its blocks where it wasn't closed and states the end 0."""
+        header, places = of[n], self.places(n, of)
+        all_blocks = header.end() == 0 and header.b[12] >> 6 & 1
+        end = BLOCK * len(places) if all_blocks else header.end()
+        content = b"".join(map(self.block, places))[:end]
+        missing = next((i + 1 for i in range((end + BLOCK - 1) // BLOCK) if i == len(places) or places[i] >= self.blocks), None)
+        said = f"copied {len(content)} bytes" + " open, all blocks" * bool(all_blocks and places)
+        return content, said + (f" broke off at VBN {missing}" if missing else ""), missing
 
     def everything(self):
-        """What `get --all` takes out: of each file the line without the bytes, the path, and the number."""
+        """What `get --all` goes over: where each stands, as its line says, the folder and the name of the host, and its identification."""
         known = set()
-        for group, member, name, n in self.entered():
-            known.add(n)
-            yield f"[{int(group, 8):o},{int(member, 8):o}] {name}", f"[{group},{member}]/{name}", n
+        if self.has(4, 4, 0) and self.files[4].is_directory():
+            for text, folder, directory in self.directories():
+                for _, *found, words in self.records(directory[0]):
+                    if found[0]:
+                        if self.has(*found):
+                            known.add(found[0])
+                        yield f"{text} {shown(words)}", folder if is_name(words) else None, shown(words), found
         for n in sorted(self.files.keys() - known):
-            yield f"lost {n},{self.files[n].sequence}", self.lost(n), n
+            name = word_name(self.files[n])
+            yield f"lost {n},{self.files[n].sequence}" + f" {name}" * bool(name), None, name, (n, self.files[n].sequence, 0)
 
-    def lost(self, n):
-        """The path of a file in no directory, and of one whose path is taken."""
-        return f"lost/{n},{self.files[n].sequence}"
+    def why_missing(self, number, sequence, volume):
+        header = self.every.get(number)
+        if volume == 0 and header and header.number and not header.is_valid(number):
+            return f"header {number} bad"
+        return f"no file {identified(number, sequence, volume)}"
 
     def names(self):
         """Names of all directories' records."""
@@ -257,7 +291,7 @@ def listing(image, user=None):
     """The lines of `ls`."""
     try:
         files = Files(image)
-        return [*(files.users() if user is None else files.user(user))]
+        return [*(files.all_listed() if user is None else files.user(user))]
     except Wrong as wrong:
         return [f"fault {wrong}"]
     except Refused as refused:
@@ -270,9 +304,26 @@ def everything(image):
         files = Files(image)
     except Wrong as wrong:
         return [f"fault {wrong}"], None
-    lines, made = [], {}
-    for what, path, n in files.everything():
-        content, said = files.taken(n)
-        lines.append(f"{what} {said}")
-        made.setdefault(files.lost(n) if path in made else path, content)
+    lines, made, copied, cut, left_out, lost = [], {}, 0, 0, 0, 0
+    for what, folder, name, found in files.everything():
+        if not files.is_there(*found):
+            lines.append(f"{what} not copied {files.why_missing(*found)}")
+            left_out += 1
+            continue
+        id = identified(*found)
+        # a file that no directory names, or whose name is none
+        path = f"{folder}/{name}" if folder else f"lost/{id}" + (f" {name}" if name and what.startswith("lost ") else "")
+        beside = ""
+        if path in made and folder:
+            path, beside = f"{path} ({id})", f" ({id})"
+        if path in made:
+            lines.append(f"{what} not copied again")
+            continue
+        content, said, missing = files.whole(found[0], files.live if files.has(*found) else files.valid)
+        lines.append(f"{what}{beside} {said}")
+        made[path] = content
+        copied += 1
+        cut += missing is not None
+        lost += what.startswith("lost ")
+    lines.append(f"all {copied} copied, {cut} cut, {left_out} not copied, {lost} in lost")
     return lines, made

@@ -5,7 +5,9 @@ pub mod OpenLemmas
 pub mod ListingLemmas
 pub mod SearchLemmas
 pub mod LineLemmas
-pub mod UserLemmas
+pub mod DirectoryLemmas
+pub mod ContentLemmas
+pub mod NameLemmas
 pub mod WalkLemmas
 pub mod EnteredLemmas
 pub mod LostLemmas

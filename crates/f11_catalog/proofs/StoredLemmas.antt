@@ -6,7 +6,8 @@ use Rattle.std.specs.Option.{option_and_then}
 use Rattle.f11_dev.specs.Image.{Image}
 use Rattle.f11_volume.specs.home.Home.{HomeFields}
 use Rattle.f11_image_store.specs.StoreOf.{as_seen, file_at, is_first, store_of}
-use Rattle.f11_index.specs.Table.{Table, last_sequence, table_of}
+use Rattle.f11_index.specs.IndexFile.{Index}
+use Rattle.f11_index.specs.Table.{Table, last_sequence, table_in, table_of}
 use Rattle.f11_store.specs.Directory.{entries_of, is_empty, record_id, record_name}
 use Rattle.f11_store.specs.File.{File, no_file}
 use Rattle.f11_store.specs.Store as store
@@ -97,12 +98,15 @@ pub listed-entries : (image : Image) (home : HomeFields) (id : FileId) → id.vo
 listed-entries image home id here high =
     ap (λ (o : Option File). entries_of (unwrap_or o no_file)) (sym (stored-alike image home id here high))
 
-pub shown-file : (image : Image) (home : HomeFields) (r : List ℕ) → is_empty r ≡ false → (record_id r).volume ≡ 0
+pub shown-file : (wide : Index) (image : Image) (home : HomeFields) (r : List ℕ) → is_empty r ≡ false → (record_id r).volume ≡ 0
     → nat_le (record_id r).number 3 ≡ false
-    → record_line image (table_of image home) r
+    → record_line wide image (table_of image home) r
     ≡ named_line (name_shown (record_name r)) (record_id r) (store.file_of (store_of image home) (record_id r))
-shown-file image home r some here high =
+    (file_named image (table_in image wide) (record_id r))
+shown-file wide image home r some here high =
+    let other : Option File = file_named image (table_in image wide) (record_id r) in
     ap (λ (b : Bool). cond b []
-    (named_line (name_shown (record_name r)) (record_id r) (file_named image (table_of image home) (record_id r))))
+    (named_line (name_shown (record_name r)) (record_id r) (file_named image (table_of image home) (record_id r)) other))
     some
-    ∙ ap (named_line (name_shown (record_name r)) (record_id r)) (sym (stored-alike image home (record_id r) here high))
+    ∙ ap (λ (f : Option File). named_line (name_shown (record_name r)) (record_id r) f other)
+    (sym (stored-alike image home (record_id r) here high))

@@ -19,7 +19,7 @@ use Rattle.f11_catalog.specs.Records.{file_named, records_of}
 abbrev pub NoFileIsLeftOut : Type 0
 NoFileIsLeftOut =
     (image : Image) (index : Index) (master : FileId) (n : ℕ) → is_first (table_in image index) n ≡ true →
-    is_among (all_files image (table_in image index) master) n ≡ true
+    is_among (table_in image index) (all_files image (table_in image index) master) n ≡ true
 
 -- the file that the plain store has with an identification on this volume is the one that it names, as requests see it: files 1 to 3
 -- without their blocks
@@ -48,10 +48,11 @@ ListsTheStoresEntries =
     (image : Image) (home : HomeFields) (id : FileId) → id.volume ≡ 0 → nat_le id.number 3 ≡ false →
     records_of image (table_of image home) id ≡ entries_of (store.file_named (store_of image home) id)
 
--- and the line of a record that names one of these is that of the store's file
+-- and the line of a record that names one of these is that of the store's file, else that of one whose slot isn't in use
 abbrev pub ShowsTheStoresFile : Type 0
 ShowsTheStoresFile =
-    (image : Image) (home : HomeFields) (r : List ℕ) → is_empty r ≡ false → (record_id r).volume ≡ 0 →
+    (wide : Index) (image : Image) (home : HomeFields) (r : List ℕ) → is_empty r ≡ false → (record_id r).volume ≡ 0 →
     nat_le (record_id r).number 3 ≡ false →
-    record_line image (table_of image home) r
+    record_line wide image (table_of image home) r
     ≡ named_line (name_shown (record_name r)) (record_id r) (store.file_of (store_of image home) (record_id r))
+    (file_named image (table_in image wide) (record_id r))

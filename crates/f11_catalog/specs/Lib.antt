@@ -1,9 +1,11 @@
 pub mod Records
 pub mod Facts
 pub mod Users
+pub mod DirectoryNames
 pub mod Lines
 pub mod Listing
 pub mod AllFiles
+pub mod Contents
 pub mod Walking
 pub mod Laws
 pub use Rattle.f11_image_store.specs as image_store

@@ -1,5 +1,5 @@
 -- What a listing does, and a look for a name (profile).
-use Rattle.std.specs.Prelude.{◌≡◌, ℕ, IsTrue, List, length, Option, Some, None, option_map, find, Result, Ok, Err}
+use Rattle.std.specs.Prelude.{◌≡◌, ℕ, Bool, IsTrue, List, length, Option, Some, None, option_map, find, Result, Ok, Err}
 use Rattle.std.specs.Io.KnownBytes.{Appends}
 use Rattle.f11_chain.specs.Calls.{table}
 use Rattle.f11_dev.specs.Disk.{Disk}
@@ -34,11 +34,11 @@ pub record Lists {W : Type 0} (text : Image → Table → List (List ℕ) → Li
   pub writes : Writes (λ image t. text image t (records_of image t id)) index old new contents before after
 
 -- The line of a file was written whose first header is in hand, with so many blocks as are to come.
-pub record WritesFile {W : Type 0} (index : Index) (name : List ℕ) (id : FileId) (file : FileReader) (old new : Disk)
+pub record WritesFile {W : Type 0} (index : Index) (in_use : Bool) (name : List ℕ) (id : FileId) (file : FileReader) (old new : Disk)
     (contents : W → Option (List ℕ)) (before after : W) : Type 0 where
   pub blocks : ℕ
   pub count : IsTrue old.honest → blocks ≡ length (blocks_to_come (table index old) file)
-  pub takes : Appends (contents before) (contents after) (file_line name id (facts_in file.header blocks))
+  pub takes : Appends (contents before) (contents after) (file_line in_use name id (facts_in file.header blocks))
   pub reads : Reads old new 0
 
 -- The text of the records of a directory that were still to come was written.

@@ -8,37 +8,39 @@ use Rattle.f11_dev.specs.Image.{Image}
 use Rattle.f11_dev.specs.Looked.{Looked}
 use Rattle.f11_index.specs.IndexFile.{Index}
 use Rattle.f11_index.specs.Table.{Table}
-use Rattle.f11_reader.specs.Reading.{OpensFile}
-use Rattle.f11_store.specs.declared.callers.Uic.{Uic}
+use Rattle.f11_reader.specs.declared.file.FileReader.{FileReader}
 use Rattle.f11_store.specs.declared.files.FileId.{FileId}
 use Rattle.f11_catalog.specs.AllFiles.{all_files, entered_files, id_of, is_among, lost_files, place_entered}
-use Rattle.f11_catalog.specs.AllFiles.{places_entered, places_of_users, places_under}
+use Rattle.f11_catalog.specs.AllFiles.{places_entered, places_of_directories, places_under}
+use Rattle.f11_catalog.specs.Contents.{Holds, OpensBehind}
 use Rattle.f11_catalog.specs.Records.{IsReadingRecords, Reads, records_to_come}
 use Rattle.f11_catalog.specs.declared.directory.DirectoryReader.{DirectoryReader}
+use Rattle.f11_catalog.specs.declared.directory_name.DirectoryName.{DirectoryName}
 use Rattle.f11_catalog.specs.declared.fault.WalkFault.{WalkFault}
 use Rattle.f11_catalog.specs.declared.fault.WalkFault.TheVariants.{DeviceFault, NoMemory}
+use Rattle.f11_catalog.specs.declared.walk.content.Content.TheVariants.{File}
 use Rattle.f11_catalog.specs.declared.walk.place.FileAt.{FileAt}
 use Rattle.f11_catalog.specs.declared.walk.place.Place.{Place}
 use Rattle.f11_catalog.specs.declared.walk.state.AllFiles.{AllFiles}
 use Rattle.f11_catalog.specs.declared.walk.state.OtherFiles.{OtherFiles}
-use Rattle.f11_catalog.specs.declared.walk.state.UserDirectory.{UserDirectory}
-use Rattle.f11_catalog.specs.declared.walk.state.UserFiles.{UserFiles}
+use Rattle.f11_catalog.specs.declared.walk.state.OpenDirectory.{OpenDirectory}
+use Rattle.f11_catalog.specs.declared.walk.state.EnteredFiles.{EnteredFiles}
 
--- the files that the rest of a user's directory names
-abbrev pub hand_to_come : Index → Disk → Option UserDirectory → List Place
+-- what the rest of a directory names
+abbrev pub hand_to_come : Index → Disk → Option OpenDirectory → List Place
 hand_to_come index disk None = []
-hand_to_come index disk (Some hand) = places_entered (table index disk) hand.user (records_to_come index disk hand.directory)
+hand_to_come index disk (Some hand) = places_entered hand.name (records_to_come index disk hand.directory)
 
--- those of the users' directories that the rest of the master file directory names
+-- what the directories name that the rest of the master file directory names
 abbrev pub master_to_come : Index → Disk → Option DirectoryReader → List Place
 master_to_come index disk None = []
-master_to_come index disk (Some master) = places_of_users disk.image (table index disk) (records_to_come index disk master)
+master_to_come index disk (Some master) = places_of_directories disk.image (table index disk) (records_to_come index disk master)
 
--- the files in users' directories that are still to come
-abbrev pub entered_to_come : Index → Disk → UserFiles → List Place
+-- what directories name that is still to come
+abbrev pub entered_to_come : Index → Disk → EnteredFiles → List Place
 entered_to_come index disk files = hand_to_come index disk files.hand ++ master_to_come index disk files.master
 
--- file n was met in a user's directory
+-- file n was met in a directory
 abbrev pub is_met : OtherFiles → ℕ → Bool
 is_met others n = get_or others.met.items n false
 
@@ -48,7 +50,7 @@ others_to_come t known others = lost_files t known others.next (t.slots + 1 - ot
 
 -- file n was met, or will be
 abbrev pub is_known : Index → Disk → AllFiles → ℕ → Bool
-is_known index disk files n = is_met files.others n || is_among (entered_to_come index disk files.entered) n
+is_known index disk files n = is_met files.others n || is_among (table index disk) (entered_to_come index disk files.entered) n
 
 -- all files that are still to come
 unfoldable pub files_to_come : Index → Disk → AllFiles → List Place
@@ -56,15 +58,15 @@ files_to_come index disk files =
     entered_to_come index disk files.entered ++ others_to_come (table index disk) (is_known index disk files) files.others
 
 -- directories of this disk are read
-abbrev pub IsWalkingUsers : Index → UserFiles → Disk → Type 0
-IsWalkingUsers index files disk =
+abbrev pub IsWalkingDirectories : Index → EnteredFiles → Disk → Type 0
+IsWalkingDirectories index files disk =
     IfSome files.hand (λ hand. IsReadingRecords index hand.directory disk) × IfSome files.master (λ d. IsReadingRecords index d disk)
 
 abbrev pub IsWalking : Index → AllFiles → Disk → Type 0
-IsWalking index files disk = IsWalkingUsers index files.entered disk
+IsWalking index files disk = IsWalkingDirectories index files.entered disk
 
 -- how many more files may come at most from what is in hand, and from the master file directory: no directory has more than 2^38 records
-abbrev pub hand_left : Option UserDirectory → ℕ
+abbrev pub hand_left : Option OpenDirectory → ℕ
 hand_left None = 0
 hand_left (Some hand) = hand.directory.left
 
@@ -72,31 +74,42 @@ abbrev pub master_left : Option DirectoryReader → ℕ
 master_left None = 0
 master_left (Some master) = master.left
 
-abbrev pub entered_left : UserFiles → ℕ
+abbrev pub entered_left : EnteredFiles → ℕ
 entered_left files = master_left files.master * 2 ^ 38 + hand_left files.hand
 
 -- how many more files may come at most
 unfoldable pub files_left : AllFiles → ℕ
 files_left files = entered_left files.entered + (65536 - files.others.next)
 
--- A record names no file, or no user's directory.
+-- A record is empty, or names no directory.
 pub record EntersNone (places : Image → Table → List Place) (index : Index) (old new : Disk) : Type 0 where
   pub none : IsTrue old.honest → places old.image (table index old) ≡ []
   pub reads : Reads old new 0
 
--- The file in a place was found: its first header is in hand, and all its blocks are to come.
-pub record OpensAt (index : Index) (found : FileAt) (old new : Disk) : Type 0 where
+-- What stands in a place was found, behind other reads.
+pub record HoldsAt (index wide : Index) (found : FileAt) (old new : Disk) : Type 0 where
   pub mid : Disk
   pub before : Reads old mid 0
-  pub opens : OpensFile index (id_of found.place) found.file mid new
+  pub holds : Holds index wide (id_of found.place) found.content mid new
+
+-- These places are one, and what stands there was found.
+pub record EntersOne (places : Image → Table → List Place) (index wide : Index) (found : FileAt) (old new : Disk) : Type 0 where
+  pub one : IsTrue old.honest → places old.image (table index old) ≡ found.place ∷ []
+  pub holds : HoldsAt index wide found old new
+
+-- The file in a place was found: its first header is in hand, and all its blocks are to come.
+pub record OpensAt (index : Index) (found : FileAt) (old new : Disk) : Type 0 where
+  pub file : FileReader
+  pub content : found.content ≡ File file
+  pub opens : OpensBehind index (id_of found.place) file old new
 
 -- These places are one, that of a file which was found.
-pub record EntersOne (places : Image → Table → List Place) (index : Index) (found : FileAt) (old new : Disk) : Type 0 where
+pub record FindsLost (places : Image → Table → List Place) (index : Index) (found : FileAt) (old new : Disk) : Type 0 where
   pub one : IsTrue old.honest → places old.image (table index old) ≡ found.place ∷ []
   pub opens : OpensAt index found old new
 
--- A user's directory was found, whose files stand in these places.
-pub record OpensUser (places : Image → Table → List Place) (index : Index) (hand : UserDirectory) (old new : Disk) : Type 0 where
+-- A directory was found, whose records give these places.
+pub record OpensNamed (places : Image → Table → List Place) (index : Index) (hand : OpenDirectory) (old new : Disk) : Type 0 where
   pub reading : IsReadingRecords index hand.directory new
   pub come : IsTrue old.honest → places old.image (table index old) ≡ hand_to_come index old (Some hand)
   pub looked : Looked old new 1 0
@@ -115,35 +128,36 @@ pub record HasNoneLeft (places : Image → Table → List ℕ → List Place) (i
   pub none : IsTrue old.honest → flat_map (places old.image (table index old)) (records_to_come index old directory) ≡ []
   pub reads : Reads old new 0
 
--- The next file of a user's directory was found.
-pub record ComesToFile (index : Index) (user : Uic) (directory later : DirectoryReader) (found : FileAt) (old new : Disk) : Type 0 where
-  pub comes : ComesTo (λ image t. place_entered t user) index (found.place ∷ []) directory later old new
-  pub opens : OpensAt index found old new
+-- The next record of a directory that isn't empty was read, and what it names was found.
+pub record ComesToFile (index wide : Index) (name : DirectoryName) (directory later : DirectoryReader) (found : FileAt) (old new : Disk)
+    : Type 0 where
+  pub comes : ComesTo (λ image t. place_entered name) index (found.place ∷ []) directory later old new
+  pub holds : HoldsAt index wide found old new
 
--- The next user's directory was found.
-pub record ComesToUser (index : Index) (master later : DirectoryReader) (hand : UserDirectory) (old new : Disk) : Type 0 where
+-- The next directory was found.
+pub record ComesToDirectory (index : Index) (master later : DirectoryReader) (hand : OpenDirectory) (old new : Disk) : Type 0 where
   pub reading : IsReadingRecords index hand.directory new
   pub comes : ComesTo (λ image t. places_under image t) index (hand_to_come index old (Some hand)) master later old new
 
--- The next file in users' directories was found.
-pub record EntersFile (index : Index) (files later : UserFiles) (found : FileAt) (old new : Disk) : Type 0 where
+-- What the next record names was found.
+pub record EntersFile (index wide : Index) (files later : EnteredFiles) (found : FileAt) (old new : Disk) : Type 0 where
   pub next : IsTrue old.honest → entered_to_come index old files ≡ found.place ∷ entered_to_come index old later
   pub fewer : entered_left later < entered_left files
-  pub opens : OpensAt index found old new
+  pub holds : HoldsAt index wide found old new
 
 -- The same files are to come, and no more records are left than were.
-pub record StaysToCome (index : Index) (files later : UserFiles) (old new : Disk) : Type 0 where
+pub record StaysToCome (index : Index) (files later : EnteredFiles) (old new : Disk) : Type 0 where
   pub same : IsTrue old.honest → entered_to_come index old later ≡ entered_to_come index old files
   pub no_more : entered_left later ≤ entered_left files
   pub reads : Reads old new 0
 
--- The next user's directory was taken in hand.
-pub record TakesUser (index : Index) (files later : UserFiles) (old new : Disk) : Type 0 where
+-- The next directory was taken in hand.
+pub record TakesDirectory (index : Index) (files later : EnteredFiles) (old new : Disk) : Type 0 where
   pub stays : StaysToCome index files later old new
   pub fewer : master_left later.master < master_left files.master
 
--- No more files are in users' directories.
-pub record EntersNoMore (index : Index) (files later : UserFiles) (old new : Disk) : Type 0 where
+-- Directories name no more.
+pub record EntersNoMore (index : Index) (files later : EnteredFiles) (old new : Disk) : Type 0 where
   pub none : IsTrue old.honest → entered_to_come index old files ≡ []
   pub ended : IsTrue old.honest → entered_to_come index old later ≡ []
   pub no_more : entered_left later ≤ entered_left files
@@ -179,11 +193,11 @@ abbrev pub FailsToBegin : WalkFault → Disk → Disk → Type 0
 FailsToBegin DeviceFault old new = Looked old new 1 1
 FailsToBegin NoMemory old new = new ≡ old
 
--- The next file was found.
-pub record GivesFile (index : Index) (files later : AllFiles) (found : FileAt) (old new : Disk) : Type 0 where
+-- What stands in the next place was found.
+pub record GivesFile (index wide : Index) (files later : AllFiles) (found : FileAt) (old new : Disk) : Type 0 where
   pub next : IsTrue old.honest → files_to_come index old files ≡ found.place ∷ files_to_come index old later
   pub fewer : files_left later < files_left files
-  pub opens : OpensAt index found old new
+  pub holds : HoldsAt index wide found old new
 
 -- No file is left, and none comes any more.
 pub record HasNoFile (index : Index) (files later : AllFiles) (old new : Disk) : Type 0 where

@@ -6,10 +6,12 @@
 #![tactic(auto)]
 
 mod directory;
+mod directory_name;
 mod facts;
 mod fault;
 pub mod laws;
 mod list;
+mod own_name;
 mod record_line;
 mod records;
 mod search;
@@ -18,11 +20,13 @@ mod users;
 mod walk;
 
 pub use directory::DirectoryReader;
+pub use directory_name::DirectoryName;
 pub use f11_volume::f11_map;
 pub use fault::{ListFault, WalkFault};
-pub use list::{list_directory, list_users};
+pub use list::{list_directories, list_directory};
 pub use records::stated_end;
 pub use search::find;
 pub use users::user_of;
+pub use walk::content::{Absence, Content};
 pub use walk::place::{FileAt, Place};
 pub use walk::state::AllFiles;

@@ -1,15 +1,16 @@
 //! The line of a record of a directory.
-ghost use Rattle.std.specs.Prelude.{◌≡◌, OnOk, IfErr, length, List, ℕ};
+ghost use Rattle.std.specs.Prelude.{◌≡◌, OnOk, IfErr, length, List, None, ℕ};
 ghost use Rattle.std.specs.Io.KnownBytes.{Appends};
 ghost use Rattle.f11_dir.specs.Records.{record_of_bytes};
 ghost use Rattle.f11_index.specs.Kept.{index_kept, IndexLiesWithin};
-ghost use Rattle.f11_catalog.specs.Lines.{record_line, file_line, entry_line, found_shown};
+ghost use Rattle.f11_catalog.specs.Lines.{record_line, file_line, entry_line, found_shown, named_line};
+ghost use Rattle.f11_catalog.specs.Records.{file_named};
 ghost use Rattle.f11_catalog.specs.Listing.{Writes, WritesFile, BreaksOff};
 ghost use Rattle.f11_reader.specs.Reading.{IsReading};
 
 use crate::facts::FileFacts;
 use crate::fault::ListFault;
-use crate::shown::{ShownMarks, ShownName};
+use crate::shown::{ShownMarks, ShownName, ShownUse};
 use f11_dev::{Device, DeviceFault};
 use f11_dir::Record;
 use f11_index::IndexFile;
@@ -19,7 +20,7 @@ use f11_store::FileId;
 use std::io::{self, Write};
 
 /// Writes the line of a record of a directory: `file NAME.TYP;V N,S blocks B bytes E owner [g,m] prot W`, and behind it ` contiguous`,
-/// ` marked` or ` open` where the file is that, with `?` for a name that is none; or `entry NAME.TYP;V N,S no file` where the record
+/// ` marked` or ` open` where the file is that, and ` out of use` where the bit of its slot is 0, with `?` for a name that is none; or `entry NAME.TYP;V N,S no file` where the record
 /// names no file. Nothing for an empty record. Protection word, user's code and a name's version are octal, all else is decimal (profile).
 ///
 /// # Errors
@@ -28,12 +29,14 @@ use std::io::{self, Write};
 pub(crate) fn write_record<D: Device, W: Write>(
     device: &mut D,
     index: &IndexFile,
+    wide: &IndexFile,
     writer: &mut W,
     record: &Record,
 ) -> Result<(), ListFault>
     requires within { IndexLiesWithin (index_kept index.now) (length (D.disk device.old).image) }
+    requires wide { IndexLiesWithin (index_kept wide.now) (length (D.disk device.old).image) }
     ensures writes { OnOk result ((bytes : List ℕ) → «record».now ≡ record_of_bytes bytes
-        → Writes (λ image t. record_line image t bytes) (index_kept index.now)
+        → Writes (λ image t. record_line (index_kept wide.now) image t bytes) (index_kept index.now)
         (D.disk device.old) (D.disk device.new) W.contents writer.old writer.new) }
     ensures failed { IfErr result (λ fault. BreaksOff fault (D.disk device.old) (D.disk device.new)) }
 {
@@ -42,8 +45,29 @@ pub(crate) fn write_record<D: Device, W: Write>(
     }
     let name = record.name();
     match FileReader::open(device, index, record.id) {
-        Ok(Some(file)) => write_found(device, index, writer, name, record.id, &file),
-        Ok(None) => match write_entry(writer, name, record.id) {
+        Ok(Some(file)) => write_found(device, index, writer, name, record.id, &file, true),
+        Ok(None) => write_out_of_use(device, wide, writer, name, record.id),
+        Err(DeviceFault) => Err(ListFault::DeviceFault),
+    }
+}
+
+/// Writes the line of the file that has an identification though its slot isn't in use, or that there is none.
+fn write_out_of_use<D: Device, W: Write>(
+    device: &mut D,
+    wide: &IndexFile,
+    writer: &mut W,
+    name: Option<Name>,
+    id: FileId,
+) -> Result<(), ListFault>
+    requires within { IndexLiesWithin (index_kept wide.now) (length (D.disk device.old).image) }
+    ensures writes { OnOk result (Writes (λ image t. named_line (found_shown name) id None
+        (file_named image t id)) (index_kept wide.now)
+        (D.disk device.old) (D.disk device.new) W.contents writer.old writer.new) }
+    ensures failed { IfErr result (λ fault. BreaksOff fault (D.disk device.old) (D.disk device.new)) }
+{
+    match FileReader::open(device, wide, id) {
+        Ok(Some(file)) => write_found(device, wide, writer, name, id, &file, false),
+        Ok(None) => match write_entry(writer, name, id) {
             Ok(()) => Ok(()),
             Err(_) => Err(ListFault::CannotWrite),
         },
@@ -59,10 +83,11 @@ fn write_found<D: Device, W: Write>(
     name: Option<Name>,
     id: FileId,
     file: &FileReader,
+    in_use: bool,
 ) -> Result<(), ListFault>
     requires within { IndexLiesWithin (index_kept index.now) (length (D.disk device.old).image) }
     requires reading { IsReading (index_kept index.now) file.now (D.disk device.old) }
-    ensures writes { OnOk result (WritesFile (index_kept index.now) (found_shown name) id file.now
+    ensures writes { OnOk result (WritesFile (index_kept index.now) in_use (found_shown name) id file.now
         (D.disk device.old) (D.disk device.new) W.contents writer.old writer.new) }
     ensures failed { IfErr result (λ fault. BreaksOff fault (D.disk device.old) (D.disk device.new)) }
 {
@@ -71,7 +96,7 @@ fn write_found<D: Device, W: Write>(
         Err(DeviceFault) => return Err(ListFault::DeviceFault),
     };
     let facts = FileFacts::of(file.header(), blocks);
-    match write_file(writer, name, id, &facts) {
+    match write_file(writer, name, id, &facts, in_use) {
         Ok(()) => Ok(()),
         Err(_) => Err(ListFault::CannotWrite),
     }
@@ -83,9 +108,10 @@ fn write_file<W: Write>(
     name: Option<Name>,
     id: FileId,
     facts: &FileFacts,
+    in_use: bool,
 ) -> io::Result<()>
     ensures { OnOk result (Appends (W.contents writer.old) (W.contents writer.new)
-        (file_line (found_shown name) id facts.now)) }
+        (file_line in_use (found_shown name) id facts.now)) }
 {
     let FileFacts {
         blocks,
@@ -96,9 +122,10 @@ fn write_file<W: Write>(
     } = *facts;
     let name = ShownName(name);
     let marks = ShownMarks(characteristics);
+    let out_of_use = ShownUse(in_use);
     writeln!(
         writer,
-        "file {name} {id} blocks {blocks} bytes {bytes} owner {owner} prot {protection:o}{marks}"
+        "file {name} {id} blocks {blocks} bytes {bytes} owner {owner} prot {protection:o}{marks}{out_of_use}"
     )
 }
 

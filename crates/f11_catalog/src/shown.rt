@@ -41,3 +41,18 @@ impl fmt::Display for ShownMarks {
         write!(f, "{contiguous}{marked}{open}")
     }
 }
+
+/// Whether the bit of a file's slot is 1.
+#[derive(Clone, Copy)]
+pub(crate) struct ShownUse(pub(crate) bool);
+
+impl fmt::Display for ShownUse {
+    ghost use Rattle.f11_catalog.specs.Lines.{use_shown};
+
+    ghost output = { λ u. Some (use_shown u.0) };
+
+    fn fmt<W: fmt::Write>(&self, f: &mut fmt::Formatter<W>) -> fmt::Result {
+        let out_of_use = if self.0 { "" } else { " out of use" };
+        write!(f, "{out_of_use}")
+    }
+}

@@ -1,25 +1,38 @@
 -- What each step of taking out all files tells.
-use Rattle.std.proofs.Common.{ℕ, List, Option, length, sym, ap, subst, ◌∙◌}
+use Rattle.std.proofs.Common.{◌≡◌, ℕ, List, Option, length, refl, sym, ap, subst, ◌∙◌}
 use Rattle.f11_catalog.proofs.ListingLemmas.{reads-then}
 use Rattle.f11_catalog.proofs.EnteredLemmas.{hand-on, master-on}
 use Rattle.f11_catalog.proofs.FilesLemmas.{files-later}
-use Rattle.f11_catalog.specs.AllFiles.{all_files}
+use Rattle.f11_catalog.specs.AllFiles.{all_files, id_of}
+use Rattle.f11_catalog.specs.Contents.{Holds}
 use Rattle.f11_catalog.specs.Records.{Reads}
-use Rattle.f11_catalog.specs.Walking.{BeginsWalk, IsWalking}
+use Rattle.f11_catalog.specs.Walking.{BeginsWalk, HoldsAt, IsWalking}
+use Rattle.f11_catalog.specs.declared.walk.content.Absence.{Absence}
+use Rattle.f11_catalog.specs.declared.walk.content.Content.{Content}
+use Rattle.f11_catalog.specs.declared.walk.content.Content.TheVariants.{File, Missing, OutOfUse}
+use Rattle.f11_catalog.specs.declared.walk.place.FileAt.{FileAt}
+use Rattle.f11_catalog.specs.declared.walk.place.Place.{Place}
 use Rattle.f11_catalog.specs.declared.walk.state.AllFiles.{AllFiles}
 use Rattle.f11_dev.specs.Disk.{Disk}
+use Rattle.f11_dev.specs.declared.device.Device.{Ghosts}
 use Rattle.f11_dev.specs.Image.{Image}
 use Rattle.f11_home.specs.Home.{HomeFields}
-use Rattle.f11_index.specs.IndexFile.{Index}
+use Rattle.f11_index.proofs.UsedLemmas.{all-lies-within}
+use Rattle.f11_index.specs.IndexFile.{Index, all_in_use, index_of}
 use Rattle.f11_index.specs.Table.{table_of}
 use Rattle.f11_index.specs.Kept.{IndexLiesWithin}
 use Rattle.f11_reader.specs.declared.file.FileReader.{FileReader}
-use Rattle.f11_commands.specs.AllCommand.{BeginsAll, FailsToBeginAll, TakesFile, part, unsure, whole}
+use Rattle.f11_store.specs.declared.files.FileId.{FileId}
+use Rattle.f11_commands.specs.AllCommand.{LeavesOut, TakesNext}
+use Rattle.f11_commands.specs.AllCommand.{BeginsAll, CanBeRead, FailsToBeginAll, TakesAtEnd, TakesFile, nothing, part, to_end, unsure}
+use Rattle.f11_commands.specs.AllCommand.{whole}
 use Rattle.f11_commands.specs.AnyVolume.{FindsVolume, IsReadable}
 use Rattle.f11_commands.specs.Copying.{master_directory}
 use Rattle.f11_commands.specs.declared.outcome.Failure.{Failure}
 use Rattle.f11_commands.specs.declared.outcome.Failure.TheVariants.{DeviceFault, NoMemory, CannotWrite}
-use Rattle.f11_commands.proofs.AnyVolumeLemmas.{hindered-behind, said-of-volume}
+use Rattle.f11_commands.proofs.AnyVolumeLemmas.{hindered-behind, index-of-volume, said-of-volume}
+use Rattle.f11_commands.specs.declared.get.all.left_out.LeftOut.TheVariants as left
+use Rattle.f11_commands.specs.declared.get.all.state.TakingAll.{TakingAll}
 use Rattle.f11_commands.specs.declared.get.all.taking.Taken.{Taken}
 
 -- what was read for a file, taken out or not
@@ -31,6 +44,33 @@ takes-reads index file end taken old new held before after (whole so) =
 takes-reads index file end taken old new held before after (unsure so) =
     (1, reads-then (_, so.writes.reads.looked) (_, so.looked))
 takes-reads index file end taken old new held before after (part so) = (1, (_, so.stops.reads.looked))
+
+pub taken-reads : {H : Type 0} (index : Index) (file : FileReader) (taken : Taken) (old new : Disk) (held : H → Option (List ℕ))
+    (before after : H) → TakesAtEnd index file taken old new held before after → (faults : ℕ) × Reads old new faults
+taken-reads index file taken old new held before after (to_end so) =
+    let rest = takes-reads index file so.end taken so.mid new held before after so.takes in
+    (rest.0, reads-then (_, so.finds.looked) rest.1)
+taken-reads index file taken old new held before after (nothing so) = (1, so.reads)
+
+-- what stands in a place that was found can be read
+pub found-reading : (index wide : Index) (found : FileAt) (old new : Disk) → HoldsAt index wide found old new
+    → CanBeRead index wide found.content new
+found-reading index wide found old new holds = go found.content holds.holds
+  where
+    go : (c : Content) → Holds index wide (id_of found.place) c holds.mid new → CanBeRead index wide c new
+    go (File file) is = is.opens.reading
+    go (OutOfUse file) is = is.opens.opens.reading
+    go (Missing absence) is = tt
+
+-- a place without a file is left out, which is all that comes of it
+module _ {D : Type 0} {G : Ghosts D} {H W : Type 0} where
+  pub leaves-next : (place : Place) (content : Content) (beside : Option FileId) (disk : D → Disk) (all later : TakingAll D G)
+      (held : H → Option (List ℕ)) (host : H) (contents : W → Option (List ℕ)) (before after : W) (absence : Absence) (id : FileId)
+      → content ≡ Missing absence → id ≡ id_of place → LeavesOut place (left.Missing id absence) all later contents before after
+      → TakesNext place content beside disk all later held host host contents before after
+  leaves-next place content beside disk all later held host contents before after absence id is same leaves =
+      subst (λ (t : Content). TakesNext place t beside disk all later held host host contents before after) (sym is)
+      (refl, subst (λ (i : FileId). LeavesOut place (left.Missing i absence) all later contents before after) same leaves)
 
 -- behind some reads the same directories are read, and the index file lies on the device
 pub walking-on : (index : Index) (files : AllFiles) (old new : Disk) (faults : ℕ) → Reads old new faults → IsWalking index files old
@@ -44,8 +84,8 @@ within-on index old new faults reads within = subst (λ (i : Image). IndexLiesWi
 
 -- The index file was read, and all its files begun with.
 module _ (home : HomeFields) (index : Index) (old mid : Disk) (found : FindsVolume home index old mid) (files : AllFiles) (new : Disk)
-    (begins : BeginsWalk index master_directory files mid new) where
-  pub begins-all : BeginsAll index files old new
+    (begins : BeginsWalk index master_directory files mid new) (wide : Index) (all-used : wide ≡ all_in_use index) where
+  pub begins-all : BeginsAll index wide files old new
   begins-all = record {
     home = home;
     readable = found.readable;
@@ -53,21 +93,29 @@ module _ (home : HomeFields) (index : Index) (old mid : Disk) (found : FindsVolu
         files-later index files mid new begins.looked.image
         ∙ begins.all (found.looked.honest ∙ honest)
         ∙ said-of-volume home index old mid found (λ image t. all_files image t master_directory) honest;
+    index_is = index-of-volume home index old mid found;
+    wide_is = all-used;
     reads = reads-then (_, found.looked) (_, begins.looked);
   }
 
   pub lies-within : IndexLiesWithin index (length new.image)
   lies-within = within-on index mid new 0 (_, begins.looked) found.is_for.within
 
+  pub wide-within : IndexLiesWithin wide (length new.image)
+  wide-within =
+      subst (λ (i : Index). IndexLiesWithin i (length new.image)) (sym all-used) (all-lies-within index (length new.image) lies-within)
+
 -- the volume was verified before
 module _ (old mid new : Disk) (reads : Reads old mid 0) where
-  pub all-behind : (index : Index) (files : AllFiles) → BeginsAll index files mid new → BeginsAll index files old new
-  all-behind index files begins = record {
+  pub all-behind : (index wide : Index) (files : AllFiles) → BeginsAll index wide files mid new → BeginsAll index wide files old new
+  all-behind index wide files begins = record {
     home = begins.home;
     readable = λ honest. subst (λ (i : Image). IsReadable i begins.home) reads.1.image (begins.readable (reads.1.honest ∙ honest));
     all = λ honest.
         begins.all (reads.1.honest ∙ honest)
         ∙ ap (λ (i : Image). all_files i (table_of i begins.home) master_directory) reads.1.image;
+    index_is = λ honest. begins.index_is (reads.1.honest ∙ honest) ∙ ap (λ (i : Image). index_of i begins.home) reads.1.image;
+    wide_is = begins.wide_is;
     reads = reads-then reads begins.reads;
   }
 

@@ -8,7 +8,7 @@ use Rattle.f11_dev.specs.Disk.{Disk}
 use Rattle.f11_dev.specs.Image.{Image}
 use Rattle.f11_findings.specs.declared.finding.Finding.{Finding}
 use Rattle.f11_home.specs.Home.{HomeFields}
-use Rattle.f11_index.specs.IndexFile.{Index}
+use Rattle.f11_index.specs.IndexFile.{Index, index_of}
 use Rattle.f11_index.specs.Table.{Table, table_in, table_of}
 use Rattle.f11_store.specs.declared.callers.Uic.{Uic}
 use Rattle.f11_store.specs.declared.files.FileId.{FileId}
@@ -34,6 +34,12 @@ pub said-of-volume : (home : HomeFields) (index : Index) (old new : Disk) → Fi
 said-of-volume home index old new found text honest =
     ap (λ (x : Index). text new.image (table_in new.image x)) (found.is_for.keeps (found.looked.honest ∙ honest))
     ∙ ap (λ (i : Image). text i (table_of i home)) found.looked.image
+
+-- and it is the volume's
+pub index-of-volume : (home : HomeFields) (index : Index) (old new : Disk) → FindsVolume home index old new → IsTrue old.honest
+    → index ≡ index_of old.image home
+index-of-volume home index old new found honest =
+    found.is_for.keeps (found.looked.honest ∙ honest) ∙ ap (λ (i : Image). index_of i home) found.looked.image
 
 -- the volume was verified
 pub verified-first : (told faulty : Bool) (faults notes : List Finding) (old new : Disk) → Examines faults notes old new

@@ -1,5 +1,5 @@
 -- A copy between the volumes of two images.
-use Rattle.std.proofs.Common.{◌≡◌, inl, ℕ, ◌&&◌, not, Bool, true, false, IsTrue, List, Option, Result, refl, sym, ◌∙◌, ap, subst, arith}
+use Rattle.std.proofs.Common.{◌≡◌, inl, ℕ, ◌&&◌, not, Bool, true, false, IsTrue, List, Option, Result, refl, ◌∙◌, ap, subst, arith}
 use Rattle.f11_dev.specs.Disk.{Disk}
 use Rattle.f11_dev.specs.Image.{Image, IsImage}
 use Rattle.f11_dev.specs.declared.device.Device.{Ghosts}
@@ -19,7 +19,7 @@ use Rattle.f11_serving.specs.writes.Order.{WritesInOrder}
 use Rattle.rt11_volume.specs.Calls.{has_failed, volume_device}
 use Rattle.rt11_volume.specs.Verifying.Verdict.{IsRtAccepted, IsSoundDisk}
 use Rattle.rt11_volume.specs.declared.volume.RtAccepted.{RtAccepted}
-use Rattle.f11_commands.specs.CopyCommand.{AnswersCopy, CopiesImages, EndsBetween, TellsCopy}
+use Rattle.f11_commands.specs.CopyCommand.{CopiesImages, EndsBetween, TellsKeptCopy}
 use Rattle.f11_commands.specs.Copying.{OutcomeIs, StandsAsIs}
 use Rattle.f11_commands.specs.Finding.{FaresAsAnswered}
 use Rattle.f11_commands.specs.Stopping.{StopsCopy, WhereUnheld}
@@ -114,9 +114,15 @@ module _ {D E : Type 0} {met : Ghosts D} {met' : Ghosts E} (rt-disk : E → Disk
 
     pub ends-between : {W : Type 0} (told : Result FileAnswer Failure) (contents : W → Option (List ℕ)) (before after : W)
         (new rt-new : Disk)
-        → new ≡ (state_in last).disk → rt-new ≡ d' → TellsCopy result told contents before after
+        (files-done rt-done : Disk) → files-done ≡ (state_in last).disk → rt-done ≡ d'
+        → TellsKeptCopy c.direction result told files-done new rt-done rt-new contents before after
         → EndsBetween c told old new d rt-new contents before after
-    ends-between told contents before after new rt-new at rt-at tells =
-        inl (subst (λ (x : Disk). AnswersCopy c told old x d rt-new contents before after) (sym at)
-        (subst (λ (x : Disk). AnswersCopy c told old (state_in last).disk d x contents before after) (sym rt-at)
-        (record { result = result; copies = copies-images; tells = tells })))
+    ends-between told contents before after new rt-new files-done rt-done at rt-at tells = inl (record {
+      result = result;
+      files_done = (state_in last).disk;
+      rt_done = d';
+      copies = copies-images;
+      tells =
+          subst (λ (x : Disk). TellsKeptCopy c.direction result told (state_in last).disk new x rt-new contents before after) rt-at
+          (subst (λ (x : Disk). TellsKeptCopy c.direction result told x new rt-done rt-new contents before after) at tells);
+    })

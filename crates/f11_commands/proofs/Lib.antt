@@ -16,10 +16,14 @@ mod DirectoryLemmas
 mod TakingOutLemmas
 mod TakingTextLemmas
 mod StoppingLemmas
+mod LeavingLemmas
+mod WholeLemmas
+mod MomentsLemmas
 mod PutLemmas
-mod RtFileLemmas
-mod RtGetLemmas
+mod RtAnyLemmas
+mod RtTakingLemmas
 mod RtFillLemmas
 mod RtPutLemmas
+mod RtDeleteLemmas
 pub use Rattle.f11_serving.proofs as serving
 pub use Rattle.f11_flx.proofs as flx

@@ -11,7 +11,7 @@ use Rattle.f11_dev.specs.Disk.{Disk}
 use Rattle.f11_dev.specs.Image.{Image}
 use Rattle.f11_findings.specs.declared.finding.Finding.{Finding}
 use Rattle.f11_home.specs.Home.{HomeFields}
-use Rattle.f11_index.specs.IndexFile.{Index}
+use Rattle.f11_index.specs.IndexFile.{Index, all_in_use}
 use Rattle.f11_index.specs.Table.{Table, table_of}
 use Rattle.f11_store.specs.declared.callers.Uic.{Uic}
 use Rattle.f11_store.specs.declared.files.FileId.{FileId}
@@ -21,33 +21,35 @@ use Rattle.f11_commands.specs.Copying.{directory_name, master_directory}
 use Rattle.f11_commands.specs.AnyVolume.{FailsToServe, FindsVolume, IsReadable, unless_refused}
 use Rattle.f11_commands.specs.LsCommand.{FailsToListIndex, IsNotListed, ListsIndex, ListsVolume, lists, tells}
 use Rattle.f11_commands.specs.LsCommand.{PrintsListing, WritesListing, directory_listed, lines_or, listed}
-use Rattle.f11_commands.specs.LsCommand.{listing_answer, listing_text, user_listed}
+use Rattle.f11_commands.specs.LsCommand.{listing_answer, listing_text, user_listed, volume_listed}
 use Rattle.f11_commands.specs.VfyCommand.{IsVerdict}
-use Rattle.f11_commands.proofs.AnyVolumeLemmas.{directory-of-user, fault-behind, said-of-volume, verified-first}
+use Rattle.f11_commands.proofs.AnyVolumeLemmas.{directory-of-user, fault-behind, index-of-volume, said-of-volume, verified-first}
 use Rattle.f11_commands.specs.declared.ls.Served.{Served}
 use Rattle.f11_commands.specs.declared.outcome.Answer.{Answer}
 use Rattle.f11_commands.specs.declared.outcome.Failure.{Failure}
 use Rattle.f11_commands.specs.declared.outcome.Failure.TheVariants.{DeviceFault, NoMemory, CannotWrite}
 
-module _ {W : Type 0} (index : Index) (contents : W → Option (List ℕ)) where
+module _ {W : Type 0} (index wide : Index) (contents : W → Option (List ℕ)) where
   module _ (user : Uic) (name : List ℕ) (is : name ≡ directory_name user) (old mid : Disk) where
     module _ (id : FileId) (found : FindsId index master_directory name id old mid) where
-      is-listed : IsTrue old.honest → user_listed old.image (table index old) user ≡ directory_listed old.image (table index old) id
+      is-listed : IsTrue old.honest
+          → user_listed wide old.image (table index old) user ≡ directory_listed wide old.image (table index old) id
       is-listed honest =
-          ap (unless_refused (directory_listed old.image (table index old))) (directory-of-user index user name is old mid found honest)
+          ap (unless_refused (directory_listed wide old.image (table index old)))
+          (directory-of-user index user name is old mid found honest)
 
       later : {X : Type 0} (text : Image → Table → X) → text mid.image (table index mid) ≡ text old.image (table index old)
       later text = said-later text index found.reads.1
 
       -- one that is
-      pub user-lists : (new : Disk) (before after : W) → Lists record_lines index id mid new contents before after
-          → WritesListing (λ image t. user_listed image t user) index old new contents before after
+      pub user-lists : (new : Disk) (before after : W) → Lists (record_lines wide) index id mid new contents before after
+          → WritesListing (λ image t. user_listed wide image t user) index old new contents before after
       user-lists new before after all = record {
         lines = all.writes.written;
         lines_are = λ honest.
             let honest' : IsTrue mid.honest = found.reads.1.honest ∙ honest in
-            is-listed honest ∙ sym (later (λ image t. directory_listed image t id))
-            ∙ ap (λ r. lines_or r (record_lines mid.image (table index mid) (records_of mid.image (table index mid) id)))
+            is-listed honest ∙ sym (later (λ image t. directory_listed wide image t id))
+            ∙ ap (λ r. lines_or r (record_lines wide mid.image (table index mid) (records_of mid.image (table index mid) id)))
             (all.readable honest')
             ∙ ap Ok (sym (all.writes.is honest'));
         takes = all.writes.takes;
@@ -55,26 +57,26 @@ module _ {W : Type 0} (index : Index) (contents : W → Option (List ℕ)) where
       }
 
       pub user-refused : (new : Disk) (refusal : Refusal) → IsRefused index id refusal mid new
-          → IsNotListed (λ image t. user_listed image t user) index refusal old new
+          → IsNotListed (λ image t. user_listed wide image t user) index refusal old new
       user-refused new refusal none = record {
         refused = λ honest.
             let honest' : IsTrue mid.honest = found.reads.1.honest ∙ honest in
-            is-listed honest ∙ sym (later (λ image t. directory_listed image t id))
-            ∙ ap (λ r. lines_or r (record_lines mid.image (table index mid) (records_of mid.image (table index mid) id)))
+            is-listed honest ∙ sym (later (λ image t. directory_listed wide image t id))
+            ∙ ap (λ r. lines_or r (record_lines wide mid.image (table index mid) (records_of mid.image (table index mid) id)))
             (none.refused honest');
         reads = reads-then found.reads none.reads;
       }
 
 -- the index file was read before
-pub volume-lists : {W : Type 0} (home : HomeFields) (index : Index) (user : Option Uic) (answer : Answer) (old mid new : Disk)
-    (contents : W → Option (List ℕ)) (before after : W) → FindsVolume home index old mid
-    → ListsIndex index user answer mid new contents before after → ListsVolume user answer old new contents before after
-volume-lists home index user answer old mid new contents before after found all = lists (record {
+pub volume-lists : {W : Type 0} (home : HomeFields) (index wide : Index) (user : Option Uic) (answer : Answer) (old mid new : Disk)
+    (contents : W → Option (List ℕ)) (before after : W) → FindsVolume home index old mid → wide ≡ all_in_use index
+    → ListsIndex index wide user answer mid new contents before after → ListsVolume user answer old new contents before after
+volume-lists home index wide user answer old mid new contents before after found all-used all = lists (record {
   home = home;
   readable = found.readable;
   text = all.text;
-  text_is = λ honest. all.text_is (same honest) ∙ ap listing_text (tables honest);
-  answer_is = λ honest. all.answer_is (same honest) ∙ ap listing_answer (tables honest);
+  text_is = λ honest. all.text_is (same honest) ∙ ap listing_text (volumes honest);
+  answer_is = λ honest. all.answer_is (same honest) ∙ ap listing_answer (volumes honest);
   takes = all.takes;
   reads = reads-then (_, found.looked) all.reads;
 })
@@ -82,8 +84,11 @@ volume-lists home index user answer old mid new contents before after found all 
     same : IsTrue old.honest → IsTrue mid.honest
     same honest = found.looked.honest ∙ honest
 
-    tables : IsTrue old.honest → listed mid.image (table index mid) user ≡ listed old.image (table_of old.image home) user
-    tables honest = said-of-volume home index old mid found (λ image t. listed image t user) honest
+    volumes : IsTrue old.honest → listed wide mid.image (table index mid) user ≡ volume_listed old.image home user
+    volumes honest =
+        said-of-volume home index old mid found (λ image t. listed wide image t user) honest
+        ∙ ap (λ (i : Index). listed i old.image (table_of old.image home) user)
+        (all-used ∙ ap all_in_use (index-of-volume home index old mid found honest))
 
 -- what is said of a volume behind a look at it
 pub volume-behind : {W : Type 0} (user : Option Uic) (answer : Answer) (old mid new : Disk) (contents : W → Option (List ℕ))
@@ -95,10 +100,10 @@ volume-behind user answer old mid new contents before after reads (lists all) = 
   text = all.text;
   text_is = λ honest.
       all.text_is (reads.1.honest ∙ honest)
-      ∙ ap (λ (i : Image). listing_text (listed i (table_of i all.home) user)) reads.1.image;
+      ∙ ap (λ (i : Image). listing_text (volume_listed i all.home user)) reads.1.image;
   answer_is = λ honest.
       all.answer_is (reads.1.honest ∙ honest)
-      ∙ ap (λ (i : Image). listing_answer (listed i (table_of i all.home) user)) reads.1.image;
+      ∙ ap (λ (i : Image). listing_answer (volume_listed i all.home user)) reads.1.image;
   takes = all.takes;
   reads = reads-then reads all.reads;
 })

@@ -1,5 +1,6 @@
 -- A copy by names: what its steps tell, one after another.
 use Rattle.std.proofs.Common.{◌≡◌, ◌≢◌, inl, inr, ℕ, ◌+◌, ◌||◌, not, Bool, true, false, IsTrue, if◌then◌else◌, List, Result, Ok, Err, IfOk}
+use Rattle.std.proofs.Common.{None}
 use Rattle.std.proofs.Common.{IfErr, refl, sym, ap, subst, ◌∙◌, arith}
 use Rattle.f11_dev.specs.Disk.{Disk}
 use Rattle.f11_dev.specs.declared.device.Device.{Ghosts}
@@ -355,11 +356,11 @@ module _ {D E : Type 0} {met : Ghosts D} {met' : Ghosts E} (disk : E → Disk) w
           record { honest = source.fares.honest ∙ sound.honest; accepted = subst (λ i. IsRtAccepted i) (sym source.image) sound.accepted };
       outcome = λ sound rt-sound whole. (by_result result files copied refused sound rt-sound whole, same result);
       broken = λ sound. unread sound result ended;
-      stopped = λ sound fault. stops-by dir c.name result v w files.fares files.asked sound fault;
+      stopped = λ sound fault. stops-by dir c.name None result v w files.fares files.asked sound fault;
     }
       where
         asked : (xs : List Asking) × Tried of_volume operator xs v w
-        asked = asked-for-one of_volume operator 0 dir c.name 0 v w files.asked
+        asked = asked-for-one of_volume operator 0 dir c.name 0 None v w files.asked
 
         unread : is_sound v ≡ true → (r : Result ℕ FlxRefusal) → IfErr r (λ e. is_lethal e ≡ true → Ends of_volume operator e v w)
             → of_rt is_rt_fault r ≡ true → StandsAsIs s s'

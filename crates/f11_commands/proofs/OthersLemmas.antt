@@ -1,6 +1,6 @@
 -- What is asked for one file leaves all others as they are, but a directory and the index file: where it is granted, where it is refused,
 -- and where it is stopped.
-use Rattle.std.proofs.Common.{◌≡◌, ◌⊎◌, inl, inr, ℕ, zero, suc, ◌+◌, ◌==◌, ◌&&◌, ◌||◌, Bool, true, false, List, [], ◌∷◌, ◌++◌, All}
+use Rattle.std.proofs.Common.{◌≡◌, ◌⊎◌, inl, inr, ℕ, zero, suc, ◌==◌, ◌&&◌, ◌||◌, Bool, true, false, List, [], ◌∷◌, ◌++◌, All}
 use Rattle.std.proofs.Common.{Option, Some, None, Result, Ok, Err, length, nat_lt, refl, sym, ap, subst, ◌∙◌, arith, if◌then◌else◌}
 use Rattle.std.specs.Prelude.{slice_index}
 use Rattle.std.proofs.lemmas.Bool.{and_from, eq-eqb, eqb-true, ne_eqb}
@@ -99,21 +99,63 @@ now-held id u task lun o h held = λ t l. by t l ((t == task) && (l == lun))
     by t l true = h
     by t l false = held t l
 
-none-index : (id : FileId) (u : Store) → (id.number == 1) ≡ false → HoldsOnly id u → NoneHoldsIndex u
+pub none-index : (id : FileId) (u : Store) → (id.number == 1) ≡ false → HoldsOnly id u → NoneHoldsIndex u
 none-index id u late held = λ task lun. by (u.access task lun) (held task lun)
   where
     by : (o : Option Access) → IsHeldOf id o → ((id_in o).number == 1) ≡ false
     by None h = refl
     by (Some a) h = ap (λ (i : FileId). i.number == 1) h ∙ late
 
+-- nothing else is held behind a request of what makes the file
+module _ (dir : FileId) (to : List ℕ) (protection : ℕ) (stated : Option (List ℕ)) (id : FileId) where
+  pub own-holds : (r : Request) (lent given : List ℕ) (result : Result Reply Refusal) (u w : Store)
+      → MakesBy 0 dir to protection stated id r
+      → Step u operator.task operator.caller r lent result w given → HoldsOnly id u → HoldsOnly id w
+  own-holds r lent given (Err e) u w is h held = subst (HoldsOnly id) (sym h.store_stays) held
+  own-holds r lent given (Ok a) u w is h held = changed r is h.changes
+    where
+      given-back : (l : ℕ) (o : Option Access) → HoldsOnly id (after_giving_up u operator.task l o)
+      given-back l None = held
+      given-back l (Some a) = by (is_due (with_access u operator.task l None) a.file)
+        where
+          v : Store
+          v = with_access u operator.task l None
+
+          by : (b : Bool) → HoldsOnly id (if b then without_file_at v a.file.number else v)
+          by true = now-held id u operator.task l None tt held
+          by false = now-held id u operator.task l None tt held
+
+      gone : (g : FileId) (b : Bool) → (if b then with_marked_file u g.number else without_file_at u g.number).access ≡ u.access
+      gone g true = refl
+      gone g false = refl
+
+      changed : (r : Request) → MakesBy 0 dir to protection stated id r → Changes u operator.task operator.caller r lent w → HoldsOnly id w
+      changed (request.Access g mode l) is c =
+          subst (HoldsOnly id) (sym c) (now-held id u operator.task l (Some (record { file = g; mode = mode })) is.0 held)
+      changed (request.Extend l k) is c =
+          let ready = gained-is-ready u c.ready (need (file_named u (id_held u operator.task l)).room k) c.gains in
+          same-held id u w (ap (λ (s : Store). s.access) c.makes.store_is ∙ ready.access) held
+      changed (request.Deaccess l) is c = subst (HoldsOnly id) (sym c) (given-back l (u.access operator.task l))
+      changed (request.Enter d name g) is c =
+          let from = enters-from (index_of_empty (file_named u d)) u w d (record_bytes g name) c in
+          same-held id u w (from.access ∙ from.is-ready.access) held
+      changed (request.WriteAttr g x) is c = same-held id u w (ap (λ (s : Store). s.access) c) held
+      changed (request.Delete g) is c = same-held id u w (ap (λ (s : Store). s.access) c ∙ gone g (is_accessed u g)) held
+      changed _ is c = absurd is
+
+  pub write-holds : (l vbn : ℕ) (block given : List ℕ) (result : Result Reply Refusal) (u w : Store)
+      → Step u operator.task operator.caller (request.WriteBlock l vbn) block result w given → HoldsOnly id u → HoldsOnly id w
+  write-holds l vbn block given (Err e) u w h held = subst (HoldsOnly id) (sym h.store_stays) held
+  write-holds l vbn block given (Ok a) u w h held = same-held id u w (ap (λ (s : Store). s.access) h.changes) held
+
 -- what makes the file, once it is created
-module _ (dir : FileId) (to : List ℕ) (id : FileId) (n : ℕ) (f : File) (other : IsAnother id dir n f) where
+module _ (dir : FileId) (to : List ℕ) (stated : Option (List ℕ)) (id : FileId) (n : ℕ) (f : File) (other : IsAnother id dir n f) where
   held-apart : (o : Option Access) → IsHeldOf id o → is_no_writer o ≡ false → (n == (id_in o).number) ≡ false
   held-apart None h writing = absurd (true-false writing)
   held-apart (Some a) h writing = ap (λ (i : FileId). n == i.number) h ∙ other.apart
 
   -- a request of it doesn't mean the file
-  own-unmeant : (r : Request) (lent : List ℕ) (u : Store) → MakesBy 0 dir to 0 id r → IsOnTheWay id n f u
+  own-unmeant : (r : Request) (lent : List ℕ) (u : Store) → MakesBy 0 dir to 0 stated id r → IsOnTheWay id n f u
       → (work_of u operator.task operator.caller r lent).is_meant n ≡ false
   own-unmeant r lent u is on =
       if-served n (first_refusal u operator.task operator.caller r) (served_work u operator.task operator.caller r lent) (served r is)
@@ -147,7 +189,7 @@ module _ (dir : FileId) (to : List ℕ) (id : FileId) (n : ℕ) (f : File) (othe
           absurd (true-false (sym (and_from (n == dir.number) (f.sequence == dir.sequence) number
           (eq-eqb f.sequence dir.sequence sequence)) ∙ other.elsewhere))
 
-      served : (r : Request) → MakesBy 0 dir to 0 id r → first_refusal u operator.task operator.caller r ≡ None
+      served : (r : Request) → MakesBy 0 dir to 0 stated id r → first_refusal u operator.task operator.caller r ≡ None
           → (served_work u operator.task operator.caller r lent).is_meant n ≡ false
       served (request.Access g mode l) is none = refl
       served (request.Extend l k) is none =
@@ -170,46 +212,6 @@ module _ (dir : FileId) (to : List ℕ) (id : FileId) (n : ℕ) (f : File) (othe
       (λ none. held-apart (u.access operator.task l) (held operator.task l)
       (none_first (cannot_write u operator.task l) NoSuchAccess _ (none_rest (vbn == 0) BadArgument _ none)))
 
-  -- nothing else is held behind a request
-  own-holds : (r : Request) (lent given : List ℕ) (result : Result Reply Refusal) (u w : Store) → MakesBy 0 dir to 0 id r
-      → Step u operator.task operator.caller r lent result w given → HoldsOnly id u → HoldsOnly id w
-  own-holds r lent given (Err e) u w is h held = subst (HoldsOnly id) (sym h.store_stays) held
-  own-holds r lent given (Ok a) u w is h held = changed r is h.changes
-    where
-      given-back : (l : ℕ) (o : Option Access) → HoldsOnly id (after_giving_up u operator.task l o)
-      given-back l None = held
-      given-back l (Some a) = by (is_due (with_access u operator.task l None) a.file)
-        where
-          v : Store
-          v = with_access u operator.task l None
-
-          by : (b : Bool) → HoldsOnly id (if b then without_file_at v a.file.number else v)
-          by true = now-held id u operator.task l None tt held
-          by false = now-held id u operator.task l None tt held
-
-      gone : (g : FileId) (b : Bool) → (if b then with_marked_file u g.number else without_file_at u g.number).access ≡ u.access
-      gone g true = refl
-      gone g false = refl
-
-      changed : (r : Request) → MakesBy 0 dir to 0 id r → Changes u operator.task operator.caller r lent w → HoldsOnly id w
-      changed (request.Access g mode l) is c =
-          subst (HoldsOnly id) (sym c) (now-held id u operator.task l (Some (record { file = g; mode = mode })) is.0 held)
-      changed (request.Extend l k) is c =
-          let ready = gained-is-ready u c.ready (need (file_named u (id_held u operator.task l)).room k) c.gains in
-          same-held id u w (ap (λ (s : Store). s.access) c.makes.store_is ∙ ready.access) held
-      changed (request.Deaccess l) is c = subst (HoldsOnly id) (sym c) (given-back l (u.access operator.task l))
-      changed (request.Enter d name g) is c =
-          let from = enters-from (index_of_empty (file_named u d)) u w d (record_bytes g name) c in
-          same-held id u w (from.access ∙ from.is-ready.access) held
-      changed (request.WriteAttr g x) is c = same-held id u w (ap (λ (s : Store). s.access) c) held
-      changed (request.Delete g) is c = same-held id u w (ap (λ (s : Store). s.access) c ∙ gone g (is_accessed u g)) held
-      changed _ is c = absurd is
-
-  write-holds : (l vbn : ℕ) (block given : List ℕ) (result : Result Reply Refusal) (u w : Store)
-      → Step u operator.task operator.caller (request.WriteBlock l vbn) block result w given → HoldsOnly id u → HoldsOnly id w
-  write-holds l vbn block given (Err e) u w h held = subst (HoldsOnly id) (sym h.store_stays) held
-  write-holds l vbn block given (Ok a) u w h held = same-held id u w (ap (λ (s : Store). s.access) h.changes) held
-
   -- so a step leaves the file as it is
   step-there : (r : Request) (lent given : List ℕ) (result : Result Reply Refusal) (u w : Store) → IsOnTheWay id n f u
       → Step u operator.task operator.caller r lent result w given
@@ -217,22 +219,22 @@ module _ (dir : FileId) (to : List ℕ) (id : FileId) (n : ℕ) (f : File) (othe
   step-there r lent given result u w on h unmeant =
       (step_lags u operator.task operator.caller r lent result w given (none-index id u other.late on.held) h).others n unmeant ∙ on.there
 
-  own-step : (r : Request) (lent given : List ℕ) (result : Result Reply Refusal) (u w : Store) → MakesBy 0 dir to 0 id r
+  own-step : (r : Request) (lent given : List ℕ) (result : Result Reply Refusal) (u w : Store) → MakesBy 0 dir to 0 stated id r
       → IsOnTheWay id n f u → Step u operator.task operator.caller r lent result w given → IsOnTheWay id n f w
   own-step r lent given result u w is on h = record {
     there = step-there r lent given result u w on h (own-unmeant r lent u is on);
-    held = own-holds r lent given result u w is h on.held;
+    held = own-holds dir to 0 stated id r lent given result u w is h on.held;
   }
 
   write-step : (l vbn : ℕ) (block given : List ℕ) (result : Result Reply Refusal) (u w : Store) → IsOnTheWay id n f u
       → Step u operator.task operator.caller (request.WriteBlock l vbn) block result w given → IsOnTheWay id n f w
   write-step l vbn block given result u w on h = record {
     there = step-there (request.WriteBlock l vbn) block given result u w on h (write-unmeant l vbn block u on.held);
-    held = write-holds l vbn block given result u w h on.held;
+    held = write-holds dir to 0 stated id l vbn block given result u w h on.held;
   }
 
   -- whatever was asked, granted or refused
-  asked-step : (x : Asking) (u w : Store) → IsMakingOf 0 dir to 0 id x → IsOnTheWay id n f u
+  asked-step : (x : Asking) (u w : Store) → IsMakingOf 0 dir to 0 stated id x → IsOnTheWay id n f u
       → (Grants plain operator x u w) ⊎ ((e : Refusal) × Denies plain operator x e u w) → IsOnTheWay id n f w
   asked-step (asks r) u w is on (inl g) = own-step r g.0 g.2 (Ok g.1) u w is on g.3
   asked-step (asks r) u w is on (inr d) = own-step r d.1.0 d.1.1 (Err d.0) u w is on d.1.2
@@ -242,22 +244,23 @@ module _ (dir : FileId) (to : List ℕ) (id : FileId) (n : ℕ) (f : File) (othe
   asked-step (reads l vbn block) u w is on h = absurd is
   asked-step (counts l blocks) u w is on h = absurd is
 
-  all-steps : (xs : List Asking) (u w : Store) → All (IsMakingOf 0 dir to 0 id) xs → IsOnTheWay id n f u → Tried plain operator xs u w
+  all-steps : (xs : List Asking) (u w : Store) → All (IsMakingOf 0 dir to 0 stated id) xs → IsOnTheWay id n f u
+      → Tried plain operator xs u w
       → IsOnTheWay id n f w
   all-steps [] u w only on h = subst (IsOnTheWay id n f) (sym h) on
   all-steps (x ∷ xs) u w only on h =
-      all-steps xs h.0 w (All-tail (IsMakingOf 0 dir to 0 id) x xs only)
-      (asked-step x u h.0 (All-head (IsMakingOf 0 dir to 0 id) x xs only) on h.1) h.2
+      all-steps xs h.0 w (All-tail (IsMakingOf 0 dir to 0 stated id) x xs only)
+      (asked-step x u h.0 (All-head (IsMakingOf 0 dir to 0 stated id) x xs only) on h.1) h.2
 
   -- and what was stopped
-  asked-lags : (x : Asking) (u t : Store) → IsMakingOf 0 dir to 0 id x → IsOnTheWay id n f u → LagsAsked x t u → t.file n ≡ Some f
+  asked-lags : (x : Asking) (u t : Store) → IsMakingOf 0 dir to 0 stated id x → IsOnTheWay id n f u → LagsAsked x t u → t.file n ≡ Some f
   asked-lags (asks r) u t is on h = h.1.others n (own-unmeant r h.0 u is on) ∙ on.there
   asked-lags (writes l vbn block) u t is on h = h.others n (write-unmeant l vbn block u on.held) ∙ on.there
   asked-lags (told r a) u t is on h = absurd is
   asked-lags (reads l vbn block) u t is on h = absurd is
   asked-lags (counts l blocks) u t is on h = absurd is
 
-  stopped-there : (x : Asking) (u t : Store) → IsMakingOf 0 dir to 0 id x → IsOnTheWay id n f u → IsStopped x u t → t.file n ≡ Some f
+  stopped-there : (x : Asking) (u t : Store) → IsMakingOf 0 dir to 0 stated id x → IsOnTheWay id n f u → IsStopped x u t → t.file n ≡ Some f
   stopped-there x u t is on (not_begun held same) = sym (ap (λ (s : Store). s.file n) same) ∙ on.there
   stopped-there x u t is on (in_part h) = asked-lags x u t is on h
 
@@ -281,7 +284,7 @@ least-unused t low = by (free_headers t) refl
     by (suc k) is = (least_free_is_free t (omega (arith, is))).unused
 
 -- the slot that is taken for a new file wasn't in use
-taken-unused : (s : Store) → s.in_use 0 ≡ false → s.in_use (least_free (with_slots_first s 1)) ≡ false
+pub taken-unused : (s : Store) → s.in_use 0 ≡ false → s.in_use (least_free (with_slots_first s 1)) ≡ false
 taken-unused s low = by (slots_first s 1)
   where
     by : (c : ℕ) → s.in_use (least_free (with_slots_added c s)) ≡ false
@@ -348,17 +351,18 @@ module _ (s : Store) (tidy : FreeIsEmpty s) (low : s.in_use 0 ≡ false) (unheld
   creation-stopped to r t is (in_part h) = h.1.others n (creation-unmeant to r h.0 is) ∙ there
 
 -- wherever the making was stopped, the others are as they were
-pub others-stay : (dir : FileId) (to : List ℕ) (s t : Store) → FreeIsEmpty s → s.in_use 0 ≡ false → IsUnheld s → StopsAt dir to s t
+pub others-stay : (dir : FileId) (to : List ℕ) (stated : Option (List ℕ)) (s t : Store) → FreeIsEmpty s → s.in_use 0 ≡ false → IsUnheld s
+    → StopsAt dir to stated s t
     → KeepsOthers dir s t
-others-stay dir to s t tidy low unheld (creating r is stopped) =
+others-stay dir to stated s t tidy low unheld (creating r is stopped) =
     λ n f there elsewhere no-index. creation-stopped s tidy low unheld n f there no-index to r t is stopped
-others-stay dir to s t tidy low unheld (after_creation h) = λ n f there elsewhere no-index. by n f there elsewhere no-index
+others-stay dir to stated s t tidy low unheld (after_creation h) = λ n f there elsewhere no-index. by n f there elsewhere no-index
   where
     by : (n : ℕ) (f : File) → s.file n ≡ Some f → is_directory_of dir n f.sequence ≡ false → (n == 1) ≡ false → t.file n ≡ Some f
     by n f there elsewhere no-index =
         let begun = created-there s tidy low unheld n f there no-index to h.request dir h.id h.created h.creates elsewhere h.granted in
-        stopped-there dir to h.id n f begun.0 h.last h.reached t h.is
-        (all-steps dir to h.id n f begun.0 h.asked h.created h.reached h.only begun.1 h.tried) h.stopped
+        stopped-there dir to stated h.id n f begun.0 h.last h.reached t h.is
+        (all-steps dir to stated h.id n f begun.0 h.asked h.created h.reached h.only begun.1 h.tried) h.stopped
 
 -- no volume has a slot 0
 pub no-slot-0 : (image : Image) (home : HomeFields) → (store_of image home).in_use 0 ≡ false

@@ -1,45 +1,56 @@
 -- A file of the host that is put on a volume by its name.
-use Rattle.std.proofs.Common.{◌≡◌, inl, inr, ℕ, true, IsTrue, List, [], Option, Result, Ok, Err, IfOk, IfErr, refl, sym}
-use Rattle.std.proofs.Common.{◌∙◌, subst, arith}
+use Rattle.std.proofs.Common.{◌≡◌, ◌⊎◌, inl, inr, ℕ, true, IsTrue, List, [], Option, Some, Result, Ok, Err, IfOk, IfErr, refl}
+use Rattle.std.proofs.Common.{sym, ap, ◌∙◌, subst, arith}
 use Rattle.std.proofs.KnownBytes.{Consumes-nil}
 use Rattle.f11_dev.specs.Disk.{Disk}
 use Rattle.f11_dev.specs.Image.{IsImage}
 use Rattle.f11_dev.specs.declared.device.Device.{Ghosts}
 use Rattle.f11_serving.specs.fcp.Lists.{is_sound, store_of_volume}
-use Rattle.f11_serving.specs.fcp.Accesses.{held_in}
+use Rattle.f11_serving.specs.fcp.Accesses.{held_in, no_entries}
 use Rattle.f11_serving.specs.fcp.Mounting.{Mounts}
-use Rattle.f11_serving.specs.fcp.Serving.{state_in}
+use Rattle.f11_serving.specs.fcp.Serving.{is_spent, state_in}
 use Rattle.f11_serving.specs.fcp.declared.volume.Volume.{Volume}
+use Rattle.f11_flx.proofs.CopyLemmas.{stated_end-image, stated_end-text}
 use Rattle.f11_flx.proofs.VolumeLemmas.{volume-seen}
 use Rattle.f11_flx.proofs.TriedLemmas.{asked-for-one}
-use Rattle.f11_flx.specs.Asking.{Asking, Fails, Grants, Tried, Who, told, who_asks}
-use Rattle.f11_flx.specs.Copying.{MayMakeFile, is_whole, of_volume}
+use Rattle.f11_flx.specs.Asking.{Asking, Fails, Grants, Tried, Who, asks, told, who_asks}
+use Rattle.f11_flx.specs.Copying.{MayMake, MayMakeStated, is_whole, of_volume}
 use Rattle.f11_home.specs.Home.{HomeFields}
+use Rattle.f11_flx.specs.declared.lines.Extent.{Extent}
 use Rattle.f11_flx.specs.declared.mode.CopyMode.{CopyMode}
 use Rattle.f11_flx.specs.declared.mode.CopyMode.TheVariants as mode
-use Rattle.f11_host.specs.CopyFromHost.{CopiesFromHost, FailsToCopyFromHost, ReadsHost}
-use Rattle.f11_host.specs.CopyTextFromHost.{CopiesTextFromHost, FailsToCopyTextFromHost, ReadsTexts}
+use Rattle.f11_host.specs.CopyFromHost.{AsksForImage, CopiesFromHost, FailsToCopyFromHost, HoldHost, ReadsHost, as_image, image_attr}
+use Rattle.f11_host.specs.CopyTextFromHost.{AsksForText, CopiesTextFromHost, FailsToCopyTextFromHost, HoldText, ReadsTexts}
+use Rattle.f11_host.specs.Pieces.{blocks_for}
+use Rattle.f11_host.specs.TextFilling.{as_text}
 use Rattle.f11_host.specs.Refusal.{as_copy, copy_result}
 use Rattle.f11_host.specs.declared.refusal.HostRefusal.{HostRefusal}
 use Rattle.f11_host.specs.declared.refusal.HostRefusal.TheVariants.{Files, LineTooLong, Unread}
 use Rattle.f11_catalog.specs.image_store.StoreOf.{store_of}
+use Rattle.f11_store.specs.File.{File, end_of}
 use Rattle.f11_store.specs.Store.{Store}
 use Rattle.f11_store.specs.declared.files.FileId.{FileId}
 use Rattle.f11_store.specs.declared.refusals.Refusal.{Refusal}
+use Rattle.f11_store.specs.declared.requests.Reply.{Reply}
 use Rattle.f11_store.specs.declared.requests.Reply.TheVariants as reply
+use Rattle.f11_store.specs.declared.requests.Request.{Request}
 use Rattle.f11_store.specs.declared.requests.Request.TheVariants as request
 use Rattle.f11_volume.specs.Verdict.{IsAccepted}
-use Rattle.f11_commands.proofs.AskedLemmas.{never, tried-home}
+use Rattle.f11_commands.proofs.AskedLemmas.{granted-home, never, tried-home}
 use Rattle.f11_commands.proofs.CopyLemmas.{first-is, last-is, sound-first, stands-accepted}
-use Rattle.f11_commands.proofs.StoppingLemmas.{find-leaves, find-stopped, stops-by, stored}
+use Rattle.f11_commands.proofs.StoppingLemmas.{alive-of, failed-by, find-leaves, find-stopped, stops-by, stored}
+use Rattle.f11_commands.proofs.MomentsLemmas.{asked-alone, asked-stood, at, disk, file-stood, stood-both, stood-looked, stood-none}
+use Rattle.f11_commands.proofs.MomentsLemmas.{stood-then, stood-weaker, whole-stood}
+use Rattle.f11_commands.proofs.WholeLemmas.{ends-whole}
 use Rattle.f11_commands.proofs.NamedLemmas.{alone-behind, alone-not-found, not-found-seen, undamaged-asked}
 use Rattle.f11_commands.specs.CopyCommand.{VerifiesFiles}
 use Rattle.f11_commands.specs.Copying.{directory_name, master_directory, operator}
 use Rattle.f11_commands.specs.Finding.{is_found}
-use Rattle.f11_commands.specs.PutCommand.{FailsFor, Hosts, MakesFor, ReadsFor}
+use Rattle.f11_commands.specs.PutCommand.{FailsFor, HoldFor, Hosts, MakesFor, ReadsFor}
 use Rattle.f11_commands.specs.PutCommand.{EndsAccepted, EndsPutting, PutsByName, PutsInto, PutsNamed, PutsOnImage}
-use Rattle.f11_commands.specs.PutCommand.{TellsOnImage, TellsPutting}
-use Rattle.f11_commands.specs.Stopping.{IsUnheld, StopsMaking, StopsNamed, WhereUnheld, making, seeking}
+use Rattle.f11_commands.specs.PutCommand.{TellsKeptFile}
+use Rattle.f11_commands.specs.Stopping.{EndsWhole, IsStopped, IsUnheld, Stood, StopsFile, StopsPut, StopsPutting, WhereUnheld, making}
+use Rattle.f11_commands.specs.Stopping.{seeking}
 use Rattle.f11_commands.specs.declared.copy.FileAnswer.{FileAnswer}
 use Rattle.f11_commands.specs.declared.put.Putting.{Putting}
 use Rattle.f11_commands.specs.declared.rt_put.PutFailure.{PutFailure}
@@ -62,16 +73,66 @@ unread-for : (bytes : ℕ) (u : Hosts) (m : CopyMode) (e : Refusal) → ReadsFor
 unread-for bytes u mode.Image e = ((λ clean. record { taken = []; few = omega arith; takes = Consumes-nil u.first }), refl)
 unread-for bytes u mode.Text e = inl refl
 
+-- the look for the directory was stopped
+sought : (p : Putting) (bytes : ℕ) (h h' : Hosts) (a : Reply) (s t : Store)
+    → IsStopped (told (request.Find master_directory (directory_name p.directory)) a) s t
+    → StopsPut p.directory p.name (HoldFor p.mode bytes h h') s t
+sought p bytes h h' a s t stopped =
+    let r : Request = request.Find master_directory (directory_name p.directory) in
+    let alone : IsStopped (asks r) s t = asked-alone r a s t stopped in
+    seeking alone (find-leaves master_directory (directory_name p.directory) s t alone)
+
+-- a file that ends at its beginning, or holds the copy of a text
+text-held : (bytes : ℕ) (plan : Extent) (u u' : Hosts) (f : File) → (end_of f ≡ 0) ⊎ (HoldText bytes plan u.again u'.again f.blocks)
+    → (end_of f ≡ 0) ⊎ (HoldFor mode.Text bytes u u' f.blocks)
+text-held bytes plan u u' f (inl none) = inl none
+text-held bytes plan u u' f (inr holds) = inr (plan, holds)
+
 module _ {D : Type 0} {met : Ghosts D} (p : Putting) (bytes : ℕ) (u : Hosts) where
+  -- in what order what makes the file is asked, and what is left where that is stopped
+  abbrev AsksFor : CopyMode → Volume D met → Volume D met → FileId → Hosts → Type 0
+  AsksFor mode.Image v w dir u' = AsksForImage of_volume bytes u.first u'.first operator 0 dir p.name 0 v w
+  AsksFor mode.Text v w dir u' = AsksForText of_volume bytes u.again u'.again operator 0 dir p.name 0 v w
+
+  whole-for : (m : CopyMode) (dir : FileId) (u' : Hosts) (v w : Volume D met) → is_sound v ≡ true → is_spent w ≡ true
+      → IsUnheld (store_of_volume v) → AsksFor m v w dir u' → EndsWhole dir (HoldFor m bytes u u') (store_of_volume v) (stored w)
+  whole-for mode.Image dir u' v w sound dead unheld order =
+      ends-whole (as_image p.name dir 0 bytes []) (stated_end-image (blocks_for bytes) 0) (HoldHost bytes u.first u'.first) v sound unheld w
+      dead order
+  whole-for mode.Text dir u' v w sound dead unheld (inl same) =
+      never (sym (ap (λ (x : Volume D met). is_spent x) same) ∙ dead) (alive-of (state_in v).disk.honest (is_spent v) sound)
+  whole-for mode.Text dir u' v w sound dead unheld (inr (plan, order)) = λ apart f there.
+      text-held bytes plan u u' f (ends-whole (as_text p.name dir 0 plan []) (stated_end-text plan.longest plan.blocks 0)
+      (HoldText bytes plan u.again u'.again) v sound unheld w dead order apart f there)
+
+  whole-stood-for : (m : CopyMode) (dir : FileId) (u' : Hosts) (v w : Volume D met) → is_sound v ≡ true → IsUnheld (store_of_volume v)
+      → AsksFor m v w dir u'
+      → Stood (λ image. EndsWhole dir (HoldFor m bytes u u') (store_of_volume v) (at v image)) (disk v) (disk w)
+  whole-stood-for mode.Image dir u' v w sound unheld order =
+      whole-stood (as_image p.name dir 0 bytes []) (stated_end-image (blocks_for bytes) 0) (HoldHost bytes u.first u'.first) v w sound
+      unheld order
+  whole-stood-for mode.Text dir u' v w sound unheld (inl same) =
+      subst (λ (x : Volume D met). Stood (λ image. EndsWhole dir (HoldFor mode.Text bytes u u') (store_of_volume v) (at v image)) (disk v)
+      (disk x)) (sym same)
+      (stood-none (λ image. EndsWhole dir (HoldFor mode.Text bytes u u') (store_of_volume v) (at v image)) (disk v))
+  whole-stood-for mode.Text dir u' v w sound unheld (inr (plan, order)) =
+      stood-weaker (λ image. EndsWhole dir (HoldText bytes plan u.again u'.again) (store_of_volume v) (at v image))
+      (λ image. EndsWhole dir (HoldFor mode.Text bytes u u') (store_of_volume v) (at v image)) (disk v) (disk w)
+      (λ image ends. λ apart f there. text-held bytes plan u u' f (ends apart f there))
+      (whole-stood (as_text p.name dir 0 plan []) (stated_end-text plan.longest plan.blocks 0) (HoldText bytes plan u.again u'.again) v w
+      sound unheld order)
+
   -- the file was to be made in a directory
-  made-in : (dir : FileId) (result : Result ℕ HostRefusal) (u' : Hosts) (v w : Volume D met)
-      → MayMakeFile (copy_result result) operator 0 dir p.name 0 v w → ReadsFor p.mode bytes result u u'
+  made-in : (dir : FileId) (attr : List ℕ) (result : Result ℕ HostRefusal) (u' : Hosts) (v w : Volume D met)
+      → MayMake (copy_result result) operator 0 dir p.name 0 (Some attr) v w
+      → AsksFor p.mode v w dir u' → ReadsFor p.mode bytes result u u'
       → IfOk result (λ blocks. is_sound v ≡ true
       → MakesFor p.mode bytes blocks u u' dir p.name (store_of_volume v) (store_of_volume w))
       → IfErr result (λ e. is_whole (copy_result result) ≡ true → is_sound v ≡ true
       → FailsFor p.mode e bytes u u' dir p.name (store_of_volume v) (store_of_volume w))
-      → PutsNamed p.mode bytes result u u' (PutsInto p bytes dir result u u') (WhereUnheld (StopsMaking dir p.name)) v w
-  made-in dir result u' v w files host copied refused = record {
+      → PutsNamed p.mode bytes result u u' (PutsInto p bytes dir result u u')
+      (WhereUnheld (StopsPutting dir p.name (HoldFor p.mode bytes u u'))) v w
+  made-in dir attr result u' v w files order host copied refused = record {
     fares = record {
       fares = files.fares;
       alive = λ alive is. never (files.keeps.only is) alive;
@@ -80,13 +141,25 @@ module _ {D : Type 0} {met : Ghosts D} (p : Putting) (bytes : ℕ) (u : Hosts) w
     };
     host = host;
     outcome = by result files copied refused;
-    stops = λ sound fault. stops-by dir p.name (copy_result result) v w files.fares files.asked sound fault;
+    stops = λ sound fault unheld. record {
+      attr = attr;
+      stops = stops-by dir p.name (Some attr) (copy_result result) v w files.fares files.asked sound fault unheld;
+      whole = whole-for p.mode dir u' v w sound (failed-by (copy_result result) v w files.fares sound fault) unheld order;
+    };
+    moments = λ sound unheld.
+        stood-weaker (λ image. StopsFile dir p.name (Some attr) (store_of_volume v) (at v image)
+        × EndsWhole dir (HoldFor p.mode bytes u u') (store_of_volume v) (at v image))
+        (λ image. WhereUnheld (StopsPutting dir p.name (HoldFor p.mode bytes u u')) (store_of_volume v) (at v image))
+        (disk v) (disk w) (λ image is. λ unheld. record { attr = attr; stops = is.0; whole = is.1 })
+        (stood-both (λ image. StopsFile dir p.name (Some attr) (store_of_volume v) (at v image))
+        (λ image. EndsWhole dir (HoldFor p.mode bytes u u') (store_of_volume v) (at v image)) (disk v) (disk w)
+        (file-stood dir p.name (Some attr) v w sound files.asked unheld) (whole-stood-for p.mode dir u' v w sound unheld order));
   }
     where
       asked : (xs : List Asking) × Tried of_volume operator xs v w
-      asked = asked-for-one of_volume operator 0 dir p.name 0 v w files.asked
+      asked = asked-for-one of_volume operator 0 dir p.name 0 (Some attr) v w files.asked
 
-      by : (r : Result ℕ HostRefusal) → MayMakeFile (copy_result r) operator 0 dir p.name 0 v w
+      by : (r : Result ℕ HostRefusal) → MayMake (copy_result r) operator 0 dir p.name 0 (Some attr) v w
           → IfOk r (λ blocks. is_sound v ≡ true
           → MakesFor p.mode bytes blocks u u' dir p.name (store_of_volume v) (store_of_volume w))
           → IfErr r (λ e. is_whole (copy_result r) ≡ true → is_sound v ≡ true
@@ -98,17 +171,22 @@ module _ {D : Type 0} {met : Ghosts D} (p : Putting) (bytes : ℕ) (u : Hosts) w
           record { refused = refused whole sound; undone = files.undone (as_copy e) refl sound whole }
 
   pub put-image : p.mode ≡ mode.Image → (task lun : ℕ) → task ≡ 0 → lun ≡ 0 → (dir : FileId) (result : Result ℕ HostRefusal)
-      (u' : Hosts) (v w : Volume D met) → MayMakeFile (copy_result result) (who_asks task operator.caller) lun dir p.name 0 v w
+      (u' : Hosts) (v w : Volume D met)
+      → MayMake (copy_result result) (who_asks task operator.caller) lun dir p.name 0 (Some (image_attr bytes)) v w
+      → AsksForImage of_volume bytes u.first u'.first (who_asks task operator.caller) lun dir p.name 0 v w
       → ReadsHost bytes result u.first u'.first → u'.again ≡ u.again
       → IfOk result (λ blocks. is_sound v ≡ true → CopiesFromHost bytes u.first u'.first (who_asks task operator.caller) lun dir p.name 0
       (store_of_volume v) (store_of_volume w))
       → IfErr result (λ e. is_whole (copy_result result) ≡ true → is_sound v ≡ true
       → FailsToCopyFromHost e bytes u.first u'.first (who_asks task operator.caller) lun dir p.name 0 (store_of_volume v)
       (store_of_volume w))
-      → PutsNamed p.mode bytes result u u' (PutsInto p bytes dir result u u') (WhereUnheld (StopsMaking dir p.name)) v w
-  put-image is task lun task-is lun-is dir result u' v w files host stays copied refused =
-      made-in dir result u' v w
-      (by-first task lun task-is lun-is (λ who l. MayMakeFile (copy_result result) who l dir p.name 0 v w) files)
+      → PutsNamed p.mode bytes result u u' (PutsInto p bytes dir result u u')
+      (WhereUnheld (StopsPutting dir p.name (HoldFor p.mode bytes u u'))) v w
+  put-image is task lun task-is lun-is dir result u' v w files order host stays copied refused =
+      made-in dir (image_attr bytes) result u' v w
+      (by-first task lun task-is lun-is (λ who l. MayMake (copy_result result) who l dir p.name 0 (Some (image_attr bytes)) v w) files)
+      (subst (λ m. AsksFor m v w dir u') (sym is)
+      (by-first task lun task-is lun-is (λ who l. AsksForImage of_volume bytes u.first u'.first who l dir p.name 0 v w) order))
       (subst (λ m. ReadsFor m bytes result u u') (sym is) (host, stays))
       (subst (λ m. IfOk result (λ blocks. is_sound v ≡ true → MakesFor m bytes blocks u u' dir p.name (store_of_volume v)
       (store_of_volume w))) (sym is)
@@ -120,17 +198,21 @@ module _ {D : Type 0} {met : Ghosts D} (p : Putting) (bytes : ℕ) (u : Hosts) w
       → FailsToCopyFromHost e bytes u.first u'.first who l dir p.name 0 (store_of_volume v) (store_of_volume w))) refused))
 
   pub put-text : p.mode ≡ mode.Text → (task lun : ℕ) → task ≡ 0 → lun ≡ 0 → (dir : FileId) (result : Result ℕ HostRefusal)
-      (u' : Hosts) (v w : Volume D met) → MayMakeFile (copy_result result) (who_asks task operator.caller) lun dir p.name 0 v w
+      (u' : Hosts) (v w : Volume D met) → MayMakeStated (copy_result result) (who_asks task operator.caller) lun dir p.name 0 v w
+      → AsksForText of_volume bytes u.again u'.again (who_asks task operator.caller) lun dir p.name 0 v w
       → ReadsTexts bytes result u.first u'.first u.again u'.again
       → IfOk result (λ blocks. is_sound v ≡ true → CopiesTextFromHost bytes blocks u.again u'.again (who_asks task operator.caller) lun dir
       p.name 0 (store_of_volume v) (store_of_volume w))
       → IfErr result (λ e. is_whole (copy_result result) ≡ true → is_sound v ≡ true
       → FailsToCopyTextFromHost e bytes u.first u'.first u.again u'.again (who_asks task operator.caller) lun dir p.name 0
       (store_of_volume v) (store_of_volume w))
-      → PutsNamed p.mode bytes result u u' (PutsInto p bytes dir result u u') (WhereUnheld (StopsMaking dir p.name)) v w
-  put-text is task lun task-is lun-is dir result u' v w files host copied refused =
-      made-in dir result u' v w
-      (by-first task lun task-is lun-is (λ who l. MayMakeFile (copy_result result) who l dir p.name 0 v w) files)
+      → PutsNamed p.mode bytes result u u' (PutsInto p bytes dir result u u')
+      (WhereUnheld (StopsPutting dir p.name (HoldFor p.mode bytes u u'))) v w
+  put-text is task lun task-is lun-is dir result u' v w files order host copied refused =
+      let made = by-first task lun task-is lun-is (λ who l. MayMakeStated (copy_result result) who l dir p.name 0 v w) files in
+      made-in dir made.0 result u' v w made.1
+      (subst (λ m. AsksFor m v w dir u') (sym is)
+      (by-first task lun task-is lun-is (λ who l. AsksForText of_volume bytes u.again u'.again who l dir p.name 0 v w) order))
       (subst (λ m. ReadsFor m bytes result u u') (sym is) (texts-for bytes u u' result host))
       (subst (λ m. IfOk result (λ blocks. is_sound v ≡ true → MakesFor m bytes blocks u u' dir p.name (store_of_volume v)
       (store_of_volume w))) (sym is)
@@ -145,8 +227,10 @@ module _ {D : Type 0} {met : Ghosts D} (p : Putting) (bytes : ℕ) (u : Hosts) w
   -- the user's directory was found
   pub put-found : (name : List ℕ) → name ≡ directory_name p.directory → (dir : FileId) (result : Result ℕ HostRefusal)
       (u' : Hosts) (v m w : Volume D met) → Grants of_volume operator (told (request.Find master_directory name) (reply.Found dir)) v m
-      → PutsNamed p.mode bytes result u u' (PutsInto p bytes dir result u u') (WhereUnheld (StopsMaking dir p.name)) m w
-      → PutsNamed p.mode bytes result u u' (PutsByName p bytes result u u') (WhereUnheld (StopsNamed p.directory p.name)) v w
+      → PutsNamed p.mode bytes result u u' (PutsInto p bytes dir result u u')
+      (WhereUnheld (StopsPutting dir p.name (HoldFor p.mode bytes u u'))) m w
+      → PutsNamed p.mode bytes result u u' (PutsByName p bytes result u u')
+      (WhereUnheld (StopsPut p.directory p.name (HoldFor p.mode bytes u u'))) v w
   put-found name name-is dir result u' v m w grants' a = record {
     fares = alone-behind (copy_result result) (told (request.Find master_directory (directory_name p.directory)) (reply.Found dir)) v m w
         grants a.fares;
@@ -165,6 +249,22 @@ module _ {D : Type 0} {met : Ghosts D} (p : Putting) (bytes : ℕ) (u : Hosts) w
         grants sound in
         making dir (store_of_volume m) (store_of_volume m, seen.0, refl)
         (a.stops seen.1 fault (subst IsUnheld (sym seen.0.2.changes) unheld));
+    moments = λ sound unheld.
+        let x : Asking = told (request.Find master_directory (directory_name p.directory)) (reply.Found dir) in
+        let seen = volume-seen.granted operator x v m grants sound in
+        stood-then (λ image. WhereUnheld (StopsPut p.directory p.name (HoldFor p.mode bytes u u')) (store_of_volume v) (at v image))
+        (disk v) (disk m) (disk w)
+        (stood-weaker (λ image. IsStopped x (store_of_volume v) (at v image))
+        (λ image. WhereUnheld (StopsPut p.directory p.name (HoldFor p.mode bytes u u')) (store_of_volume v) (at v image))
+        (disk v) (disk m) (λ image stopped. λ unheld. sought p bytes u u' (reply.Found dir) (store_of_volume v) (at v image) stopped)
+        (asked-stood x v m sound (inl grants)))
+        (stood-weaker (λ image. WhereUnheld (StopsPutting dir p.name (HoldFor p.mode bytes u u')) (store_of_volume m) (at m image))
+        (λ image. WhereUnheld (StopsPut p.directory p.name (HoldFor p.mode bytes u u')) (store_of_volume v) (at v image))
+        (disk m) (disk w) (λ image is. λ unheld.
+        subst (λ (h : HomeFields). StopsPut p.directory p.name (HoldFor p.mode bytes u u') (store_of_volume v) (store_of image h))
+        (granted-home operator x v m grants)
+        (making dir (store_of_volume m) (store_of_volume m, seen.0, refl) (is (subst IsUnheld (sym seen.0.2.changes) unheld))))
+        (a.moments seen.1 (subst IsUnheld (sym seen.0.2.changes) unheld)));
   }
     where
       grants : Grants of_volume operator (told (request.Find master_directory (directory_name p.directory)) (reply.Found dir)) v m
@@ -173,7 +273,8 @@ module _ {D : Type 0} {met : Ghosts D} (p : Putting) (bytes : ℕ) (u : Hosts) w
   -- it isn't there
   pub put-nowhere : (name : List ℕ) → name ≡ directory_name p.directory → (e : Refusal) (v w : Volume D met)
       → Fails of_volume operator is_found (request.Find master_directory name) e v w
-      → PutsNamed p.mode bytes (Err (Files e)) u u (PutsByName p bytes (Err (Files e)) u u) (WhereUnheld (StopsNamed p.directory p.name)) v
+      → PutsNamed p.mode bytes (Err (Files e)) u u (PutsByName p bytes (Err (Files e)) u u)
+      (WhereUnheld (StopsPut p.directory p.name (HoldFor p.mode bytes u u))) v
       w
   put-nowhere name name-is e v w fails' = record {
     fares = alone-not-found master_directory (directory_name p.directory) e v w fails;
@@ -187,15 +288,35 @@ module _ {D : Type 0} {met : Ghosts D} (p : Putting) (bytes : ℕ) (u : Hosts) w
     stops = λ sound fault unheld.
         let at = find-stopped master_directory (directory_name p.directory) e v w sound fault fails in
         seeking at (find-leaves master_directory (directory_name p.directory) (store_of_volume v) (stored w) at);
+    moments = λ sound unheld. missed sound fails;
   }
     where
+      r : Request
+      r = request.Find master_directory (directory_name p.directory)
+
+      missed : is_sound v ≡ true → Fails of_volume operator is_found r e v w
+          → Stood (λ image. WhereUnheld (StopsPut p.directory p.name (HoldFor p.mode bytes u u)) (store_of_volume v) (at v image))
+          (disk v) (disk w)
+      missed sound (inl d) =
+          stood-weaker (λ image. IsStopped (asks r) (store_of_volume v) (at v image))
+          (λ image. WhereUnheld (StopsPut p.directory p.name (HoldFor p.mode bytes u u)) (store_of_volume v) (at v image))
+          (disk v) (disk w) (λ image stopped. λ unheld. seeking stopped
+          (find-leaves master_directory (directory_name p.directory) (store_of_volume v) (at v image) stopped))
+          (asked-stood (asks r) v w sound (inr (e, d)))
+      missed sound (inr g) =
+          stood-weaker (λ image. IsStopped (told r g.0) (store_of_volume v) (at v image))
+          (λ image. WhereUnheld (StopsPut p.directory p.name (HoldFor p.mode bytes u u)) (store_of_volume v) (at v image))
+          (disk v) (disk w) (λ image stopped. λ unheld. sought p bytes u u g.0 (store_of_volume v) (at v image) stopped)
+          (asked-stood (told r g.0) v w sound (inl g.3))
+
       fails : Fails of_volume operator is_found (request.Find master_directory (directory_name p.directory)) e v w
       fails = subst (λ n. Fails of_volume operator is_found (request.Find master_directory n) e v w) name-is fails'
 
   -- on the volume of an image
   module _ (result : Result ℕ HostRefusal) (u' : Hosts) (old : Disk) (first last : Volume D met) (mounts : Mounts old first)
       (image : IsImage old.image) (accepted : IsTrue old.honest → IsAccepted old.image)
-      (puts : PutsNamed p.mode bytes result u u' (PutsByName p bytes result u u') (WhereUnheld (StopsNamed p.directory p.name)) first last)
+      (puts : PutsNamed p.mode bytes result u u' (PutsByName p bytes result u u')
+      (WhereUnheld (StopsPut p.directory p.name (HoldFor p.mode bytes u u'))) first last)
     where
       pub puts-on-image : PutsOnImage p bytes result u u' old (state_in last).disk
       puts-on-image = record {
@@ -210,11 +331,29 @@ module _ {D : Type 0} {met : Ghosts D} (p : Putting) (bytes : ℕ) (u : Hosts) w
             (last-is old first last mounts puts.fares.home)
             (puts.outcome (sound-first old first last mounts puts.fares.home is) whole));
         stops = λ is fault.
-            subst (λ (s : Store). WhereUnheld (StopsNamed p.directory p.name) s (store_of (state_in last).disk.image (state_in first).home))
+            subst (λ (s : Store). WhereUnheld (StopsPut p.directory p.name (HoldFor p.mode bytes u u')) s
+            (store_of (state_in last).disk.image (state_in first).home))
             (first-is old first last mounts puts.fares.home)
-            (subst (λ (h : HomeFields). WhereUnheld (StopsNamed p.directory p.name) (store_of_volume first)
+            (subst (λ (h : HomeFields). WhereUnheld (StopsPut p.directory p.name (HoldFor p.mode bytes u u')) (store_of_volume first)
             (store_of (state_in last).disk.image h))
             puts.fares.home (puts.stops (sound-first old first last mounts puts.fares.home is) fault)) (λ task lun. refl);
+        moments = λ is.
+            let start : store_of_volume first ≡ held_in no_entries (store_of old.image (state_in first).home) =
+            first-is old first last mounts puts.fares.home in
+            stood-then (λ image. StopsPut p.directory p.name (HoldFor p.mode bytes u u')
+            (held_in no_entries (store_of old.image (state_in first).home)) (store_of image (state_in first).home)) old
+            (state_in first).disk (state_in last).disk
+            (stood-looked (λ image. StopsPut p.directory p.name (HoldFor p.mode bytes u u')
+            (held_in no_entries (store_of old.image (state_in first).home)) (store_of image (state_in first).home)) old
+            (state_in first).disk mounts.looked)
+            (stood-weaker (λ image. WhereUnheld (StopsPut p.directory p.name (HoldFor p.mode bytes u u')) (store_of_volume first)
+            (at first image))
+            (λ image. StopsPut p.directory p.name (HoldFor p.mode bytes u u')
+            (held_in no_entries (store_of old.image (state_in first).home)) (store_of image (state_in first).home))
+            (state_in first).disk (state_in last).disk
+            (λ image stops. subst (λ (s : Store). WhereUnheld (StopsPut p.directory p.name (HoldFor p.mode bytes u u')) s
+            (at first image)) start stops (λ task lun. refl))
+            (puts.moments (sound-first old first last mounts puts.fares.home is) (subst IsUnheld (sym start) (λ task lun. refl))));
         host = puts.host;
         failures = let none = mounts.looked.failures in let some = puts.fares.fares.failures in omega (arith, none, some);
         quiet = puts.fares.fares.quiet;
@@ -225,11 +364,14 @@ module _ {D : Type 0} {met : Ghosts D} (p : Putting) (bytes : ℕ) (u : Hosts) w
       }
 
       pub ends-accepted : {W : Type 0} (answer : Result FileAnswer PutFailure) (contents : W → Option (List ℕ)) (before after : W)
-          (new : Disk) → new ≡ (state_in last).disk → TellsPutting result answer contents before after
+          (new done : Disk) → done ≡ (state_in last).disk → TellsKeptFile result answer done new contents before after
           → EndsAccepted p bytes answer u u' old new contents before after
-      ends-accepted {W} answer contents before after new at tells =
-          inl (subst (λ (x : Disk). TellsOnImage p bytes answer u u' old x contents before after) (sym at)
-          (record { result = result; puts = puts-on-image; tells = tells }))
+      ends-accepted {W} answer contents before after new done at tells = inl (record {
+        result = result;
+        done = (state_in last).disk;
+        puts = puts-on-image;
+        tells = subst (λ (x : Disk). TellsKeptFile result answer x new contents before after) at tells;
+      })
 
 -- behind a verified image
 pub ends-putting : {W : Type 0} (p : Putting) (bytes : ℕ) (u u' : Hosts) (answer : Result FileAnswer PutFailure)

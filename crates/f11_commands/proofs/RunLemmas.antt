@@ -1,7 +1,9 @@
 -- A script that is served on an image.
-use Rattle.std.proofs.Common.{◌≡◌, ◌⊎◌, inl, inr, ℕ, ◌++◌, Bool, true, false, IsTrue, List, Option, Result, Ok, Err, refl, sym}
+use Rattle.std.proofs.Common.{◌≡◌, ◌⊎◌, inl, inr, ℕ, ◌+◌, ◌<◌, ◌++◌, ◌||◌, Bool, true, false, IsTrue, List, Option, Result, Ok, Err, refl}
+use Rattle.std.proofs.Common.{sym}
 use Rattle.std.proofs.Common.{◌∙◌, ap, subst, arith}
-use Rattle.f11_dev.specs.Disk.{Disk}
+use Rattle.f11_dev.specs.Disk.{Disk, with_transfer}
+use Rattle.f11_dev.proofs.LookedLemmas.{looked_failed_read}
 use Rattle.f11_dev.specs.Image.{Image, IsImage}
 use Rattle.f11_dev.specs.Looked.{Looked}
 use Rattle.f11_dev.specs.declared.device.Device.{Ghosts}
@@ -22,7 +24,7 @@ use Rattle.f11_volume.specs.Verdict.{IsAccepted}
 use Rattle.f11_serving.proofs.writes.InOrderLemmas.{order-looked, order-then}
 use Rattle.f11_serving.specs.writes.Order.{WritesInOrder}
 use Rattle.f11_commands.proofs.CopyLemmas.{first-is, last-is, sound-first, stands-accepted}
-use Rattle.f11_commands.specs.RunCommand.{EndsRun, EndsServing, HasFaults, ServesImage, WritesNothing, outcome_of}
+use Rattle.f11_commands.specs.RunCommand.{EndsRun, EndsServing, EndsSyncing, HasFaults, ServesImage, SyncedIf, WritesNothing, outcome_of}
 use Rattle.f11_commands.specs.declared.outcome.Answer.{Answer}
 use Rattle.f11_commands.specs.declared.outcome.Answer.TheVariants.{Done, Fault}
 use Rattle.f11_commands.specs.declared.outcome.Failure.{Failure}
@@ -59,34 +61,60 @@ module _ {D W : Type 0} {met : Ghosts D} (disk : Disk) (first last : Volume D me
           (last-is disk first last mounts kept.home) (run sound same));
     }
 
-    by-outcome : (spent : Bool) → is_spent last ≡ spent
-        → EndsServing (outcome_of spent result) remaining disk (state_in last).disk contents before after
-    by-outcome = ends result serves-image
-      where
-        ends : (r : Result ℕ ScriptError) → ServesImage r remaining disk (state_in last).disk contents before after → (spent : Bool)
-            → is_spent last ≡ spent
-            → EndsServing (outcome_of spent r) remaining disk (state_in last).disk contents before after
-        ends r s true is = (
-          inr (r, s),
-          λ honest. let more = kept.more (mounts.looked.honest ∙ honest) mounts.fresh is in
-              omega (arith, more, mounts.looked.failures),
-        )
-        ends (Ok count) s false is = (count, s, omega (arith, kept.same is, mounts.looked.failures))
-        ends (Err e) s false is = (s, omega (arith, kept.same is, mounts.looked.failures))
+    more-failures : is_spent last ≡ true → IsTrue disk.honest → disk.failures < (state_in last).disk.failures
+    more-failures is honest =
+        let more = kept.more (mounts.looked.honest ∙ honest) mounts.fresh is in omega (arith, more, mounts.looked.failures)
 
-    pub ends-serving : (new : Disk) (told : Result Answer RunFailure) → new ≡ (state_in last).disk
-        → told ≡ outcome_of (is_spent last) result → EndsServing told remaining disk new contents before after
-    ends-serving new told at is =
-        subst (λ t. EndsServing t remaining disk new contents before after) (sym is)
-        (subst (λ (d : Disk). EndsServing (outcome_of (is_spent last) result) remaining disk d contents before after) (sym at)
-        (by-outcome (is_spent last) refl))
+    same-failures : is_spent last ≡ false → (state_in last).disk.failures ≡ disk.failures
+    same-failures is = omega (arith, kept.same is, mounts.looked.failures)
+
+    -- a sync that failed behind a transfer that did
+    serves-failed : (r : Result ℕ ScriptError) → ServesImage r remaining disk (state_in last).disk contents before after
+        → is_spent last ≡ true → ServesImage r remaining disk (with_transfer false (state_in last).disk) contents before after
+    serves-failed r s is = record {
+      home = s.home;
+      held = s.held;
+      home_is = s.home_is;
+      accepted = s.accepted;
+      meanwhile = record {
+        accepted = s.meanwhile.accepted;
+        ordered = order-then disk (state_in last).disk (with_transfer false (state_in last).disk) s.meanwhile.ordered
+            (order-looked (state_in last).disk (with_transfer false (state_in last).disk) 1 1
+            (looked_failed_read (state_in last).disk (with_transfer false (state_in last).disk) refl));
+      };
+      run = λ honest none.
+          let more = more-failures is honest in
+          let one : (state_in last).disk.failures + 1 ≡ disk.failures = none in
+          absurd (omega (arith, more, one));
+    }
+
+    by-outcome : (r : Result ℕ ScriptError) → ServesImage r remaining disk (state_in last).disk contents before after
+        → (spent fails : Bool) → is_spent last ≡ spent → (new : Disk) → SyncedIf fails (state_in last).disk new
+        → EndsServing (outcome_of (spent || fails) r) remaining disk new contents before after
+    by-outcome r s true false is new at =
+        subst (λ (x : Disk). EndsServing (Err (Command DeviceFault)) remaining disk x contents before after) (sym at)
+        (inl (inr (r, s), more-failures is))
+    by-outcome r s true true is new at =
+        subst (λ (x : Disk). EndsServing (Err (Command DeviceFault)) remaining disk x contents before after) (sym at)
+        (inl (inr (r, serves-failed r s is), λ honest. let more = more-failures is honest in omega (arith, more)))
+    by-outcome r s false true is new at = inr (r, record { done = _; serves = s; none = same-failures is; failed = at })
+    by-outcome (Ok count) s false false is new at =
+        subst (λ (x : Disk). EndsServing (Ok Done) remaining disk x contents before after) (sym at) (count, s, same-failures is)
+    by-outcome (Err e) s false false is new at =
+        subst (λ (x : Disk). EndsServing (Err (Script e)) remaining disk x contents before after) (sym at) (s, same-failures is)
+
+    pub ends-serving : (new : Disk) (told : Result Answer RunFailure)
+        → EndsSyncing (is_spent last) result told (state_in last).disk new → EndsServing told remaining disk new contents before after
+    ends-serving new told e =
+        subst (λ t. EndsServing t remaining disk new contents before after) (sym e.told_is)
+        (by-outcome result serves-image (is_spent last) e.fails refl new e.synced)
 
 -- an image that was looked over first
-module _ {W : Type 0} (remaining : Option (List ℕ)) (contents : W → Option (List ℕ)) (before after : W) (old mid new : Disk) (n : ℕ)
+module _ {W : Type 0} (remaining : Option (List ℕ)) (contents : W → Option (List ℕ)) (before after : W) (old mid : Disk) (n : ℕ)
     (looked : Looked old mid n 0) where
-  serves-behind : (result : Result ℕ ScriptError) → ServesImage result remaining mid new contents before after
+  serves-behind : (new : Disk) (result : Result ℕ ScriptError) → ServesImage result remaining mid new contents before after
       → ServesImage result remaining old new contents before after
-  serves-behind result s = record {
+  serves-behind new result s = record {
     home = s.home;
     held = s.held;
     home_is = λ is. subst (λ (i : Image). IsHomeOf i s.home) looked.image (s.home_is (looked.honest ∙ is));
@@ -103,25 +131,34 @@ module _ {W : Type 0} (remaining : Option (List ℕ)) (contents : W → Option (
         looked.image (s.run (looked.honest ∙ is) same);
   }
 
-  nothing-behind : WritesNothing mid new contents before after → WritesNothing old new contents before after
-  nothing-behind w = record { image = w.image ∙ looked.image; history = w.history ∙ looked.history; written = w.written }
+  nothing-behind : (new : Disk) → WritesNothing mid new contents before after → WritesNothing old new contents before after
+  nothing-behind new w = record { image = w.image ∙ looked.image; history = w.history ∙ looked.history; written = w.written }
 
-  pub ends-behind : (told : Result Answer RunFailure) → EndsServing told remaining mid new contents before after
+  pub ends-behind : (new : Disk) (told : Result Answer RunFailure) → EndsServing told remaining mid new contents before after
       → EndsRun told remaining old new contents before after
-  ends-behind (Ok Done) h = (h.0, serves-behind (Ok h.0) h.1, omega (arith, h.2, looked.failures))
-  ends-behind (Ok Fault) h = absurd h
-  ends-behind (Err (Script e)) h = (serves-behind (Err e) h.0, omega (arith, h.1, looked.failures))
-  ends-behind (Err (Command DeviceFault)) h =
-      (begun h.0, λ honest. let more = h.1 (looked.honest ∙ honest) in omega (arith, more, looked.failures))
+  ends-behind new (Ok Done) h = (h.0, serves-behind new (Ok h.0) h.1, omega (arith, h.2, looked.failures))
+  ends-behind new (Ok Fault) h = absurd h
+  ends-behind new (Err (Script e)) h = (serves-behind new (Err e) h.0, omega (arith, h.1, looked.failures))
+  ends-behind new (Err (Command DeviceFault)) (inl h) =
+      inl (begun h.0, λ honest. let more = h.1 (looked.honest ∙ honest) in omega (arith, more, looked.failures))
     where
       begun : WritesNothing mid new contents before after
           ⊎ ((result : Result ℕ ScriptError) × ServesImage result remaining mid new contents before after)
           → WritesNothing old new contents before after
           ⊎ ((result : Result ℕ ScriptError) × ServesImage result remaining old new contents before after)
-      begun (inl w) = inl (nothing-behind w)
-      begun (inr s) = inr (s.0, serves-behind s.0 s.1)
-  ends-behind (Err (Command NoMemory)) h = (nothing-behind h.0, omega (arith, h.1, looked.failures))
-  ends-behind (Err (Command CannotWrite)) h = absurd h
+      begun (inl w) = inl (nothing-behind new w)
+      begun (inr s) = inr (s.0, serves-behind new s.0 s.1)
+  ends-behind new (Err (Command DeviceFault)) (inr h) = inr (
+    h.0,
+    record {
+      done = h.1.done;
+      serves = serves-behind h.1.done h.0 h.1.serves;
+      none = omega (arith, h.1.none, looked.failures);
+      failed = h.1.failed;
+    },
+  )
+  ends-behind new (Err (Command NoMemory)) h = (nothing-behind new h.0, omega (arith, h.1, looked.failures))
+  ends-behind new (Err (Command CannotWrite)) h = absurd h
 
 -- an image with faults whose report wasn't written to its end
 pub ends-unwritten : {W : Type 0} (remaining : Option (List ℕ)) (contents : W → Option (List ℕ)) (before after : W) (old new : Disk)

@@ -13,7 +13,9 @@ use Rattle.f11_serving.specs.fcp.declared.volume.Volume.{Volume}
 use Rattle.f11_serving.specs.files.Answers.{is_fatal, is_fault, is_refused}
 use Rattle.f11_flx.proofs.VolumeLemmas.{denied-fared, unused, volume-seen}
 use Rattle.f11_flx.specs.Asking.{Asking, Denies, Fails, Grants, Tried, asks, counts, plain, reads, told, writes}
-use Rattle.f11_flx.specs.Copying.{AsksForOne, AsksOnly, FaresFiles, IsMakingOf, ReadsFiles, is_reading, creation, making, nothing, of_files}
+use Rattle.f11_flx.specs.Copying.{AsksForFile, AsksOfCreated, AsksOnly, FaresFiles, IsMakingOf, ReadsFiles, is_reading, creation, making}
+use Rattle.f11_flx.specs.Copying.{nothing}
+use Rattle.f11_flx.specs.Copying.{of_files}
 use Rattle.f11_flx.specs.Copying.{of_volume}
 use Rattle.f11_flx.specs.Refusal.{is_lethal}
 use Rattle.f11_flx.specs.declared.refusal.FlxRefusal.{FlxRefusal}
@@ -36,7 +38,7 @@ use Rattle.f11_commands.proofs.OthersLemmas.{all-behind, no-slot-0, others-stay}
 use Rattle.f11_commands.proofs.ReadOnlyLemmas.{reads-leave}
 use Rattle.f11_commands.specs.Copying.{operator}
 use Rattle.f11_commands.specs.Finding.{is_found}
-use Rattle.f11_commands.specs.Stopping.{IsStopped, KeepsFiles, StopsAt, StopsMaking, WhereUnheld, after_creation, creating, in_part}
+use Rattle.f11_commands.specs.Stopping.{IsStopped, KeepsFiles, StopsAt, StopsFile, WhereUnheld, after_creation, creating, in_part}
 use Rattle.f11_commands.specs.Stopping.{not_begun}
 
 -- a device fault fails the volume
@@ -49,11 +51,11 @@ fault-fatal (Err BadRecord) h = h
 fault-fatal (Err LineTooLong) h = h
 
 -- a sound volume's disk is honest, and no request has failed it
-honest-of : (honest spent : Bool) → (honest && not spent) ≡ true → IsTrue honest
+pub honest-of : (honest spent : Bool) → (honest && not spent) ≡ true → IsTrue honest
 honest-of true spent h = refl
 honest-of false spent h = absurd (let none : false ≡ true = h in cc)
 
-alive-of : (honest spent : Bool) → (honest && not spent) ≡ true → spent ≡ false
+pub alive-of : (honest spent : Bool) → (honest && not spent) ≡ true → spent ≡ false
 alive-of true true h = absurd (let none : false ≡ true = h in cc)
 alive-of true false h = refl
 alive-of false spent h = absurd (let none : false ≡ true = h in cc)
@@ -63,7 +65,7 @@ abbrev Part : Request → List ℕ → Store → Store → Type 0
 Part r lent s t = ((held : AccessTable) × (s ≡ held_in held t)) ⊎ Lags t s operator.task operator.caller r lent
 
 -- of a list of what was asked one thing was stopped
-record Stops (xs : List Asking) (s t : Store) : Type 0 where
+pub record Stops (xs : List Asking) (s t : Store) : Type 0 where
   pub asked : List Asking
   pub reached : Store
   pub tried : Tried plain operator asked s reached
@@ -73,7 +75,8 @@ record Stops (xs : List Asking) (s t : Store) : Type 0 where
   pub stopped : IsStopped last reached t
 
 -- something was granted or denied before
-later : (x : Asking) (xs : List Asking) (s u t : Store) → (Grants plain operator x s u) ⊎ ((e : Refusal) × Denies plain operator x e s u)
+pub later : (x : Asking) (xs : List Asking) (s u t : Store)
+    → (Grants plain operator x s u) ⊎ ((e : Refusal) × Denies plain operator x e s u)
     → Stops xs u t → Stops (x ∷ xs) s t
 later x xs s u t one h = record {
   asked = x ∷ h.asked;
@@ -86,7 +89,7 @@ later x xs s u t one h = record {
 }
 
 -- one thing alone
-one-stopped : (x : Asking) (s t : Store) → Stops (x ∷ []) s t → IsStopped x s t
+pub one-stopped : (x : Asking) (s t : Store) → Stops (x ∷ []) s t → IsStopped x s t
 one-stopped x s t h = by h.asked h.reached h.tried h.last h.behind h.are h.stopped
   where
     none-behind : (xs : List Asking) (y : Asking) (ys : List Asking) → xs ++ y ∷ ys ≡ [] → ⊥
@@ -183,6 +186,13 @@ module _ {D : Type 0} {met : Ghosts D} where
   tried-dead (x ∷ xs) v w h dead =
       let one = asked-dead x v h.0 h.1 dead in tried-dead xs h.0 w h.2 one.1 ∙ one.0
 
+  -- behind a refusal that fails the volume nothing is done
+  pub dead-behind : (x : Asking) (xs : List Asking) (e : Refusal) (v u w : Volume D met) → is_sound v ≡ true
+      → Denies of_volume operator x e v u → is_fatal e ≡ true → Tried of_volume operator xs u w → state_in w ≡ state_in u
+  dead-behind x xs e v u w sound d fatal tried =
+      tried-dead xs u w tried ((denied-fared operator x e v u d).next ∙ ap (λ b. b || is_fatal e)
+      (alive-of (state_in v).disk.honest (is_spent v) sound) ∙ fatal)
+
   denied-stopped : (x : Asking) (e : Refusal) (v w : Volume D met) → Denies of_volume operator x e v w → is_sound v ≡ true
       → IsStopped x (store_of_volume v) (stored w)
   denied-stopped (asks r) e v w d sound = request-stopped r e v w d sound
@@ -209,9 +219,8 @@ module _ {D : Type 0} {met : Ghosts D} where
     where
       last : (e : Refusal) → Denies of_volume operator x e v u → is_fatal e ≡ true → Stops (x ∷ xs) (store_of_volume v) (stored w)
       last e d fatal =
-          let spent = (denied-fared operator x e v u d).next ∙ ap (λ b. b || is_fatal e)
-          (alive-of (state_in v).disk.honest (is_spent v) sound) ∙ fatal in
-          let same : stored w ≡ stored u = ap (λ (s : State). store_of s.disk.image s.home) (tried-dead xs u w tried spent) in
+          let same : stored w ≡ stored u =
+          ap (λ (s : State). store_of s.disk.image s.home) (dead-behind x xs e v u w sound d fatal tried) in
           record {
             asked = [];
             reached = store_of_volume v;
@@ -229,30 +238,26 @@ module _ {D : Type 0} {met : Ghosts D} where
           let seen = volume-seen.denied operator x e v u d sound clean in
           later x xs (store_of_volume v) (store_of_volume u) (stored w) (inr (e, seen.0)) (rest seen.1)
 
-  stops : (xs : List Asking) (v w : Volume D met) → Tried of_volume operator xs v w → is_sound v ≡ true → is_spent w ≡ true
+  pub stops : (xs : List Asking) (v w : Volume D met) → Tried of_volume operator xs v w → is_sound v ≡ true → is_spent w ≡ true
       → Stops xs (store_of_volume v) (stored w)
   stops [] v w h sound dead =
       never (sym (ap (λ (u : Volume D met). is_spent u) h) ∙ dead) (alive-of (state_in v).disk.honest (is_spent v) sound)
   stops (x ∷ xs) v w h sound dead = first-asked x xs v h.0 w sound h.2 (λ still. stops xs h.0 w h.2 still dead) h.1
 
-  -- a file was being made
-  stops-at : (dir : FileId) (to : List ℕ) (v w : Volume D met) → AsksForOne of_volume operator 0 dir to 0 v w → is_sound v ≡ true
-      → is_spent w ≡ true → StopsAt dir to (store_of_volume v) (stored w)
-  stops-at dir to v w (nothing same) sound dead =
-      never (sym (ap (λ (u : Volume D met). is_spent u) same) ∙ dead) (alive-of (state_in v).disk.honest (is_spent v) sound)
-  stops-at dir to v w (creation r is tried) sound dead =
-      creating r is (one-stopped (asks r) (store_of_volume v) (stored w) (stops (asks r ∷ []) v w tried sound dead))
-  stops-at dir to v w (making m) sound dead =
-      let seen = volume-seen.granted operator (told m.request (reply.Created m.id)) v m.created m.granted sound in
-      let s = stops m.asked m.created w m.tried seen.1 dead in
-      let parts = all-behind (IsMakingOf 0 dir to 0 m.id) s.asked s.last s.behind
-      (subst (λ (xs : List Asking). All (IsMakingOf 0 dir to 0 m.id) xs) (sym s.are) m.only) in
+  -- a file was created, and then something of what makes it was stopped
+  pub after-stopped : (dir : FileId) (to : List ℕ) (stated : Option (List ℕ)) (v w : Volume D met)
+      → (m : AsksOfCreated of_volume operator 0 dir to 0 stated v w)
+      → Grants plain operator (told m.request (reply.Created m.id)) (store_of_volume v) (store_of_volume m.created) → (t : Store)
+      → Stops m.asked (store_of_volume m.created) t → StopsAt dir to stated (store_of_volume v) t
+  after-stopped dir to stated v w m granted t s =
+      let parts = all-behind (IsMakingOf 0 dir to 0 stated m.id) s.asked s.last s.behind
+      (subst (λ (xs : List Asking). All (IsMakingOf 0 dir to 0 stated m.id) xs) (sym s.are) m.only) in
       after_creation (record {
         request = m.request;
         creates = m.creates;
         id = m.id;
         created = store_of_volume m.created;
-        granted = seen.0;
+        granted = granted;
         asked = s.asked;
         reached = s.reached;
         tried = s.tried;
@@ -262,28 +267,43 @@ module _ {D : Type 0} {met : Ghosts D} where
         stopped = s.stopped;
       })
 
-  stops-making : (dir : FileId) (to : List ℕ) (v w : Volume D met) → AsksForOne of_volume operator 0 dir to 0 v w → is_sound v ≡ true
-      → is_spent w ≡ true → WhereUnheld (StopsMaking dir to) (store_of_volume v) (stored w)
-  stops-making dir to v w one sound dead unheld =
-      let at = stops-at dir to v w one sound dead in
+  -- a file was being made
+  stops-at : (dir : FileId) (to : List ℕ) (stated : Option (List ℕ)) (v w : Volume D met)
+      → AsksForFile of_volume operator 0 dir to 0 stated v w → is_sound v ≡ true
+      → is_spent w ≡ true → StopsAt dir to stated (store_of_volume v) (stored w)
+  stops-at dir to stated v w (nothing same) sound dead =
+      never (sym (ap (λ (u : Volume D met). is_spent u) same) ∙ dead) (alive-of (state_in v).disk.honest (is_spent v) sound)
+  stops-at dir to stated v w (creation r is tried) sound dead =
+      creating r is (one-stopped (asks r) (store_of_volume v) (stored w) (stops (asks r ∷ []) v w tried sound dead))
+  stops-at dir to stated v w (making m) sound dead =
+      let seen = volume-seen.granted operator (told m.request (reply.Created m.id)) v m.created m.granted sound in
+      after-stopped dir to stated v w m seen.0 (stored w) (stops m.asked m.created w m.tried seen.1 dead)
+
+  stops-making : (dir : FileId) (to : List ℕ) (stated : Option (List ℕ)) (v w : Volume D met)
+      → AsksForFile of_volume operator 0 dir to 0 stated v w → is_sound v ≡ true
+      → is_spent w ≡ true → WhereUnheld (StopsFile dir to stated) (store_of_volume v) (stored w)
+  stops-making dir to stated v w one sound dead unheld =
+      let at = stops-at dir to stated v w one sound dead in
       record {
         stops = at;
-        others = others-stay dir to (store_of_volume v) (stored w) (unused v) (no-slot-0 (state_in v).disk.image (state_in v).home) unheld
+        others =
+            others-stay dir to stated (store_of_volume v) (stored w) (unused v) (no-slot-0 (state_in v).disk.image (state_in v).home) unheld
             at;
       }
 
   -- a device fault is the answer, and the volume has failed
-  failed-by : (result : Result ℕ FlxRefusal) (v w : Volume D met) → FaresFiles result v w → is_sound v ≡ true
+  pub failed-by : (result : Result ℕ FlxRefusal) (v w : Volume D met) → FaresFiles result v w → is_sound v ≡ true
       → of_files is_fault result ≡ true → is_spent w ≡ true
   failed-by result v w fares sound fault =
       fares.next (honest-of (state_in v).disk.honest (is_spent v) sound)
       ∙ ap (λ b. b || of_files is_fatal result) (alive-of (state_in v).disk.honest (is_spent v) sound) ∙ fault-fatal result fault
 
   -- by what an answer tells of it
-  pub stops-by : (dir : FileId) (to : List ℕ) (result : Result ℕ FlxRefusal) (v w : Volume D met) → FaresFiles result v w
-      → AsksForOne of_volume operator 0 dir to 0 v w → is_sound v ≡ true → of_files is_fault result ≡ true
-      → WhereUnheld (StopsMaking dir to) (store_of_volume v) (stored w)
-  stops-by dir to result v w fares one sound fault = stops-making dir to v w one sound (failed-by result v w fares sound fault)
+  pub stops-by : (dir : FileId) (to : List ℕ) (stated : Option (List ℕ)) (result : Result ℕ FlxRefusal) (v w : Volume D met)
+      → FaresFiles result v w → AsksForFile of_volume operator 0 dir to 0 stated v w → is_sound v ≡ true → of_files is_fault result ≡ true
+      → WhereUnheld (StopsFile dir to stated) (store_of_volume v) (stored w)
+  stops-by dir to stated result v w fares one sound fault =
+      stops-making dir to stated v w one sound (failed-by result v w fares sound fault)
 
   -- it was only read
   reading-stops : (v w : Volume D met) → AsksOnly is_reading operator v w → is_sound v ≡ true → is_spent w ≡ true

@@ -1,44 +1,77 @@
--- What `get --all` takes out of a volume, faulty or not: every file, one after another (profile).
-use Rattle.std.specs.Prelude.{◌≡◌, ℕ, ◌+◌, ◌/◌, ◌||◌, Bool, true, false, IsTrue, List, [], ◌∷◌, ◌++◌, codes, Option, Some, None}
-use Rattle.std.specs.Prelude.{Result, Ok, Err, if◌then◌else◌}
+-- What `get --all` takes out of a volume, faulty or not: every file, one after another, and a line for each record that names none
+-- (profile).
+use Rattle.std.specs.Prelude.{◌≡◌, ℕ, ◌+◌, ◌*◌, ◌/◌, ◌||◌, ◌&&◌, ◌==◌, not, min, Bool, true, false, IsTrue, List, [], ◌∷◌, ◌++◌, codes}
+use Rattle.std.specs.Prelude.{length}
+use Rattle.std.specs.Prelude.{Option, Some, None, Result, Ok, Err, is_some, if◌then◌else◌}
 use Rattle.std.specs.Fmt.{decimal}
-use Rattle.f11_catalog.specs.AllFiles.{all_files}
+use Rattle.std.specs.Int.{bit_at}
+use Rattle.std.specs.List.{concat}
+use Rattle.f11_catalog.specs.AllFiles.{all_files, id_of}
 use Rattle.f11_catalog.specs.Lines.{place_text}
 use Rattle.f11_catalog.specs.Records.{Reads}
 use Rattle.f11_catalog.specs.Walking.{GivesFile, HasNoFile, files_left as walk_left, files_to_come}
+use Rattle.f11_catalog.specs.chain.Calls.{table}
+use Rattle.f11_catalog.specs.declared.walk.content.Absence.TheVariants.{BadHeader, NoFile}
+use Rattle.f11_catalog.specs.declared.walk.content.Content.{Content}
+use Rattle.f11_catalog.specs.declared.walk.content.Content.TheVariants as content
 use Rattle.f11_catalog.specs.declared.walk.place.FileAt.{FileAt}
 use Rattle.f11_catalog.specs.declared.walk.place.Place.{Place}
+use Rattle.f11_catalog.specs.declared.walk.place.Place.TheVariants.{Entered, Lost}
 use Rattle.f11_catalog.specs.declared.walk.state.AllFiles.{AllFiles}
 use Rattle.f11_dev.specs.Disk.{Disk}
 use Rattle.f11_dev.specs.Looked.{Looked}
 use Rattle.f11_dev.specs.declared.device.Device.{Ghosts}
-use Rattle.f11_header.specs.Fields.{attributes}
+use Rattle.f11_header.specs.Fields.{attributes, characteristics}
 use Rattle.f11_home.specs.Home.{HomeFields}
-use Rattle.f11_index.specs.IndexFile.{Index}
+use Rattle.f11_index.specs.IndexFile.{Index, all_in_use, index_of as index_of_image}
 use Rattle.f11_index.specs.Kept.{index_kept}
 use Rattle.f11_index.specs.Table.{table_of}
 use Rattle.f11_reader.specs.Missing.{FindsMissing}
-use Rattle.f11_reader.specs.Reading.{header_in_hand, headers_left}
+use Rattle.f11_reader.specs.Reading.{IsReading, blocks_to_come, header_in_hand, headers_left}
 use Rattle.f11_reader.specs.declared.file.FileReader.{FileReader}
 use Rattle.f11_store.specs.File.{stated_end}
+use Rattle.f11_store.specs.Text.{id_text}
+use Rattle.f11_store.specs.declared.files.FileId.{FileId}
 use Rattle.f11_commands.specs.AnyVolume.{CannotBeRead, IsReadable}
 use Rattle.f11_commands.specs.Copying.{master_directory}
 use Rattle.f11_commands.specs.Output.{WriterTakes}
 use Rattle.f11_commands.specs.TakingOut.{ReadsBefore, StopsBehind, WritesContent, blocks_before_end, missing_text}
+use Rattle.f11_commands.specs.declared.get.all.counts.Counts.{Counts}
+use Rattle.f11_commands.specs.declared.get.all.left_out.LeftOut.{LeftOut}
+use Rattle.f11_commands.specs.declared.get.all.left_out.LeftOut.TheVariants.{Again, Host, Missing}
 use Rattle.f11_commands.specs.declared.get.all.state.TakingAll.{TakingAll}
 use Rattle.f11_commands.specs.declared.get.all.taking.Taken.{Taken}
 use Rattle.f11_commands.specs.declared.ls.Served.{Served}
-use Rattle.f11_commands.specs.declared.outcome.Answer.TheVariants.{Done}
+use Rattle.f11_commands.specs.declared.outcome.Answer.{Answer}
+use Rattle.f11_commands.specs.declared.outcome.Answer.TheVariants.{Done, Fault}
 use Rattle.f11_commands.specs.declared.outcome.Failure.{Failure}
 use Rattle.f11_commands.specs.declared.outcome.Failure.TheVariants.{DeviceFault, NoMemory, CannotWrite}
 use Rattle.f11_commands.specs.declared.volume.VolumeFault.{VolumeFault}
 
--- its device, its index file, the files that are still to come, whether the volume has faults, and whether a transfer failed
+-- how many files were taken out, and how many weren't: none so far, and one more, if it counts, up to the most that 64 bits hold
+abbrev pub no_counts : Counts
+no_counts = record { copied = 0; cut = 0; left_out = 0; lost = 0 }
+
+abbrev pub more_if : Bool → ℕ → ℕ
+more_if counts n = if counts then min (n + 1) 18446744073709551615 else n
+
+abbrev pub with_copied : Bool → Bool → Counts → Counts
+with_copied is_cut is_lost c =
+    record c { copied = more_if true c.copied; cut = more_if is_cut c.cut; lost = more_if is_lost c.lost }
+
+abbrev pub with_left_out : Bool → Counts → Counts
+with_left_out is_wanting c = record c { left_out = more_if is_wanting c.left_out }
+
+-- its device, its index file, that with each slot in use, the files that are still to come, whether the volume has faults, whether a
+-- transfer failed, and the counts
 abbrev pub device_of : {D : Type 0} {G : Ghosts D} → TakingAll D G → D
 device_of all = all.device
 
 abbrev pub index_of : {D : Type 0} {G : Ghosts D} → TakingAll D G → Index
 index_of all = index_kept all.index
+
+abbrev pub wide_of : {D : Type 0} {G : Ghosts D} → TakingAll D G → Index
+wide_of all = index_kept all.wide
 
 abbrev pub files_of : {D : Type 0} {G : Ghosts D} → TakingAll D G → AllFiles
 files_of all = all.files
@@ -49,31 +82,86 @@ has_faults all = all.faulty
 abbrev pub has_failed : {D : Type 0} {G : Ghosts D} → TakingAll D G → Bool
 has_failed all = all.failed
 
+abbrev pub counts_of : {D : Type 0} {G : Ghosts D} → TakingAll D G → Counts
+counts_of all = all.counts
+
+-- the index file by which a file was found: its slot is in use, or isn't
+abbrev pub index_by : {D : Type 0} {G : Ghosts D} → Bool → TakingAll D G → Index
+index_by in_use all = if in_use then index_of all else wide_of all
+
 -- how many more files may come at most
 abbrev pub files_left : {D : Type 0} {G : Ghosts D} → TakingAll D G → ℕ
 files_left all = walk_left all.files
 
--- a file that was found, as it is read, and its stated end in bytes (Files-11 On-Disk Structure Level 1, "File Attributes")
-abbrev pub reader_at : FileAt → FileReader
-reader_at found = found.file
+-- no directory names the file in this place
+abbrev pub place_is_lost : Place → Bool
+place_is_lost (Entered directory name id) = false
+place_is_lost (Lost name id) = true
 
-abbrev pub end_at : FileAt → ℕ
-end_at found = stated_end (attributes (header_in_hand found.file))
+-- a file wasn't closed (UC.DLK, bit 6 of H.UCHA) and states the end 0, as one does that was open when the system stopped
+abbrev pub has_open_end : FileReader → Bool
+has_open_end file =
+    let header = header_in_hand file in (stated_end (attributes header) == 0) && (bit_at (characteristics header) 6 == 1)
+
+-- where a file of so many blocks ends in bytes as it is taken out: then behind its last block, else where it states
+abbrev pub end_taken : FileReader → ℕ → ℕ
+end_taken file blocks = if has_open_end file then 512 * blocks else stated_end (attributes (header_in_hand file))
+
+-- so all its blocks are taken out, if it has some
+abbrev pub takes_all : FileReader → ℕ → Bool
+takes_all file blocks = has_open_end file && not (blocks == 0)
+
+-- the identification of a file that stands beside another of its name
+abbrev pub beside_text : Option FileId → List ℕ
+beside_text (Some id) = codes " (" ++ (id_text id ++ codes ")")
+beside_text None = []
+
+-- all its blocks were to be taken out
+abbrev pub open_text : Bool → List ℕ
+open_text all_blocks = if all_blocks then codes " open, all blocks" else []
 
 -- the line of a file that was taken out: where it stands, how many bytes were written, and which block breaks it off
-abbrev pub taken_at_line : Place → ℕ → Option ℕ → List ℕ
-taken_at_line place bytes missing =
-    place_text place ++ (codes " copied " ++ (decimal bytes ++ (codes " bytes" ++ (missing_text missing ++ 10 ∷ []))))
+abbrev pub taken_at_line : Place → Option FileId → Taken → List ℕ
+taken_at_line place beside taken = concat (place_text place ∷ beside_text beside ∷ codes " copied " ∷ decimal taken.bytes ∷ codes " bytes"
+    ∷ open_text taken.all_blocks ∷ missing_text taken.missing ∷ (10 ∷ []) ∷ [])
 
--- what the command answers: that a transfer failed, or that it is done, and whether the volume has faults
+-- why a file isn't taken out
+abbrev pub left_out_text : LeftOut → List ℕ
+left_out_text (Missing id NoFile) = codes "no file " ++ id_text id
+left_out_text (Missing id BadHeader) = codes "header " ++ (decimal id.number ++ codes " bad")
+left_out_text Host = codes "no file of the host"
+left_out_text Again = codes "again"
+
+-- something is wanting then: what was taken out already isn't
+abbrev pub is_wanting : LeftOut → Bool
+is_wanting (Missing id absence) = true
+is_wanting Host = true
+is_wanting Again = false
+
+-- its line
+abbrev pub left_out_line : Place → LeftOut → List ℕ
+left_out_line place why = concat (place_text place ∷ codes " not copied " ∷ left_out_text why ∷ (10 ∷ []) ∷ [])
+
+-- the last line
+abbrev pub all_line : Counts → List ℕ
+all_line c = concat (codes "all " ∷ decimal c.copied ∷ codes " copied, " ∷ decimal c.cut ∷ codes " cut, " ∷ decimal c.left_out
+    ∷ codes " not copied, " ∷ decimal c.lost ∷ codes " in lost" ∷ (10 ∷ []) ∷ [])
+
+-- the answer: done, where no file broke off or was left out
+abbrev pub all_answer : Counts → Answer
+all_answer c = if (c.cut == 0) && (c.left_out == 0) then Done else Fault
+
+-- what the command answers: that a transfer failed, or that answer, and whether the volume has faults
 abbrev pub all_answered : {D : Type 0} {G : Ghosts D} → TakingAll D G → Result Served Failure
-all_answered all = if all.failed then Err DeviceFault else Ok (record { answer = Done; faulty = all.faulty })
+all_answered all = if all.failed then Err DeviceFault else Ok (record { answer = all_answer all.counts; faulty = all.faulty })
 
 -- All files of a volume that can be read are to come.
-pub record BeginsAll (index : Index) (files : AllFiles) (old new : Disk) : Type 0 where
+pub record BeginsAll (index wide : Index) (files : AllFiles) (old new : Disk) : Type 0 where
   pub home : HomeFields
   pub readable : IsTrue old.honest → IsReadable old.image home
   pub all : IsTrue old.honest → files_to_come index new files ≡ all_files old.image (table_of old.image home) master_directory
+  pub index_is : IsTrue old.honest → index ≡ index_of_image old.image home
+  pub wide_is : wide ≡ all_in_use index
   pub reads : Reads old new 0
 
 -- The files couldn't be begun with: a transfer failed, or there was no memory, and nothing was written; or the volume can't be read, and
@@ -83,24 +171,33 @@ FailsToBeginAll DeviceFault old new before after = Reads old new 1 × (after ≡
 FailsToBeginAll NoMemory old new before after = Reads old new 0 × (after ≡ before)
 FailsToBeginAll CannotWrite old new before after = (fault : VolumeFault) × CannotBeRead fault old new
 
+-- what stands in a place can be read: its header in hand is one of the disk's
+abbrev pub CanBeRead : Index → Index → Content → Disk → Type 0
+CanBeRead index wide (content.File file) disk = IsReading index file disk
+CanBeRead index wide (content.OutOfUse file) disk = IsReading wide file disk
+CanBeRead index wide (content.Missing absence) disk = Unit {0}
+
 module _ {D : Type 0} {G : Ghosts D} where
   -- The same volume is in hand, and the same is known of its faults.
   pub record StaysInHand (all later : TakingAll D G) : Type 0 where
     pub index : index_of later ≡ index_of all
+    pub wide : wide_of later ≡ wide_of all
     pub faulty : has_faults later ≡ has_faults all
 
-  -- The next file was found.
+  -- What stands in the next place was found.
   pub record FindsNext (found : FileAt) (disk : D → Disk) (all later : TakingAll D G) : Type 0 where
     pub stays : StaysInHand all later
     pub failed : has_failed later ≡ has_failed all
-    pub gives : GivesFile (index_of all) (files_of all) (files_of later) found (disk (device_of all)) (disk (device_of later))
+    pub counts : counts_of later ≡ counts_of all
+    pub gives : GivesFile (index_of all) (wide_of all) (files_of all) (files_of later) found (disk (device_of all)) (disk (device_of later))
 
-  -- None was: none is left, or a transfer failed.
+  -- Nothing was: no place is left, or a transfer failed.
   pub data HasNoNext (disk : D → Disk) (all later : TakingAll D G) : Type 0 where
-    has_none : StaysInHand all later → has_failed later ≡ has_failed all
+    has_none : StaysInHand all later → has_failed later ≡ has_failed all → counts_of later ≡ counts_of all
         → HasNoFile (index_of all) (files_of all) (files_of later) (disk (device_of all)) (disk (device_of later))
         → HasNoNext disk all later
-    fails : StaysInHand all later → has_failed later ≡ true → Reads (disk (device_of all)) (disk (device_of later)) 1
+    fails : StaysInHand all later → has_failed later ≡ true → counts_of later ≡ counts_of all
+        → Reads (disk (device_of all)) (disk (device_of later)) 1
         → HasNoNext disk all later
 
 -- A file's content was written to its end, and it was found which of the blocks before that is the first that isn't there.
@@ -134,41 +231,117 @@ pub data TakesFile {H : Type 0} (index : Index) (file : FileReader) (end : ℕ) 
   unsure : TakesUnsure index file end taken old new held before after → TakesFile index file end taken old new held before after
   part : TakesPart index file end taken old new held before after → TakesFile index file end taken old new held before after
 
--- A file was taken out to the host. The same files are still to come, and it is known if a transfer failed.
-pub record TakesOutNext {D H : Type 0} {G : Ghosts D} (found : FileAt) (taken : Taken) (disk : D → Disk) (all later : TakingAll D G)
-    (held : H → Option (List ℕ)) (host host' : H) : Type 0 where
-  pub stays : StaysInHand all later
-  pub files : files_of later ≡ files_of all
-  pub takes : TakesFile (index_of all) (reader_at found) (end_at found) taken (disk (device_of all)) (disk (device_of later)) held host
-      host'
-  pub failed : has_failed later ≡ (has_failed all || taken.failed)
+-- It was found where a file ends as it is taken out; headers alone were read.
+pub record FindsEndTaken (index : Index) (file : FileReader) (end : ℕ) (all_blocks : Bool) (old new : Disk) : Type 0 where
+  pub end_is : IsTrue old.honest → end ≡ end_taken file (length (blocks_to_come (table index old) file))
+  pub all_is : IsTrue old.honest → all_blocks ≡ takes_all file (length (blocks_to_come (table index old) file))
+  pub looked : Looked old new (headers_left file) 0
 
--- It was, and its line says how far.
-pub record TakesNext {D H W : Type 0} {G : Ghosts D} (found : FileAt) (disk : D → Disk) (all later : TakingAll D G)
-    (held : H → Option (List ℕ)) (host host' : H) (contents : W → Option (List ℕ)) (before after : W) : Type 0 where
-  pub taken : Taken
-  pub takes_out : TakesOutNext found taken disk all later held host host'
-  pub line : WriterTakes contents before after (taken_at_line found.place taken.bytes taken.missing)
+-- The file was taken out up to that end.
+pub record TakesToEnd {H : Type 0} (index : Index) (file : FileReader) (taken : Taken) (old new : Disk) (held : H → Option (List ℕ))
+    (before after : H) : Type 0 where
+  pub mid : Disk
+  pub end : ℕ
+  pub finds : FindsEndTaken index file end taken.all_blocks old mid
+  pub takes : TakesFile index file end taken mid new held before after
 
--- The host took no more, and no transfer failed: no line was begun. The same files are still to come.
-pub record FillsHost {D W : Type 0} {G : Ghosts D} (found : FileAt) (disk : D → Disk) (all later : TakingAll D G) (before after : W)
-    : Type 0 where
-  pub stays : StaysInHand all later
-  pub files : files_of later ≡ files_of all
-  pub failed : has_failed later ≡ has_failed all
-  pub reads : ReadsBefore (index_of all) (reader_at found) (end_at found) (disk (device_of all)) (disk (device_of later)) 0
-  pub untold : after ≡ before
+-- A transfer failed before that was found: nothing was written.
+pub record TakesNothing {H : Type 0} (taken : Taken) (old new : Disk) (before after : H) : Type 0 where
+  pub failed : taken.failed ≡ true
+  pub none : taken.bytes ≡ 0
+  pub missing : taken.missing ≡ Some 1
+  pub untouched : after ≡ before
+  pub reads : Reads old new 1
 
--- The host took no more, or it has all that was to be taken out and the writer took no more of the line.
-pub data CannotTake {D H W : Type 0} {G : Ghosts D} (found : FileAt) (disk : D → Disk) (all later : TakingAll D G)
-    (held : H → Option (List ℕ)) (host host' : H) (before after : W) : Type 0 where
-  host_full : FillsHost found disk all later before after → CannotTake found disk all later held host host' before after
-  line_lost : (taken : Taken) → TakesOutNext found taken disk all later held host host'
-      → CannotTake found disk all later held host host' before after
+-- What was taken out of a file, as far as it could be read.
+pub data TakesAtEnd {H : Type 0} (index : Index) (file : FileReader) (taken : Taken) (old new : Disk) (held : H → Option (List ℕ))
+    (before after : H) : Type 0 where
+  to_end : TakesToEnd index file taken old new held before after → TakesAtEnd index file taken old new held before after
+  nothing : TakesNothing taken old new before after → TakesAtEnd index file taken old new held before after
 
--- A file couldn't be taken out, or its line not be written.
-abbrev pub FailsToTake : {D H W : Type 0} {G : Ghosts D} → Failure → FileAt → (D → Disk) → TakingAll D G → TakingAll D G
-    → (H → Option (List ℕ)) → H → H → W → W → Type 0
-FailsToTake DeviceFault found disk all later held host host' before after = ⊥
-FailsToTake NoMemory found disk all later held host host' before after = ⊥
-FailsToTake CannotWrite found disk all later held host host' before after = CannotTake found disk all later held host host' before after
+module _ {D : Type 0} {G : Ghosts D} where
+  -- A file was taken out to the host, and counted. The same files are still to come, and it is known if a transfer failed.
+  pub record TakesOut {H : Type 0} (place : Place) (file : FileReader) (in_use : Bool) (taken : Taken) (disk : D → Disk)
+      (all later : TakingAll D G) (held : H → Option (List ℕ)) (host host' : H) : Type 0 where
+    pub stays : StaysInHand all later
+    pub files : files_of later ≡ files_of all
+    pub takes : TakesAtEnd (index_by in_use all) file taken (disk (device_of all)) (disk (device_of later)) held host host'
+    pub failed : has_failed later ≡ (has_failed all || taken.failed)
+    pub counts : counts_of later ≡ with_copied (is_some taken.missing) (place_is_lost place) (counts_of all)
+
+  -- It was, and its line says how far.
+  pub record TakesFileNext {H W : Type 0} (place : Place) (file : FileReader) (in_use : Bool) (beside : Option FileId) (disk : D → Disk)
+      (all later : TakingAll D G) (held : H → Option (List ℕ)) (host host' : H) (contents : W → Option (List ℕ)) (before after : W)
+      : Type 0 where
+    pub taken : Taken
+    pub takes_out : TakesOut place file in_use taken disk all later held host host'
+    pub line : WriterTakes contents before after (taken_at_line place beside taken)
+
+  -- One more was left out, and counted where it is wanting; nothing else changes.
+  pub record CountsLeftOut (why : LeftOut) (all later : TakingAll D G) : Type 0 where
+    pub stays : StaysInHand all later
+    pub device : device_of later ≡ device_of all
+    pub files : files_of later ≡ files_of all
+    pub failed : has_failed later ≡ has_failed all
+    pub counts : counts_of later ≡ with_left_out (is_wanting why) (counts_of all)
+
+  -- Its line says why.
+  pub record LeavesOut {W : Type 0} (place : Place) (why : LeftOut) (all later : TakingAll D G) (contents : W → Option (List ℕ))
+      (before after : W) : Type 0 where
+    pub leaves : CountsLeftOut why all later
+    pub line : WriterTakes contents before after (left_out_line place why)
+
+  -- Or the writer took no more of the line.
+  abbrev pub FailsToLeaveOut : Failure → LeftOut → TakingAll D G → TakingAll D G → Type 0
+  FailsToLeaveOut DeviceFault why all later = ⊥
+  FailsToLeaveOut NoMemory why all later = ⊥
+  FailsToLeaveOut CannotWrite why all later = CountsLeftOut why all later
+
+  -- What stands in a place was taken out, or left out where there is no file.
+  abbrev pub TakesNext : {H W : Type 0} → Place → Content → Option FileId → (D → Disk) → TakingAll D G → TakingAll D G
+      → (H → Option (List ℕ)) → H → H → (W → Option (List ℕ)) → W → W → Type 0
+  TakesNext place (content.File file) beside disk all later held host host' contents before after =
+      TakesFileNext place file true beside disk all later held host host' contents before after
+  TakesNext place (content.OutOfUse file) beside disk all later held host host' contents before after =
+      TakesFileNext place file false beside disk all later held host host' contents before after
+  TakesNext place (content.Missing absence) beside disk all later held host host' contents before after =
+      (host' ≡ host) × LeavesOut place (Missing (id_of place) absence) all later contents before after
+
+  -- The host took no more, and no transfer failed. The same files are still to come.
+  pub record FillsHost (disk : D → Disk) (all later : TakingAll D G) : Type 0 where
+    pub stays : StaysInHand all later
+    pub files : files_of later ≡ files_of all
+    pub failed : has_failed later ≡ has_failed all
+    pub counts : counts_of later ≡ counts_of all
+    pub reads : Reads (disk (device_of all)) (disk (device_of later)) 0
+
+  -- The host took no more, and no line was begun; or it has all that was to be taken out and the writer took no more of the line.
+  pub data CannotTake {H W : Type 0} (place : Place) (file : FileReader) (in_use : Bool) (disk : D → Disk) (all later : TakingAll D G)
+      (held : H → Option (List ℕ)) (host host' : H) (before after : W) : Type 0 where
+    host_full : FillsHost disk all later → after ≡ before → CannotTake place file in_use disk all later held host host' before after
+    line_lost : (taken : Taken) → TakesOut place file in_use taken disk all later held host host'
+        → CannotTake place file in_use disk all later held host host' before after
+
+  -- A file couldn't be taken out, or its line not be written.
+  abbrev pub FailsToTakeFile : {H W : Type 0} → Failure → Place → FileReader → Bool → (D → Disk) → TakingAll D G → TakingAll D G
+      → (H → Option (List ℕ)) → H → H → W → W → Type 0
+  FailsToTakeFile DeviceFault place file in_use disk all later held host host' before after = ⊥
+  FailsToTakeFile NoMemory place file in_use disk all later held host host' before after = ⊥
+  FailsToTakeFile CannotWrite place file in_use disk all later held host host' before after =
+      CannotTake place file in_use disk all later held host host' before after
+
+  abbrev pub FailsToTake : {H W : Type 0} → Failure → Place → Content → (D → Disk) → TakingAll D G → TakingAll D G
+      → (H → Option (List ℕ)) → H → H → W → W → Type 0
+  FailsToTake failure place (content.File file) disk all later held host host' before after =
+      FailsToTakeFile failure place file true disk all later held host host' before after
+  FailsToTake failure place (content.OutOfUse file) disk all later held host host' before after =
+      FailsToTakeFile failure place file false disk all later held host host' before after
+  FailsToTake failure place (content.Missing absence) disk all later held host host' before after =
+      (host' ≡ host) × FailsToLeaveOut failure (Missing (id_of place) absence) all later
+
+  -- The last line was written, and the answer tells of failed transfers, faults and counts; or the writer took no more of it.
+  pub data EndsAll {W : Type 0} (all : TakingAll D G) (answer : Result Served Failure) (contents : W → Option (List ℕ)) (before after : W)
+      : Type 0 where
+    told : answer ≡ all_answered all → WriterTakes contents before after (all_line (counts_of all))
+        → EndsAll all answer contents before after
+    untold : answer ≡ Err (if has_failed all then DeviceFault else CannotWrite) → EndsAll all answer contents before after

@@ -3,7 +3,7 @@ use Rattle.std.specs.Prelude.{◌≡◌, ◌≢◌, ◌⊎◌, ℕ, ◌+◌, ◌
 use Rattle.std.specs.Prelude.{Option, Some, None, Result, Ok, Err, codes}
 use Rattle.std.specs.Fmt.{decimal}
 use Rattle.std.specs.Io.KnownBytes.{Keeps}
-use Rattle.f11_dev.specs.Disk.{Disk}
+use Rattle.f11_dev.specs.Disk.{Disk, with_transfer}
 use Rattle.f11_serving.specs.fcp.Accesses.{AccessTable, held_in, no_entries}
 use Rattle.f11_serving.specs.files.Answers.{is_fatal, is_fault as is_files_fault}
 use Rattle.f11_findings.specs.declared.finding.Finding.{Finding}
@@ -109,12 +109,35 @@ pub record CopiesImages (c : Copying) (result : Result ℕ FlxRefusal) (files fi
   pub meanwhile : StandsAccepted files files'
   pub rt_accepted : IsTrue rt.honest → of_rt is_rt_fault result ≡ false → IsRtAccepted rt'.image
 
--- The copy was asked for, and its answer told.
+-- the sync of the disk that was copied to failed, and nothing was done to the other one
+abbrev pub FailsToSyncTarget : Direction → Disk → Disk → Disk → Disk → Type 0
+FailsToSyncTarget ToRt files files' rt rt' = (files' ≡ files) × (rt' ≡ with_transfer false rt)
+FailsToSyncTarget FromRt files files' rt rt' = (files' ≡ with_transfer false files) × (rt' ≡ rt)
+
+-- A copy of so many blocks was made, and then that sync failed. Nothing was written.
+pub record FailsToKeepCopy {W : Type 0} (direction : Direction) (result : Result ℕ FlxRefusal) (told : Result FileAnswer Failure)
+    (files files' rt rt' : Disk) (contents : W → Option (List ℕ)) (before after : W) : Type 0 where
+  pub blocks : ℕ
+  pub made : result ≡ Ok blocks
+  pub told_is : told ≡ Err DeviceFault
+  pub failed : FailsToSyncTarget direction files files' rt rt'
+  pub unwritten : Keeps (contents before) (contents after)
+
+-- an answer was told, with nothing done to the disks; or a copy was made, and the sync failed
+abbrev pub TellsKeptCopy : {W : Type 0} → Direction → Result ℕ FlxRefusal → Result FileAnswer Failure → Disk → Disk → Disk → Disk →
+    (W → Option (List ℕ)) → W → W → Type 0
+TellsKeptCopy direction result told files files' rt rt' contents before after =
+    ((files' ≡ files) × (rt' ≡ rt) × TellsCopy result told contents before after)
+    ⊎ (FailsToKeepCopy direction result told files files' rt rt' contents before after)
+
+-- The copy was asked for, and its answer told, where it was made once that is kept.
 pub record AnswersCopy {W : Type 0} (c : Copying) (told : Result FileAnswer Failure) (files files' rt rt' : Disk)
     (contents : W → Option (List ℕ)) (before after : W) : Type 0 where
   pub result : Result ℕ FlxRefusal
-  pub copies : CopiesImages c result files files' rt rt'
-  pub tells : TellsCopy result told contents before after
+  pub files_done : Disk
+  pub rt_done : Disk
+  pub copies : CopiesImages c result files files_done rt rt_done
+  pub tells : TellsKeptCopy c.direction result told files_done files' rt_done rt' contents before after
 
 -- An image was verified and has no fault: of a Files-11 volume, and of an RT-11 one.
 abbrev pub VerifiesFiles : Disk → Disk → Type 0

@@ -3,6 +3,7 @@ use Rattle.std.specs.Prelude.{◌⊎◌, ℕ, List, [], ◌∷◌, ◌++◌, Opt
 use Rattle.std.specs.Io.KnownBytes.{Keeps}
 use Rattle.f11_dev.specs.Disk.{Disk}
 use Rattle.f11_commands.specs.Output.{WriterTakes}
+use Rattle.f11_commands.specs.Syncing.{FailsToSync}
 use Rattle.f11_commands.specs.declared.outcome.Failure.{Failure}
 use Rattle.f11_commands.specs.declared.outcome.Failure.TheVariants.{DeviceFault, NoMemory, CannotWrite}
 use Rattle.f11_volume.specs.layout.declared.params.InitParams.{InitParams}
@@ -26,9 +27,10 @@ pub record PrintsRefusal {W : Type 0} (p : InitParams) (old new : Disk) (content
   pub refuses : RefusesToInit p old new
   pub takes : WriterTakes contents before after refusal_line
 
--- The command couldn't be done: a transfer failed, and nothing was written; or the writer takes no more, and the device is as after the
--- one or the other. Memory is never wanting.
+-- The command couldn't be done: a transfer failed, or the sync when the volume was made, and nothing was written; or the writer takes no
+-- more, and the device is as after the one or the other. Memory is never wanting.
 abbrev pub FailsToPrintInit : {W : Type 0} → Failure → InitParams → Disk → Disk → (W → Option (List ℕ)) → W → W → Type 0
-FailsToPrintInit DeviceFault p old new contents before after = FailsToInit p old new × Keeps (contents before) (contents after)
+FailsToPrintInit DeviceFault p old new contents before after =
+    (FailsToInit p old new × Keeps (contents before) (contents after)) ⊎ (FailsToSync (Inits p old) new contents before after)
 FailsToPrintInit CannotWrite p old new contents before after = Inits p old new ⊎ RefusesToInit p old new
 FailsToPrintInit NoMemory p old new contents before after = ⊥

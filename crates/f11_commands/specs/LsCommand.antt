@@ -1,13 +1,13 @@
 -- What `ls` lists of a volume, faulty or not (profile).
 use Rattle.std.specs.Prelude.{◌≡◌, ℕ, IsTrue, List, Option, Some, None, Result, Ok, Err}
-use Rattle.f11_catalog.specs.Lines.{all_user_lines, record_lines}
+use Rattle.f11_catalog.specs.Lines.{all_directory_lines, record_lines}
 use Rattle.f11_catalog.specs.Records.{Reads, directory_refusal, file_named, records_of}
 use Rattle.f11_catalog.specs.chain.Calls.{table}
 use Rattle.f11_dev.specs.Disk.{Disk}
 use Rattle.f11_dev.specs.Image.{Image}
 use Rattle.f11_flx.specs.declared.refusal.FlxRefusal.TheVariants.{Files}
 use Rattle.f11_home.specs.Home.{HomeFields}
-use Rattle.f11_index.specs.IndexFile.{Index}
+use Rattle.f11_index.specs.IndexFile.{Index, all_in_use, index_of}
 use Rattle.f11_index.specs.Table.{Table, table_of}
 use Rattle.f11_store.specs.declared.files.FileId.{FileId}
 use Rattle.f11_store.specs.declared.callers.Uic.{Uic}
@@ -28,22 +28,27 @@ lines_or None lines = Ok lines
 lines_or (Some refusal) lines = Err refusal
 
 -- of a directory with an identification: a line for each record
-abbrev pub directory_listed : Image → Table → FileId → Result (List ℕ) Refusal
-directory_listed image t id = lines_or (directory_refusal (file_named image t id)) (record_lines image t (records_of image t id))
+abbrev pub directory_listed : Index → Image → Table → FileId → Result (List ℕ) Refusal
+directory_listed wide image t id =
+    lines_or (directory_refusal (file_named image t id)) (record_lines wide image t (records_of image t id))
 
--- of the master file directory: the lines of each user's directory that it names
-abbrev pub users_listed : Image → Table → Result (List ℕ) Refusal
-users_listed image t = lines_or (directory_refusal (file_named image t master_directory))
-    (all_user_lines image t (records_of image t master_directory))
+-- of the master file directory: the lines of each directory that it names
+abbrev pub directories_listed : Index → Image → Table → Result (List ℕ) Refusal
+directories_listed wide image t = lines_or (directory_refusal (file_named image t master_directory))
+    (all_directory_lines wide image t (records_of image t master_directory))
 
 -- of a user's directory
-abbrev pub user_listed : Image → Table → Uic → Result (List ℕ) Refusal
-user_listed image t user = unless_refused (directory_listed image t) (user_directory image t user)
+abbrev pub user_listed : Index → Image → Table → Uic → Result (List ℕ) Refusal
+user_listed wide image t user = unless_refused (directory_listed wide image t) (user_directory image t user)
 
 -- of what is asked for: one user's directory, or all
-abbrev pub listed : Image → Table → Option Uic → Result (List ℕ) Refusal
-listed image t (Some user) = user_listed image t user
-listed image t None = users_listed image t
+abbrev pub listed : Index → Image → Table → Option Uic → Result (List ℕ) Refusal
+listed wide image t (Some user) = user_listed wide image t user
+listed wide image t None = directories_listed wide image t
+
+-- of a volume, where a file is read by its record though the bit of its slot is 0
+abbrev pub volume_listed : Image → HomeFields → Option Uic → Result (List ℕ) Refusal
+volume_listed image home user = listed (all_in_use (index_of image home)) image (table_of image home) user
 
 -- what is written: the lines, or why there are none
 abbrev pub listing_text : Result (List ℕ) Refusal → List ℕ
@@ -69,11 +74,12 @@ pub record IsNotListed (lists : Image → Table → Result (List ℕ) Refusal) (
   pub reads : Reads old new 0
 
 -- What is asked for was listed, of the files that an index file has.
-pub record ListsIndex {W : Type 0} (index : Index) (user : Option Uic) (answer : Answer) (old new : Disk) (contents : W → Option (List ℕ))
+pub record ListsIndex {W : Type 0} (index wide : Index) (user : Option Uic) (answer : Answer) (old new : Disk)
+    (contents : W → Option (List ℕ))
     (before after : W) : Type 0 where
   pub text : List ℕ
-  pub text_is : IsTrue old.honest → text ≡ listing_text (listed old.image (table index old) user)
-  pub answer_is : IsTrue old.honest → answer ≡ listing_answer (listed old.image (table index old) user)
+  pub text_is : IsTrue old.honest → text ≡ listing_text (listed wide old.image (table index old) user)
+  pub answer_is : IsTrue old.honest → answer ≡ listing_answer (listed wide old.image (table index old) user)
   pub takes : WriterTakes contents before after text
   pub reads : Reads old new 0
 
@@ -83,8 +89,8 @@ pub record ListsFiles {W : Type 0} (user : Option Uic) (answer : Answer) (old ne
   pub home : HomeFields
   pub readable : IsTrue old.honest → IsReadable old.image home
   pub text : List ℕ
-  pub text_is : IsTrue old.honest → text ≡ listing_text (listed old.image (table_of old.image home) user)
-  pub answer_is : IsTrue old.honest → answer ≡ listing_answer (listed old.image (table_of old.image home) user)
+  pub text_is : IsTrue old.honest → text ≡ listing_text (volume_listed old.image home user)
+  pub answer_is : IsTrue old.honest → answer ≡ listing_answer (volume_listed old.image home user)
   pub takes : WriterTakes contents before after text
   pub reads : Reads old new 0
 

@@ -1,7 +1,7 @@
 -- What `put` does: a file of a Files-11 volume is made of a file of the host (profile).
-use Rattle.std.specs.Prelude.{◌≡◌, ◌≢◌, ◌⊎◌, ℕ, ◌+◌, true, IsTrue, if◌then◌else◌, List, Option, Result, Ok, Err}
+use Rattle.std.specs.Prelude.{◌≡◌, ◌≢◌, ◌⊎◌, ℕ, ◌+◌, true, false, IsTrue, if◌then◌else◌, List, Option, Result, Ok, Err}
 use Rattle.std.specs.Io.KnownBytes.{Keeps}
-use Rattle.f11_dev.specs.Disk.{Disk}
+use Rattle.f11_dev.specs.Disk.{Disk, with_transfer}
 use Rattle.f11_dev.specs.declared.device.Device.{Ghosts}
 use Rattle.f11_serving.specs.fcp.Accesses.{AccessTable, held_in, no_entries}
 use Rattle.f11_serving.specs.fcp.Lists.{is_sound, store_of_volume}
@@ -12,10 +12,11 @@ use Rattle.f11_flx.specs.Copying.{is_whole, of_files}
 use Rattle.f11_flx.specs.CopyFromRt.{IsAsBefore}
 use Rattle.f11_flx.specs.declared.refusal.FlxRefusal.TheVariants as copy
 use Rattle.f11_home.specs.Home.{HomeFields, IsHomeOf}
+use Rattle.f11_flx.specs.declared.lines.Extent.{Extent}
 use Rattle.f11_flx.specs.declared.mode.CopyMode.{CopyMode}
 use Rattle.f11_flx.specs.declared.mode.CopyMode.TheVariants as mode
-use Rattle.f11_host.specs.CopyFromHost.{CopiesFromHost, FailsToCopyFromHost, ReadsHost}
-use Rattle.f11_host.specs.CopyTextFromHost.{CopiesTextFromHost, FailsToCopyTextFromHost, ReadsTexts}
+use Rattle.f11_host.specs.CopyFromHost.{CopiesFromHost, FailsToCopyFromHost, HoldHost, ReadsHost}
+use Rattle.f11_host.specs.CopyTextFromHost.{CopiesTextFromHost, FailsToCopyTextFromHost, HoldText, ReadsTexts}
 use Rattle.f11_host.specs.Refusal.{copy_result}
 use Rattle.f11_host.specs.declared.refusal.HostRefusal.{HostRefusal}
 use Rattle.f11_host.specs.declared.refusal.HostRefusal.TheVariants.{Files, LineTooLong, Unread}
@@ -30,9 +31,10 @@ use Rattle.f11_commands.specs.CopyCommand.{EndsFiles, FailsToMount, TellsCopy, V
 use Rattle.f11_commands.specs.Copying.{FindsName, FindsNoName, directory_name, master_directory, operator}
 use Rattle.f11_commands.specs.Finding.{FaresAlone}
 use Rattle.f11_commands.specs.RtPut.{put_told}
-use Rattle.f11_commands.specs.Stopping.{StopsNamed}
+use Rattle.f11_commands.specs.Stopping.{IsUnheld, Stood, StopsPut}
 use Rattle.f11_commands.specs.declared.copy.FileAnswer.{FileAnswer}
 use Rattle.f11_commands.specs.declared.outcome.Failure.{Failure}
+use Rattle.f11_commands.specs.declared.outcome.Failure.TheVariants.{DeviceFault}
 use Rattle.f11_commands.specs.declared.put.Putting.{Putting}
 use Rattle.f11_commands.specs.declared.rt_put.PutFailure.{PutFailure}
 use Rattle.f11_commands.specs.declared.rt_put.PutFailure.TheVariants as failure
@@ -63,6 +65,11 @@ abbrev pub FailsFor : CopyMode → HostRefusal → ℕ → Hosts → Hosts → F
 FailsFor mode.Image e bytes h h' dir name s s' = FailsToCopyFromHost e bytes h.first h'.first operator 0 dir name 0 s s'
 FailsFor mode.Text e bytes h h' dir name s s' =
     FailsToCopyTextFromHost e bytes h.first h'.first h.again h'.again operator 0 dir name 0 s s'
+
+-- blocks that hold what was read, as it is or as a text's records
+abbrev pub HoldFor : CopyMode → ℕ → Hosts → Hosts → List (List ℕ) → Type 0
+HoldFor mode.Image bytes h h' blocks = HoldHost bytes h.first h'.first blocks
+HoldFor mode.Text bytes h h' blocks = (plan : Extent) × HoldText bytes plan h.again h'.again blocks
 
 -- No file was made, and what was made for it was undone.
 pub record LeavesAll (p : Putting) (bytes : ℕ) (dir : FileId) (e : HostRefusal) (h h' : Hosts) (s s' : Store)
@@ -95,7 +102,7 @@ PutsByName p bytes result h h' s s' =
     (FindsAndPuts p bytes result h h' s s') ⊎ (HasNoDirectory p result h h' s s')
 
 -- A file was to be made on a volume: it fared as the answer says, and where it is sound the one holds of its stores, or the other where a
--- transfer failed.
+-- transfer failed; and the other of each image that stood meanwhile, if nobody held an access.
 pub record PutsNamed {D : Type 0} {met : Ghosts D} (m : CopyMode) (bytes : ℕ) (result : Result ℕ HostRefusal) (h h' : Hosts)
     (Holds Stops : Store → Store → Type 0) (old new : Volume D met) : Type 0 where
   pub fares : FaresAlone (copy_result result) old new
@@ -103,11 +110,14 @@ pub record PutsNamed {D : Type 0} {met : Ghosts D} (m : CopyMode) (bytes : ℕ) 
   pub outcome : is_sound old ≡ true → is_whole (copy_result result) ≡ true → Holds (store_of_volume old) (store_of_volume new)
   pub stops : is_sound old ≡ true → of_files is_fault (copy_result result) ≡ true →
       Stops (store_of_volume old) (store_of (state_in new).disk.image (state_in new).home)
+  pub moments : is_sound old ≡ true → IsUnheld (store_of_volume old) →
+      Stood (λ image. Stops (store_of_volume old) (store_of image (state_in old).home)) (state_in old).disk (state_in new).disk
 
 -- A file was to be made on the volume of an image that has no fault. Where the disk is honest it is what the answer says of the plain
 -- store, from that of the image, in which nobody holds an access; and the image has no fault then, nor has any that stood meanwhile. A
 -- transfer failed exactly where that is the answer, and no other followed; then what was asked last was stopped, and nothing else is done
--- but what was asked for this file before: no other is changed, but its directory and the index file.
+-- but what was asked for this file before: no other is changed, but its directory and the index file, and it has an end only where its
+-- blocks hold all that was read. So it is of each image that stood meanwhile.
 pub record PutsOnImage (p : Putting) (bytes : ℕ) (result : Result ℕ HostRefusal) (h h' : Hosts) (old new : Disk)
     : Type 0 where
   pub home : HomeFields
@@ -116,7 +126,10 @@ pub record PutsOnImage (p : Putting) (bytes : ℕ) (result : Result ℕ HostRefu
   pub outcome : IsTrue old.honest → is_whole (copy_result result) ≡ true →
       PutsByName p bytes result h h' (held_in no_entries (store_of old.image home)) (held_in held (store_of new.image home))
   pub stops : IsTrue old.honest → of_files is_fault (copy_result result) ≡ true →
-      StopsNamed p.directory p.name (held_in no_entries (store_of old.image home)) (store_of new.image home)
+      StopsPut p.directory p.name (HoldFor p.mode bytes h h') (held_in no_entries (store_of old.image home)) (store_of new.image home)
+  pub moments : IsTrue old.honest →
+      Stood (λ image. StopsPut p.directory p.name (HoldFor p.mode bytes h h') (held_in no_entries (store_of old.image home))
+      (store_of image home)) old new
   pub host : ReadsFor p.mode bytes result h h'
   pub failures : new.failures ≡ old.failures + (if of_files is_fault (copy_result result) then 1 else 0)
   pub quiet : of_files is_fault (copy_result result) ≡ true → new.calm ≡ 0
@@ -135,12 +148,28 @@ TellsPutting (Err Unread) told contents before after = (told ≡ Err failure.Unr
 TellsPutting (Err LineTooLong) told contents before after =
     (t : Result FileAnswer Failure) × (told ≡ put_told t) × TellsCopy (Err copy.LineTooLong) t contents before after
 
--- The file was to be made on the volume of an accepted image, and what came of it was told.
+-- A file of so many blocks was made, and then the sync failed. Nothing was written.
+pub record FailsToKeepFile {W : Type 0} (result : Result ℕ HostRefusal) (told : Result FileAnswer PutFailure) (old new : Disk)
+    (contents : W → Option (List ℕ)) (before after : W) : Type 0 where
+  pub blocks : ℕ
+  pub made : result ≡ Ok blocks
+  pub told_is : told ≡ Err (failure.Command DeviceFault)
+  pub failed : new ≡ with_transfer false old
+  pub unwritten : Keeps (contents before) (contents after)
+
+-- what came of it was told, with nothing done to the disk; or the file was made, and the sync failed
+abbrev pub TellsKeptFile : {W : Type 0} → Result ℕ HostRefusal → Result FileAnswer PutFailure → Disk → Disk → (W → Option (List ℕ)) →
+    W → W → Type 0
+TellsKeptFile result told old new contents before after =
+    ((new ≡ old) × TellsPutting result told contents before after) ⊎ (FailsToKeepFile result told old new contents before after)
+
+-- The file was to be made on the volume of an accepted image, and what came of it was told, where it was made once that is kept.
 pub record TellsOnImage {W : Type 0} (p : Putting) (bytes : ℕ) (told : Result FileAnswer PutFailure) (h h' : Hosts) (old new : Disk)
     (contents : W → Option (List ℕ)) (before after : W) : Type 0 where
   pub result : Result ℕ HostRefusal
-  pub puts : PutsOnImage p bytes result h h' old new
-  pub tells : TellsPutting result told contents before after
+  pub done : Disk
+  pub puts : PutsOnImage p bytes result h h' old done
+  pub tells : TellsKeptFile result told done new contents before after
 
 -- The volume couldn't be mounted.
 abbrev pub FailsToMountIt : {W : Type 0} → Result FileAnswer PutFailure → Disk → Disk → (W → Option (List ℕ)) → W → W → Type 0

@@ -12,10 +12,11 @@ use Rattle.f11_commands.specs.CopyCommand.{EndsRt, VerifiesRt}
 use Rattle.f11_commands.specs.InitCommand.{done_line}
 use Rattle.f11_commands.specs.Output.{WriterTakes}
 use Rattle.f11_commands.specs.RtFile.{TellsRt}
+use Rattle.f11_commands.specs.Syncing.{FailsToSync}
 use Rattle.f11_commands.specs.declared.copy.FileAnswer.{FileAnswer}
 use Rattle.f11_commands.specs.declared.copy.FileAnswer.TheVariants.{Done}
 use Rattle.f11_commands.specs.declared.outcome.Failure.{Failure}
-use Rattle.f11_commands.specs.declared.outcome.Failure.TheVariants.{CannotWrite}
+use Rattle.f11_commands.specs.declared.outcome.Failure.TheVariants.{CannotWrite, DeviceFault}
 
 -- so many transfers are made at most: the directory is read, and two blocks of it are written
 abbrev pub delete_transfers : ℕ
@@ -38,10 +39,13 @@ abbrev pub DeletesNamed : List ℕ → Result Unit RtRefusal → Disk → Disk �
 DeletesNamed name (Ok _) old new = IsDeleted name old new
 DeletesNamed name (Err e) old new = IsNotDeleted name e old new
 
--- how it is told
+-- how it is told: by the line `ok`, which the writer takes or doesn't,
+abbrev pub TellsDeleted : {W : Type 0} → Result FileAnswer Failure → (W → Option (List ℕ)) → W → W → Type 0
+TellsDeleted told contents before after = ((told ≡ Ok Done) × WriterTakes contents before after done_line) ⊎ (told ≡ Err CannotWrite)
+
+-- or as a refusal
 abbrev pub TellsDeletion : {W : Type 0} → Result Unit RtRefusal → Result FileAnswer Failure → (W → Option (List ℕ)) → W → W → Type 0
-TellsDeletion (Ok _) told contents before after =
-    ((told ≡ Ok Done) × WriterTakes contents before after done_line) ⊎ (told ≡ Err CannotWrite)
+TellsDeletion (Ok _) told contents before after = TellsDeleted told contents before after
 TellsDeletion (Err e) told contents before after = TellsRt (Err e) told contents before after
 
 -- An image was verified and has no fault; the file's deletion was asked for, and what came of it was told.
@@ -53,7 +57,15 @@ pub record AnswersDeletion {W : Type 0} (name : List ℕ) (told : Result FileAns
   pub deletes : DeletesNamed name result read new
   pub tells : TellsDeletion result told contents before after
 
--- how the command ends: the image isn't accepted, or the deletion was asked for
+-- An image was verified and has no fault, and the file was deleted.
+pub record DeletesInImage (name : List ℕ) (old new : Disk) : Type 0 where
+  pub read : Disk
+  pub verified : VerifiesRt old read
+  pub deletes : IsDeleted name read new
+
+-- how the command ends: the image isn't accepted, or the deletion was asked for; or the file was deleted, and the sync failed
 abbrev pub EndsDeletion : {W : Type 0} → List ℕ → Result FileAnswer Failure → Disk → Disk → (W → Option (List ℕ)) → W → W → Type 0
 EndsDeletion name told old new contents before after =
-    (EndsRt told old new contents before after) ⊎ (AnswersDeletion name told old new contents before after)
+    (EndsRt told old new contents before after)
+    ⊎ ((AnswersDeletion name told old new contents before after)
+    ⊎ ((told ≡ Err DeviceFault) × FailsToSync (DeletesInImage name old) new contents before after))

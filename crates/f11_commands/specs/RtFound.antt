@@ -1,16 +1,15 @@
 -- What a file of an RT-11 volume that was found is made of.
-use Rattle.std.specs.Prelude.{ℕ, List}
-use Rattle.f11_dev.specs.declared.device.Device.{Ghosts}
-use Rattle.rt11_volume.specs.Calls.{volume_device}
+use Rattle.rt11_volume.specs.declared.any_entries.RtEntry.{RtEntry}
+use Rattle.rt11_volume.specs.declared.any_state.RtState.{RtState}
 use Rattle.f11_commands.specs.declared.rt_get.found.FoundRtFile.{FoundRtFile}
 
 -- the device of its volume
-abbrev pub found_device : {D : Type 0} {met : Ghosts D} → FoundRtFile D met → D
-found_device file = volume_device file.volume
+abbrev pub found_device : {D : Type 0} → FoundRtFile D → D
+found_device file = file.device
 
--- the words of its name, and how many blocks it has
-abbrev pub found_name : {D : Type 0} {met : Ghosts D} → FoundRtFile D met → List ℕ
-found_name file = file.name
+-- its entry, and how the volume is
+abbrev pub found_entry : {D : Type 0} → FoundRtFile D → RtEntry
+found_entry file = file.entry
 
-abbrev pub found_blocks : {D : Type 0} {met : Ghosts D} → FoundRtFile D met → ℕ
-found_blocks file = file.blocks
+abbrev pub found_state : {D : Type 0} → FoundRtFile D → RtState
+found_state file = file.state

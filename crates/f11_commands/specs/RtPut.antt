@@ -17,8 +17,10 @@ use Rattle.rt11_volume.specs.declared.refusal.RtRefusal.TheVariants.{Failed}
 use Rattle.f11_commands.specs.CopyCommand.{EndsRt, VerifiesRt}
 use Rattle.f11_commands.specs.RtDelete.{delete_transfers}
 use Rattle.f11_commands.specs.RtFile.{TellsRt, block_transfers}
+use Rattle.f11_commands.specs.Syncing.{FailsToSync}
 use Rattle.f11_commands.specs.declared.copy.FileAnswer.{FileAnswer}
 use Rattle.f11_commands.specs.declared.outcome.Failure.{Failure}
+use Rattle.f11_commands.specs.declared.outcome.Failure.TheVariants.{DeviceFault}
 use Rattle.f11_commands.specs.declared.rt_file.Stop.{Stop}
 use Rattle.f11_commands.specs.declared.rt_file.Stop.TheVariants.{Volume, Host}
 use Rattle.f11_commands.specs.declared.rt_put.PutFailure.{PutFailure}
@@ -106,9 +108,17 @@ pub record EndsUnput {W : Type 0} (told : Result FileAnswer PutFailure) (unread 
   pub ends : EndsRt answer old new contents before after
   pub unread_is : unread' ≡ unread
 
--- how the command ends
+-- An image was verified and has no fault, and the file was made.
+pub record StoresInImage (name : List ℕ) (bytes : ℕ) (unread unread' : Option (List ℕ)) (old new : Disk) : Type 0 where
+  pub blocks : ℕ
+  pub read : Disk
+  pub verified : VerifiesRt old read
+  pub stores : IsStored name bytes blocks unread unread' read new
+
+-- how the command ends: the image isn't accepted, or the file was to be made; or it was made, and the sync failed
 abbrev pub EndsPut : {W : Type 0} → List ℕ → ℕ → Result FileAnswer PutFailure → Option (List ℕ) → Option (List ℕ) → Disk → Disk →
     (W → Option (List ℕ)) → W → W → Type 0
 EndsPut name bytes told unread unread' old new contents before after =
     (EndsUnput told unread unread' old new contents before after)
-    ⊎ (AnswersPut name bytes told unread unread' old new contents before after)
+    ⊎ ((AnswersPut name bytes told unread unread' old new contents before after)
+    ⊎ ((told ≡ Err (Command DeviceFault)) × FailsToSync (StoresInImage name bytes unread unread' old) new contents before after))

@@ -10,6 +10,7 @@ use Rattle.rt11_volume.specs.Verifying.Verdict.{IsRtAccepted}
 use Rattle.f11_commands.specs.InitCommand.{done_line, refusal_line}
 use Rattle.f11_commands.specs.Lines.{report_lines}
 use Rattle.f11_commands.specs.Output.{WriterTakes}
+use Rattle.f11_commands.specs.Syncing.{FailsToSync}
 use Rattle.f11_commands.specs.declared.outcome.Failure.{Failure}
 use Rattle.f11_commands.specs.declared.outcome.Failure.TheVariants.{DeviceFault, NoMemory, CannotWrite}
 use Rattle.f11_commands.specs.declared.report.System.TheVariants.{Rt11}
@@ -58,10 +59,11 @@ PrintsMade segments old new contents before after = MakesVolume segments old new
 abbrev pub PrintsRefused : {W : Type 0} → ℕ → Disk → Disk → (W → Option (List ℕ)) → W → W → Type 0
 PrintsRefused segments old new contents before after = RefusesVolume segments old new × WriterTakes contents before after refusal_line
 
--- The command couldn't be done: a transfer failed, and nothing was written; or the writer takes no more, and the device is as after the one
--- or the other. Memory is never wanting.
+-- The command couldn't be done: a transfer failed, or the sync when the volume was made, and nothing was written; or the writer takes no
+-- more, and the device is as after the one or the other. Memory is never wanting.
 abbrev pub FailsToPrintMade : {W : Type 0} → Failure → ℕ → Disk → Disk → (W → Option (List ℕ)) → W → W → Type 0
 FailsToPrintMade DeviceFault segments old new contents before after =
-    FailsToMakeVolume segments old new × Keeps (contents before) (contents after)
+    (FailsToMakeVolume segments old new × Keeps (contents before) (contents after))
+    ⊎ (FailsToSync (MakesVolume segments old) new contents before after)
 FailsToPrintMade CannotWrite segments old new contents before after = MakesVolume segments old new ⊎ RefusesVolume segments old new
 FailsToPrintMade NoMemory segments old new contents before after = ⊥

@@ -1,7 +1,7 @@
 -- What `run` does to an image, and what it writes (profile).
-use Rattle.std.specs.Prelude.{◌≡◌, ◌≢◌, ◌⊎◌, ℕ, ◌<◌, Bool, true, false, IsTrue, List, [], Option, Result, Ok, Err}
+use Rattle.std.specs.Prelude.{◌≡◌, ◌≢◌, ◌⊎◌, ℕ, ◌<◌, ◌||◌, Bool, true, false, IsTrue, List, [], Option, Result, Ok, Err}
 use Rattle.std.specs.Io.KnownBytes.{Keeps}
-use Rattle.f11_dev.specs.Disk.{Disk}
+use Rattle.f11_dev.specs.Disk.{Disk, with_transfer}
 use Rattle.f11_findings.specs.declared.finding.Finding.{Finding}
 use Rattle.f11_home.specs.Home.{HomeFields, IsHomeOf}
 use Rattle.f11_serving.specs.fcp.Accesses.{AccessTable, held_in, no_entries}
@@ -33,6 +33,14 @@ pub record ServesImage {W : Type 0} (result : Result ℕ ScriptError) (remaining
       RunsScript Steps remaining (held_in no_entries (store_of old.image home))
       (held_in held (store_of new.image home)) (contents before) (contents after) result
 
+-- So a script was served, no transfer failed meanwhile, and then the sync failed.
+pub record ServesUnsynced {W : Type 0} (result : Result ℕ ScriptError) (remaining : Option (List ℕ)) (old new : Disk)
+    (contents : W → Option (List ℕ)) (before after : W) : Type 0 where
+  pub done : Disk
+  pub serves : ServesImage result remaining old done contents before after
+  pub none : done.failures ≡ old.failures
+  pub failed : new ≡ with_transfer false done
+
 -- Nothing was written, to the image or the writer.
 pub record WritesNothing {W : Type 0} (old new : Disk) (contents : W → Option (List ℕ)) (before after : W) : Type 0 where
   pub image : new.image ≡ old.image
@@ -40,7 +48,8 @@ pub record WritesNothing {W : Type 0} (old new : Disk) (contents : W → Option 
   pub written : Keeps (contents before) (contents after)
 
 -- what is told of an accepted image: the script was served, or it was to where it, or its answers, went no further, and no transfer
--- failed; or one failed on an honest disk, before the script was served or while it was; or there was no memory for the volume
+-- failed; or one failed on an honest disk, before the script was served or while it was, or the sync behind it; or there was no memory for
+-- the volume
 abbrev pub EndsServing : {W : Type 0} → Result Answer RunFailure → Option (List ℕ) → Disk → Disk → (W → Option (List ℕ)) → W → W → Type 0
 EndsServing (Ok Done) remaining old new contents before after =
     (count : ℕ) × ServesImage (Ok count) remaining old new contents before after × (new.failures ≡ old.failures)
@@ -48,9 +57,10 @@ EndsServing (Ok Fault) remaining old new contents before after = ⊥
 EndsServing (Err (Script e)) remaining old new contents before after =
     ServesImage (Err e) remaining old new contents before after × (new.failures ≡ old.failures)
 EndsServing (Err (Command DeviceFault)) remaining old new contents before after =
-    (WritesNothing old new contents before after ⊎
+    ((WritesNothing old new contents before after ⊎
     ((result : Result ℕ ScriptError) × ServesImage result remaining old new contents before after))
-    × (IsTrue old.honest → old.failures < new.failures)
+    × (IsTrue old.honest → old.failures < new.failures))
+    ⊎ ((result : Result ℕ ScriptError) × ServesUnsynced result remaining old new contents before after)
 EndsServing (Err (Command NoMemory)) remaining old new contents before after =
     WritesNothing old new contents before after × (new.failures ≡ old.failures)
 EndsServing (Err (Command CannotWrite)) remaining old new contents before after = ⊥
@@ -65,8 +75,19 @@ EndsRun (Ok Fault) remaining old new contents before after = PrintsReport false 
 EndsRun (Err (Command CannotWrite)) remaining old new contents before after = HasFaults old new
 EndsRun told remaining old new contents before after = EndsServing told remaining old new contents before after
 
--- how a script ended that a volume served, which a request has failed or not
+-- how a script ended that a volume served, of whose device a transfer failed or not
 abbrev pub outcome_of : Bool → Result ℕ ScriptError → Result Answer RunFailure
 outcome_of true served = Err (Command DeviceFault)
 outcome_of false (Ok count) = Ok Done
 outcome_of false (Err e) = Err (Script e)
+
+-- a sync, which failed or didn't
+abbrev pub SyncedIf : Bool → Disk → Disk → Type 0
+SyncedIf true old new = new ≡ with_transfer false old
+SyncedIf false old new = new ≡ old
+
+-- The device of a volume that served a script, which a request has failed or not, was synced, and how the script ended was told.
+pub record EndsSyncing (spent : Bool) (served : Result ℕ ScriptError) (told : Result Answer RunFailure) (old new : Disk) : Type 0 where
+  pub fails : Bool
+  pub synced : SyncedIf fails old new
+  pub told_is : told ≡ outcome_of (spent || fails) served

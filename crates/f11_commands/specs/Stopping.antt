@@ -1,9 +1,13 @@
 -- What stands on a Files-11 volume where a transfer of it failed while a file was made (profile).
-use Rattle.std.specs.Prelude.{◌≡◌, ℕ, ◌==◌, ◌&&◌, Bool, false, List, All, Some, None}
+use Rattle.std.specs.Prelude.{◌≡◌, ◌⊎◌, ℕ, ◌==◌, ◌&&◌, ◌++◌, Bool, false, List, All, Option, Some, None}
+use Rattle.f11_dev.specs.Disk.{Disk}
+use Rattle.f11_dev.specs.Image.{Image}
+use Rattle.f11_dev.specs.Went.{newest}
 use Rattle.f11_serving.specs.fcp.Accesses.{AccessTable, held_in}
 use Rattle.f11_flx.specs.Asking.{Asking, Grants, Tried, asks, counts, plain, reads, told, writes}
+use Rattle.f11_flx.specs.CopyFromRt.{new_id}
 use Rattle.f11_flx.specs.Copying.{Creates, IsMakingOf}
-use Rattle.f11_store.specs.File.{File}
+use Rattle.f11_store.specs.File.{File, end_of}
 use Rattle.f11_store.specs.Lags.{Lags}
 use Rattle.f11_store.specs.Store.{Store}
 use Rattle.f11_store.specs.declared.callers.Uic.{Uic}
@@ -35,7 +39,7 @@ pub data IsStopped (x : Asking) (s t : Store) : Type 0 where
 
 -- A file was created, and something was stopped of what makes it in a directory under a name. What was asked before that was granted, or
 -- refused and then nothing was changed; nothing was done behind it.
-pub record StopsAfterCreation (dir : FileId) (to : List ℕ) (s t : Store) : Type 0 where
+pub record StopsAfterCreation (dir : FileId) (to : List ℕ) (stated : Option (List ℕ)) (s t : Store) : Type 0 where
   pub request : Request
   pub creates : Creates to request
   pub id : FileId
@@ -44,15 +48,15 @@ pub record StopsAfterCreation (dir : FileId) (to : List ℕ) (s t : Store) : Typ
   pub asked : List Asking
   pub reached : Store
   pub tried : Tried plain operator asked created reached
-  pub only : All (IsMakingOf 0 dir to 0 id) asked
+  pub only : All (IsMakingOf 0 dir to 0 stated id) asked
   pub last : Asking
-  pub is : IsMakingOf 0 dir to 0 id last
+  pub is : IsMakingOf 0 dir to 0 stated id last
   pub stopped : IsStopped last reached t
 
 -- where the making of a file was stopped: at its creation, or behind that
-pub data StopsAt (dir : FileId) (to : List ℕ) (s t : Store) : Type 0 where
-  creating : (r : Request) → Creates to r → IsStopped (asks r) s t → StopsAt dir to s t
-  after_creation : StopsAfterCreation dir to s t → StopsAt dir to s t
+pub data StopsAt (dir : FileId) (to : List ℕ) (stated : Option (List ℕ)) (s t : Store) : Type 0 where
+  creating : (r : Request) → Creates to r → IsStopped (asks r) s t → StopsAt dir to stated s t
+  after_creation : StopsAfterCreation dir to stated s t → StopsAt dir to stated s t
 
 -- the file with this number and sequence number is the directory
 abbrev pub is_directory_of : FileId → ℕ → ℕ → Bool
@@ -64,9 +68,25 @@ KeepsOthers dir s t =
     (n : ℕ) (f : File) → s.file n ≡ Some f → is_directory_of dir n f.sequence ≡ false → (n == 1) ≡ false → t.file n ≡ Some f
 
 -- A file was being made in a directory under a name: that was stopped, and no other file is changed, but the directory and the index file.
-pub record StopsMaking (dir : FileId) (to : List ℕ) (s t : Store) : Type 0 where
-  pub stops : StopsAt dir to s t
+pub record StopsFile (dir : FileId) (to : List ℕ) (stated : Option (List ℕ)) (s t : Store) : Type 0 where
+  pub stops : StopsAt dir to stated s t
   pub others : KeepsOthers dir s t
+
+-- so of a file that is created with its attributes,
+abbrev pub StopsMaking : FileId → List ℕ → Store → Store → Type 0
+StopsMaking dir to s t = StopsFile dir to None s t
+
+-- the file that is created next ends at its beginning, or its blocks are such; it isn't its directory
+abbrev pub EndsWhole : FileId → (List (List ℕ) → Type 0) → Store → Store → Type 0
+EndsWhole dir AreSuch s t =
+    ((new_id s).number == dir.number) ≡ false → (f : File) → t.file (new_id s).number ≡ Some f → (end_of f ≡ 0) ⊎ (AreSuch f.blocks)
+
+-- A file that gets its attributes once it is filled was being made in a directory under a name: that was stopped, no other file is changed,
+-- but the directory and the index file, and the one that was made has an end only where it was filled with blocks that are such.
+pub record StopsPutting (dir : FileId) (to : List ℕ) (AreSuch : List (List ℕ) → Type 0) (s t : Store) : Type 0 where
+  pub attr : List ℕ
+  pub stops : StopsFile dir to (Some attr) s t
+  pub whole : EndsWhole dir AreSuch s t
 
 -- all files are as they were
 abbrev pub KeepsFiles : Store → Store → Type 0
@@ -74,11 +94,18 @@ KeepsFiles s t = (n : ℕ) → t.file n ≡ s.file n
 
 -- A file was to be made in a user's directory under a name: the look for the directory was stopped, and all files are as they were; or the
 -- making of the file was, in the directory that was found.
-pub data StopsNamed (user : Uic) (name : List ℕ) (s t : Store) : Type 0 where
-  seeking : IsStopped (asks (request.Find master_directory (directory_name user))) s t → KeepsFiles s t
-      → StopsNamed user name s t
-  making : (dir : FileId) (found : Store) → FindsName master_directory (directory_name user) dir s found → StopsMaking dir name found t
-      → StopsNamed user name s t
+pub data StopsBelow (user : Uic) (Stops : FileId → Store → Store → Type 0) (s t : Store) : Type 0 where
+  seeking : IsStopped (asks (request.Find master_directory (directory_name user))) s t → KeepsFiles s t → StopsBelow user Stops s t
+  making : (dir : FileId) (found : Store) → FindsName master_directory (directory_name user) dir s found → Stops dir found t
+      → StopsBelow user Stops s t
+
+-- so of a copy,
+abbrev pub StopsNamed : Uic → List ℕ → Store → Store → Type 0
+StopsNamed user name s t = StopsBelow user (λ dir. StopsMaking dir name) s t
+
+-- and of a file of the host
+abbrev pub StopsPut : Uic → List ℕ → (List (List ℕ) → Type 0) → Store → Store → Type 0
+StopsPut user name AreSuch s t = StopsBelow user (λ dir. StopsPutting dir name AreSuch) s t
 
 -- nobody holds an access
 abbrev pub IsUnheld : Store → Type 0
@@ -98,3 +125,10 @@ StopsWithin FromRt dir name s t = StopsMaking dir name s t
 abbrev pub StopsCopy : Direction → Uic → List ℕ → Store → Store → Type 0
 StopsCopy ToRt user name s t = KeepsFiles s t
 StopsCopy FromRt user name s t = StopsNamed user name s t
+
+-- P holds of each image that stood meanwhile: of `since`, the newest first, whose newest stands at the end.
+pub record Stood (P : Image → Type 0) (old new : Disk) : Type 0 where
+  pub since : List Image
+  pub history : new.history ≡ since ++ old.history
+  pub image : new.image ≡ newest since old.image
+  pub each : All P since

@@ -3,6 +3,7 @@ use Rattle.std.specs.Prelude.{◌≡◌, ◌⊎◌, ℕ, true, false, List, [], 
 use Rattle.std.specs.Io.KnownBytes.{Keeps}
 use Rattle.f11_dev.specs.Disk.{Disk}
 use Rattle.f11_commands.specs.Output.{WriterTakes}
+use Rattle.f11_commands.specs.Syncing.{FailsToSync}
 use Rattle.f11_commands.specs.VfyCommand.{PrintsReport, FailsToPrintReport}
 use Rattle.f11_commands.specs.declared.outcome.Answer.{Answer}
 use Rattle.f11_commands.specs.declared.outcome.Answer.TheVariants.{Done, Fault}
@@ -38,10 +39,11 @@ pub record UpdatesVolume {W : Type 0} (told : Result Answer Failure) (old new : 
   pub reclaims : Reclaims old between
   pub again : EndsAgain told between new contents before after
 
--- it wasn't reclaimed: a transfer failed, or there was no memory, and nothing was said
+-- it wasn't reclaimed: a transfer failed, or there was no memory, and nothing was said; or it was, and the sync failed
 abbrev pub FailsToUpdate : {W : Type 0} → Result Answer Failure → Disk → Disk → (W → Option (List ℕ)) → W → W → Type 0
 FailsToUpdate (Err DeviceFault) old new contents before after =
-    GoesOn IsSoundWith (reclaim_reads old) old new 1 × Keeps (contents before) (contents after)
+    (GoesOn IsSoundWith (reclaim_reads old) old new 1 × Keeps (contents before) (contents after))
+    ⊎ (FailsToSync (Reclaims old) new contents before after)
 FailsToUpdate (Err NoMemory) old new contents before after =
     LacksRoom IsSoundWith (reclaim_reads old) old new × Keeps (contents before) (contents after)
 FailsToUpdate told old new contents before after = ⊥

@@ -12,8 +12,8 @@ use f11_reader::FileReader;
 use std::io::Write;
 
 /// Writes the bytes of a file that are still to come, before `end` bytes: each block whole, and the last one cut there. Where the file
-/// ends earlier, so does the text. It says how many bytes were written. It makes at most so many transfers: one for each block before the
-/// end and one for each header that a file may still have, and one that fails. No memory is taken.
+/// ends earlier, so does the text. Behind the last one the writer is flushed. It says how many bytes were written. It makes at most so many
+/// transfers: one for each block before the end and one for each header that a file may still have, and one that fails. No memory is taken.
 ///
 /// # Errors
 ///
@@ -46,6 +46,30 @@ pub(crate) fn write_contents<D: Device, W: Write>(
 ///
 /// [`Stop::DeviceFault`] where a transfer failed, and [`Stop::CannotWrite`] where the writer takes no more.
 pub(crate) fn put_contents<D: Device, W: Write>(
+    device: &mut D,
+    index: &IndexFile,
+    file: FileReader,
+    end: u64,
+    writer: &mut W,
+) -> Result<u64, Stop>
+    requires within { IndexLiesWithin (index_kept index.now) (length (D.disk device.old).image) }
+    requires reading { IsReading (index_kept index.now) file (D.disk device.old) }
+    ensures writes { IfOk result (λ count. WritesContent (index_kept index.now) file end count
+        (D.disk device.old) (D.disk device.new) W.contents writer.old writer.new) }
+    ensures stops { IfErr result (λ stop. StopsWriting stop (index_kept index.now)
+        file end (D.disk device.old) (D.disk device.new) W.contents writer.old writer.new) }
+{
+    match put_blocks(device, index, file, end, writer) {
+        Ok(count) => match writer.flush() {
+            Ok(()) => Ok(count),
+            Err(_) => Err(Stop::CannotWrite),
+        },
+        Err(stop) => Err(stop),
+    }
+}
+
+/// Writes the bytes of a file before `end`, a block at a time.
+fn put_blocks<D: Device, W: Write>(
     device: &mut D,
     index: &IndexFile,
     file: FileReader,

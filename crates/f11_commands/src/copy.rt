@@ -72,17 +72,17 @@ impl FileAnswer {
 }
 
 /// Verifies a Files-11 volume and an RT-11 volume, the one that is copied from first, and copies a file from the one to the other, as
-/// [`copy_to_rt`](f11_flx::copy_to_rt) and [`copy_from_rt`](f11_flx::copy_from_rt) do. It writes the line `copied N`, N being how many blocks the copy has, or
-/// `no` and the refusal's name. Where a volume has a fault nothing is copied, and its report is written, as `vfy` and `rt-vfy` have it. Both
-/// devices come back.
+/// [`copy_to_rt`](f11_flx::copy_to_rt) and [`copy_from_rt`](f11_flx::copy_from_rt) do. Then it syncs the one that was copied to, and writes
+/// the line `copied N`, N being how many blocks the copy has, or `no` and the refusal's name. Where a volume has a fault nothing is copied,
+/// and its report is written, as `vfy` and `rt-vfy` have it. Both devices come back.
 ///
 /// The directory on the Files-11 volume is the one that [4,4]'s file has under the name of the user's code, as `200001.DIR;1`. The operator, [1,1],
 /// asks; the copy has the protection 0, or the date 0.
 ///
 /// # Errors
 ///
-/// [`Failure::DeviceFault`] where a transfer failed, [`Failure::NoMemory`] where there was no memory, and [`Failure::CannotWrite`] where the writer
-/// takes no more: then the copy may be made.
+/// [`Failure::DeviceFault`] where a transfer failed, or the sync when the copy is made, [`Failure::NoMemory`] where there was no memory, and
+/// [`Failure::CannotWrite`] where the writer takes no more: then the copy may be made.
 pub fn print_copy<D: Device, E: Device, W: Write>(
     alloc: Global,
     files: D,

@@ -4,19 +4,20 @@ ghost use Rattle.f11_commands.specs.InitCommand.{done_line, refusal_line, Prints
 ghost use Rattle.f11_commands.specs.Output.{WriterTakes};
 
 use crate::outcome::{Answer, Failure};
+use crate::sync::synced;
 use f11_dev::Device;
 use f11_serving::f11_vfy::{InitError, InitParams, init};
 use std::io::Write;
 
-/// Makes a fresh volume on a device, as [`init`] does, and writes `ok`. The device comes back.
+/// Makes a fresh volume on a device, as [`init`] does, syncs the device, and writes `ok`. The device comes back.
 ///
 /// Where none can be made with these it writes `no BadParameter`, and answers [`Answer::Fault`]: then nothing was written to the
 /// device.
 ///
 /// # Errors
 ///
-/// [`Failure::DeviceFault`] where a transfer failed, and [`Failure::CannotWrite`] where the writer takes no more: then it may
-/// hold a part of the line.
+/// [`Failure::DeviceFault`] where a transfer failed, or the sync when the volume is made, and [`Failure::CannotWrite`] where the
+/// writer takes no more: then it may hold a part of the line.
 pub fn print_init<D: Device, W: Write>(
     device: D,
     writer: &mut W,
@@ -30,7 +31,10 @@ pub fn print_init<D: Device, W: Write>(
         (D.disk device) (D.disk result.0) W.contents writer.old writer.new) }
 {
     match init(device, params) {
-        Ok(made) => (made.device(), write_done(writer)),
+        Ok(made) => match synced(made.device()) {
+            Ok(device) => (device, write_done(writer)),
+            Err(device) => (device, Err(Failure::DeviceFault)),
+        },
         Err(InitError::BadParameter(device)) => (device, refuse_init(writer)),
         Err(InitError::DeviceFault(device)) => (device, Err(Failure::DeviceFault)),
     }

@@ -8,7 +8,8 @@ ghost use Rattle.f11_commands.specs.LsCommand.{FailsToListIndex, IsNotListed, Li
 use crate::copy::finding::{MASTER_DIRECTORY, directory_name};
 use crate::outcome::{Answer, Failure};
 use crate::volume::read_index;
-use f11_catalog::{ListFault, find, list_directory, list_users};
+use f11_bytes::NoMemory;
+use f11_catalog::{ListFault, find, list_directories, list_directory};
 use f11_dev::{Device, DeviceFault};
 use f11_index::IndexFile;
 use f11_serving::f11_vfy::{Report, VfyError, verify};
@@ -25,11 +26,11 @@ pub struct Served {
     pub faulty: bool,
 }
 
-/// Lists a user's directory, or without a user each directory of one that the master file directory names, under `[g,m]`: a line for each
-/// record, in their order. It serves any volume whose home block and index file can be read, faulty or not, and writes nothing to it.
+/// Lists a user's directory, or without a user each directory that the master file directory names, under `[g,m]`, or `[NAME]` where its name
+/// is no user's: a line for each record, in their order. It serves any volume whose home block and index file can be read, faulty or not, and writes nothing to it.
 ///
 /// A record's line is `file NAME.TYP;V N,S blocks B bytes E owner [g,m] prot W`, and behind it ` contiguous`, ` marked` or ` open` where
-/// the file is that, with the blocks that are reached from its first header; or `entry NAME.TYP;V N,S no file` where it names none; `?` stands for
+/// the file is that, and ` out of use` where the bit of its slot is 0, with the blocks that are reached from its first header; or `entry NAME.TYP;V N,S no file` where it names none; `?` stands for
 /// a name that is none. Where a directory can't be listed the line is `no NoSuchFile`, `no NotDirectory` or `no NoSuchEntry`, and where the
 /// volume can't be read that of its fault, F1 or F2; then the answer is [`Answer::Fault`].
 ///
@@ -89,9 +90,12 @@ fn list_volume<D: Device, W: Write>(
         (D.disk device.old) (D.disk device.new) W.contents writer.old writer.new) }
 {
     match read_index(alloc, device) {
-        Ok(Ok((_, index))) => match list_index(device, &index, writer, user) {
-            Ok(answer) => Ok(answer),
-            Err(failure) => Err(failure),
+        Ok(Ok((_, index))) => match index.with_all_in_use(alloc) {
+            Ok(wide) => match list_index(device, &index, &wide, writer, user) {
+                Ok(answer) => Ok(answer),
+                Err(failure) => Err(failure),
+            },
+            Err(NoMemory) => Err(Failure::NoMemory),
         },
         Ok(Err(fault)) => match writeln!(writer, "fault {fault}") {
             Ok(()) => Ok(Answer::Fault),
@@ -105,16 +109,18 @@ fn list_volume<D: Device, W: Write>(
 fn list_index<D: Device, W: Write>(
     device: &mut D,
     index: &IndexFile,
+    wide: &IndexFile,
     writer: &mut W,
     user: Option<Uic>,
 ) -> Result<Answer, Failure>
     requires within { IndexLiesWithin (index_kept index.now) (length (D.disk device.old).image) }
-    ensures lists { IfOk result (λ answer. ListsIndex (index_kept index.now) user answer
+    requires wide { IndexLiesWithin (index_kept wide.now) (length (D.disk device.old).image) }
+    ensures lists { IfOk result (λ answer. ListsIndex (index_kept index.now) (index_kept wide.now) user answer
         (D.disk device.old) (D.disk device.new) W.contents writer.old writer.new) }
     ensures failed { IfErr result (λ failure. FailsToListIndex failure
         (D.disk device.old) (D.disk device.new)) }
 {
-    match list_asked(device, index, writer, user) {
+    match list_asked(device, index, wide, writer, user) {
         Ok(Ok(())) => Ok(Answer::Done),
         Ok(Err(refusal)) => match writeln!(writer, "no {refusal}") {
             Ok(()) => Ok(Answer::Fault),
@@ -125,24 +131,26 @@ fn list_index<D: Device, W: Write>(
     }
 }
 
-/// Lists one user's directory, or those of all users.
+/// Lists one user's directory, or all directories.
 fn list_asked<D: Device, W: Write>(
     device: &mut D,
     index: &IndexFile,
+    wide: &IndexFile,
     writer: &mut W,
     user: Option<Uic>,
 ) -> Result<Result<(), Refusal>, ListFault>
     requires within { IndexLiesWithin (index_kept index.now) (length (D.disk device.old).image) }
-    ensures lists { IfOk result (λ answer. OnOk answer (WritesListing (λ image t. listed image t user)
+    requires wide { IndexLiesWithin (index_kept wide.now) (length (D.disk device.old).image) }
+    ensures lists { IfOk result (λ answer. OnOk answer (WritesListing (λ image t. listed (index_kept wide.now) image t user)
         (index_kept index.now) (D.disk device.old) (D.disk device.new) W.contents writer.old writer.new)) }
     ensures refused { IfOk result (λ answer. IfErr answer (λ refusal. (writer.new ≡ writer.old)
-        × IsNotListed (λ image t. listed image t user) (index_kept index.now) refusal
+        × IsNotListed (λ image t. listed (index_kept wide.now) image t user) (index_kept index.now) refusal
         (D.disk device.old) (D.disk device.new))) }
     ensures failed { IfErr result (λ fault. BreaksOff fault (D.disk device.old) (D.disk device.new)) }
 {
     match user {
-        Some(user) => list_user(device, index, writer, user),
-        None => match list_users(device, index, writer, MASTER_DIRECTORY) {
+        Some(user) => list_user(device, index, wide, writer, user),
+        None => match list_directories(device, index, wide, writer, MASTER_DIRECTORY) {
             Ok(Ok(())) => Ok(Ok(())),
             Ok(Err(refusal)) => Ok(Err(refusal)),
             Err(fault) => Err(fault),
@@ -154,20 +162,22 @@ fn list_asked<D: Device, W: Write>(
 fn list_user<D: Device, W: Write>(
     device: &mut D,
     index: &IndexFile,
+    wide: &IndexFile,
     writer: &mut W,
     user: Uic,
 ) -> Result<Result<(), Refusal>, ListFault>
     requires within { IndexLiesWithin (index_kept index.now) (length (D.disk device.old).image) }
-    ensures lists { IfOk result (λ answer. OnOk answer (WritesListing (λ image t. user_listed image t user)
+    requires wide { IndexLiesWithin (index_kept wide.now) (length (D.disk device.old).image) }
+    ensures lists { IfOk result (λ answer. OnOk answer (WritesListing (λ image t. user_listed (index_kept wide.now) image t user)
         (index_kept index.now) (D.disk device.old) (D.disk device.new) W.contents writer.old writer.new)) }
     ensures refused { IfOk result (λ answer. IfErr answer (λ refusal. (writer.new ≡ writer.old)
-        × IsNotListed (λ image t. user_listed image t user) (index_kept index.now) refusal
+        × IsNotListed (λ image t. user_listed (index_kept wide.now) image t user) (index_kept index.now) refusal
         (D.disk device.old) (D.disk device.new))) }
     ensures failed { IfErr result (λ fault. BreaksOff fault (D.disk device.old) (D.disk device.new)) }
 {
     let name = directory_name(user);
     match find(device, index, MASTER_DIRECTORY, &name) {
-        Ok(Ok(id)) => match list_directory(device, index, writer, id) {
+        Ok(Ok(id)) => match list_directory(device, index, wide, writer, id) {
             Ok(Ok(())) => Ok(Ok(())),
             Ok(Err(refusal)) => Ok(Err(refusal)),
             Err(fault) => Err(fault),

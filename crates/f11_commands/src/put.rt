@@ -1,9 +1,9 @@
 //! The command `put`.
 
 ghost use Rattle.f11_serving.specs.vfy.Accepted.{device_of};
-ghost use Rattle.f11_commands.specs.PutCommand.{EndsAccepted, EndsPutting, PutsByName, PutsInto, PutsNamed};
-ghost use Rattle.f11_commands.specs.PutCommand.{TellsPutting, hosts};
-ghost use Rattle.f11_commands.specs.Stopping.{StopsMaking, StopsNamed, WhereUnheld};
+ghost use Rattle.f11_commands.specs.PutCommand.{EndsAccepted, EndsPutting, HoldFor, PutsByName, PutsInto, PutsNamed};
+ghost use Rattle.f11_commands.specs.PutCommand.{TellsKeptFile, TellsPutting, hosts};
+ghost use Rattle.f11_commands.specs.Stopping.{StopsPut, StopsPutting, WhereUnheld};
 
 use crate::copy::FileAnswer;
 use crate::copy::finding::{
@@ -14,6 +14,7 @@ use crate::copy::telling::tell;
 use crate::copy::verifying::accept_files;
 use crate::outcome::Failure;
 use crate::rt_put::{PutFailure, as_put};
+use crate::sync::synced;
 use f11_dev::Device;
 use f11_flx::{CopyMode, FlxRefusal};
 use f11_host::{HostRefusal, copy_from_host, copy_text_from_host};
@@ -37,10 +38,10 @@ pub struct Putting {
 }
 
 /// Verifies the Files-11 volume on a device, and makes a file of so many bytes that `host` gives, as
-/// [`copy_from_host`](f11_host::copy_from_host) does, or in mode `Text` as [`copy_text_from_host`](f11_host::copy_text_from_host): then `host`
-/// is walked over first, and `again` is a second reader of the same file, of which mode `Image` reads nothing. It writes the line `copied N`,
-/// N being how many blocks the file has, or `no` and the refusal's name; where the volume has faults nothing is read of either, and it writes
-/// the lines of `vfy`. The device comes back.
+/// [`copy_from_host`](f11_host::copy_from_host) does, or in mode `Text` as [`copy_text_from_host`](f11_host::copy_text_from_host): then
+/// `host` is walked over first, and `again` is a second reader of the same file, of which mode `Image` reads nothing. Then the device is
+/// synced. It writes the line `copied N`, N being how many blocks the file has, or `no` and the refusal's name; where the volume has faults
+/// nothing is read of either, and it writes the lines of `vfy`. The device comes back.
 ///
 /// The directory is the one that [4,4]'s file has under the name of the user's code, as `200001.DIR;1`. The operator, [1,1], asks; the file
 /// has the protection 0.
@@ -48,9 +49,9 @@ pub struct Putting {
 /// # Errors
 ///
 /// [`PutFailure::Unread`] where `host` or `again` couldn't be read to that length, or another text came of `again`, and what was made was
-/// deleted again; else of [`PutFailure::Command`]
-/// [`Failure::DeviceFault`] where a transfer failed: then the file may stand, whole or in part, entered or not; [`Failure::NoMemory`] where
-/// there was no memory; and [`Failure::CannotWrite`] where the writer takes no more: then the file may be made.
+/// deleted again; else of [`PutFailure::Command`] [`Failure::DeviceFault`] where a transfer failed: then the file may stand, with its end
+/// where it is whole and without one before, entered or not; or the sync, when it is whole; [`Failure::NoMemory`] where there was no memory;
+/// and [`Failure::CannotWrite`] where the writer takes no more: then the file may be made.
 pub fn print_put<D: Device, R: Read, W: Write>(
     alloc: Global,
     device: D,
@@ -71,7 +72,7 @@ pub fn print_put<D: Device, R: Read, W: Write>(
     }
 }
 
-/// Mounts an accepted volume, makes the file, tells that, and dismounts it.
+/// Mounts an accepted volume, makes the file, dismounts it, and tells that, once it is kept.
 fn put_accepted<D: Device, R: Read, W: Write>(
     alloc: Global,
     accepted: Accepted<D>,
@@ -89,8 +90,7 @@ fn put_accepted<D: Device, R: Read, W: Write>(
     match Volume::mount(alloc, accepted) {
         Ok(mut volume) => {
             let made = put_by_name(&mut volume, put, host, again, bytes);
-            let told = tell_put(made, writer);
-            (dismount(volume), told)
+            tell_kept(made, dismount(volume), writer)
         }
         Err(OpenFault::DeviceFault(device) | OpenFault::Damaged(device)) => {
             (device, Err(PutFailure::Command(Failure::DeviceFault)))
@@ -101,6 +101,24 @@ fn put_accepted<D: Device, R: Read, W: Write>(
                 Err(PutFailure::Command(Failure::NoMemory)),
             )
         }
+    }
+}
+
+/// Tells what came of it, and where the file was made syncs the device before.
+fn tell_kept<D: Device, W: Write>(
+    made: Result<u32, HostRefusal>,
+    device: D,
+    writer: &mut W,
+) -> (D, Result<FileAnswer, PutFailure>)
+    ensures tells { TellsKeptFile made result.1 (D.disk device) (D.disk result.0) W.contents
+        writer.old writer.new }
+{
+    match made {
+        Ok(blocks) => match synced(device) {
+            Ok(device) => (device, tell_put(Ok(blocks), writer)),
+            Err(device) => (device, Err(PutFailure::Command(Failure::DeviceFault))),
+        },
+        Err(refusal) => (device, tell_put(Err(refusal), writer)),
     }
 }
 
@@ -117,7 +135,9 @@ fn put_by_name<D: Device, R: Read>(
         (hosts (R.remaining host.new) (R.remaining again.new))
         (PutsByName put.now bytes result (hosts (R.remaining host.old) (R.remaining again.old))
         (hosts (R.remaining host.new) (R.remaining again.new)))
-        (WhereUnheld (StopsNamed put.now.directory put.now.name)) volume.old volume.new }
+        (WhereUnheld (StopsPut put.now.directory put.now.name (HoldFor put.now.mode bytes
+        (hosts (R.remaining host.old) (R.remaining again.old))
+        (hosts (R.remaining host.new) (R.remaining again.new))))) volume.old volume.new }
 {
     let directory = directory_name(put.directory);
     match find(volume, MASTER_DIRECTORY, &directory) {
@@ -140,7 +160,9 @@ fn put_into<D: Device, R: Read>(
         (hosts (R.remaining host.new) (R.remaining again.new))
         (PutsInto put.now bytes dir result (hosts (R.remaining host.old) (R.remaining again.old))
         (hosts (R.remaining host.new) (R.remaining again.new)))
-        (WhereUnheld (StopsMaking dir put.now.name)) volume.old volume.new }
+        (WhereUnheld (StopsPutting dir put.now.name (HoldFor put.now.mode bytes
+        (hosts (R.remaining host.old) (R.remaining again.old))
+        (hosts (R.remaining host.new) (R.remaining again.new))))) volume.old volume.new }
 {
     let task = first_task();
     let lun = first_lun();

@@ -2,29 +2,30 @@
 
 pub(crate) mod found;
 
-ghost use Rattle.std.specs.Prelude.{◌≡◌, ◌*◌, ◌+◌, ℕ, false, IfOk, IfErr, OnOk};
-ghost use Rattle.f11_commands.specs.RtFound.{found_blocks, found_device, found_name};
-ghost use Rattle.f11_commands.specs.RtGet.{EndsFinding, EndsGet, FoundInImage, FailsToWriteBlocks, HasLength, TakesRtOut};
-ghost use Rattle.rt11_volume.specs.Calls.{has_failed, volume_device};
-ghost use Rattle.rt11_volume.specs.Store.{rt_store_of};
-ghost use Rattle.rt11_volume.specs.Verifying.Verdict.{IsSoundDisk};
+ghost use Rattle.std.specs.Prelude.{◌≡◌, IfErr, IfOk, OnOk};
+ghost use Rattle.f11_commands.specs.Output.{WriterTakes};
+ghost use Rattle.f11_commands.specs.RtAny.{done_so};
+ghost use Rattle.f11_commands.specs.RtFound.{found_device, found_entry, found_state};
+ghost use Rattle.f11_commands.specs.RtGet.{EndsFinding, EndsGet, FindsEntry, taken_line};
 
 use crate::copy::FileAnswer;
 use crate::copy::telling::tell;
-use crate::copy::verifying::accept_rt;
 use crate::outcome::Failure;
-use crate::rt_file::Stop;
+use crate::rt_any::{RtServed, read_directory, served};
+use crate::rt_area::{AreaStop, ShownBreak, first_past, write_area};
 use crate::rt_get::found::FoundRtFile;
-use f11_bytes::BLOCK_SIZE;
 use f11_dev::Device;
 use f11_flx::FlxRefusal;
-use rt11_volume::{RtAccepted, RtName};
+use rt11_volume::{RtEntry, RtName, RtRefusal, RtState};
 use std::alloc::Global;
-use std::io::Write;
+use std::io::{self, Write};
 
-/// Verifies the RT-11 volume on a device and finds the file of a name in it. Where the volume has faults it writes the lines of `rt-vfy`,
-/// and where there is no such file the line `no NoSuchFile`; then the device comes back, with the command's answer. Nothing is written
-/// to it.
+/// Finds the file of a name on the RT-11 volume of a device, by the first entry with that name whose area a directory may give away. It
+/// serves any volume whose directory has the size that it should have, faulty or not: the entries of each segment that the links lead to
+/// and whose extra bytes are right. Nothing is written to the device.
+///
+/// Where there is none it writes the line `no NoSuchFile`, and where the directory can't be read the lines of `rt-vfy`; then the device
+/// comes back, with the command's answer. Where the file is found it writes nothing.
 ///
 /// # Errors
 ///
@@ -35,45 +36,33 @@ pub fn find_rt_file<D: Device, W: Write>(
     device: D,
     name: &RtName,
     writer: &mut W,
-) -> Result<FoundRtFile<D>, (D, Result<FileAnswer, Failure>)>
-    ensures found { IfOk result (λ file. FoundInImage name.now (found_blocks file)
+) -> Result<FoundRtFile<D>, (D, Result<RtServed, Failure>)>
+    ensures found { IfOk result (λ file. FindsEntry name.now (found_entry file) (found_state file)
         (D.disk device) (D.disk (found_device file))) }
-    ensures name { IfOk result (λ file. found_name file ≡ name.now) }
     ensures unwritten { IfOk result (λ _. writer.new ≡ writer.old) }
     ensures ended { IfErr result (λ end. EndsFinding name.now end.1
         (D.disk device) (D.disk end.0) W.contents writer.old writer.new) }
 {
-    let mut volume = match accept_rt(alloc, device, writer) {
-        Ok(volume) => volume,
-        Err((device, told)) => return Err((device, told)),
-    };
-    match volume.find(name) {
-        Ok((_, blocks)) => Ok(found_in(volume, name, blocks)),
-        Err(refusal) => {
-            let told = tell(Err(FlxRefusal::Rt(refusal)), writer);
-            Err((volume.device(), told))
-        }
+    let mut device = device;
+    match read_directory(alloc, &mut device, writer) {
+        Ok((state, entries)) => match entries.find(name) {
+            Some(entry) => Ok(FoundRtFile {
+                device,
+                entry,
+                state,
+            }),
+            None => {
+                let told = tell(Err(FlxRefusal::Rt(RtRefusal::NoSuchFile)), writer);
+                Err((device, served(state, told)))
+            }
+        },
+        Err(told) => Err((device, served(RtState::Faulty, told))),
     }
 }
 
-/// The file of a name, which was found in a volume.
-fn found_in<D: Device>(volume: RtAccepted<D>, name: &RtName, blocks: u16) -> FoundRtFile<D>
-    requires fresh { has_failed volume ≡ false }
-    requires file { IsSoundDisk (D.disk (volume_device volume))
-        → HasLength name.now blocks (rt_store_of (D.disk (volume_device volume)).image) }
-    ensures device { found_device result ≡ volume_device volume }
-    ensures name { found_name result ≡ name.now }
-    ensures blocks { found_blocks result ≡ blocks }
-{
-    FoundRtFile {
-        volume,
-        name: *name,
-        blocks,
-    }
-}
-
-/// Writes the blocks of a file that was found to `host`, whole, as an RT-11 file is, and then the line `copied N`, N being how many they
-/// are, to `writer`. The volume's device comes back; nothing is written to it. No memory is taken.
+/// Writes the blocks of a file that was found to `host`, whole, as an RT-11 file is, zeros for those past the device's end; and then the line
+/// `copied N`, N being how many they are, to `writer`, and behind it ` broke off at block V` where V, from 1, is the first that lies past the
+/// end. The device comes back; nothing is written to it. No memory is taken.
 ///
 /// # Errors
 ///
@@ -83,55 +72,44 @@ pub fn write_rt_file<D: Device, H: Write, W: Write>(
     file: FoundRtFile<D>,
     host: &mut H,
     writer: &mut W,
-) -> (D, Result<FileAnswer, Failure>)
-    ensures ends { EndsGet (found_name file) (found_blocks file) result.1
+) -> (D, Result<RtServed, Failure>)
+    ensures ends { EndsGet (found_entry file) (found_state file) result.1
         (D.disk (found_device file)) (D.disk result.0)
         H.contents host.old host.new W.contents writer.old writer.new }
 {
     let FoundRtFile {
-        mut volume,
-        name,
-        blocks,
+        mut device,
+        entry,
+        state,
     } = file;
-    match write_blocks(&mut volume, &name, blocks, host) {
+    match write_area(&mut device, entry.first, entry.blocks, host) {
         Ok(()) => {
-            let told = tell(Ok(u32::from(blocks)), writer);
-            (volume.device(), told)
+            let size = device.blocks();
+            match tell_taken(&entry, size, writer) {
+                Ok(()) => (device, Ok(done(state))),
+                Err(_) => (device, Err(Failure::CannotWrite)),
+            }
         }
-        Err(Stop::Volume(refusal)) => {
-            let told = tell(Err(FlxRefusal::Rt(refusal)), writer);
-            (volume.device(), told)
-        }
-        Err(Stop::Host) => (volume.device(), Err(Failure::CannotWrite)),
+        Err(AreaStop::DeviceFault(_)) => (device, Err(Failure::DeviceFault)),
+        Err(AreaStop::HostFull) => (device, Err(Failure::CannotWrite)),
     }
 }
 
-/// Writes so many blocks of the file of a name.
-fn write_blocks<D: Device, H: Write>(
-    volume: &mut RtAccepted<D>,
-    name: &RtName,
-    blocks: u16,
-    host: &mut H,
-) -> Result<(), Stop>
-    requires fresh { has_failed volume.old ≡ false }
-    requires file { IsSoundDisk (D.disk (volume_device volume.old))
-        → HasLength name.now blocks (rt_store_of (D.disk (volume_device volume.old)).image) }
-    ensures written { OnOk result (TakesRtOut name.now blocks (D.disk (volume_device volume.old))
-        (D.disk (volume_device volume.new)) H.contents host.old host.new) }
-    ensures failed { IfErr result (λ stop. FailsToWriteBlocks name.now blocks stop
-        (D.disk (volume_device volume.old)) (D.disk (volume_device volume.new))
-        H.contents host.old host.new) }
+/// What is answered where all is done.
+fn done(state: RtState) -> RtServed
+    ensures { result ≡ done_so state }
 {
-    let mut block = [0; BLOCK_SIZE];
-    for place in 0..blocks {
-        match volume.read(name, place, &mut block) {
-            Ok(()) => {}
-            Err(refusal) => return Err(Stop::Volume(refusal)),
-        }
-        match host.write_all(&block) {
-            Ok(()) => {}
-            Err(_) => return Err(Stop::Host),
-        }
+    RtServed {
+        answer: FileAnswer::Done,
+        state,
     }
-    Ok(())
+}
+
+/// Writes the line of a file whose blocks were written, from a device of so many.
+fn tell_taken<W: Write>(entry: &RtEntry, size: u32, writer: &mut W) -> io::Result<()>
+    ensures { OnOk result (WriterTakes W.contents writer.old writer.new (taken_line entry.now size)) }
+{
+    let blocks = entry.blocks;
+    let broken = ShownBreak(first_past(entry.first, blocks, size));
+    writeln!(writer, "copied {blocks}{broken}")
 }

@@ -4,19 +4,20 @@ ghost use Rattle.f11_commands.specs.RtVolume.{PrintsMade, PrintsRefused, FailsTo
 
 use crate::init::{refuse_init, write_done};
 use crate::outcome::{Answer, Failure};
+use crate::sync::synced;
 use f11_dev::Device;
 use rt11_volume::{RtInitError, init};
 use std::io::Write;
 
-/// Makes a fresh RT-11 volume with so many segments on a device, and writes `ok`. The device comes back.
+/// Makes a fresh RT-11 volume with so many segments on a device, syncs the device, and writes `ok`. The device comes back.
 ///
 /// Where the number isn't 1 to 31, or no block is left behind the directory, it writes `no BadParameter`, and answers
 /// [`Answer::Fault`]: then nothing was written to the device.
 ///
 /// # Errors
 ///
-/// [`Failure::DeviceFault`] where a transfer failed, and [`Failure::CannotWrite`] where the writer takes no more: then it may
-/// hold a part of the line.
+/// [`Failure::DeviceFault`] where a transfer failed, or the sync when the volume is made, and [`Failure::CannotWrite`] where the
+/// writer takes no more: then it may hold a part of the line.
 pub fn print_rt_init<D: Device, W: Write>(
     device: D,
     segments: u16,
@@ -30,7 +31,10 @@ pub fn print_rt_init<D: Device, W: Write>(
         (D.disk device) (D.disk result.0) W.contents writer.old writer.new) }
 {
     match init(device, segments) {
-        Ok(volume) => (volume.device(), write_done(writer)),
+        Ok(volume) => match synced(volume.device()) {
+            Ok(device) => (device, write_done(writer)),
+            Err(device) => (device, Err(Failure::DeviceFault)),
+        },
         Err(RtInitError::BadParameter(device)) => (device, refuse_init(writer)),
         Err(RtInitError::DeviceFault(device)) => (device, Err(Failure::DeviceFault)),
     }

@@ -14,7 +14,7 @@ use std::io::{self, Write};
 
 /// The name of a file, or `?`.
 #[derive(Clone, Copy)]
-struct ShownName(Option<RtName>);
+pub(crate) struct ShownName(pub(crate) Option<RtName>);
 
 impl fmt::Display for ShownName {
     ghost use Rattle.std.specs.Prelude.{Some};
@@ -32,7 +32,7 @@ impl fmt::Display for ShownName {
 
 /// What stands behind a protected file.
 #[derive(Clone, Copy)]
-struct ShownProtection(bool);
+pub(crate) struct ShownProtection(pub(crate) bool);
 
 impl fmt::Display for ShownProtection {
     ghost use Rattle.std.specs.Prelude.{Some};

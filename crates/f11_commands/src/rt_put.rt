@@ -14,6 +14,7 @@ use crate::outcome::Failure;
 use crate::rt_file::Stop;
 use crate::rt_put::filling::{fill, undo};
 use crate::rt_put::making::make;
+use crate::sync::synced;
 use f11_dev::Device;
 use f11_flx::FlxRefusal;
 use rt11_volume::{RtAccepted, RtName};
@@ -30,8 +31,8 @@ pub enum PutFailure {
 }
 
 /// Verifies the RT-11 volume on a device, makes a file of the blocks that so many bytes take, with the date 0, and writes the bytes that
-/// `host` gives into it, the last block filled up with zeros. It writes the line `copied N`, N being how many blocks the file has; where
-/// none is made `no DuplicateName`, `no NoSpace`, also where no file has so many blocks, or `no DirectoryFull`; and where the volume has
+/// `host` gives into it, the last block filled up with zeros. Then the device is synced. It writes the line `copied N`, N being how many
+/// blocks the file has; where none is made `no DuplicateName`, `no NoSpace`, also where no file has so many blocks, or `no DirectoryFull`; and where the volume has
 /// faults the lines of `rt-vfy`. The device comes back.
 ///
 /// Where `host` gives fewer bytes, or fails, the file is deleted again. Where a transfer fails nothing is undone.
@@ -39,7 +40,7 @@ pub enum PutFailure {
 /// # Errors
 ///
 /// [`PutFailure::Unread`] where `host` couldn't be read to that length; else of [`PutFailure::Command`] [`Failure::DeviceFault`] where a
-/// transfer failed, [`Failure::NoMemory`] where there was no memory, and [`Failure::CannotWrite`] where the writer takes no more: then the
+/// transfer failed, or the sync when the file is whole, [`Failure::NoMemory`] where there was no memory, and [`Failure::CannotWrite`] where the writer takes no more: then the
 /// file may be made.
 pub fn print_rt_put<D: Device, R: Read, W: Write>(
     alloc: Global,
@@ -56,9 +57,16 @@ pub fn print_rt_put<D: Device, R: Read, W: Write>(
         Ok(volume) => volume,
         Err((device, told)) => return (device, as_put(told)),
     };
-    let put = put(&mut volume, name, bytes, host);
-    let told = tell_put(put, writer);
-    (volume.device(), told)
+    match put(&mut volume, name, bytes, host) {
+        Ok(blocks) => match synced(volume.device()) {
+            Ok(device) => (device, tell_put(Ok(blocks), writer)),
+            Err(device) => (device, Err(PutFailure::Command(Failure::DeviceFault))),
+        },
+        Err(stop) => {
+            let told = tell_put(Err(stop), writer);
+            (volume.device(), told)
+        }
+    }
 }
 
 /// An answer of a command.

@@ -1,11 +1,12 @@
 //! The command `run`.
 ghost use Rattle.std.specs.Prelude.{◌≡◌};
-ghost use Rattle.f11_commands.specs.RunCommand.{EndsRun, EndsServing, outcome_of};
+ghost use Rattle.f11_commands.specs.RunCommand.{EndsRun, EndsServing, EndsSyncing};
 ghost use Rattle.f11_serving.specs.fcp.Serving.{device_in, is_spent};
 ghost use Rattle.f11_serving.specs.vfy.Accepted.{device_of};
 
 use crate::outcome::{Answer, Failure};
 use crate::report::{System, write_faulty};
+use crate::sync::synced;
 use f11_dev::Device;
 use f11_script::ScriptError;
 use f11_serving::f11_fcp::{Failed, Volume};
@@ -35,13 +36,13 @@ impl From<Failure> for RunFailure {
 }
 
 /// Verifies the image of a device, and serves the requests of a script on it: a line for each request and each bad line, as
-/// [`run_script`] writes them. Where the image has a fault nothing is served: its report is written, as `vfy` has it, and the
+/// [`run_script`] writes them. At the end, whatever it was, the device is synced. Where the image has a fault nothing is served: its report is written, as `vfy` has it, and the
 /// answer is [`Answer::Fault`]. The device comes back.
 ///
 /// # Errors
 ///
 /// [`Failure::DeviceFault`] where a transfer failed, before the script was served or in a request, behind which each is
-/// answered `VolumeFailed`; also where a device that isn't honest gave what no accepted volume has. [`Failure::NoMemory`] where
+/// answered `VolumeFailed`, or where the sync did; also where a device that isn't honest gave what no accepted volume has. [`Failure::NoMemory`] where
 /// there was no memory for the volume, and [`Failure::CannotWrite`] where the writer takes no more of a report. Any
 /// [`ScriptError`] where the script couldn't be served further and no transfer failed.
 pub fn print_run<D: Device, R: Read + Drop, W: Write>(
@@ -88,19 +89,26 @@ fn serve<D: Device, R: Read + Drop, W: Write>(
     }
 }
 
-/// Gives a volume up whose script was served, and tells how that ended. A device that failed is told before a script that did.
+/// Gives a volume up whose script was served, syncs its device, and tells how that ended. A device that failed is told before a script
+/// that did.
 fn dismount<D: Device>(
     volume: Volume<D>,
     served: Result<u32, ScriptError>,
 ) -> (D, Result<Answer, RunFailure>)
-    ensures device { result.0 ≡ device_in volume }
-    ensures told { result.1 ≡ outcome_of (is_spent volume) served }
+    ensures ends { EndsSyncing (is_spent volume) served result.1
+        (D.disk (device_in volume)) (D.disk result.0) }
 {
     match volume.dismount() {
-        Ok(accepted) => (
-            accepted.device(),
-            served.map(|_| Answer::Done).map_err(RunFailure::Script),
-        ),
-        Err(Failed(device)) => (device, Err(Failure::DeviceFault.into())),
+        Ok(accepted) => match synced(accepted.device()) {
+            Ok(device) => (
+                device,
+                served.map(|_| Answer::Done).map_err(RunFailure::Script),
+            ),
+            Err(device) => (device, Err(Failure::DeviceFault.into())),
+        },
+        Err(Failed(device)) => match synced(device) {
+            Ok(device) => (device, Err(Failure::DeviceFault.into())),
+            Err(device) => (device, Err(Failure::DeviceFault.into())),
+        },
     }
 }

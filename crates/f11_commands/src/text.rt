@@ -19,14 +19,44 @@ use std::io::Write;
 
 /// Writes the text of the records of a file, all of whose blocks are still to come: each record and LF, up to the file's end. It says how
 /// many bytes were written; or that a record goes past the end, or the attributes don't say how records lie, and then the text of the
-/// records before that was written. It makes at most so many transfers: two for each header that the file may still have, one for each
-/// block before the end, and one that fails. No memory is taken.
+/// records before that was written. Behind the last byte the writer is flushed. It makes at most so many transfers: two for each header
+/// that the file may still have, one for each block before the end, and one that fails. No memory is taken.
 ///
 /// # Errors
 ///
 /// [`Failure::DeviceFault`] where a transfer failed: then the writer was given a beginning of the text. [`Failure::CannotWrite`] where
 /// the writer takes no more: then it may hold a part of it.
 pub(crate) fn write_text<D: Device, W: Write>(
+    device: &mut D,
+    index: &IndexFile,
+    file: FileReader,
+    writer: &mut W,
+) -> Result<Result<u64, BadRecord>, Failure>
+    requires within { IndexLiesWithin (index_kept index.now) (length (D.disk device.old).image) }
+    requires reading { IsReading (index_kept index.now) file (D.disk device.old) }
+    ensures writes { IfOk result (λ answer. IfOk answer (λ count.
+        WritesText (index_kept index.now) file count
+        (D.disk device.old) (D.disk device.new) W.contents writer.old writer.new)) }
+    ensures bad { IfOk result (λ answer. OnErr answer (WritesGoodText (index_kept index.now) file
+        (D.disk device.old) (D.disk device.new) W.contents writer.old writer.new)) }
+    ensures failed { IfErr result (λ failure. FailsToWriteText failure (index_kept index.now) file
+        (D.disk device.old) (D.disk device.new) W.contents writer.old writer.new) }
+{
+    match put_records(device, index, file, writer) {
+        Ok(Ok(count)) => match writer.flush() {
+            Ok(()) => Ok(Ok(count)),
+            Err(_) => Err(Failure::CannotWrite),
+        },
+        Ok(Err(bad)) => match writer.flush() {
+            Ok(()) => Ok(Err(bad)),
+            Err(_) => Err(Failure::CannotWrite),
+        },
+        Err(failure) => Err(failure),
+    }
+}
+
+/// Writes the text of the records of a file, up to its end or before a record that goes past it.
+fn put_records<D: Device, W: Write>(
     device: &mut D,
     index: &IndexFile,
     file: FileReader,

@@ -6,6 +6,7 @@ ghost use Rattle.f11_serving.specs.vfy.Accepted.{device_of};
 
 use crate::outcome::{Answer, Failure};
 use crate::report::{System, write_accepted, write_faulty};
+use crate::sync::synced;
 use crate::vfy::print_vfy;
 use f11_dev::Device;
 use f11_serving::f11_vfy::{Accepted, Report, VfyError, reclaim, verify};
@@ -13,14 +14,14 @@ use std::alloc::Global;
 use std::io::{self, Write};
 
 /// Verifies the image of a device, and writes the lines of `vfy`; where they end in `accepted`, it reclaims what lies idle on the volume, as
-/// [`reclaim`] does, writes the line `updated`, and verifies the image again, with the lines of that. The device comes back; to one whose image has
-/// a fault nothing is written.
+/// [`reclaim`] does, syncs the device, writes the line `updated`, and verifies the image again, with the lines of that. The device comes
+/// back; to one whose image has a fault nothing is written.
 ///
 /// It answers [`Answer::Fault`] where there is a fault, which there can't be the second time where the device is honest.
 ///
 /// # Errors
 ///
-/// [`Failure::DeviceFault`] where a transfer failed, [`Failure::NoMemory`] where there was no memory, and
+/// [`Failure::DeviceFault`] where a transfer failed, or the sync, [`Failure::NoMemory`] where there was no memory, and
 /// [`Failure::CannotWrite`] where the writer takes no more: then it may hold a part of the lines.
 pub fn print_vfy_update<D: Device, W: Write>(
     alloc: Global,
@@ -51,7 +52,7 @@ pub fn print_vfy_update<D: Device, W: Write>(
     }
 }
 
-/// Reclaims what lies idle on an accepted volume, and tells of it.
+/// Reclaims what lies idle on an accepted volume, and tells of it once it is kept.
 fn print_reclaimed<D: Device, W: Write>(
     alloc: Global,
     accepted: Accepted<D>,
@@ -61,7 +62,10 @@ fn print_reclaimed<D: Device, W: Write>(
         W.contents writer.old writer.new }
 {
     match reclaim(alloc, accepted) {
-        Ok(accepted) => print_again(alloc, accepted.device(), writer),
+        Ok(accepted) => match synced(accepted.device()) {
+            Ok(device) => print_again(alloc, device, writer),
+            Err(device) => (device, Err(Failure::DeviceFault)),
+        },
         Err(VfyError::DeviceFault(device)) => (device, Err(Failure::DeviceFault)),
         Err(VfyError::NoMemory(device)) => (device, Err(Failure::NoMemory)),
     }

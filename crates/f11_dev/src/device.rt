@@ -1,7 +1,7 @@
 //! The trait of block devices.
 ghost use Rattle.std.specs.Prelude.{◌≡◌, ◌<◌, Some, codes, length};
 ghost use Rattle.f11_dev.specs.Image.{IsImage};
-ghost use Rattle.f11_dev.specs.Disk.{Disk, Reads, Writes};
+ghost use Rattle.f11_dev.specs.Disk.{Disk, Reads, Syncs, Writes};
 
 use crate::Block;
 use std::error::Error;
@@ -41,6 +41,14 @@ pub trait Device {
     fn write(&mut self, lbn: u32, from: &Block) -> Result<(), DeviceFault>
         requires { lbn < length (disk self.old).image }
         ensures writes { Writes result lbn from.now (disk self.old) (disk self.new) };
+
+    /// Waits until what was written is where a machine that stops keeps it. Where that succeeds it is no transfer; a failure is a
+    /// transfer that failed, and changes no block. A device that keeps nothing back has nothing to wait for.
+    fn sync(&mut self) -> Result<(), DeviceFault>
+        ensures syncs { Syncs result (disk self.old) (disk self.new) }
+    {
+        Ok(())
+    }
 
     ghost is_image: { (device : Self) → IsImage (disk device).image };
 }

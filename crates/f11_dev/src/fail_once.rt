@@ -1,12 +1,12 @@
 //! A device of which one transfer fails.
 ghost use Rattle.std.specs.Prelude.{◌≡◌, ◌≢◌, ◌<◌, ◌-◌, length, true, false, IsErr, OnOk, OnErr, Result};
-ghost use Rattle.f11_dev.specs.Disk.{Reads, Writes};
+ghost use Rattle.f11_dev.specs.Disk.{Reads, Syncs, Writes};
 ghost use Rattle.f11_dev.specs.Outcomes.{without_transfers};
 
 use crate::outcomes::Outcomes;
 use crate::{Block, Device, DeviceFault};
 
-/// A device around another of which one transfer fails, and each other one is passed on. It counts the
+/// A device around another of which one transfer fails, or a sync in its place, and each other one is passed on. It counts the
 /// transfers through it.
 #[derive(Drop)]
 pub struct FailOnce<D> {
@@ -104,5 +104,23 @@ impl<D: Device> Device for FailOnce<D> {
         self.fails_at = self.fails_at.saturating_sub(1);
         self.outcomes.add(done.is_ok());
         done
+    }
+
+    fn sync(&mut self) -> Result<(), DeviceFault>
+        ensures syncs { Syncs result (fail_once_disk D.disk self.old) (fail_once_disk D.disk self.new) }
+        ensures fails { fails_at self.old ≡ 1 → IsErr result × FailsOnRead self.old self.new }
+    {
+        if self.fails_at == 1 {
+            self.fails_at = 0;
+            self.outcomes.add(false);
+            return Err(DeviceFault);
+        }
+        match self.inner.sync() {
+            Ok(()) => Ok(()),
+            Err(fault) => {
+                self.outcomes.add(false);
+                Err(fault)
+            }
+        }
     }
 }

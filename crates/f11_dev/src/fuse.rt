@@ -1,13 +1,13 @@
 //! A device that stops.
 ghost use Rattle.std.specs.Prelude.{◌≡◌, ◌<◌, ◌-◌, length, IsErr, OnOk, OnErr};
-ghost use Rattle.f11_dev.specs.Disk.{Reads, Writes};
+ghost use Rattle.f11_dev.specs.Disk.{Reads, Syncs, Writes};
 ghost use Rattle.f11_dev.specs.Outcomes.{without_transfers};
 
 use crate::outcomes::Outcomes;
 use crate::{Block, Device, DeviceFault};
 
-/// A device around another that passes so many transfers on, and then fails each one and changes nothing, as
-/// where the machine stops. It counts the transfers through it.
+/// A device around another that passes so many transfers on, and then fails each one, and each sync, and changes nothing,
+/// as where the machine stops. It counts the transfers through it.
 #[derive(Drop)]
 pub struct Fuse<D> {
     inner: D,
@@ -45,7 +45,7 @@ impl<D: Device> Fuse<D> {
 }
 
 impl<D: Device> Device for Fuse<D> {
-    ghost use Rattle.f11_dev.specs.Fuse.{fuse_disk, MeetsFuse};
+    ghost use Rattle.f11_dev.specs.Fuse.{behind_fuse, fuse_disk, passes_left, MeetsFuse};
 
     ghost disk = { fuse_disk D.disk };
 
@@ -80,6 +80,22 @@ impl<D: Device> Device for Fuse<D> {
         };
         self.left = self.left.saturating_sub(1);
         self.outcomes.add(done.is_ok());
+        done
+    }
+
+    fn sync(&mut self) -> Result<(), DeviceFault>
+        ensures syncs { Syncs result (fuse_disk D.disk self.old) (fuse_disk D.disk self.new) }
+        ensures blown { passes_left self.old ≡ 0 → IsErr result × (behind_fuse self.new ≡ behind_fuse self.old) }
+        ensures left { passes_left self.new ≡ passes_left self.old }
+    {
+        let done = if self.left == 0 {
+            Err(DeviceFault)
+        } else {
+            self.inner.sync()
+        };
+        if done.is_err() {
+            self.outcomes.add(false);
+        }
         done
     }
 }

@@ -1,7 +1,7 @@
 //! A device that lies.
 ghost use Rattle.std.specs.Prelude.{◌≡◌, ◌≢◌, ◌⊎◌, ◌<◌, false, length, IsTrue, OnOk};
 ghost use Rattle.f11_bytes.specs.Block.{zero_block};
-ghost use Rattle.f11_dev.specs.Disk.{Reads, Writes};
+ghost use Rattle.f11_dev.specs.Disk.{Reads, Syncs, Writes};
 
 use crate::{Block, Device, DeviceFault};
 use f11_bytes::zeros;
@@ -67,7 +67,7 @@ impl<D: Device> Liar<D> {
 }
 
 impl<D: Device> Device for Liar<D> {
-    ghost use Rattle.f11_dev.specs.Liar.{liar_disk, ReadsAsLiar, WritesAsLiar};
+    ghost use Rattle.f11_dev.specs.Liar.{behind_liar, liar_disk, ReadsAsLiar, WritesAsLiar};
 
     ghost disk = { liar_disk D.disk };
 
@@ -90,5 +90,12 @@ impl<D: Device> Device for Liar<D> {
         ensures write { WritesAsLiar D.disk result lbn from.now self.old self.new }
     {
         self.inner.write(lbn, from)
+    }
+
+    fn sync(&mut self) -> Result<(), DeviceFault>
+        ensures syncs { Syncs result (liar_disk D.disk self.old) (liar_disk D.disk self.new) }
+        ensures passes { Syncs result (D.disk (behind_liar self.old)) (D.disk (behind_liar self.new)) }
+    {
+        self.inner.sync()
     }
 }

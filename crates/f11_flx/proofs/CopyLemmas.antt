@@ -10,7 +10,7 @@ use Rattle.f11_store.specs.Directory.{with_end}
 use Rattle.f11_store.specs.File.{File, end_of, length_of, stated_end}
 use Rattle.f11_flx.specs.Lines.{in_whole_blocks}
 use Rattle.f11_flx.specs.Records.{layout_of, records_in, records_of}
-use Rattle.f11_flx.specs.Spelled.{image_attributes, text_attributes, variable_records}
+use Rattle.f11_flx.specs.Spelled.{image_attributes, image_attributes_to, text_attributes, variable_records}
 use Rattle.f11_flx.specs.declared.layout.Layout.{Layout}
 use Rattle.f11_flx.specs.declared.layout.Layout.TheVariants.{Variable}
 use Rattle.f11_flx.proofs.RecordLemmas.{records_come_back}
@@ -29,15 +29,18 @@ stated_end-with_end attr allocation end block byte =
     cond-false (eqb (long (with_end attr allocation end) 8) 0) 0
     ((long (with_end attr allocation end) 8 - 1) * 512 + word (with_end attr allocation end) 12) some ∙ omega (arith, block, byte)
 
-stated_end-text : (longest allocation end : ℕ) → stated_end (text_attributes longest allocation end) ≡ end
+pub stated_end-text : (longest allocation end : ℕ) → stated_end (text_attributes longest allocation end) ≡ end
 unfolding with_end
 stated_end-text longest allocation end =
     stated_end-with_end (2 ∷ 2 ∷ (word_bytes longest ++ replicate 28 0)) allocation end (omega arith) (omega arith)
 
-pub image_ends_with_blocks : (blocks : ℕ) → stated_end (image_attributes blocks) ≡ 512 * blocks
+pub stated_end-image : (blocks end : ℕ) → stated_end (image_attributes_to blocks end) ≡ end
 unfolding with_end
-image_ends_with_blocks blocks =
-    stated_end-with_end (1 ∷ 0 ∷ (word_bytes 512 ++ replicate 28 0)) blocks (512 * blocks) (omega arith) (omega arith)
+stated_end-image blocks end =
+    stated_end-with_end (1 ∷ 0 ∷ (word_bytes 512 ++ replicate 28 0)) blocks end (omega arith) (omega arith)
+
+pub image_ends_with_blocks : (blocks : ℕ) → stated_end (image_attributes blocks) ≡ 512 * blocks
+image_ends_with_blocks blocks = stated_end-image blocks (512 * blocks)
 
 pub copy_has_lines : (lines : List (List ℕ)) (file : File) (longest : ℕ)
     → file.attr ≡ text_attributes longest (length_of file) (length (variable_records lines))

@@ -1,15 +1,17 @@
 -- A file that is made is the same file when a name was entered.
-use Rattle.std.proofs.Common.{◌≡◌, inl, inr, ℕ, ◌≤◌, ◌==◌, ◌||◌, not, Bool, true, false, nat_lt, if◌then◌else◌, List, [], ◌∷◌, Option, Some}
-use Rattle.std.proofs.Common.{None, is_none, option_map, refl, sym, ap, ◌∙◌, subst, arith}
+use Rattle.std.proofs.Common.{◌≡◌, inl, inr, ℕ, ◌≤◌, ◌==◌, ◌||◌, not, Bool, true, false, nat_lt, if◌then◌else◌, List, [], ◌∷◌, ◌++◌}
+use Rattle.std.proofs.Common.{Option, Some, None, is_none, option_map, refl, sym, ap, ◌∙◌, subst, arith}
 use Rattle.std.specs.Prelude.{unwrap_or}
 use Rattle.std.proofs.lemmas.Bool.{and_from, eq-eqb, eqb-true, le-ltb, ne_eqb, or_right}
 use Rattle.f11_store.specs.Causes.{Cause, ◌⇐◌, first_refusal, is_bad, is_missing, lacks_change}
 use Rattle.f11_store.specs.Changes.{EntersAt, EntersAtEnd, Grows, grown_file, with_change, with_end_after, with_entry, with_grown_file}
+use Rattle.f11_store.specs.Changes.{with_replacement}
 use Rattle.f11_store.specs.Directory.{entry_count, index_of_empty, needs_block, record_bytes}
 use Rattle.f11_store.specs.File.{File, is_marked, need, no_file, zero_blocks}
 use Rattle.f11_store.specs.Rights.{is_of}
 use Rattle.f11_store.specs.Step.{MayRefuse}
 use Rattle.f11_store.specs.Store.{Store, file_named, file_of}
+use Rattle.f11_store.specs.declared.callers.Uic.{Uic}
 use Rattle.f11_store.specs.declared.files.Change.TheVariants as change
 use Rattle.f11_store.specs.declared.files.FileId.{FileId}
 use Rattle.f11_store.specs.declared.protection.Class.TheVariants as class
@@ -21,9 +23,9 @@ use Rattle.f11_store.proofs.SlotsFirst.{gained-is-ready}
 use Rattle.f11_store.proofs.StoreLemmas.{same_number}
 use Rattle.f11_runs.proofs.AccessLemmas.{there-file}
 use Rattle.f11_flx.specs.Asking.{BreaksOffAsking, Who, plain}
-use Rattle.f11_flx.specs.CopyFromRt.{Making, entry}
-use Rattle.f11_flx.proofs.GainedLemmas.{not-index}
-use Rattle.f11_flx.proofs.NewLemmas.{IsNewIn, none-of}
+use Rattle.f11_flx.specs.CopyFromRt.{Making, entry, naming, stating}
+use Rattle.f11_flx.proofs.GainedLemmas.{index-stays, not-index}
+use Rattle.f11_flx.proofs.NewLemmas.{IsNewIn, none-of, other-index}
 use Rattle.f11_flx.proofs.SmallLemmas.{bad-not}
 
 -- A file is there, and is who's it was.
@@ -132,13 +134,55 @@ protectable id f word who t low volume sequence owner unmarked h =
     (none-of (NoPrivilege ⇐ lacks_change (change.Protect word) who.caller (file_named t id)) [] barred refl))))
 
 -- of entering and protecting a new file nothing is refused but the entry: then all is as it was
-pub entry-refused : (making : Making) (who : Who) (id : FileId) (e : Refusal) (s t u : Store) → IsNewIn who.caller id s.access s t
-    → BreaksOffAsking plain who (entry making id) e t u → u ≡ t
-entry-refused making who id e s t u h (inl d) = d.2.store_stays
-entry-refused making who id e s t u h (inr (v, g, inl d)) =
+naming-refused : (making : Making) (who : Who) (id : FileId) (e : Refusal) (s t u : Store) → IsNewIn who.caller id s.access s t
+    → BreaksOffAsking plain who (naming making id) e t u → u ≡ t
+naming-refused making who id e s t u h (inl d) = d.2.store_stays
+naming-refused making who id e s t u h (inr (v, g, inl d)) =
     let own : StaysOwn h.file t id.number = record { now = h.file; there = h.there; sequence = refl; owner = refl; mark = refl } in
     let here = own-entered (index_of_empty (file_named t making.directory)) h.file t v id.number making.directory
     (record_bytes id making.name) (not-index id.number 6 (omega arith) h.low) g.3.changes own in
     absurd (subst (λ o. MayRefuse o false false e)
     (protectable id h.file making.protection who v h.low h.volume h.sequence h.owner h.unmarked here) d.2.may_refuse)
-entry-refused making who id e s t u h (inr (v, g, inr (w, k, none))) = absurd none
+naming-refused making who id e s t u h (inr (v, g, inr (w, k, none))) = absurd none
+
+-- a new file that gets other attributes is new still
+pub new-stated : (caller : Uic) (id : FileId) (attr : List ℕ) (s t : Store) → IsNewIn caller id s.access s t
+    → IsNewIn caller id s.access s (with_change t id.number (with_replacement (change.Attr attr)))
+new-stated caller id attr s t h =
+    let set : File → File = with_replacement (change.Attr attr) in
+    record {
+      file = set h.file;
+      there = ap (λ b. if b then option_map set (t.file id.number) else t.file id.number) (same_number id.number)
+          ∙ ap (option_map set) h.there;
+      sequence = h.sequence;
+      owner = h.owner;
+      open-to = h.open-to;
+      unmarked = h.unmarked;
+      unused = h.unused;
+      others = λ n apart other. ap (λ b. if b then option_map set (t.file id.number) else t.file n) apart ∙ h.others n apart other;
+      added = h.added;
+      index = index-stays s t (with_change t id.number set) h.added
+          (ap (λ b. if b then option_map set (t.file id.number) else t.file 1) (other-index id.number h.low)) h.index;
+      free = h.free;
+      slots = h.slots;
+      bitmap-blocks = h.bitmap-blocks;
+      index-bitmap-blocks = h.index-bitmap-blocks;
+      limit = h.limit;
+      in-use = h.in-use;
+      last = h.last;
+      low = h.low;
+      volume = h.volume;
+      access = h.access;
+    }
+
+-- where its attributes, its entry or its protection is refused, it is new still
+pub entry-refused : (making : Making) (who : Who) (id : FileId) (e : Refusal) (s t u : Store) → IsNewIn who.caller id s.access s t
+    → BreaksOffAsking plain who (entry making id) e t u → IsNewIn who.caller id s.access s u
+entry-refused making who id e s t u h b = by making.stated b
+  where
+    by : (o : Option (List ℕ)) → BreaksOffAsking plain who (stating o id ++ naming making id) e t u → IsNewIn who.caller id s.access s u
+    by None b = subst (λ x. IsNewIn who.caller id s.access s x) (sym (naming-refused making who id e s t u h b)) h
+    by (Some attr) (inl d) = subst (λ x. IsNewIn who.caller id s.access s x) (sym d.2.store_stays) h
+    by (Some attr) (inr (v, g, b)) =
+        let k = subst (λ x. IsNewIn who.caller id s.access s x) (sym g.3.changes) (new-stated who.caller id attr s t h) in
+        subst (λ x. IsNewIn who.caller id s.access s x) (sym (naming-refused making who id e s v u k b)) k

@@ -11,7 +11,7 @@ use Rattle.rt11_volume.specs.Verifying.Verdict.{IsSoundDisk}
 use Rattle.rt11_volume.specs.declared.refusal.RtRefusal.TheVariants.{Failed}
 use Rattle.rt11_volume.specs.declared.volume.RtAccepted.{RtAccepted}
 use Rattle.f11_flx.specs.Asking.{Who}
-use Rattle.f11_flx.specs.Copying.{FaresFiles, KeepsFailed, KeepsSpent, MayMakeFile, ReadsRt, is_whole, of_rt}
+use Rattle.f11_flx.specs.Copying.{FaresFiles, KeepsFailed, KeepsSpent, MayMake, MayMakeFile, ReadsRt, is_whole, of_rt}
 use Rattle.f11_flx.specs.Copying.{of_volume}
 use Rattle.f11_flx.specs.CopyFromRt.{CopiesFromRt, FailsToCopyFromRt, IsAsBefore, Making, as_file}
 use Rattle.f11_flx.specs.FromRt.{CopiesFrom, FailsToCopyFrom}
@@ -59,7 +59,7 @@ module _ {E : Type 0} {met : Ghosts E} (disk : E → Disk) where
 -- a file that was made from any source, or wasn't
 module _ {D : Type 0} {met : Ghosts D} (who : Who) (lun : ℕ) (making : Making) (v w : Volume D met) where
   abbrev May : Result ℕ FlxRefusal → Type 0
-  May result = MayMakeFile result who lun making.directory making.name making.protection v w
+  May result = MayMake result who lun making.directory making.name making.protection making.stated v w
 
   pub may-make : (blocks : ℕ) → FaresFiles {T = Unit} (Ok tt) v w → KeepsSpent (given blocks) v w → AsksFor of_volume who lun making v w
       → May (given blocks)

@@ -6,7 +6,7 @@ use Rattle.f11_store.specs.Store.{Store}
 use Rattle.f11_store.specs.declared.files.FileId.{FileId}
 use Rattle.f11_store.specs.declared.refusals.Refusal.{Refusal}
 use Rattle.f11_flx.specs.Asking.{BreaksOffAsking, Granted, Who, plain}
-use Rattle.f11_flx.specs.CopyFromRt.{IsAsBefore, Making, creation, deletion, filling, giving_up, new_id, opening}
+use Rattle.f11_flx.specs.CopyFromRt.{IsAsBefore, Making, as_file, creation, deletion, filling, giving_up, new_id, opening}
 use Rattle.f11_flx.specs.MakingLaws.{RefusedCopyLeaves, RefusedMakingLeaves}
 use Rattle.f11_flx.specs.declared.refusal.FlxRefusal.TheVariants.{BadRecord, Files, LineTooLong, Rt}
 use Rattle.f11_flx.proofs.AskingLemmas.{granted-parts}
@@ -62,13 +62,12 @@ refused-making-leaves making who lun e s s' tidy stand (inr (inr (inr h))) =
     let made = new-made making (new_id s) who s parts.0 parts.1 in
     let o = now-open who lun s tidy stand (new_id s) parts.0 rest.0 made rest.1 in
     let c = filled-closed who lun (new_id s) s (length making.blocks) making.blocks rest.0 h.reached o.1 o.0 rest.2 in
-    let here = subst (λ x. IsNewIn who.caller (new_id s) s.access s x)
-    (sym (entry-refused making who (new_id s) e s h.reached h.left c h.breaks)) c in
+    let here = entry-refused making who (new_id s) e s h.reached h.left c h.breaks in
     gone who lun s tidy stand (new_id s) h.left s' here h.undoes
 
 pub refused-copy-leaves : RefusedCopyLeaves
 refused-copy-leaves (Files e) m name who lun dir to protection disk s s' tidy stand h =
-    refused-making-leaves _ who lun e s s' tidy stand h.fails
+    refused-making-leaves (as_file to dir protection h.attr h.pieces) who lun e s s' tidy stand h.fails
 refused-copy-leaves (Rt e) m name who lun dir to protection disk s s' tidy stand h = subst (λ x. IsAsBefore s x) (sym h.1) (as-before s)
 refused-copy-leaves BadRecord m name who lun dir to protection disk s s' tidy stand h = absurd h
 refused-copy-leaves LineTooLong m name who lun dir to protection disk s s' tidy stand h =

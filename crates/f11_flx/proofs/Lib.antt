@@ -6,6 +6,7 @@ pub mod PassLemmas
 pub mod PassedLemmas
 pub mod PlanLemmas
 pub mod PourLemmas
+pub mod StatingLemmas
 pub mod TargetLemmas
 pub mod ConvertLemmas
 pub mod ConvertedLemmas

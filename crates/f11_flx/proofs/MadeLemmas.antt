@@ -1,6 +1,6 @@
 -- What a making that is granted makes.
 use Rattle.std.proofs.Common.{◌≡◌, ℕ, suc, ◌+◌, ◌-◌, ◌==◌, ◌||◌, Bool, true, false, nat_lt, if◌then◌else◌, List, [], ◌∷◌, ◌++◌, All, length}
-use Rattle.std.proofs.Common.{Some, None, option_map, refl, sym, ap, ◌∙◌, subst, append_assoc, length-append, arith}
+use Rattle.std.proofs.Common.{Option, Some, None, unwrap_or, option_map, refl, sym, ap, ◌∙◌, subst, append_assoc, length-append, arith}
 use Rattle.std.specs.Prelude.{slice_set}
 use Rattle.std.specs.List.{concat}
 use Rattle.std.proofs.Math.Seq.{set-append_seam}
@@ -24,19 +24,25 @@ use Rattle.f11_runs.proofs.AccessLemmas.{true-false}
 use Rattle.rt11_volume.specs.Files.{file_area}
 use Rattle.rt11_volume.specs.Store.{RtStore}
 use Rattle.f11_flx.specs.Asking.{Granted, Grants, Who, asks, plain, writes, writes_of}
-use Rattle.f11_flx.specs.CopyFromRt.{CopiesFromRt, Making, as_file, creation, entry, filling, giving_up, making_of, new_id, opening}
+use Rattle.f11_flx.specs.CopyFromRt.{CopiesFromRt, Making, as_file, creation, entry, filling, final_attr, giving_up, making_of}
+use Rattle.f11_flx.specs.CopyFromRt.{naming, new_id, opening, stating}
 use Rattle.f11_flx.specs.Making.{extension}
 use Rattle.f11_flx.specs.MakingLaws.{CopiedHolds, GrantedIsMade, HasCopyOf, HasMadeFile}
 use Rattle.f11_flx.specs.declared.mode.CopyMode.{CopyMode}
 use Rattle.f11_store.proofs.FileLaws.{made_id}
 use Rattle.f11_flx.proofs.ApartLemmas.{apart-from, copy-is-none}
 use Rattle.f11_flx.proofs.AskingLemmas.{granted-parts}
+use Rattle.f11_flx.proofs.EnteredLemmas.{new-stated}
 use Rattle.f11_flx.proofs.GainedLemmas.{enters-from, index-stays, index-then, not-index, ready-slots}
 use Rattle.f11_flx.proofs.NewLemmas.{IsNewIn, IsOpenIn, closed, given-back, holds, length-zeros, new-made, written}
 use Rattle.f11_flx.proofs.UndoneLemmas.{extension-stays, writes-stay}
 
+-- what is made, with these attributes from the start
+abbrev stated-with : Making → List ℕ → Making
+stated-with making attr = record making { attr = attr; stated = None }
+
 -- A file is there, with these blocks, and else as it was created.
-record IsSuch (making : Making) (caller : Uic) (blocks : List (List ℕ)) (k : ℕ) (t : Store) : Type 0 where
+pub record IsSuch (making : Making) (caller : Uic) (blocks : List (List ℕ)) (k : ℕ) (t : Store) : Type 0 where
   pub file : File
   pub there : t.file k ≡ Some file
   pub blocks_are : file.blocks ≡ blocks
@@ -56,7 +62,7 @@ such-stays making caller blocks k t u same h =
       owner_is = h.owner_is;
     }
 
-such-created : (making : Making) (who : Who) (s t : Store) → Granted plain who (creation making (new_id s)) s t
+pub such-created : (making : Making) (who : Who) (s t : Store) → Granted plain who (creation making (new_id s)) s t
     → IsSuch making who.caller [] (new_id s).number t
 such-created making who s t h =
     let made = h.1.2.changes in
@@ -159,8 +165,8 @@ entered-own who d name id t none =
 
 -- a file that is filled and closed, and then entered and protected
 made-of : (making : Making) (who : Who) (id : FileId) (s t s' : Store) → (id.number == making.directory.number) ≡ false
-    → IsNewIn who.caller id s.access s t → IsSuch making who.caller making.blocks id.number t →
-    Granted plain who (entry making id) t s' → HasMadeFile making who.caller id s s'
+    → IsNewIn who.caller id s.access s t → IsSuch (stated-with making (final_attr making)) who.caller making.blocks id.number t →
+    Granted plain who (naming making id) t s' → HasMadeFile making who.caller id s s'
 made-of making who id s t s' apart h k g =
     let v = g.0 in
     let enters = g.1.3.changes in
@@ -210,41 +216,80 @@ made-of making who id s t s' apart h k g =
     other-way : (a b : ℕ) → (a == b) ≡ false → (b == a) ≡ false
     other-way a b is = ne_eqb b a (λ same. true-false (sym (same_number a) ∙ ap (λ n. a == n) (sym same) ∙ is))
 
--- what was granted up to the entry: a file was filled and closed
-record IsFilled (making : Making) (who : Who) (s s' : Store) : Type 0 where
+-- what was granted up to the entry: a file was filled and closed, and has these attributes
+record IsFilled (making : Making) (attr : List ℕ) (who : Who) (s s' : Store) : Type 0 where
   pub before : Store
   pub new : IsNewIn who.caller (new_id s) s.access s before
-  pub such : IsSuch making who.caller making.blocks (new_id s).number before
-  pub entered : Granted plain who (entry making (new_id s)) before s'
+  pub such : IsSuch (stated-with making attr) who.caller making.blocks (new_id s).number before
+  pub entered : Granted plain who (naming making (new_id s)) before s'
 
-granted-is-filled : (making : Making) (who : Who) (lun : ℕ) (s s' : Store) → Granted plain who (making_of making lun (new_id s)) s s'
-    → IsFilled making who s s'
-granted-is-filled making who lun s s' g =
+-- it gets them where it had others
+filled-stated : (making : Making) (who : Who) (s t s' : Store) → IsNewIn who.caller (new_id s) s.access s t
+    → IsSuch making who.caller making.blocks (new_id s).number t → Granted plain who (entry making (new_id s)) t s'
+    → IsFilled making (final_attr making) who s s'
+filled-stated making who s t s' h k g = by making.stated g
+  where
+    by : (o : Option (List ℕ)) → Granted plain who (stating o (new_id s) ++ naming making (new_id s)) t s'
+        → IsFilled making (unwrap_or o making.attr) who s s'
+    by None g = record {
+      before = t;
+      new = h;
+      such = record {
+        file = k.file;
+        there = k.there;
+        blocks_are = k.blocks_are;
+        attr_is = k.attr_is;
+        ident_is = k.ident_is;
+        owner_is = k.owner_is;
+      };
+      entered = g;
+    }
+    by (Some attr) g =
+        let id : FileId = new_id s in
+        let set : File → File = with_replacement (change.Attr attr) in
+        let same : g.0 ≡ with_change t id.number set = g.1.3.changes in
+        record {
+          before = g.0;
+          new = subst (λ x. IsNewIn who.caller id s.access s x) (sym same) (new-stated who.caller id attr s t h);
+          such = record {
+            file = set k.file;
+            there = ap (λ (x : Store). x.file id.number) same
+                ∙ ap (λ b. if b then option_map set (t.file id.number) else t.file id.number) (same_number id.number)
+                ∙ ap (option_map set) k.there;
+            blocks_are = k.blocks_are;
+            attr_is = refl;
+            ident_is = k.ident_is;
+            owner_is = k.owner_is;
+          };
+          entered = g.2;
+        }
+
+-- a file that was created, filled and given up is new, and has these blocks
+pub such-made : (making : Making) (who : Who) (lun : ℕ) (s created accessed filled : Store)
+    → Granted plain who (creation making (new_id s)) s created → Granted plain who (opening lun (new_id s)) created accessed
+    → Granted plain who (filling lun making.blocks) accessed filled
+    → IsNewIn who.caller (new_id s) s.access s filled × IsSuch making who.caller making.blocks (new_id s).number filled
+such-made making who lun s created accessed filled creates opens fills =
     let id : FileId = new_id s in
-    let one = granted-parts plain who (creation making id) (opening lun id ++ (filling lun making.blocks ++ entry making id)) s s' g in
-    let two = granted-parts plain who (opening lun id) (filling lun making.blocks ++ entry making id) one.0 s' one.2 in
-    let three = granted-parts plain who (filling lun making.blocks) (entry making id) two.0 s' two.2 in
-    let four = granted-parts plain who (extension lun (length making.blocks)) (writes_of lun 0 making.blocks ++ giving_up lun) two.0 three.0
-    three.1 in
-    let five = granted-parts plain who (writes_of lun 0 making.blocks) (giving_up lun) four.0 three.0 four.2 in
-    let made = new-made making id who s one.0 one.1 in
-    let o = opened-at id one.0 two.0 made two.1 in
-    let same : two.0.file id.number ≡ one.0.file id.number = ap (λ (x : Store). x.file id.number) (two.1.2 ∙ two.1.1.3.changes) in
-    let begun = such-stays making who.caller [] id.number one.0 two.0 same (such-created making who s one.0 one.1) in
-    let open2 = extension-stays who lun id s (length making.blocks) two.0 four.0 o.0 four.1 in
-    let zeros = such-extended making who lun id s (length making.blocks) two.0 four.0 o.0 begun four.1 in
+    let four = granted-parts plain who (extension lun (length making.blocks)) (writes_of lun 0 making.blocks ++ giving_up lun) accessed
+    filled
+    fills in
+    let five = granted-parts plain who (writes_of lun 0 making.blocks) (giving_up lun) four.0 filled four.2 in
+    let made = new-made making id who s created creates in
+    let o = opened-at id created accessed made opens in
+    let same : accessed.file id.number ≡ created.file id.number = ap (λ (x : Store). x.file id.number) (opens.2 ∙ opens.1.3.changes) in
+    let begun = such-stays making who.caller [] id.number created accessed same (such-created making who s created creates) in
+    let open2 = extension-stays who lun id s (length making.blocks) accessed four.0 o.0 four.1 in
+    let zeros = such-extended making who lun id s (length making.blocks) accessed four.0 o.0 begun four.1 in
     let open3 = writes-stay who lun id s 0 making.blocks four.0 five.0 open2 five.1 in
     let full = such-filled making who lun id s [] making.blocks (zero_blocks (length making.blocks)) four.0 five.0
     (length-zeros (length making.blocks)) open2 zeros five.1 in
-    let back : three.0 ≡ five.2.0 = five.2.2 in
-    let kept : three.0.file id.number ≡ five.0.file id.number =
-    ap (λ (x : Store). x.file id.number) (back ∙ given-back who.caller id s who lun five.0 five.2.0 open3 five.2.1) in
-    record {
-      before = three.0;
-      new = subst (λ x. IsNewIn who.caller id s.access s x) (sym back) (closed who.caller id s who lun five.0 five.2.0 o.1 open3 five.2.1);
-      such = such-stays making who.caller making.blocks id.number five.0 three.0 kept full;
-      entered = three.2;
-    }
+    let back : filled ≡ five.2.0 = five.2.2 in
+    let kept : filled.file id.number ≡ five.0.file id.number =
+    ap (λ (x : Store). x.file id.number) (back ∙ given-back who.caller id s who lun five.0 five.2.0 open3 five.2.1) in (
+      subst (λ x. IsNewIn who.caller id s.access s x) (sym back) (closed who.caller id s who lun five.0 five.2.0 o.1 open3 five.2.1),
+      such-stays making who.caller making.blocks id.number five.0 filled kept full,
+    )
   where
     opened-at : (id : FileId) (t u : Store) → IsNewIn who.caller id s.access s t → Granted plain who (opening lun id) t u
         → IsOpenIn who.caller id s who lun u × (s.access who.task lun ≡ None)
@@ -253,6 +298,16 @@ granted-is-filled making who lun s s' g =
           (Rattle.f11_flx.proofs.NewLemmas.opened who.caller id s who lun t g.0 h g.1),
       Rattle.f11_flx.proofs.NewLemmas.lun-was-free who.caller id s who lun t g.0 h g.1,
     )
+
+granted-is-filled : (making : Making) (who : Who) (lun : ℕ) (s s' : Store) → Granted plain who (making_of making lun (new_id s)) s s'
+    → IsFilled making (final_attr making) who s s'
+granted-is-filled making who lun s s' g =
+    let id : FileId = new_id s in
+    let one = granted-parts plain who (creation making id) (opening lun id ++ (filling lun making.blocks ++ entry making id)) s s' g in
+    let two = granted-parts plain who (opening lun id) (filling lun making.blocks ++ entry making id) one.0 s' one.2 in
+    let three = granted-parts plain who (filling lun making.blocks) (entry making id) two.0 s' two.2 in
+    let such = such-made making who lun s one.0 two.0 three.0 one.1 two.1 three.1 in
+    filled-stated making who s three.0 s' such.0 such.1 three.2
 
 pub granted-is-made : GrantedIsMade
 granted-is-made making who lun s s' apart g =

@@ -104,7 +104,7 @@ unaccessed test s t id stand none same =
     held-none test t id (λ task lun low small. ap (λ o. is_to test id o) (same task lun) ∙ unheld test s id stand none task lun low small)
 
 -- the slot of a new file isn't the index file's
-other-index : (n : ℕ) → 6 ≤ n → (1 == n) ≡ false
+pub other-index : (n : ℕ) → 6 ≤ n → (1 == n) ≡ false
 other-index n low = ne_eqb 1 n (λ is. omega (arith, is, low))
 
 -- blocks for the slots that come first are free

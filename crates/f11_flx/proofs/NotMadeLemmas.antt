@@ -159,8 +159,7 @@ module _ {V H : Type 0} (S : FilesService V) (who : Who) (lun n : ℕ) (Fills : 
       let g = granted-seen S view is_sound seen who (filling_of lun n all.0) h.fills.between h.filled all.1 o.2 in
       let c = filled-closed who lun h.id (view v) n all.0 (view h.fills.between) (view h.filled) o.1 o.0 g.0 in
       let d = breaks-sound S view is_sound seen who (entry making h.id) h.e h.filled h.left h.breaks g.1 u.clean in
-      let here = subst (λ x. IsNewIn who.caller h.id (view v).access (view v) x)
-      (sym (entry-refused making who h.id h.e (view v) (view h.filled) (view h.left) c d.0)) c in
+      let here = entry-refused making who h.id h.e (view v) (view h.filled) (view h.left) c d.0 in
       (undone-delete S view is_sound seen who lun (view v) tidy stand h.id (Files h.e) f' h.left w d.1 here u).1
 
   -- where the blocks that are written are the making's, it is refused so, or the source gave no more
@@ -269,8 +268,7 @@ module _ {V H : Type 0} (S : FilesService V) (who : Who) (lun n : ℕ) (Fills : 
       let g = granted-seen S view is_sound seen who (filling_of lun n all.0) h.fills.between h.filled all.1 o.2 in
       let c = filled-closed who lun h.id (view v) n all.0 (view h.fills.between) (view h.filled) o.1 o.0 g.0 in
       let d = breaks-sound S view is_sound seen who (entry making h.id) h.e h.filled h.left h.breaks g.1 u.clean in
-      let here = subst (λ x. IsNewIn who.caller h.id (view v).access (view v) x)
-      (sym (entry-refused making who h.id h.e (view v) (view h.filled) (view h.left) c d.0)) c in
+      let here = entry-refused making who h.id h.e (view v) (view h.filled) (view h.left) c d.0 in
       let gone = (undone-delete S view is_sound seen who lun (view v) tidy stand h.id (Files h.e) f' h.left w d.1 here u).0 in
       let fill = (granted-seen S view is_sound seen who (filling lun making.blocks) h.fills.between h.filled
       (filled h.e u.same h.fills.between h.filled h.fills.fills) o.2).0 in

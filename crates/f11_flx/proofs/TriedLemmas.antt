@@ -1,5 +1,7 @@
 -- Lists of what was asked, granted or refused.
-use Rattle.std.proofs.Common.{inl, inr, ℕ, suc, ◌==◌, Bool, true, false, if◌then◌else◌, List, [], ◌∷◌, ◌++◌, All, refl, sym, subst}
+use Rattle.std.proofs.Common.{inl, inr, ℕ, suc, ◌==◌, Bool, true, false, if◌then◌else◌, List, [], ◌∷◌, ◌++◌, All, Option, Some, None, refl}
+use Rattle.std.proofs.Common.{sym}
+use Rattle.std.proofs.Common.{subst}
 use Rattle.std.proofs.lemmas.List.Elements.{All-append, All-cons, All-nil}
 use Rattle.f11_dev.specs.Disk.{Disk}
 use Rattle.f11_dev.specs.declared.device.Device.{Ghosts}
@@ -12,9 +14,9 @@ use Rattle.f11_store.specs.declared.requests.Request.{Request}
 use Rattle.f11_store.specs.declared.requests.Request.TheVariants as request
 use Rattle.rt11_volume.specs.declared.volume.RtAccepted.{RtAccepted}
 use Rattle.f11_flx.specs.Asking.{Asking, BreaksOffAsking, Denies, Fails, Granted, Grants, FilesService, Tried, Who, asks, told}
-use Rattle.f11_flx.specs.Asking.{writes_of}
-use Rattle.f11_flx.specs.CopyFromRt.{Making, as_file, creation, entry, giving_up, opening}
-use Rattle.f11_flx.specs.Copying.{AsksForOne, IsMakingOf, MakesBy, creation as created-alone, making as made-one, nothing as unasked}
+use Rattle.f11_flx.specs.Asking.{writes, writes_of}
+use Rattle.f11_flx.specs.CopyFromRt.{Making, as_file, creation, entry, giving_up, naming, opening, stating}
+use Rattle.f11_flx.specs.Copying.{AsksForFile, IsMakingOf, creation as created-alone, making as made-one, nothing as unasked}
 use Rattle.f11_flx.specs.FromRt.{CopiesFrom, FailsToCopyFrom}
 use Rattle.f11_flx.specs.Making.{AsksToFill, FailsToFillFromRt, FailsToFillOpened, FailsToMake, FillsFromRt, FillsOpened, IsBrokenOff}
 use Rattle.f11_flx.specs.Making.{MakesFile, Undoing, UndoingIf, extension, filling_of, is_created}
@@ -86,44 +88,46 @@ module _ {V : Type 0} (S : FilesService V) (P : Asking → Type 0) (who : Who) w
 
 -- a file was to be made, from any source: what was asked was for it alone
 abbrev pub AsksFor : {V : Type 0} → FilesService V → Who → ℕ → Making → V → V → Type 0
-AsksFor S who lun making v w = AsksForOne S who lun making.directory making.name making.protection v w
+AsksFor S who lun making v w = AsksForFile S who lun making.directory making.name making.protection making.stated v w
 
 -- what was asked then, one thing after another
-pub asked-for-one : {V : Type 0} (S : FilesService V) (who : Who) (lun : ℕ) (dir : FileId) (to : List ℕ) (protection : ℕ) (v w : V)
-    → AsksForOne S who lun dir to protection v w → (asked : List Asking) × Tried S who asked v w
-asked-for-one S who lun dir to protection v w (unasked same) = ([], same)
-asked-for-one S who lun dir to protection v w (created-alone r is tried) = (asks r ∷ [], tried)
-asked-for-one S who lun dir to protection v w (made-one m) =
+pub asked-for-one : {V : Type 0} (S : FilesService V) (who : Who) (lun : ℕ) (dir : FileId) (to : List ℕ) (protection : ℕ)
+    (stated : Option (List ℕ)) (v w : V) → AsksForFile S who lun dir to protection stated v w
+    → (asked : List Asking) × Tried S who asked v w
+asked-for-one S who lun dir to protection stated v w (unasked same) = ([], same)
+asked-for-one S who lun dir to protection stated v w (created-alone r is tried) = (asks r ∷ [], tried)
+asked-for-one S who lun dir to protection stated v w (made-one m) =
     (told m.request (reply.Created m.id) ∷ m.asked, (m.created, inl m.granted, m.tried))
 
-module _ {V : Type 0} (S : FilesService V) (who : Who) (lun : ℕ) (making : Making) (id : FileId) where
-  abbrev P : Asking → Type 0
-  P = IsMakingOf lun making.directory making.name making.protection id
+-- The requests that fill a file, and give it up, are such.
+pub record TakesFilling (P : Asking → Type 0) (lun : ℕ) (id : FileId) : Type 0 where
+  pub accesses : P (asks (request.Access id access.Write lun))
+  pub extends : (n : ℕ) → P (asks (request.Extend lun n))
+  pub writes-one : (vbn : ℕ) (block : List ℕ) → P (writes lun vbn block)
+  pub gives-up : P (asks (request.Deaccess lun))
 
+module _ {V : Type 0} (S : FilesService V) (P : Asking → Type 0) (who : Who) (lun : ℕ) (id : FileId) (own : TakesFilling P lun id) where
   only-writes : (place : ℕ) (pieces : List (List ℕ)) → Only S P who (writes_of lun place pieces)
   only-writes place [] = tt
-  only-writes place (b ∷ more) = (refl, only-writes (suc place) more)
+  only-writes place (b ∷ more) = (own.writes-one (suc place) b, only-writes (suc place) more)
 
   only-extension : (n : ℕ) → Only S P who (extension lun n)
   only-extension n = by (n == 0)
     where
       by : (b : Bool) → Only S P who (if b then [] else asks (request.Extend lun n) ∷ [])
       by true = tt
-      by false = (refl, tt)
+      by false = (own.extends n, tt)
 
   only-front : (n : ℕ) (pieces : List (List ℕ)) → Only S P who (extension lun n ++ writes_of lun 0 pieces)
   only-front n pieces = only-both S P who (extension lun n) (writes_of lun 0 pieces) (only-extension n) (only-writes 0 pieces)
 
-  only-filling : (n : ℕ) (pieces : List (List ℕ)) → Only S P who (filling_of lun n pieces)
+  pub only-filling : (n : ℕ) (pieces : List (List ℕ)) → Only S P who (filling_of lun n pieces)
   only-filling n pieces =
       only-both S P who (extension lun n) (writes_of lun 0 pieces ++ giving_up lun) (only-extension n)
-      (only-both S P who (writes_of lun 0 pieces) (giving_up lun) (only-writes 0 pieces) (refl, tt))
+      (only-both S P who (writes_of lun 0 pieces) (giving_up lun) (only-writes 0 pieces) (own.gives-up, tt))
 
-  only-entry : Only S P who (entry making id)
-  only-entry = ((refl, refl, refl), ((refl, refl), tt))
-
-  open-tries : (v w : V) → Granted S who (opening lun id) v w → Tries S P who v w
-  open-tries v w h = tries-granted S P who (opening lun id) v w ((refl, refl, refl), tt) h
+  pub open-tries : (v w : V) → Granted S who (opening lun id) v w → Tries S P who v w
+  open-tries v w h = tries-granted S P who (opening lun id) v w (own.accesses, tt) h
 
   broken-tries : (n : ℕ) (f : FlxRefusal) (v w : V) → IsBrokenOff S who lun n f v w → Tries S P who v w
   broken-tries n (Files e) v w h = tries-breaks S P who (filling_of lun n h.0) e v w (only-filling n h.0) h.1
@@ -131,10 +135,47 @@ module _ {V : Type 0} (S : FilesService V) (who : Who) (lun : ℕ) (making : Mak
   broken-tries n BadRecord v w h = tries-granted S P who (extension lun n ++ writes_of lun 0 h.0) v w (only-front n h.0) h.1
   broken-tries n LineTooLong v w h = tries-granted S P who (extension lun n ++ writes_of lun 0 h.0) v w (only-front n h.0) h.1
 
+  -- from any source
+  module _ {H : Type 0} (n : ℕ) (Fills : H → H → V → V → Type 0) (Fails : FlxRefusal → H → H → V → V → Type 0)
+      (asking : AsksToFill S who lun n Fills Fails) where
+    pub filled-tries : (a b : H) (v w : V) → FillsOpened S who lun Fills id a b v w → Tries S P who v w
+    filled-tries a b v w h =
+        let all = asking.fills a b h.between w h.fills in
+        tries-then S P who v h.between w (open-tries v h.between h.opened)
+        (tries-granted S P who (filling_of lun n all.0) h.between w (only-filling n all.0) all.1)
+
+    pub fill-file-tries : (f : FlxRefusal) (a b : H) (v w : V) → FailsToFillOpened S who lun Fails id f a b v w → Tries S P who v w
+    fill-file-tries f a b v w (inl h) = tries-deny S P who (asks (request.Access id access.Write lun)) h.e v w own.accesses h.denied
+    fill-file-tries f a b v w (inr h) =
+        tries-then S P who v h.between w (open-tries v h.between h.opened)
+        (tries-then S P who h.between h.left w (broken-tries n h.f h.between h.left (asking.fails h.f a b h.between h.left h.fails))
+        (tries-undoing S P who (request.Deaccess lun) h.f f h.left w own.gives-up h.undoes))
+
+-- what makes the file fills it, and more
+module _ (lun : ℕ) (making : Making) (id : FileId) where
+  abbrev P : Asking → Type 0
+  P = IsMakingOf lun making.directory making.name making.protection making.stated id
+
+  making-fills : TakesFilling P lun id
+  making-fills = record {
+    accesses = (refl, refl, refl);
+    extends = λ n. refl;
+    writes-one = λ vbn block. refl;
+    gives-up = refl;
+  }
+
+  only-entry : {V : Type 0} (S : FilesService V) (who : Who) → Only S P who (entry making id)
+  only-entry {V} S who = by making.stated
+    where
+      by : (o : Option (List ℕ)) → Only S (IsMakingOf lun making.directory making.name making.protection o id) who
+          (stating o id ++ naming making id)
+      by None = ((refl, refl, refl), ((refl, refl), tt))
+      by (Some attr) = ((refl, inr refl), ((refl, refl, refl), ((refl, inl refl), tt)))
+
 -- it was created first, or not
 module _ {V : Type 0} (S : FilesService V) (who : Who) (lun : ℕ) (making : Making) where
-  created-first : (id : FileId) (u v w : V) → Granted S who (creation making id) u v
-      → Tries S (IsMakingOf lun making.directory making.name making.protection id) who v w → AsksFor S who lun making u w
+  created-first : (id : FileId) (u v w : V) → Granted S who (creation making id) u v → Tries S (P lun making id) who v w
+      → AsksFor S who lun making u w
   created-first id u v w h rest = made-one (record {
     request = request.Create 0 (ident_with making.name) making.attr;
     creates = (refl, refl);
@@ -155,56 +196,30 @@ module _ {V : Type 0} (S : FilesService V) (who : Who) (lun : ℕ) (making : Mak
 -- the making of a file from any source
 module _ {V H : Type 0} (S : FilesService V) (who : Who) (lun n : ℕ) (Fills : H → H → V → V → Type 0)
     (Fails : FlxRefusal → H → H → V → V → Type 0) (asking : AsksToFill S who lun n Fills Fails) (making : Making) where
-  abbrev PartOf : FileId → V → V → Type 0
-  PartOf id v w = Tries S (IsMakingOf lun making.directory making.name making.protection id) who v w
-
-  abbrev both : (id : FileId) (u v w : V) → PartOf id u v → PartOf id v w → PartOf id u w
-  both id = tries-then S (IsMakingOf lun making.directory making.name making.protection id) who
-
-  undoing : (id : FileId) (r : Request) (f f' : FlxRefusal) (v w : V) → MakesBy lun making.directory making.name making.protection id r
-      → Undoing S who r f f' v w → PartOf id v w
-  undoing id r f f' v w is h =
-      tries-undoing S (IsMakingOf lun making.directory making.name making.protection id) who r f f' v w is h
-
-  filled-tries : (id : FileId) (a b : H) (v w : V) → FillsOpened S who lun Fills id a b v w → PartOf id v w
-  filled-tries id a b v w h =
-      let all = asking.fills a b h.between w h.fills in
-      both id v h.between w (open-tries S who lun making id v h.between h.opened)
-      (tries-granted S (IsMakingOf lun making.directory making.name making.protection id) who (filling_of lun n all.0) h.between w
-      (only-filling S who lun making id n all.0) all.1)
-
-  fill-file-tries : (f : FlxRefusal) (id : FileId) (a b : H) (v w : V) → FailsToFillOpened S who lun Fails id f a b v w → PartOf id v w
-  fill-file-tries f id a b v w (inl h) =
-      tries-deny S (IsMakingOf lun making.directory making.name making.protection id) who (asks (request.Access id access.Write lun)) h.e v
-      w
-      (refl, refl, refl) h.denied
-  fill-file-tries f id a b v w (inr h) =
-      both id v h.between w (open-tries S who lun making id v h.between h.opened)
-      (both id h.between h.left w
-      (broken-tries S who lun making id n h.f h.between h.left (asking.fails h.f a b h.between h.left h.fails))
-      (undoing id (request.Deaccess lun) h.f f h.left w refl h.undoes))
+  filled : (id : FileId) (a b : H) (v w : V) → FillsOpened S who lun Fills id a b v w → Tries S (P lun making id) who v w
+  filled id = filled-tries S (P lun making id) who lun id (making-fills lun making id) n Fills Fails asking
 
   pub made-tries : (a b : H) (v w : V) → MakesFile S who lun Fills making a b v w → AsksFor S who lun making v w
   made-tries a b v w h =
       created-first S who lun making h.id v h.created w h.creates
-      (both h.id h.created h.filled w (filled-tries h.id a b h.created h.filled h.fills)
-      (tries-granted S (IsMakingOf lun making.directory making.name making.protection h.id) who (entry making h.id) h.filled w
-      (only-entry S who lun making h.id) h.enters))
+      (tries-then S (P lun making h.id) who h.created h.filled w (filled h.id a b h.created h.filled h.fills)
+      (tries-granted S (P lun making h.id) who (entry making h.id) h.filled w (only-entry lun making h.id S who) h.enters))
 
   pub unmade-tries : (f : FlxRefusal) (a b : H) (v w : V) → FailsToMake S who lun Fills Fails making f a b v w
       → AsksFor S who lun making v w
   unmade-tries f a b v w (inl h) = not-created S who lun making h.e v w h.fails
   unmade-tries f a b v w (inr (inl h)) =
       created-first S who lun making h.id v h.created w h.creates
-      (both h.id h.created h.left w (fill-file-tries h.f h.id a b h.created h.left h.fails)
-      (undoing h.id (request.Delete h.id) h.f f h.left w refl h.undoes))
+      (tries-then S (P lun making h.id) who h.created h.left w
+      (fill-file-tries S (P lun making h.id) who lun h.id (making-fills lun making h.id) n Fills Fails asking h.f a b h.created h.left
+      h.fails)
+      (tries-undoing S (P lun making h.id) who (request.Delete h.id) h.f f h.left w refl h.undoes))
   unmade-tries f a b v w (inr (inr h)) =
       created-first S who lun making h.id v h.created w h.creates
-      (both h.id h.created h.filled w (filled-tries h.id a b h.created h.filled h.fills)
-      (both h.id h.filled h.left w
-      (tries-breaks S (IsMakingOf lun making.directory making.name making.protection h.id) who (entry making h.id) h.e h.filled h.left
-      (only-entry S who lun making h.id) h.breaks)
-      (undoing h.id (request.Delete h.id) (Files h.e) f h.left w refl h.undoes)))
+      (tries-then S (P lun making h.id) who h.created h.filled w (filled h.id a b h.created h.filled h.fills)
+      (tries-then S (P lun making h.id) who h.filled h.left w
+      (tries-breaks S (P lun making h.id) who (entry making h.id) h.e h.filled h.left (only-entry lun making h.id S who) h.breaks)
+      (tries-undoing S (P lun making h.id) who (request.Delete h.id) (Files h.e) f h.left w refl h.undoes)))
 
 -- nothing was asked
 pub none-for-one : {V : Type 0} (S : FilesService V) (who : Who) (lun : ℕ) (making : Making) (v : V) → AsksFor S who lun making v v

@@ -1,5 +1,6 @@
 -- A copy from an RT-11 volume, over the plain stores of both (RSX-11M Utilities manual, FLX; the steps: profile).
-use Rattle.std.specs.Prelude.{◌≡◌, ◌⊎◌, ℕ, ◌+◌, ◌<◌, ◌≤◌, ◌==◌, true, false, All, if◌then◌else◌, List, [], ◌∷◌, ◌++◌, length, Some, None}
+use Rattle.std.specs.Prelude.{◌≡◌, ◌⊎◌, ℕ, ◌+◌, ◌<◌, ◌≤◌, ◌==◌, true, false, All, if◌then◌else◌, List, [], ◌∷◌, ◌++◌, length}
+use Rattle.std.specs.Prelude.{Option, Some, None, unwrap_or}
 use Rattle.std.specs.List.{concat}
 use Rattle.f11_store.specs.Changes.{with_slots_first}
 use Rattle.f11_store.specs.File.{File, without_contiguous}
@@ -27,13 +28,19 @@ use Rattle.f11_flx.specs.declared.refusal.FlxRefusal.TheVariants as refusal
 abbrev pub new_id : Store → FileId
 new_id s = next_id (with_slots_first s 1)
 
--- What is made: the file's name and the directory that it is entered into, its protection at the end, its user attributes, and its blocks.
+-- What is made: the file's name and the directory that it is entered into, its protection at the end, the user attributes that it is
+-- created with, those that it gets once it is filled, if it gets others then, and its blocks.
 pub record Making : Type 0 where
   pub name : List ℕ
   pub directory : FileId
   pub protection : ℕ
   pub attr : List ℕ
+  pub stated : Option (List ℕ)
   pub blocks : List (List ℕ)
+
+-- its user attributes at the end
+abbrev pub final_attr : Making → List ℕ
+final_attr making = unwrap_or making.stated making.attr
 
 -- the requests of the Files-11 volume: the file is created, with its name in the ident area, and nothing barred;
 abbrev pub creation : Making → FileId → List Asking
@@ -49,10 +56,18 @@ filling lun blocks =
     (if length blocks == 0 then [] else asks (request.Extend lun (length blocks)) ∷ []) ++
     (writes_of lun 0 blocks ++ asks (request.Deaccess lun) ∷ [])
 
+-- it gets its attributes, if others than it was created with;
+abbrev pub stating : Option (List ℕ) → FileId → List Asking
+stating None id = []
+stating (Some attr) id = asks (request.WriteAttr id (change.Attr attr)) ∷ []
+
 -- its name is entered, and it gets its protection
-abbrev pub entry : Making → FileId → List Asking
-entry making id =
+abbrev pub naming : Making → FileId → List Asking
+naming making id =
     asks (request.Enter making.directory making.name id) ∷ asks (request.WriteAttr id (change.Protect making.protection)) ∷ []
+
+abbrev pub entry : Making → FileId → List Asking
+entry making id = stating making.stated id ++ naming making id
 
 -- all of them
 abbrev pub making_of : Making → ℕ → FileId → List Asking
@@ -92,7 +107,13 @@ pub record HasMaking (m : CopyMode) (name : List ℕ) (t : RtStore) (making : Ma
 
 -- what is to be made of it, with this name in a directory, and this protection
 abbrev pub as_file : List ℕ → FileId → ℕ → List ℕ → List (List ℕ) → Making
-as_file to dir protection attr blocks = record { name = to; directory = dir; protection = protection; attr = attr; blocks = blocks }
+as_file to dir protection attr blocks =
+    record { name = to; directory = dir; protection = protection; attr = attr; stated = None; blocks = blocks }
+
+-- what is to be made with these attributes once it is filled, and with those first
+abbrev pub as_stated : List ℕ → FileId → ℕ → List ℕ → List ℕ → List (List ℕ) → Making
+as_stated to dir protection first attr blocks =
+    record { name = to; directory = dir; protection = protection; attr = first; stated = Some attr; blocks = blocks }
 
 -- The file was copied: one was made of its conversion, of so many blocks.
 pub record CopiesFromRt (m : CopyMode) (name : List ℕ) (who : Who) (lun : ℕ) (dir : FileId) (to : List ℕ) (protection blocks : ℕ)

@@ -1,8 +1,10 @@
 -- What a copy between two volumes tells, on any devices (profile).
 use Rattle.std.specs.Prelude.{◌≡◌, ℕ, ◌+◌, ◌||◌, ⊤, Bool, true, false, not, IsTrue, if◌then◌else◌, List, [], ◌∷◌, All, Result, Ok, Err}
+use Rattle.std.specs.Prelude.{◌⊎◌, Option, Some, None}
 use Rattle.f11_dev.specs.Disk.{Disk}
 use Rattle.f11_dev.specs.declared.device.Device.{Ghosts}
 use Rattle.f11_store.specs.Ident.{ident_with}
+use Rattle.f11_store.specs.declared.files.Change.{Change}
 use Rattle.f11_store.specs.declared.files.Change.TheVariants as change
 use Rattle.f11_store.specs.declared.files.FileId.{FileId}
 use Rattle.f11_store.specs.declared.files.Mode.TheVariants as access
@@ -109,23 +111,28 @@ is_reading (reads lun vbn block) = true
 is_reading (writes lun vbn block) = false
 is_reading (counts lun blocks) = true
 
--- what making a file asks once it is created: it is accessed by this lun, gets its blocks, and is given up, entered into this directory
--- under the name, protected so, or deleted again;
-abbrev pub MakesBy : ℕ → FileId → List ℕ → ℕ → FileId → Request → Type 0
-MakesBy lun dir to protection id (request.Access f mode l) = (f ≡ id) × (mode ≡ access.Write) × (l ≡ lun)
-MakesBy lun dir to protection id (request.Extend l n) = l ≡ lun
-MakesBy lun dir to protection id (request.Deaccess l) = l ≡ lun
-MakesBy lun dir to protection id (request.Enter d name f) = (d ≡ dir) × (name ≡ to) × (f ≡ id)
-MakesBy lun dir to protection id (request.WriteAttr f c) = (f ≡ id) × (c ≡ change.Protect protection)
-MakesBy lun dir to protection id (request.Delete f) = f ≡ id
-MakesBy lun dir to protection id _ = ⊥
+-- how the attributes of a file that is made are set: it is protected so, and gets these user attributes where it is created with others
+abbrev pub SetsPart : ℕ → Option (List ℕ) → Change → Type 0
+SetsPart protection None c = c ≡ change.Protect protection
+SetsPart protection (Some attr) c = (c ≡ change.Protect protection) ⊎ (c ≡ change.Attr attr)
 
-abbrev pub IsMakingOf : ℕ → FileId → List ℕ → ℕ → FileId → Asking → Type 0
-IsMakingOf lun dir to protection id (asks r) = MakesBy lun dir to protection id r
-IsMakingOf lun dir to protection id (told r a) = ⊥
-IsMakingOf lun dir to protection id (reads l vbn block) = ⊥
-IsMakingOf lun dir to protection id (writes l vbn block) = l ≡ lun
-IsMakingOf lun dir to protection id (counts l blocks) = ⊥
+-- what making a file asks once it is created: it is accessed by this lun, gets its blocks, and is given up, gets its attributes, is entered
+-- into this directory under the name, protected so, or deleted again;
+abbrev pub MakesBy : ℕ → FileId → List ℕ → ℕ → Option (List ℕ) → FileId → Request → Type 0
+MakesBy lun dir to protection stated id (request.Access f mode l) = (f ≡ id) × (mode ≡ access.Write) × (l ≡ lun)
+MakesBy lun dir to protection stated id (request.Extend l n) = l ≡ lun
+MakesBy lun dir to protection stated id (request.Deaccess l) = l ≡ lun
+MakesBy lun dir to protection stated id (request.Enter d name f) = (d ≡ dir) × (name ≡ to) × (f ≡ id)
+MakesBy lun dir to protection stated id (request.WriteAttr f c) = (f ≡ id) × SetsPart protection stated c
+MakesBy lun dir to protection stated id (request.Delete f) = f ≡ id
+MakesBy lun dir to protection stated id _ = ⊥
+
+abbrev pub IsMakingOf : ℕ → FileId → List ℕ → ℕ → Option (List ℕ) → FileId → Asking → Type 0
+IsMakingOf lun dir to protection stated id (asks r) = MakesBy lun dir to protection stated id r
+IsMakingOf lun dir to protection stated id (told r a) = ⊥
+IsMakingOf lun dir to protection stated id (reads l vbn block) = ⊥
+IsMakingOf lun dir to protection stated id (writes l vbn block) = l ≡ lun
+IsMakingOf lun dir to protection stated id (counts l blocks) = ⊥
 
 -- the request that creates it, with this name and barring nobody
 abbrev pub Creates : List ℕ → Request → Type 0
@@ -133,24 +140,28 @@ Creates to (request.Create word ident attr) = (word ≡ 0) × (ident ≡ ident_w
 Creates to _ = ⊥
 
 -- A file was created, and nothing was asked then but what makes that one, whatever was answered.
-pub record AsksOfCreated {V : Type 0} (S : FilesService V) (who : Who) (lun : ℕ) (dir : FileId) (to : List ℕ) (protection : ℕ) (old new : V)
-    : Type 0 where
+pub record AsksOfCreated {V : Type 0} (S : FilesService V) (who : Who) (lun : ℕ) (dir : FileId) (to : List ℕ) (protection : ℕ)
+    (stated : Option (List ℕ)) (old new : V) : Type 0 where
   pub request : Request
   pub creates : Creates to request
   pub id : FileId
   pub created : V
   pub granted : Grants S who (told request (reply.Created id)) old created
   pub asked : List Asking
-  pub only : All (IsMakingOf lun dir to protection id) asked
+  pub only : All (IsMakingOf lun dir to protection stated id) asked
   pub tried : Tried S who asked created new
 
 -- What makes one file was asked and nothing else: nothing at all; that it is created, alone; or what makes it, once it was created. What is
 -- asked by the lun is for it where the lun held no other file.
-pub data AsksForOne {V : Type 0} (S : FilesService V) (who : Who) (lun : ℕ) (dir : FileId) (to : List ℕ) (protection : ℕ) (old new : V)
-    : Type 0 where
-  nothing : new ≡ old → AsksForOne S who lun dir to protection old new
-  creation : (r : Request) → Creates to r → Tried S who (asks r ∷ []) old new → AsksForOne S who lun dir to protection old new
-  making : AsksOfCreated S who lun dir to protection old new → AsksForOne S who lun dir to protection old new
+pub data AsksForFile {V : Type 0} (S : FilesService V) (who : Who) (lun : ℕ) (dir : FileId) (to : List ℕ) (protection : ℕ)
+    (stated : Option (List ℕ)) (old new : V) : Type 0 where
+  nothing : new ≡ old → AsksForFile S who lun dir to protection stated old new
+  creation : (r : Request) → Creates to r → Tried S who (asks r ∷ []) old new → AsksForFile S who lun dir to protection stated old new
+  making : AsksOfCreated S who lun dir to protection stated old new → AsksForFile S who lun dir to protection stated old new
+
+-- so of one that is created with its attributes
+abbrev pub AsksForOne : {V : Type 0} → FilesService V → Who → ℕ → FileId → List ℕ → ℕ → V → V → Type 0
+AsksForOne S who lun dir to protection old new = AsksForFile S who lun dir to protection None old new
 
 -- The volume was read, whatever the answer is; it is as before unless a device fault or Damaged was met. Where it had failed, the answer is
 -- VolumeFailed.
@@ -164,14 +175,25 @@ pub record ReadsFiles {D T : Type 0} {met : Ghosts D} (result : Result T FlxRefu
 -- A file was made, or not, and then the volume is as before, but for slots that its index file got first, unless a device fault or Damaged
 -- was met: whatever the answer is, it is all for that file. On one that had failed nothing is done, and nothing is asked of it where the
 -- RT-11 volume had.
-pub record MayMakeFile {D T : Type 0} {met : Ghosts D} (result : Result T FlxRefusal) (who : Who) (lun : ℕ) (dir : FileId)
-    (to : List ℕ) (protection : ℕ) (old new : Volume D met) : Type 0 where
+pub record MayMake {D T : Type 0} {met : Ghosts D} (result : Result T FlxRefusal) (who : Who) (lun : ℕ) (dir : FileId)
+    (to : List ℕ) (protection : ℕ) (stated : Option (List ℕ)) (old new : Volume D met) : Type 0 where
   pub fares : FaresFiles result old new
   pub keeps : KeepsSpent result old new
   pub unasked : result ≡ Err (Rt Failed) → new ≡ old
-  pub asked : AsksForOne of_volume who lun dir to protection old new
+  pub asked : AsksForFile of_volume who lun dir to protection stated old new
   pub undone : (e : FlxRefusal) → result ≡ Err e → is_sound old ≡ true → is_whole result ≡ true →
       IsAsBefore (store_of_volume old) (store_of_volume new)
+
+-- so one that is created with its attributes
+abbrev pub MayMakeFile : {D T : Type 0} {met : Ghosts D} → Result T FlxRefusal → Who → ℕ → FileId → List ℕ → ℕ → Volume D met →
+    Volume D met → Type 0
+MayMakeFile result who lun dir to protection old new = MayMake result who lun dir to protection None old new
+
+-- so one that gets its attributes once it is filled
+abbrev pub MayMakeStated : {D T : Type 0} {met : Ghosts D} → Result T FlxRefusal → Who → ℕ → FileId → List ℕ → ℕ → Volume D met →
+    Volume D met → Type 0
+MayMakeStated result who lun dir to protection old new =
+    (attr : List ℕ) × MayMake result who lun dir to protection (Some attr) old new
 
 -- how a copy to an RT-11 volume that had failed is refused: as the source is refused, which is read first, and else as Failed
 abbrev pub MayRefuseFailed : {T : Type 0} → Result T FlxRefusal → Type 0

@@ -29,6 +29,7 @@ pub mod Target
 pub mod ThereAndBack
 pub mod ToText
 pub mod Stage
+pub mod Stating
 pub mod ToRecords
 pub mod ToRt
 pub mod Walk

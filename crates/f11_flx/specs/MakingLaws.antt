@@ -16,7 +16,7 @@ use Rattle.rt11_volume.specs.Store.{RtStore}
 use Rattle.f11_flx.specs.Asking.{Granted, Who, plain}
 use Rattle.f11_flx.specs.Conversion.{Copy, HoldsCopy, copied_from_rt}
 use Rattle.f11_flx.specs.CopyFromRt.{CopiesFromRt, FailsToCopyFromRt, FailsToMakeFile, IndexAfter, IsAsBefore}
-use Rattle.f11_flx.specs.CopyFromRt.{Making, as_file, making_of, new_id}
+use Rattle.f11_flx.specs.CopyFromRt.{Making, as_file, final_attr, making_of, new_id}
 use Rattle.f11_flx.specs.declared.mode.CopyMode.{CopyMode}
 use Rattle.f11_flx.specs.declared.refusal.FlxRefusal.{FlxRefusal}
 
@@ -49,7 +49,7 @@ pub record HasMadeFile (making : Making) (caller : Uic) (id : FileId) (s s' : St
   pub sequence_is : file.sequence ≡ id.sequence
   pub was_free : s.in_use id.number ≡ false
   pub blocks_are : file.blocks ≡ making.blocks
-  pub attr_is : file.attr ≡ making.attr
+  pub attr_is : file.attr ≡ final_attr making
   pub ident_is : file.ident ≡ ident_with making.name
   pub owner_is : file.owner ≡ caller
   pub protection_is : file.protection ≡ making.protection

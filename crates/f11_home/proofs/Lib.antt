@@ -1,2 +1,3 @@
 pub mod HomeLemmas
 pub mod SealLemmas
+pub use Rattle.f11_bits.proofs as bits

@@ -163,7 +163,7 @@ asks-to-fill {V} S who lun bytes = record { fills = λ a b v w h. (h.pieces, h.g
     broken BadRecord a b v w h = (h.pieces, h.granted)
     broken LineTooLong a b v w h = absurd h
 
--- the attributes of the file, by how many blocks were counted
-pub attributes-are : (attr : List ℕ) (n bytes : ℕ) → attr ≡ image_attributes_to n bytes → n ≡ blocks_for bytes
-    → attr ≡ image_attributes_to (blocks_for bytes) bytes
-attributes-are attr n bytes is count = is ∙ ap (λ k. image_attributes_to k bytes) count
+-- attributes of the file, by how many blocks were counted
+pub attributes-are : (attr : List ℕ) (n bytes end : ℕ) → attr ≡ image_attributes_to n end → n ≡ blocks_for bytes
+    → attr ≡ image_attributes_to (blocks_for bytes) end
+attributes-are attr n bytes end is count = is ∙ ap (λ k. image_attributes_to k end) count

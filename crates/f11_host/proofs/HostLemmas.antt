@@ -1,5 +1,6 @@
 -- A file of the host that becomes a file of a Files-11 volume.
-use Rattle.std.proofs.Common.{◌≡◌, ◌⊎◌, inl, inr, ℕ, ◌<◌, ◌≤◌, Bool, true, false, List, [], length, Option, Result, Err, if◌then◌else◌}
+use Rattle.std.proofs.Common.{◌≡◌, ◌⊎◌, inl, inr, ℕ, ◌<◌, ◌≤◌, Bool, true, false, List, [], length, Option, Some, Result, Err}
+use Rattle.std.proofs.Common.{if◌then◌else◌}
 use Rattle.std.proofs.Common.{refl, sym, ap, ◌∙◌, subst, arith}
 use Rattle.std.specs.Io.KnownBytes.{Consumes}
 use Rattle.std.proofs.KnownBytes.{Consumes-nil}
@@ -16,8 +17,8 @@ use Rattle.f11_flx.specs.fcp.declared.volume.Volume.{Volume}
 use Rattle.rt11_volume.specs.declared.refusal.RtRefusal.{RtRefusal}
 use Rattle.rt11_volume.specs.declared.refusal.RtRefusal.TheVariants.{Failed}
 use Rattle.f11_flx.specs.Asking.{BreaksOffAsking, FilesService, Granted, Who}
-use Rattle.f11_flx.specs.Copying.{MayMakeFile, is_whole, of_volume}
-use Rattle.f11_flx.specs.CopyFromRt.{FailsToMakeFile, Making, as_file, filling, new_id}
+use Rattle.f11_flx.specs.Copying.{MayMake, is_whole, of_volume}
+use Rattle.f11_flx.specs.CopyFromRt.{FailsToMakeFile, Making, as_stated, filling, new_id}
 use Rattle.f11_flx.specs.Ended.{Ends}
 use Rattle.f11_flx.specs.Making.{FailsToFillOpened, IsCutShort, Undoing, UndoingIf, filling_of}
 use Rattle.f11_flx.specs.Refusal.{is_lethal}
@@ -30,11 +31,12 @@ use Rattle.f11_flx.proofs.FromVolumeLemmas.{may-make, may-not-make}
 use Rattle.f11_flx.proofs.KeptLemmas.{dead-made, dead-unmade, given, made-keeps, refused, same-refusal, unmade-keeps}
 use Rattle.f11_flx.proofs.NotMadeLemmas.{IsRefusal, IsShort, bad-no-files, making-refused, making-undone}
 use Rattle.f11_flx.proofs.SmallLemmas.{not-true}
+use Rattle.f11_flx.proofs.StatingLemmas.{made-in-order, unmade-in-order}
 use Rattle.f11_flx.proofs.TriedLemmas.{made-tries, none-for-one, unmade-tries}
 use Rattle.f11_flx.proofs.UndoneLemmas.{as-before, clean-undoing}
 use Rattle.f11_flx.proofs.VolumeLemmas.{standing, unused, volume-seen}
 use Rattle.f11_host.specs.CopyFromHost.{CopiesFromHost, FailsSpent, FailsToCopyFromHost, IsNotCopied, IsRefusedIf, ReadsAll, ReadsHost}
-use Rattle.f11_host.specs.CopyFromHost.{as_image, is_too_long}
+use Rattle.f11_host.specs.CopyFromHost.{AsksForImage, HoldHost, as_image, image_attr, is_too_long}
 use Rattle.f11_host.specs.Filling.{FailsToFillFromHost, FailsToMakeFromHost, FillsFromHost, HostFile, MakesFromHost, host_file}
 use Rattle.f11_host.specs.Pieces.{IsInBlocks, blocks_for}
 use Rattle.f11_host.specs.Refusal.{as_copy, copy_result, of_copy}
@@ -162,7 +164,7 @@ module _ {D : Type 0} {met : Ghosts D} (who : Who) (lun bytes : ℕ) (dir : File
   pub count-as : (blocks n : ℕ) → blocks ≡ blocks_for n → n ≡ bytes → blocks ≡ blocks_for bytes
   count-as blocks n count same = count ∙ ap blocks_for same
 
-  pub made-files : (blocks : ℕ) → Made → MayMakeFile (given blocks) who lun dir to protection v w
+  pub made-files : (blocks : ℕ) → Made → MayMake (given blocks) who lun dir to protection (Some (image_attr bytes)) v w
   made-files blocks h =
       may-make who lun (as_image to dir protection bytes []) v w blocks
       (made-fares who lun (blocks_for bytes) (FillsFromHost of_volume who lun bytes) (FailsToFillFromHost of_volume who lun bytes)
@@ -177,9 +179,10 @@ module _ {D : Type 0} {met : Ghosts D} (who : Who) (lun bytes : ℕ) (dir : File
   told f h =
       told-made of_volume who lun bytes f (as_image to dir protection bytes []) (host_file u []) (host_file u' taken) v w (h [])
 
-  pub unmade-files : (f : FlxRefusal) → Unmade f → MayMakeFile (copy_result (unmade (of_copy f))) who lun dir to protection v w
+  pub unmade-files : (f : FlxRefusal) → Unmade f
+      → MayMake (copy_result (unmade (of_copy f))) who lun dir to protection (Some (image_attr bytes)) v w
   unmade-files f h =
-      subst (λ x. MayMakeFile (refused x) who lun dir to protection v w) (sym (told f h))
+      subst (λ x. MayMake (refused x) who lun dir to protection (Some (image_attr bytes)) v w) (sym (told f h))
       (may-not-make who lun (as_image to dir protection bytes []) v w f
       (unmade-fares who lun (blocks_for bytes) (FillsFromHost of_volume who lun bytes) (FailsToFillFromHost of_volume who lun bytes)
       (asks-to-fill of_volume who lun bytes) f (as_image to dir protection bytes []) (host_file u []) (host_file u' taken) v w (h []))
@@ -192,6 +195,26 @@ module _ {D : Type 0} {met : Ghosts D} (who : Who) (lun bytes : ℕ) (dir : File
       (λ sound clean. making-undone of_volume who lun (blocks_for bytes) (FillsFromHost of_volume who lun bytes)
       (FailsToFillFromHost of_volume who lun bytes) (asks-to-fill of_volume who lun bytes) store_of_volume is_sound volume-seen f
       (as_image to dir protection bytes []) (host_file u []) (host_file u' taken) v w clean sound (unused v) (standing v sound) (h [])))
+
+  blocks-held : (x y : Volume D met) → FillsFromHost of_volume who lun bytes (host_file u []) (host_file u' taken) x y
+      → (pieces : List (List ℕ)) × (HoldHost bytes u u' pieces) × Granted of_volume who (filling lun pieces) x y
+  blocks-held x y k = (
+    k.pieces,
+    record { taken = taken; size = k.size; takes = k.takes; in_blocks = k.in_blocks },
+    filled-blocks of_volume who lun bytes u u' taken k.pieces x y k.in_blocks k,
+  )
+
+  pub made-order : Made → AsksForImage of_volume bytes u u' who lun dir to protection v w
+  made-order h =
+      made-in-order of_volume who lun (blocks_for bytes) (FillsFromHost of_volume who lun bytes)
+      (FailsToFillFromHost of_volume who lun bytes) (asks-to-fill of_volume who lun bytes) (as_image to dir protection bytes [])
+      (HoldHost bytes u u') (host_file u []) (host_file u' taken) blocks-held v w (h [])
+
+  pub unmade-order : (f : FlxRefusal) → Unmade f → AsksForImage of_volume bytes u u' who lun dir to protection v w
+  unmade-order f h =
+      unmade-in-order of_volume who lun (blocks_for bytes) (FillsFromHost of_volume who lun bytes)
+      (FailsToFillFromHost of_volume who lun bytes) (asks-to-fill of_volume who lun bytes) (as_image to dir protection bytes [])
+      (HoldHost bytes u u') (host_file u []) (host_file u' taken) blocks-held f v w (h [])
 
   pub made-host : (blocks : ℕ) → blocks ≡ blocks_for bytes → Made → ReadsAll bytes blocks u u'
   made-host blocks is h =
@@ -317,13 +340,14 @@ module _ {D : Type 0} {met : Ghosts D} (who : Who) (lun bytes : ℕ) (dir : File
       absurd (made-fate of_volume who lun bytes LineTooLong (as_image to dir protection bytes []) u u' taken v w refl (h []))
 
 -- a file that is too long
-module _ {D : Type 0} {met : Ghosts D} (who : Who) (lun : ℕ) (dir : FileId) (to : List ℕ) (protection : ℕ) (v : Volume D met) where
-  pub too-long-files : MayMakeFile (copy_result (unmade (host.Files TooManySegments))) who lun dir to protection v v
+module _ {D : Type 0} {met : Ghosts D} (who : Who) (lun : ℕ) (dir : FileId) (to : List ℕ) (protection : ℕ) (attr : List ℕ)
+    (v : Volume D met) where
+  pub too-long-files : MayMake (copy_result (unmade (host.Files TooManySegments))) who lun dir to protection (Some attr) v v
   too-long-files =
-      may-not-make who lun (as_file to dir protection [] []) v v (Files TooManySegments)
+      may-not-make who lun (as_stated to dir protection [] attr []) v v (Files TooManySegments)
       (of-calm (Files TooManySegments) v v refl (calm-none v))
       (record { only = λ is. absurd (differ is); untouched = λ dead. refl })
-      (none-for-one of_volume who lun (as_file to dir protection [] []) v)
+      (none-for-one of_volume who lun (as_stated to dir protection [] attr []) v)
       (λ is. refl) (λ sound clean. as-before (store_of_volume v))
     where
       differ : refused (Files TooManySegments) ≡ refused (Files VolumeFailed) → ⊥

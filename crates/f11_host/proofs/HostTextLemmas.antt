@@ -1,5 +1,6 @@
 -- A text of the host that becomes a file of a Files-11 volume.
-use Rattle.std.proofs.Common.{◌≡◌, ◌⊎◌, inl, inr, ℕ, ◌≤◌, Bool, true, false, List, [], length, Option, Result, Ok}
+use Rattle.std.proofs.Common.{◌≡◌, ◌⊎◌, inl, inr, ℕ, ◌≤◌, Bool, true, false, List, [], length, Option, Some, Result}
+use Rattle.std.proofs.Common.{Ok}
 use Rattle.std.proofs.Common.{refl, sym, ap, ◌∙◌, subst, arith}
 use Rattle.std.specs.Io.KnownBytes.{Consumes}
 use Rattle.std.proofs.KnownBytes.{Consumes-nil}
@@ -14,8 +15,8 @@ use Rattle.f11_flx.specs.fcp.Serving.{is_spent}
 use Rattle.f11_flx.specs.fcp.declared.volume.Volume.{Volume}
 use Rattle.rt11_volume.specs.declared.refusal.RtRefusal.TheVariants.{Failed}
 use Rattle.f11_flx.specs.Asking.{BreaksOffAsking, FilesService, Granted, Who}
-use Rattle.f11_flx.specs.Copying.{MayMakeFile, is_whole, of_volume}
-use Rattle.f11_flx.specs.CopyFromRt.{FailsToMakeFile, Making, as_file, filling, new_id}
+use Rattle.f11_flx.specs.Copying.{MayMake, MayMakeStated, is_whole, of_volume}
+use Rattle.f11_flx.specs.CopyFromRt.{FailsToMakeFile, Making, as_stated, filling, new_id}
 use Rattle.f11_flx.specs.Ended.{Ends}
 use Rattle.f11_flx.specs.Making.{FailsToFillOpened, IsCutShort, filling_of}
 use Rattle.f11_flx.specs.Refusal.{is_lethal}
@@ -29,11 +30,12 @@ use Rattle.f11_flx.proofs.FromVolumeLemmas.{may-make, may-not-make}
 use Rattle.f11_flx.proofs.KeptLemmas.{dead-made, dead-unmade, given, made-keeps, refused, same-refusal, unmade-keeps}
 use Rattle.f11_flx.proofs.NotMadeLemmas.{IsRefusal, IsShort, bad-no-files, making-refused, making-undone}
 use Rattle.f11_flx.proofs.SmallLemmas.{not-true}
+use Rattle.f11_flx.proofs.StatingLemmas.{made-in-order, unmade-in-order}
 use Rattle.f11_flx.proofs.TriedLemmas.{made-tries, none-for-one, unmade-tries}
 use Rattle.f11_flx.proofs.UndoneLemmas.{as-before, clean-undoing}
 use Rattle.f11_flx.proofs.VolumeLemmas.{standing, unused, volume-seen}
 use Rattle.f11_host.specs.CopyTextFromHost.{CopiesTextFromHost, FailsTextSpent, FailsToCopyTextFromHost, IsTextNotCopied, IsTextRefusedIf}
-use Rattle.f11_host.specs.CopyTextFromHost.{Judges, ReadsIf, ReadsTexts, is_text_too_long}
+use Rattle.f11_host.specs.CopyTextFromHost.{AsksForText, HoldText, Judges, ReadsIf, ReadsTexts, is_text_too_long}
 use Rattle.f11_host.specs.Filling.{HostFile, host_file}
 use Rattle.f11_host.specs.Refusal.{as_copy, copy_result, of_copy}
 use Rattle.f11_host.specs.TextFilling.{FailsToFillFromText, FailsToMakeFromText, FillsFromText, IsNotText, MakesFromText, as_text}
@@ -128,7 +130,8 @@ module _ {D : Type 0} {met : Ghosts D} (who : Who) (lun bytes : ℕ) (plan : Ext
   Unmade f = (pieces : List (List ℕ)) →
       FailsToMakeFromText of_volume who lun bytes plan (as_text to dir protection plan pieces) f (host_file u []) (host_file u' taken) v w
 
-  pub text-made-files : (blocks : ℕ) → Made → MayMakeFile (given blocks) who lun dir to protection v w
+  pub text-made-files : (blocks : ℕ) → Made
+      → MayMake (given blocks) who lun dir to protection (Some (attributes_of plan)) v w
   text-made-files blocks h =
       may-make who lun (as_text to dir protection plan []) v w blocks
       (made-fares who lun plan.blocks (FillsFromText of_volume who lun bytes plan) (FailsToFillFromText of_volume who lun bytes plan)
@@ -144,9 +147,10 @@ module _ {D : Type 0} {met : Ghosts D} (who : Who) (lun bytes : ℕ) (plan : Ext
   told f h =
       told-made of_volume who lun bytes plan f (as_text to dir protection plan []) (host_file u []) (host_file u' taken) v w (h [])
 
-  pub text-unmade-files : (f : FlxRefusal) → Unmade f → MayMakeFile (copy_result (unmade (of_copy f))) who lun dir to protection v w
+  pub text-unmade-files : (f : FlxRefusal) → Unmade f
+      → MayMake (copy_result (unmade (of_copy f))) who lun dir to protection (Some (attributes_of plan)) v w
   text-unmade-files f h =
-      subst (λ x. MayMakeFile (refused x) who lun dir to protection v w) (sym (told f h))
+      subst (λ x. MayMake (refused x) who lun dir to protection (Some (attributes_of plan)) v w) (sym (told f h))
       (may-not-make who lun (as_text to dir protection plan []) v w f
       (unmade-fares who lun plan.blocks (FillsFromText of_volume who lun bytes plan) (FailsToFillFromText of_volume who lun bytes plan)
       (asks-to-fill-text of_volume who lun bytes plan) f (as_text to dir protection plan []) (host_file u []) (host_file u' taken) v w
@@ -162,6 +166,30 @@ module _ {D : Type 0} {met : Ghosts D} (who : Who) (lun bytes : ℕ) (plan : Ext
       (FailsToFillFromText of_volume who lun bytes plan) (asks-to-fill-text of_volume who lun bytes plan) store_of_volume is_sound
       volume-seen f
       (as_text to dir protection plan []) (host_file u []) (host_file u' taken) v w clean sound (unused v) (standing v sound) (h [])))
+
+  copy-held : (x y : Volume D met) → FillsFromText of_volume who lun bytes plan (host_file u []) (host_file u' taken) x y
+      → (pieces : List (List ℕ)) × (HoldText bytes plan u u' pieces) × Granted of_volume who (filling lun pieces) x y
+  copy-held x y k = (
+    k.pieces,
+    record { taken = taken; size = k.size; takes = k.takes; copied = k.copied },
+    filled-blocks of_volume who lun bytes plan u u' taken k.pieces x y k.copied k.count k,
+  )
+
+  pub text-made-order : Made → AsksForText of_volume bytes u u' who lun dir to protection v w
+  text-made-order h = inr (
+    plan,
+    made-in-order of_volume who lun plan.blocks (FillsFromText of_volume who lun bytes plan)
+        (FailsToFillFromText of_volume who lun bytes plan) (asks-to-fill-text of_volume who lun bytes plan)
+        (as_text to dir protection plan []) (HoldText bytes plan u u') (host_file u []) (host_file u' taken) copy-held v w (h []),
+  )
+
+  pub text-unmade-order : (f : FlxRefusal) → Unmade f → AsksForText of_volume bytes u u' who lun dir to protection v w
+  text-unmade-order f h = inr (
+    plan,
+    unmade-in-order of_volume who lun plan.blocks (FillsFromText of_volume who lun bytes plan)
+        (FailsToFillFromText of_volume who lun bytes plan) (asks-to-fill-text of_volume who lun bytes plan)
+        (as_text to dir protection plan []) (HoldText bytes plan u u') (host_file u []) (host_file u' taken) copy-held f v w (h []),
+  )
 
   pub text-made-spent : is_spent v ≡ true → Made → ⊥
   text-made-spent dead h =
@@ -317,15 +345,17 @@ module _ {D : Type 0} {met : Ghosts D} (who : Who) (lun bytes : ℕ) (plan : Ext
 -- a text that isn't judged, or is too long: nothing was asked
 module _ {D : Type 0} {met : Ghosts D} (who : Who) (lun : ℕ) (dir : FileId) (to : List ℕ) (protection : ℕ) (v : Volume D met) where
   unasked-files : (f : FlxRefusal) → is_lethal f ≡ false → (refused f ≡ refused (Files VolumeFailed) → ⊥)
-      → (refused f ≡ refused (Rt Failed) → ⊥) → MayMakeFile (refused f) who lun dir to protection v v
-  unasked-files f clean differs other =
-      may-not-make who lun (as_file to dir protection [] []) v v f (of-calm f v v clean (calm-none v))
-      (record { only = λ is. absurd (differs is); untouched = λ dead. refl })
-      (none-for-one of_volume who lun (as_file to dir protection [] []) v) (λ is. absurd (other is))
-      (λ sound clean. as-before (store_of_volume v))
+      → (refused f ≡ refused (Rt Failed) → ⊥) → MayMakeStated (refused f) who lun dir to protection v v
+  unasked-files f clean differs other = (
+    [],
+    may-not-make who lun (as_stated to dir protection [] [] []) v v f (of-calm f v v clean (calm-none v))
+        (record { only = λ is. absurd (differs is); untouched = λ dead. refl })
+        (none-for-one of_volume who lun (as_stated to dir protection [] [] []) v) (λ is. absurd (other is))
+        (λ sound clean. as-before (store_of_volume v)),
+  )
 
   pub unplanned-files : (f : FlxRefusal) (bytes : ℕ) (u u' : Option (List ℕ)) → FailsToPlanText bytes f u u'
-      → MayMakeFile (copy_result (unmade (of_copy f))) who lun dir to protection v v
+      → MayMakeStated (copy_result (unmade (of_copy f))) who lun dir to protection v v
   unplanned-files (Files e) bytes u u' h = absurd h
   unplanned-files (Rt e) bytes u u' h = absurd h
   unplanned-files BadRecord bytes u u' h = unasked-files BadRecord refl differ differ'

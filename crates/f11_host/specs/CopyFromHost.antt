@@ -1,15 +1,16 @@
 -- A file of the host that becomes a file of a Files-11 volume, over its plain store (RSX-11M Utilities manual, FLX; the steps: profile).
-use Rattle.std.specs.Prelude.{◌≡◌, ℕ, ◌<◌, ◌≤◌, nat_lt, Bool, true, false, List, length, Option, Result, Ok, Err}
+use Rattle.std.specs.Prelude.{◌≡◌, ℕ, ◌<◌, ◌≤◌, nat_lt, Bool, true, false, List, [], length, Option, Result, Ok, Err}
 use Rattle.std.specs.Io.KnownBytes.{Consumes}
 use Rattle.f11_store.specs.Store.{Store}
 use Rattle.f11_store.specs.declared.files.FileId.{FileId}
 use Rattle.f11_store.specs.declared.refusals.Refusal.{Refusal}
 use Rattle.f11_store.specs.declared.refusals.Refusal.TheVariants.{TooManySegments, VolumeFailed}
 use Rattle.f11_flx.specs.files.Answers.{is_fatal}
-use Rattle.f11_flx.specs.Asking.{Granted, Who, plain}
-use Rattle.f11_flx.specs.CopyFromRt.{FailsToMakeFile, Making, as_file, making_of, new_id}
+use Rattle.f11_flx.specs.Asking.{FilesService, Granted, Who, plain}
+use Rattle.f11_flx.specs.CopyFromRt.{FailsToMakeFile, Making, as_stated, making_of, new_id}
 use Rattle.f11_flx.specs.Making.{IsCutShort}
 use Rattle.f11_flx.specs.Spelled.{image_attributes_to}
+use Rattle.f11_flx.specs.Stating.{AsksInOrder}
 use Rattle.f11_host.specs.Filling.{OfEachText}
 use Rattle.f11_host.specs.Pieces.{IsInBlocks, blocks_for}
 use Rattle.f11_host.specs.declared.refusal.HostRefusal.{HostRefusal}
@@ -19,9 +20,14 @@ use Rattle.f11_host.specs.declared.refusal.HostRefusal.TheVariants.{Files, LineT
 abbrev pub is_too_long : ℕ → Bool
 is_too_long bytes = nat_lt 4294967295 bytes
 
--- what is to be made of so many bytes, with these blocks: the end is behind the last byte
+-- the attributes of a file of so many bytes as they are: the end is behind the last byte
+abbrev pub image_attr : ℕ → List ℕ
+image_attr bytes = image_attributes_to (blocks_for bytes) bytes
+
+-- what is to be made of so many bytes, with these blocks: it ends at its beginning until it is filled
 abbrev pub as_image : List ℕ → FileId → ℕ → ℕ → List (List ℕ) → Making
-as_image to dir protection bytes blocks = as_file to dir protection (image_attributes_to (blocks_for bytes) bytes) blocks
+as_image to dir protection bytes blocks =
+    as_stated to dir protection (image_attributes_to (blocks_for bytes) 0) (image_attr bytes) blocks
 
 -- All the bytes were read of the host's file, and the copy has so many blocks;
 pub record ReadsAll (bytes blocks : ℕ) (unread unread' : Option (List ℕ)) : Type 0 where
@@ -81,6 +87,19 @@ FailsToCopyFromHost (Files e) bytes unread unread' who lun dir to protection s s
     IsRefusedIf (is_too_long bytes) bytes unread unread' who lun dir to protection e s s'
 FailsToCopyFromHost Unread bytes unread unread' who lun dir to protection s s' = IsUnread bytes who lun dir to protection s s'
 FailsToCopyFromHost LineTooLong bytes unread unread' who lun dir to protection s s' = ⊥
+
+-- Blocks that hold all that was read of the host's file, so many bytes.
+pub record HoldHost (bytes : ℕ) (unread unread' : Option (List ℕ)) (blocks : List (List ℕ)) : Type 0 where
+  pub taken : List ℕ
+  pub size : length taken ≡ bytes
+  pub takes : Consumes unread unread' taken
+  pub in_blocks : IsInBlocks taken blocks
+
+-- in what order the file is made: it gets its attributes once it is filled with what was read
+abbrev pub AsksForImage : {V : Type 0} → FilesService V → ℕ → Option (List ℕ) → Option (List ℕ) → Who → ℕ → FileId → List ℕ → ℕ →
+    V → V → Type 0
+AsksForImage S bytes unread unread' who lun dir to protection old new =
+    AsksInOrder S who lun (as_image to dir protection bytes []) (HoldHost bytes unread unread') old new
 
 -- how it is refused where a request had failed the volume before: as VolumeFailed, unless it is too long
 abbrev pub FailsSpent : Bool → HostRefusal → Type 0

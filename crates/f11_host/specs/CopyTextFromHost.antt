@@ -1,14 +1,15 @@
 -- A text of the host that becomes a file of a Files-11 volume, over its plain store (RSX-11M Utilities manual, FLX; the steps: profile).
-use Rattle.std.specs.Prelude.{◌≡◌, ◌⊎◌, ⊤, ℕ, ◌<◌, ◌≤◌, nat_lt, Bool, true, false, List, length, Option, Result, Ok, Err}
+use Rattle.std.specs.Prelude.{◌≡◌, ◌⊎◌, ⊤, ℕ, ◌<◌, ◌≤◌, nat_lt, Bool, true, false, List, [], length, Option, Result, Ok, Err}
 use Rattle.std.specs.Io.KnownBytes.{Consumes}
 use Rattle.f11_store.specs.Store.{Store}
 use Rattle.f11_store.specs.declared.files.FileId.{FileId}
 use Rattle.f11_store.specs.declared.refusals.Refusal.{Refusal}
 use Rattle.f11_store.specs.declared.refusals.Refusal.TheVariants.{TooManySegments, VolumeFailed}
 use Rattle.f11_flx.specs.files.Answers.{is_fatal}
-use Rattle.f11_flx.specs.Asking.{Granted, Who, plain}
+use Rattle.f11_flx.specs.Asking.{FilesService, Granted, Who, plain}
 use Rattle.f11_flx.specs.CopyFromRt.{FailsToMakeFile, making_of, new_id}
 use Rattle.f11_flx.specs.Making.{IsCutShort}
+use Rattle.f11_flx.specs.Stating.{AsksInOrder}
 use Rattle.f11_flx.specs.declared.lines.Extent.{Extent}
 use Rattle.f11_host.specs.CopyFromHost.{ReadsSome}
 use Rattle.f11_host.specs.Filling.{OfEachText}
@@ -114,6 +115,20 @@ FailsToCopyTextFromHost Unread bytes first first' again again' who lun dir to pr
     IsTextUnread bytes first first' who lun dir to protection s s'
 FailsToCopyTextFromHost LineTooLong bytes first first' again again' who lun dir to protection s s' =
     (is_text_too_long bytes ≡ false) × (s' ≡ s)
+
+-- Blocks that hold the copy of all that was read of a text, so many bytes.
+pub record HoldText (bytes : ℕ) (plan : Extent) (unread unread' : Option (List ℕ)) (blocks : List (List ℕ)) : Type 0 where
+  pub taken : List ℕ
+  pub size : length taken ≡ bytes
+  pub takes : Consumes unread unread' taken
+  pub copied : IsCopiedText taken blocks (attributes_of plan)
+
+-- in what order the file is made: nothing is asked, or it gets its attributes once it is filled with the copy
+abbrev pub AsksForText : {V : Type 0} → FilesService V → ℕ → Option (List ℕ) → Option (List ℕ) → Who → ℕ → FileId → List ℕ → ℕ →
+    V → V → Type 0
+AsksForText S bytes again again' who lun dir to protection old new =
+    (new ≡ old)
+    ⊎ ((plan : Extent) × AsksInOrder S who lun (as_text to dir protection plan []) (HoldText bytes plan again again') old new)
 
 -- how it is refused where a request had failed the volume before: as VolumeFailed, unless it is too long, or the text was refused first
 abbrev pub FailsTextSpent : Bool → HostRefusal → Type 0

@@ -4,7 +4,7 @@ use Rattle.std.specs.Io.KnownBytes.{Consumes}
 use Rattle.f11_store.specs.declared.files.FileId.{FileId}
 use Rattle.f11_store.specs.declared.refusals.Refusal.{Refusal}
 use Rattle.f11_flx.specs.Asking.{BreaksOffAsking, FilesService, Granted, Who, writes_of}
-use Rattle.f11_flx.specs.CopyFromRt.{Making, as_file}
+use Rattle.f11_flx.specs.CopyFromRt.{Making, as_stated}
 use Rattle.f11_flx.specs.Making.{FailsToMake, MakesFile, extension, filling_of}
 use Rattle.f11_flx.specs.Spelled.{text_attributes}
 use Rattle.f11_flx.specs.declared.lines.Extent.{Extent}
@@ -18,9 +18,10 @@ use Rattle.f11_host.specs.Texts.{IsCopiedText}
 abbrev pub attributes_of : Extent → List ℕ
 attributes_of plan = text_attributes plan.longest plan.blocks plan.end
 
--- what is to be made of a text with such a copy, of these blocks
+-- what is to be made of a text with such a copy, of these blocks: it ends at its beginning until it is filled
 abbrev pub as_text : List ℕ → FileId → ℕ → Extent → List (List ℕ) → Making
-as_text to dir protection plan blocks = as_file to dir protection (attributes_of plan) blocks
+as_text to dir protection plan blocks =
+    as_stated to dir protection (text_attributes plan.longest plan.blocks 0) (attributes_of plan) blocks
 
 -- two texts have as many blocks, the same end, and as long a longest line
 abbrev pub are_same : Extent → Extent → Bool

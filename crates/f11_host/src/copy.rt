@@ -1,12 +1,12 @@
 //! Files of the host, made files on a Files-11 volume.
-ghost use Rattle.std.specs.Prelude.{◌≡◌, true, IfErr, IfOk, IsErrAnd};
+ghost use Rattle.std.specs.Prelude.{◌≡◌, true, Some, IfErr, IfOk, IsErrAnd};
 ghost use Rattle.f11_flx.specs.fcp.Lists.{is_sound, store_of_volume};
 ghost use Rattle.f11_flx.specs.fcp.Serving.{is_spent};
 ghost use Rattle.f11_flx.specs.Asking.{who_asks};
-ghost use Rattle.f11_flx.specs.Copying.{MayMakeFile, is_whole, of_volume};
+ghost use Rattle.f11_flx.specs.Copying.{MayMake, is_whole, of_volume};
 ghost use Rattle.f11_flx.specs.Ended.{Ends};
 ghost use Rattle.f11_flx.specs.Refusal.{is_lethal};
-ghost use Rattle.f11_host.specs.CopyFromHost.{CopiesFromHost, FailsSpent, FailsToCopyFromHost, ReadsHost, is_too_long};
+ghost use Rattle.f11_host.specs.CopyFromHost.{AsksForImage, CopiesFromHost, FailsSpent, FailsToCopyFromHost, ReadsHost, image_attr, is_too_long};
 ghost use Rattle.f11_host.specs.Refusal.{as_copy, copy_result};
 
 use crate::making::make;
@@ -26,8 +26,8 @@ const MOST_BYTES: u64 = 4_294_967_295;
 /// 512 bytes, and its end is behind the last byte. No memory is taken but for slots of the index file, which gets them first where too few
 /// headers are free, and keeps them where the copy is refused.
 ///
-/// A file is created that bars nobody, accessed to be written, and gets its blocks; it is given up, entered into the directory, and gets its
-/// protection.
+/// A file is created that bars nobody and ends at its beginning, accessed to be written, and gets its blocks; it is given up, gets its end, is
+/// entered into the directory, and gets its protection. So what is stopped leaves no file that looks whole and isn't.
 ///
 /// # Errors
 ///
@@ -50,8 +50,10 @@ pub fn copy_from_host<R: Read, D: Device>(
     protection: u16,
 ) -> Result<u32, HostRefusal>
     ensures host { ReadsHost bytes result (R.remaining host.old) (R.remaining host.new) }
-    ensures files { MayMakeFile (copy_result result) (who_asks task uic) lun dir to.now protection
-        vol.old vol.new }
+    ensures files { MayMake (copy_result result) (who_asks task uic) lun dir to.now protection
+        (Some (image_attr bytes)) vol.old vol.new }
+    ensures order { AsksForImage of_volume bytes (R.remaining host.old) (R.remaining host.new)
+        (who_asks task uic) lun dir to.now protection vol.old vol.new }
     ensures spent { is_spent vol.old ≡ true → IsErrAnd result (FailsSpent (is_too_long bytes)) }
     ensures ended { IfErr result (λ e. is_lethal (as_copy e) ≡ true
         → Ends of_volume (who_asks task uic) (as_copy e) vol.old vol.new) }

@@ -7,6 +7,7 @@
 mod copy;
 mod crs;
 mod filling;
+mod finishing;
 mod making;
 mod piece;
 mod refusal;

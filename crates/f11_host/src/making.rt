@@ -7,7 +7,8 @@ ghost use Rattle.f11_host.specs.Filling.{FailsToFillFromHost, FailsToMakeFromHos
 ghost use Rattle.f11_host.specs.Pieces.{blocks_for};
 
 use crate::filling::fill;
-use f11_flx::{Asked, Asker, Entry, FlxRefusal, ask, create, enter, image_attributes_to, undo};
+use crate::finishing::finish;
+use f11_flx::{Asked, Asker, Entry, FlxRefusal, ask, create, image_attributes_to, undo};
 use f11_store::{FileId, Mode, Request};
 use std::io::Read;
 
@@ -40,8 +41,8 @@ fn fill_file<R: Read, S: Asked>(
     }
 }
 
-/// Makes a file of so many bytes that the host gives: how many blocks it has. Where the host gives fewer it is told as a source that can't be
-/// read.
+/// Makes a file of so many bytes that the host gives: how many blocks it has. It ends at its beginning until all its blocks are written. Where
+/// the host gives fewer it is told as a source that can't be read.
 pub fn make<R: Read, S: Asked>(
     host: &mut R,
     bytes: u32,
@@ -62,8 +63,8 @@ pub fn make<R: Read, S: Asked>(
         service.old service.new)) }
 {
     let blocks = bytes.div_ceil(512);
-    let attr = image_attributes_to(blocks, bytes);
-    let id = match create(service, by, &entry.name, attr) {
+    let first = image_attributes_to(blocks, 0);
+    let id = match create(service, by, &entry.name, first) {
         Ok(id) => id,
         Err(refusal) => return Err(FlxRefusal::Files(refusal)),
     };
@@ -71,7 +72,8 @@ pub fn make<R: Read, S: Asked>(
         Ok(()) => {}
         Err(refusal) => return Err(undo(service, by, Request::Delete(id), refusal)),
     }
-    match enter(service, by, entry, id) {
+    let attr = image_attributes_to(blocks, bytes);
+    match finish(service, by, entry, id, attr) {
         Ok(()) => Ok(blocks),
         Err(refusal) => Err(undo(service, by, Request::Delete(id), FlxRefusal::Files(refusal))),
     }

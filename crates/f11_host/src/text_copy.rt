@@ -3,10 +3,10 @@ ghost use Rattle.std.specs.Prelude.{◌≡◌, ◌≤◌, true, IfErr, IfOk, IsE
 ghost use Rattle.f11_flx.specs.fcp.Lists.{is_sound, store_of_volume};
 ghost use Rattle.f11_flx.specs.fcp.Serving.{is_spent};
 ghost use Rattle.f11_flx.specs.Asking.{who_asks};
-ghost use Rattle.f11_flx.specs.Copying.{MayMakeFile, is_whole, of_volume};
+ghost use Rattle.f11_flx.specs.Copying.{MayMakeStated, is_whole, of_volume};
 ghost use Rattle.f11_flx.specs.Ended.{Ends};
 ghost use Rattle.f11_flx.specs.Refusal.{is_lethal};
-ghost use Rattle.f11_host.specs.CopyTextFromHost.{CopiesTextFromHost, FailsTextSpent, FailsToCopyTextFromHost, ReadsTexts, is_text_too_long};
+ghost use Rattle.f11_host.specs.CopyTextFromHost.{AsksForText, CopiesTextFromHost, FailsTextSpent, FailsToCopyTextFromHost, ReadsTexts, is_text_too_long};
 ghost use Rattle.f11_host.specs.Refusal.{as_copy, copy_result};
 
 use crate::refusal::{HostRefusal, told};
@@ -34,8 +34,11 @@ fn copy_judged<R: Read, D: Device>(
     requires few { bytes ≤ 1073741312 }
     ensures hosts { ReadsTexts bytes result (R.remaining first.old) (R.remaining first.new)
         (R.remaining again.old) (R.remaining again.new) }
-    ensures files { MayMakeFile (copy_result result) (who_asks by.now.task by.now.uic) by.now.lun
+    ensures files { MayMakeStated (copy_result result) (who_asks by.now.task by.now.uic) by.now.lun
         entry.now.dir entry.now.name entry.now.protection vol.old vol.new }
+    ensures order { AsksForText of_volume bytes (R.remaining again.old) (R.remaining again.new)
+        (who_asks by.now.task by.now.uic) by.now.lun entry.now.dir entry.now.name
+        entry.now.protection vol.old vol.new }
     ensures spent { is_spent vol.old ≡ true
         → IsErrAnd result (FailsTextSpent (is_text_too_long bytes)) }
     ensures ended { IfErr result (λ e. is_lethal (as_copy e) ≡ true
@@ -95,8 +98,10 @@ pub fn copy_text_from_host<R: Read, D: Device>(
 ) -> Result<u32, HostRefusal>
     ensures hosts { ReadsTexts bytes result (R.remaining first.old) (R.remaining first.new)
         (R.remaining again.old) (R.remaining again.new) }
-    ensures files { MayMakeFile (copy_result result) (who_asks task uic) lun dir to.now protection
+    ensures files { MayMakeStated (copy_result result) (who_asks task uic) lun dir to.now protection
         vol.old vol.new }
+    ensures order { AsksForText of_volume bytes (R.remaining again.old) (R.remaining again.new)
+        (who_asks task uic) lun dir to.now protection vol.old vol.new }
     ensures spent { is_spent vol.old ≡ true
         → IsErrAnd result (FailsTextSpent (is_text_too_long bytes)) }
     ensures ended { IfErr result (λ e. is_lethal (as_copy e) ≡ true

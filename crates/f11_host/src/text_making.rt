@@ -6,9 +6,10 @@ ghost use Rattle.f11_host.specs.Filling.{host_file};
 ghost use Rattle.f11_host.specs.TextFilling.{are_same as same, as_text, as_unread, CopiesAgain, FailsToCopyAgain};
 ghost use Rattle.f11_host.specs.TextFilling.{FailsToFillFromText, FailsToMakeFromText, FillsFromText, MakesFromText};
 
+use crate::finishing::finish;
 use crate::text::copy_text;
 use f11_flx::{
-    Asked, Asker, Entry, Extent, FlxRefusal, ask, create, enter, extend, text_attributes, undo,
+    Asked, Asker, Entry, Extent, FlxRefusal, ask, create, extend, text_attributes, undo,
 };
 use f11_store::{FileId, Mode, Request};
 use std::io::Read;
@@ -122,8 +123,8 @@ fn fill_text_file<R: Read, S: Asked>(
     }
 }
 
-/// Makes a file of a text of so many bytes that the host gives, whose copy was judged. Where the host gives fewer, or another text, it is told
-/// as a source that can't be read.
+/// Makes a file of a text of so many bytes that the host gives, whose copy was judged. It ends at its beginning until all its blocks are
+/// written. Where the host gives fewer, or another text, it is told as a source that can't be read.
 pub fn make_text<R: Read, S: Asked>(
     host: &mut R,
     bytes: u32,
@@ -144,8 +145,8 @@ pub fn make_text<R: Read, S: Asked>(
         (host_file (R.remaining host.old) []) (host_file (R.remaining host.new) taken)
         service.old service.new)) }
 {
-    let attr = text_attributes(plan.longest, plan.blocks, plan.end);
-    let id = match create(service, by, &entry.name, attr) {
+    let first = text_attributes(plan.longest, plan.blocks, 0);
+    let id = match create(service, by, &entry.name, first) {
         Ok(id) => id,
         Err(refusal) => return Err(FlxRefusal::Files(refusal)),
     };
@@ -153,7 +154,8 @@ pub fn make_text<R: Read, S: Asked>(
         Ok(()) => {}
         Err(refusal) => return Err(undo(service, by, Request::Delete(id), refusal)),
     }
-    match enter(service, by, entry, id) {
+    let attr = text_attributes(plan.longest, plan.blocks, plan.end);
+    match finish(service, by, entry, id, attr) {
         Ok(()) => Ok(()),
         Err(refusal) => Err(undo(service, by, Request::Delete(id), FlxRefusal::Files(refusal))),
     }

@@ -15,6 +15,7 @@ pub mod SameLemmas
 pub mod SegmentLemmas
 pub mod StayLemmas
 pub mod UpLemmas
+pub mod UsedLemmas
 pub mod WalkLemmas
 pub use Rattle.f11_map.proofs as map
 pub use Rattle.f11_home.proofs as home

@@ -1,6 +1,6 @@
 -- The blocks of the index file, and what it says of headers (Files-11 On-Disk Structure Level 1, "Index File").
 use Rattle.std.specs.Prelude.{◌≡◌, ℕ, zero, suc, ◌+◌, ◌-◌, ◌*◌, ◌/◌, ◌%◌, ◌<◌, ◌≤◌, min, nat_lt, nat_le, Bool, true, ◌&&◌, List, []}
-use Rattle.std.specs.Prelude.{◌++◌, length, take, drop, map, slice_index, slice_index_or, Option, Some, None}
+use Rattle.std.specs.Prelude.{◌++◌, length, take, drop, map, replicate, slice_index, slice_index_or, Option, Some, None}
 use Rattle.std.specs.List.{slice_get, range_with_len}
 use Rattle.f11_bytes.specs.Bits.{bit}
 use Rattle.f11_dev.specs.Image.{Image, image_block}
@@ -82,6 +82,14 @@ slot_bit index n = bit_of_slot index.bitmap n
 -- slot n is in use: there is such a slot, and its bit is 1
 unfoldable pub is_in_use : Index → ℕ → Bool
 is_in_use index n = nat_lt 0 n && (nat_le n (slots index) && slot_bit index n)
+
+-- the block of ones
+unfoldable pub one_block : List ℕ
+one_block = replicate 512 255
+
+-- the same slots, as if each were in use, whatever its bit: so a header is read that stands in a slot out of use (profile)
+abbrev pub all_in_use : Index → Index
+all_in_use index = record index { bitmap = replicate (length index.bitmap) one_block }
 
 -- the LBN of header n
 unfoldable pub header_lbn : Index → ℕ → ℕ

@@ -14,6 +14,7 @@ mod index_file;
 pub mod laws;
 mod load;
 mod slots;
+mod used;
 mod walk;
 
 pub use f11_bytes;

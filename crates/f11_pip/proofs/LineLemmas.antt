@@ -16,9 +16,11 @@ use Rattle.f11_pip.specs.Words.{
   put_line,
   rights_line,
   rt_del_line,
+  rt_get_all_line,
   rt_get_line,
   rt_init_line,
   rt_list_line,
+  rt_ls_line,
   rt_put_line,
   rt_vfy_line,
   run_line,
@@ -31,7 +33,7 @@ use Rattle.f11_pip.specs.Words.{
 }
 use Rattle.f11_pip.proofs.CopyLemmas.{takes-from_rt, takes-to_rt}
 use Rattle.f11_pip.proofs.HostFileLemmas.{takes-get, takes-get_all, takes-put}
-use Rattle.f11_pip.proofs.RtFileLemmas.{takes-rt_del, takes-rt_get, takes-rt_put}
+use Rattle.f11_pip.proofs.RtFileLemmas.{takes-rt_del, takes-rt_get, takes-rt_get_all, takes-rt_ls, takes-rt_put}
 use Rattle.f11_pip.proofs.PlainLemmas.{no_hyphens, not_two}
 use Rattle.f11_pip.proofs.WordsLemmas.{takes-dump, takes-home, takes-name, takes-rights, takes-rt_list, takes-rt_vfy, takes-run}
 use Rattle.f11_pip.proofs.WordsLemmas.{takes-ls, takes-update, takes-user, takes-vfy}
@@ -91,6 +93,9 @@ takes-line (rt_init_line blocks segments image) program plain =
 takes-line (rt_del_line rt name) program plain = takes-rt_del program rt name (plain 0 [] (omega arith)) (plain 1 [] (omega arith))
 takes-line (rt_get_line rt name host) program plain =
     takes-rt_get program rt name host (plain 0 [] (omega arith)) (plain 1 [] (omega arith)) (plain 2 [] (omega arith))
+takes-line (rt_get_all_line rt folder) program plain =
+    takes-rt_get_all program rt folder (plain 0 [] (omega arith)) (plain 1 [] (omega arith))
+takes-line (rt_ls_line rt) program plain = takes-rt_ls program rt (plain 0 [] (omega arith))
 takes-line (rt_put_line rt name host) program plain =
     takes-rt_put program rt name host (plain 0 [] (omega arith)) (plain 1 [] (omega arith)) (plain 2 [] (omega arith))
 takes-line (rt_list_line image) program plain = takes-rt_list program image (plain 0 [] (omega arith))

@@ -141,17 +141,23 @@ rt_file_app name = with_rule (with_rule (new_app name) (needed_rule (codes "rt")
 abbrev pub rt_del_app : App
 rt_del_app = rt_file_app (codes "rt-del")
 
--- `rt-get RT NAME HOST`
+-- `rt-get RT NAME HOST`, or `rt-get --all RT FOLDER`: then the folder stands in the place of the name
 abbrev pub rt_get_app : App
-rt_get_app = with_rule (rt_file_app (codes "rt-get")) (needed_rule (codes "host"))
+rt_get_app = with_rule (with_rule (with_rule (with_rule (new_app (codes "rt-get")) (flag_rule (codes "all")))
+    (needed_rule (codes "rt"))) (needed_rule (codes "name"))) (word_rule (codes "host"))
+
+-- `rt-ls RT`
+abbrev pub rt_ls_app : App
+rt_ls_app = with_rule (new_app (codes "rt-ls")) (needed_rule (codes "rt"))
 
 -- `rt-put RT NAME HOST`
 abbrev pub rt_put_app : App
 rt_put_app = with_rule (rt_file_app (codes "rt-put")) (needed_rule (codes "host"))
 
--- the commands with those on one file of an RT-11 volume
+-- the commands with those on files of an RT-11 volume
 abbrev pub with_rt_files : App → App
-with_rt_files app = with_subcommand (with_subcommand (with_subcommand app rt_del_app.top) rt_get_app.top) rt_put_app.top
+with_rt_files app =
+    with_subcommand (with_subcommand (with_subcommand (with_subcommand app rt_del_app.top) rt_get_app.top) rt_ls_app.top) rt_put_app.top
 
 -- all commands
 abbrev pub program_app : App
@@ -228,6 +234,11 @@ MeetsRtFile command rt name met = command_and_words rt_file_names met ≡ Some (
 
 abbrev pub MeetsRtHost : Text → Text → Text → Text → Option (Text × List Row) → Type 0
 MeetsRtHost command rt name host met = command_and_words rt_host_names met ≡ Some (command, Some rt ∷ Some name ∷ Some host ∷ [])
+
+-- `rt-get` was met, with `--all` or without, and with these words, the host's file among them or not
+abbrev pub MeetsRtGet : Bool → Text → Text → Option Text → Option (Text × List Row) → Type 0
+MeetsRtGet all rt name host met = (command_and_words rt_host_names met ≡ Some (codes "rt-get", Some rt ∷ Some name ∷ host ∷ []))
+    × (command_and_flag (codes "all") met ≡ Some (codes "rt-get", Some (flag_text all)))
 
 -- this command of a copy was met, with these words
 abbrev pub MeetsCopy : Text → Text → Text → Text → Text → Text → Text → Option (Text × List Row) → Type 0
@@ -336,3 +347,10 @@ pub record HasRtHostWords (rt name host : Text) (given : ArgMatches) : Type 0 wh
   pub rt_is : HasWord (codes "rt") rt given
   pub name_is : HasWord (codes "name") name given
   pub host_is : HasWord (codes "host") host given
+
+-- `rt-get` has `--all` or hasn't, and has these words, the host's file among them or not
+pub record HasRtGetWords (all : Bool) (rt name : Text) (host : Option Text) (given : ArgMatches) : Type 0 where
+  pub all_is : one_text (found_of given) (codes "all") ≡ Some (flag_text all)
+  pub rt_is : HasWord (codes "rt") rt given
+  pub name_is : HasWord (codes "name") name given
+  pub host_is : first_value (found_of given) (codes "host") ≡ host

@@ -23,8 +23,10 @@ use Rattle.f11_pip.specs.declared.words.Words.TheVariants.{
   Rights,
   RtDel,
   RtGet,
+  RtGetAll,
   RtInit,
   RtList,
+  RtLs,
   RtPut,
   RtVfy,
   Run,
@@ -51,8 +53,10 @@ pub data CommandLine : Type 0 where
   rights_line : (caller owner word : List ℕ) → CommandLine
   rt_del_line : (rt name : List ℕ) → CommandLine
   rt_get_line : (rt name host : List ℕ) → CommandLine
+  rt_get_all_line : (rt folder : List ℕ) → CommandLine
   rt_init_line : (blocks segments image : List ℕ) → CommandLine
   rt_list_line : (image : List ℕ) → CommandLine
+  rt_ls_line : (rt : List ℕ) → CommandLine
   rt_put_line : (rt name host : List ℕ) → CommandLine
   rt_vfy_line : (image : List ℕ) → CommandLine
   run_line : (image script : List ℕ) → CommandLine
@@ -81,8 +85,10 @@ words_given (put_line mode image uic name host) = codes "put" ∷ (mode_words mo
 words_given (rights_line caller owner word) = codes "rights" ∷ caller ∷ owner ∷ word ∷ []
 words_given (rt_del_line rt name) = codes "rt-del" ∷ rt ∷ name ∷ []
 words_given (rt_get_line rt name host) = codes "rt-get" ∷ rt ∷ name ∷ host ∷ []
+words_given (rt_get_all_line rt folder) = codes "rt-get" ∷ codes "--all" ∷ rt ∷ folder ∷ []
 words_given (rt_init_line blocks segments image) = codes "rt-init" ∷ codes "--blocks" ∷ blocks ∷ codes "--segments" ∷ segments ∷ image ∷ []
 words_given (rt_list_line image) = codes "rt-list" ∷ image ∷ []
+words_given (rt_ls_line rt) = codes "rt-ls" ∷ rt ∷ []
 words_given (rt_put_line rt name host) = codes "rt-put" ∷ rt ∷ name ∷ host ∷ []
 words_given (rt_vfy_line image) = codes "rt-vfy" ∷ image ∷ []
 words_given (run_line image script) = codes "run" ∷ image ∷ script ∷ []
@@ -104,8 +110,10 @@ texts_of (put_line mode image uic name host) = option_to_list mode ++ (image ∷
 texts_of (rights_line caller owner word) = caller ∷ owner ∷ word ∷ []
 texts_of (rt_del_line rt name) = rt ∷ name ∷ []
 texts_of (rt_get_line rt name host) = rt ∷ name ∷ host ∷ []
+texts_of (rt_get_all_line rt folder) = rt ∷ folder ∷ []
 texts_of (rt_init_line blocks segments image) = blocks ∷ segments ∷ image ∷ []
 texts_of (rt_list_line image) = image ∷ []
+texts_of (rt_ls_line rt) = rt ∷ []
 texts_of (rt_put_line rt name host) = rt ∷ name ∷ host ∷ []
 texts_of (rt_vfy_line image) = image ∷ []
 texts_of (run_line image script) = image ∷ script ∷ []
@@ -202,6 +210,15 @@ abbrev pub AsksRtGet : List ℕ → List ℕ → List ℕ → Words → Type 0
 AsksRtGet image text path (RtGet rt name host) = (rt.now ≡ image) × (name.now ≡ text) × (host.now ≡ path)
 AsksRtGet image text path _ = ⊥
 
+-- the words ask that all files of the RT-11 volume in this image become files of the host in this folder, or that they be listed
+abbrev pub AsksRtGetAll : List ℕ → List ℕ → Words → Type 0
+AsksRtGetAll image text (RtGetAll rt folder) = (rt.now ≡ image) × (folder.now ≡ text)
+AsksRtGetAll image text _ = ⊥
+
+abbrev pub AsksRtLs : List ℕ → Words → Type 0
+AsksRtLs image (RtLs rt) = rt.now ≡ image
+AsksRtLs image _ = ⊥
+
 abbrev pub AsksRtPut : List ℕ → List ℕ → List ℕ → Words → Type 0
 AsksRtPut image text path (RtPut rt name host) = (rt.now ≡ image) × (name.now ≡ text) × (host.now ≡ path)
 AsksRtPut image text path _ = ⊥
@@ -258,8 +275,10 @@ Asks (put_line mode image uic name host) words = AsksPut mode image uic name hos
 Asks (rights_line caller owner word) words = AsksRights caller owner word words
 Asks (rt_del_line rt name) words = AsksRtDel rt name words
 Asks (rt_get_line rt name host) words = AsksRtGet rt name host words
+Asks (rt_get_all_line rt folder) words = AsksRtGetAll rt folder words
 Asks (rt_init_line blocks segments image) words = AsksRtInit blocks segments image words
 Asks (rt_list_line image) words = AsksRtList image words
+Asks (rt_ls_line rt) words = AsksRtLs rt words
 Asks (rt_put_line rt name host) words = AsksRtPut rt name host words
 Asks (rt_vfy_line image) words = AsksRtVfy image words
 Asks (run_line image script) words = AsksRun image script words
@@ -312,8 +331,10 @@ IsUnreadable (put_line mode image uic name host) = IsNoMove mode uic
 IsUnreadable (rights_line caller owner word) = IsNoUic caller ⊎ (IsNoUic owner ⊎ ¬ IsProtection word)
 IsUnreadable (rt_del_line rt name) = ⊥
 IsUnreadable (rt_get_line rt name host) = ⊥
+IsUnreadable (rt_get_all_line rt folder) = ⊥
 IsUnreadable (rt_init_line blocks segments image) = ¬ IsNumber blocks ⊎ ¬ IsNumber segments
 IsUnreadable (rt_list_line image) = ⊥
+IsUnreadable (rt_ls_line rt) = ⊥
 IsUnreadable (rt_put_line rt name host) = ⊥
 IsUnreadable (rt_vfy_line image) = ⊥
 IsUnreadable (run_line image script) = ⊥

@@ -1,18 +1,21 @@
 //! The command `get --all`: the files of the host that it makes, in a folder.
-use crate::host_files::made;
+use crate::host_file::HostFile;
 use crate::outcome::Failure;
 use crate::remarks::{Remark, Which, Why};
 use crate::{judged, opened};
-use f11_commands::f11_catalog::Place;
-use f11_commands::{Answer, TakingAll, begin_all};
+use f11_commands::f11_catalog::{Content, DirectoryName, Place};
+use f11_commands::{Answer, LeftOut, TakingAll, begin_all};
 use f11_dev::{CannotOpen, FileImage};
-use f11_store::{FileId, Uic};
+use f11_store::FileId;
+use f11_store::f11_rad50::Name;
 use std::fs::{self, File};
 use std::io::Write;
 
-/// Takes all files out of a volume, into a folder that is made: those of the directory of the user [g,m] into the folder `[ggg,mmm]` in it,
-/// in three octal digits each, under their names, and those of no directory into the folder `lost`, under their number and sequence
-/// number. Where a file is there already, since a directory has a name twice, its place is in `lost` too.
+/// Takes all files out of a volume, into a folder that is made: those of a directory into the folder in it that is called as the directory
+/// is, `[ggg,mmm]` of a user in three octal digits each, `[NAME]` else, under their names, and those of no directory into the folder
+/// `lost`, under their number and sequence number and the name that their own header has. So are those whose name in the directory is none.
+/// Where a file is there already, since a directory has a name twice, the next one stands beside it, with its number and sequence number
+/// behind the name.
 ///
 /// # Errors
 ///
@@ -33,7 +36,7 @@ pub fn get_all<'a, W: Write>(
     let new = fs::create_dir(rt, folder).map_err(CannotOpen::from);
     opened(new, folder, remark)?;
     let taken = take_all(rt, &mut all, folder, writer);
-    let (_device, served) = all.end();
+    let (_device, served) = all.end(writer);
     let answer = judged(rt, image, served?, remark);
     if taken? {
         Ok(answer)
@@ -51,45 +54,115 @@ fn take_all<W: Write>(
 ) -> Result<bool, Failure> {
     let mut complete = true;
     while let Some(found) = all.next() {
-        match file_at(rt, folder, &found.place)? {
-            Some(mut file) => all.write(&found, &mut file, writer)?,
-            None => complete = false,
+        match found.content {
+            Content::Missing(absence) => {
+                let why = LeftOut::Missing(found.place.id(), absence);
+                all.leave_out(&found.place, &why, writer)?;
+            }
+            _ => match host_of(rt, folder, &found.place)? {
+                Host::File(mut made) => {
+                    let written = all.write(&found, made.beside, &mut made.file, writer);
+                    or_broken(rt, made.path.as_str(), written)?;
+                }
+                Host::Again => all.leave_out(&found.place, &LeftOut::Again, writer)?,
+                Host::None => {
+                    all.leave_out(&found.place, &LeftOut::Host, writer)?;
+                    complete = false;
+                }
+            },
         }
     }
     Ok(complete)
 }
 
-/// The file of the host that is made for one in this place: in the folder `lost` where it is there already. `None` where it can't be made,
-/// which is told.
-fn file_at(rt: &HostRuntime, folder: &str, place: &Place) -> Result<Option<File>, Failure> {
-    let (user, name, id) = match place {
-        Place::Entered(user, name, id) => (user, name, *id),
-        Place::Lost(id) => return lost(rt, folder, *id),
-    };
-    let part = folder_of(rt, folder, *user)?;
-    let path = format!(in rt.alloc(); "{part}/{name}")?;
-    match made_in(rt, part.as_str(), path.as_str()) {
-        Err(CannotOpen::Exists) => lost(rt, folder, id),
-        file => Ok(or_told(rt, path.as_str(), file)),
+/// Tells on standard error that a file of the host may hold a part, where writing failed.
+fn or_broken(
+    rt: &HostRuntime,
+    path: &str,
+    written: Result<(), f11_commands::Failure>,
+) -> Result<(), Failure> {
+    match written {
+        Ok(()) => Ok(()),
+        Err(failure) => {
+            let _ = eprintln!(rt; "{path}: not written to its end");
+            Err(Failure::from(failure))
+        }
     }
 }
 
-/// The path of a user's folder.
-fn folder_of(rt: &HostRuntime, folder: &str, user: Uic) -> Result<String, Failure> {
-    let (group, member) = (user.group, user.member);
-    Ok(format!(in rt.alloc(); "{folder}/[{group:03o},{member:03o}]")?)
+/// What the host has for a file of the volume.
+#[derive(Drop)]
+enum Host {
+    /// A file that was made.
+    File(Made),
+    /// The file is there already: it was taken out before under the same name.
+    Again,
+    /// No file could be made, which was told.
+    None,
 }
 
-/// The file of the host for one that is in no directory, or whose name is there already.
-fn lost(rt: &HostRuntime, folder: &str, id: FileId) -> Result<Option<File>, Failure> {
+/// A file of the host that was made for one of the volume.
+#[derive(Drop)]
+struct Made {
+    path: String,
+    file: HostFile,
+    /// The identification of the volume's file, where the host's stands beside another of its name.
+    beside: Option<FileId>,
+}
+
+/// What the host has for one in this place: a file is made.
+fn host_of(rt: &HostRuntime, folder: &str, place: &Place) -> Result<Host, Failure> {
+    match place {
+        Place::Entered(directory, Some(name), id) => in_directory(rt, folder, directory, name, *id),
+        Place::Entered(_, None, id) => lost(rt, folder, *id, None),
+        Place::Lost(name, id) => lost(rt, folder, *id, *name),
+    }
+}
+
+/// The file of the host for one that a directory names.
+fn in_directory(
+    rt: &HostRuntime,
+    folder: &str,
+    directory: &DirectoryName,
+    name: &Name,
+    id: FileId,
+) -> Result<Host, Failure> {
+    let part = folder_of(rt, folder, directory)?;
+    let path = format!(in rt.alloc(); "{part}/{name}")?;
+    match made_in(rt, part.as_str(), path.as_str()) {
+        Err(CannotOpen::Exists) => {
+            let path = format!(in rt.alloc(); "{part}/{name} ({id})")?;
+            let file = made_in(rt, part.as_str(), path.as_str());
+            Ok(or_told(rt, path, file, Some(id)))
+        }
+        file => Ok(or_told(rt, path, file, None)),
+    }
+}
+
+/// The path of a directory's folder.
+fn folder_of(rt: &HostRuntime, folder: &str, directory: &DirectoryName) -> Result<String, Failure> {
+    match directory {
+        DirectoryName::User(user) => {
+            let (group, member) = (user.group, user.member);
+            Ok(format!(in rt.alloc(); "{folder}/[{group:03o},{member:03o}]")?)
+        }
+        DirectoryName::Named(_) => Ok(format!(in rt.alloc(); "{folder}/{directory}")?),
+    }
+}
+
+/// The file of the host for one that no directory names, or under no name.
+fn lost(rt: &HostRuntime, folder: &str, id: FileId, name: Option<Name>) -> Result<Host, Failure> {
     let part = format!(in rt.alloc(); "{folder}/lost")?;
-    let path = format!(in rt.alloc(); "{part}/{id}")?;
+    let path = match name {
+        Some(name) => format!(in rt.alloc(); "{part}/{id} {name}")?,
+        None => format!(in rt.alloc(); "{part}/{id}")?,
+    };
     let file = made_in(rt, part.as_str(), path.as_str());
-    Ok(or_told(rt, path.as_str(), file))
+    Ok(or_told(rt, path, file, None))
 }
 
 /// A new file in a folder, which is made where there is none.
-fn made_in(rt: &HostRuntime, part: &str, path: &str) -> Result<File, CannotOpen> {
+fn made_in(rt: &HostRuntime, part: &str, path: &str) -> Result<HostFile, CannotOpen> {
     match fs::create_dir(rt, part) {
         Ok(()) => {}
         Err(error) => {
@@ -99,20 +172,26 @@ fn made_in(rt: &HostRuntime, part: &str, path: &str) -> Result<File, CannotOpen>
             }
         }
     }
-    made(rt, path)
+    HostFile::new(rt, path)
 }
 
-/// The file that was made, if one was; else why it wasn't is told on standard error.
-fn or_told(rt: &HostRuntime, path: &str, file: Result<File, CannotOpen>) -> Option<File> {
+/// The file that was made, if one was; that it was there before; or else why it wasn't made is told on standard error.
+fn or_told(
+    rt: &HostRuntime,
+    path: String,
+    file: Result<HostFile, CannotOpen>,
+    beside: Option<FileId>,
+) -> Host {
     match file {
-        Ok(file) => Some(file),
+        Ok(file) => Host::File(Made { path, file, beside }),
+        Err(CannotOpen::Exists) => Host::Again,
         Err(why) => {
             let remark = Remark {
-                word: Which::Text(path),
+                word: Which::Text(path.as_str()),
                 why: Why::CannotOpen(why),
             };
             let _ = eprintln!(rt; "{remark}");
-            None
+            Host::None
         }
     }
 }

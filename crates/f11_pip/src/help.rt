@@ -11,7 +11,7 @@ struct Synopsis {
 /// The program's name and version, and what it was built with.
 const VERSION: &str = "f11_pip 0.1, built with Rattle, logic dac8208d650f15bf";
 
-const COMMANDS: [Synopsis; 18] = [
+const COMMANDS: [Synopsis; 19] = [
     Synopsis {
         name: "dump",
         words: "f11_pip dump IMAGE NUMBER",
@@ -69,8 +69,8 @@ const COMMANDS: [Synopsis; 18] = [
     },
     Synopsis {
         name: "rt-get",
-        words: "f11_pip rt-get RT NAME HOST",
-        does: "copies a file of an RT-11 volume to a new file of the host, HOST, as it is",
+        words: "f11_pip rt-get RT NAME HOST | rt-get --all RT FOLDER",
+        does: "copies a file of an RT-11 volume to a new file HOST, or all files into a new FOLDER, as they are, also of a volume that has faults",
     },
     Synopsis {
         name: "rt-init",
@@ -81,6 +81,11 @@ const COMMANDS: [Synopsis; 18] = [
         name: "rt-list",
         words: "f11_pip rt-list IMAGE",
         does: "lists the areas of an RT-11 volume, which is verified first",
+    },
+    Synopsis {
+        name: "rt-ls",
+        words: "f11_pip rt-ls RT",
+        does: "lists the files of an RT-11 volume, also of one that has faults",
     },
     Synopsis {
         name: "rt-put",

@@ -1,4 +1,5 @@
 //! The commands on files of the host: which files they open, and how.
+use crate::host_file::HostFile;
 use crate::outcome::Failure;
 use crate::remarks::{self, Remark, Which, Why};
 use crate::{judged, opened};
@@ -9,8 +10,8 @@ use f11_commands::{
 };
 use f11_dev::{CannotOpen, FileImage};
 use f11_store::Uic;
-use std::fs::{self, File, OpenOptions};
-use std::io::Write;
+use std::fs::{self, File};
+use std::io::{self, Read, Write};
 
 /// A file of a volume, as the words name it: its image, its directory, and its name.
 #[derive(Clone, Copy)]
@@ -41,7 +42,7 @@ pub fn get<'a, W: Write>(
     Ok(judged(rt, file.image, served, remark))
 }
 
-/// Makes a file of the host, and writes a file that was found to it.
+/// Makes a file of the host, and writes a file that was found to it. Where that fails with nothing written, what was made is removed again.
 fn take_out<'a, W: Write>(
     rt: &HostRuntime,
     found: FoundFile<FileImage<File>>,
@@ -50,18 +51,18 @@ fn take_out<'a, W: Write>(
     writer: &mut W,
     remark: &mut Option<Remark<'a>>,
 ) -> Result<Served, Failure> {
-    let mut file = opened(made(rt, host), host, remark)?;
+    let mut file = opened(HostFile::new(rt, host), host, remark)?;
     let (_, served) = write_file(found, mode, &mut file, writer);
+    if !matches!(
+        served,
+        Ok(Served {
+            answer: Answer::Done,
+            ..
+        },)
+    ) {
+        file.give_up(rt, host);
+    }
     Ok(served?)
-}
-
-/// A new file of the host, to be written.
-pub fn made(rt: &HostRuntime, path: &str) -> Result<File, CannotOpen> {
-    OpenOptions::new()
-        .write(true)
-        .create_new(true)
-        .open(rt, path)
-        .map_err(CannotOpen::from)
 }
 
 /// Makes a file on a volume with the bytes or the lines of a file of the host, which is opened first, twice: a text is read to its end before
@@ -121,14 +122,22 @@ pub fn put_answer<'a>(
     }
 }
 
-/// A file of the host, to be read, and how many bytes it has. What is no file isn't opened, since opening a pipe may wait.
+/// The most bytes that are counted of a file that says that it has none: one more than the largest volume has.
+const MOST_COUNTED: u64 = 264_241_153;
+
+/// A file of the host, to be read, and how many bytes it has. What is no file isn't opened, since opening a pipe may wait. One that says that
+/// it has none, as the files of /proc do, is read to its end to count them, and opened again.
 pub fn with_length(rt: &HostRuntime, path: &str) -> Result<(File, u64), CannotOpen> {
     if !fs::metadata(rt, path)?.is_file() {
         return Err(CannotOpen::Refused);
     }
     let file = File::open(rt, path)?;
-    let bytes = file.metadata()?.len();
-    Ok((file, bytes))
+    let stated = file.metadata()?.len();
+    if stated > 0 {
+        return Ok((file, stated));
+    }
+    let counted = io::copy(&mut file.take(MOST_COUNTED), &mut io::sink())?;
+    Ok((File::open(rt, path)?, counted))
 }
 
 /// The answer of a command on a file of a volume, and a remark on its image where there is one.

@@ -7,18 +7,20 @@
 
 mod folder;
 mod help;
+mod host_file;
 mod host_files;
 mod outcome;
 mod remarks;
 mod rt_files;
+mod rt_folder;
 mod words;
 
 use f11_commands::f11_flx::CopyMode;
 use f11_commands::f11_vfy::{InitParams, MOST_BLOCKS};
 use f11_commands::{
     Answer, Copying, Direction, FileAnswer, Served, System, print_copy, print_header, print_home,
-    print_init, print_ls, print_name, print_rights, print_rt_init, print_rt_list, print_rt_vfy,
-    print_run, print_vfy, print_vfy_update, read_names, refuse_init, refuse_names,
+    print_init, print_ls, print_name, print_rights, print_rt_init, print_rt_list, print_rt_ls,
+    print_rt_vfy, print_run, print_vfy, print_vfy_update, read_names, refuse_init, refuse_names,
 };
 use f11_dev::{CannotOpen, FileImage};
 use f11_store::Uic;
@@ -246,6 +248,9 @@ fn run<'a, W: Write>(
             name,
             host,
         } => rt_files::get(rt, image, name, host, writer, remark),
+        Words::RtGetAll { rt: image, folder } => {
+            rt_folder::get_all(rt, image, folder, writer, remark)
+        }
         Words::RtInit {
             image,
             blocks,
@@ -255,7 +260,7 @@ fn run<'a, W: Write>(
             let (_, answer) = print_rt_init(opened(made, image, remark)?, segments, writer);
             let answer = answer?;
             if answer == Answer::Fault {
-                *remark = Some(remarks::passed_by_segments(segments));
+                told_zeros(rt, image, remarks::passed_by_segments(segments), remark);
             }
             Ok(answer)
         }
@@ -263,6 +268,11 @@ fn run<'a, W: Write>(
             let device = opened(FileImage::open_to_read(rt, image), image, remark)?;
             let (_, answer) = print_rt_list(rt.alloc(), device, writer);
             Ok(looked(rt, image, answer?, remark))
+        }
+        Words::RtLs { rt: image } => {
+            let device = opened(FileImage::open_to_read(rt, image), image, remark)?;
+            let (_, served) = print_rt_ls(rt.alloc(), device, writer);
+            Ok(rt_files::judged(rt, image, served?, remark))
         }
         Words::RtPut {
             rt: image,
@@ -426,7 +436,7 @@ fn looked<'a>(
 }
 
 /// Makes an image file of so many blocks with a fresh volume. A file that can't be one is not made; where no volume can be made for
-/// another cause, the file of zeros stays.
+/// another cause, the file of zeros stays, which is told.
 fn init<'a, W: Write>(
     rt: &HostRuntime,
     image: &'a str,
@@ -435,17 +445,32 @@ fn init<'a, W: Write>(
     writer: &mut W,
     remark: &mut Option<Remark<'a>>,
 ) -> Result<Answer, Failure> {
-    let answer = if blocks > MOST_BLOCKS {
-        refuse_init(writer)?
-    } else {
-        let made = FileImage::create(rt, image, blocks);
-        let (_, answer) = print_init(opened(made, image, remark)?, writer, params);
-        answer?
-    };
+    let limit = remarks::passed_by(blocks, params);
+    if blocks > MOST_BLOCKS {
+        *remark = Some(limit);
+        return Ok(refuse_init(writer)?);
+    }
+    let made = FileImage::create(rt, image, blocks);
+    let (_, answer) = print_init(opened(made, image, remark)?, writer, params);
+    let answer = answer?;
     if answer == Answer::Fault {
-        *remark = Some(remarks::passed_by(blocks, params));
+        told_zeros(rt, image, limit, remark);
     }
     Ok(answer)
+}
+
+/// Tells which limit a parameter passed with which no volume was made, and has it told that the file of zeros stays, which was made for it.
+fn told_zeros<'a>(
+    rt: &HostRuntime,
+    image: &'a str,
+    limit: Remark<'static>,
+    remark: &mut Option<Remark<'a>>,
+) {
+    let _ = eprintln!(rt; "{limit}");
+    *remark = Some(Remark {
+        word: Which::Text(image),
+        why: Why::Zeros,
+    });
 }
 
 /// Why the words, or room for output, can't be had: a word is no text, or no memory is left.

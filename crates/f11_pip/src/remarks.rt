@@ -1,4 +1,5 @@
 //! What is said on standard error beside the lines that are fixed: which word is meant, and why.
+use f11_commands::RtState;
 use f11_commands::f11_layout::{InitParams, MOST_BLOCKS, is_label};
 use f11_dev::{CannotOpen, MAX_BLOCKS};
 use std::env::{Env, FillError};
@@ -46,12 +47,21 @@ pub enum Why {
     /// No volume can be made with it: within which limits it has to be.
     #[error("{0}")]
     Limit(&'static str),
+    /// Its file was made, and no volume in it: it stays.
+    #[error("stays, all zeros; remove it first")]
+    Zeros,
     /// Its file begins as that of another program does, which packs what it keeps.
     #[error("not a raw image")]
     NotRaw,
     /// The volume in it has faults.
     #[error("the volume has faults, which vfy tells")]
     Faulty,
+    /// The RT-11 volume in it has faults.
+    #[error("the volume has faults, which rt-vfy tells")]
+    RtFaulty,
+    /// The RT-11 volume in it ends within its last empty area: how many blocks it should have, and how many bytes these are.
+    #[error("nothing is lost, but it ends within its last empty area: it should have {0} blocks, as truncate -s {1} makes it")]
+    Short(u32, u64),
     /// Its file has so many bytes behind the last whole block.
     #[error("length not a multiple of 512 bytes, the rest of {0} is left out")]
     Remainder(u64),
@@ -119,9 +129,27 @@ fn limit(word: &'static str, limit: &'static str) -> Remark<'static> {
 /// What there is to say of the image of a volume that is served whether it has faults or not: that it has some, or is no raw image; and
 /// where it has none, that not all of its file is read.
 pub fn of_volume<'a>(rt: &HostRuntime, word: &'a str, is_faulty: bool) -> Option<Remark<'a>> {
-    if !is_faulty {
-        return of_image(rt, word, false);
+    if is_faulty {
+        Some(unless_packed(rt, word, Why::Faulty))
+    } else {
+        of_image(rt, word, false)
     }
+}
+
+/// The same of the image of an RT-11 volume, by how that is.
+pub fn of_rt_volume<'a>(rt: &HostRuntime, word: &'a str, state: RtState) -> Option<Remark<'a>> {
+    match state {
+        RtState::Sound => of_image(rt, word, false),
+        RtState::Short(blocks) => Some(Remark {
+            word: Which::Text(word),
+            why: Why::Short(blocks, 512 * u64::from(blocks)),
+        }),
+        RtState::Faulty => Some(unless_packed(rt, word, Why::RtFaulty)),
+    }
+}
+
+/// That an image is no raw one, where it is none, and else why it is remarked.
+fn unless_packed<'a>(rt: &HostRuntime, word: &'a str, why: Why) -> Remark<'a> {
     let why = match of_image(rt, word, true) {
         Some(
             Remark {
@@ -129,12 +157,12 @@ pub fn of_volume<'a>(rt: &HostRuntime, word: &'a str, is_faulty: bool) -> Option
                 ..
             },
         ) => Why::NotRaw,
-        _ => Why::Faulty,
+        _ => why,
     };
-    Some(Remark {
+    Remark {
         word: Which::Text(word),
         why,
-    })
+    }
 }
 
 /// What there is to say of the file that a word names as an image: that it isn't one, which is asked where a fault was found,

@@ -1,16 +1,36 @@
-//! The commands on one file of an RT-11 volume: which files they open, and how.
-use crate::host_files::{ended, made, put_answer, with_length};
+//! The commands on files of an RT-11 volume: which files they open, and how.
+use crate::host_file::HostFile;
+use crate::host_files::{ended, put_answer, with_length};
 use crate::opened;
 use crate::outcome::Failure;
-use crate::remarks::Remark;
+use crate::remarks::{self, Remark};
 use f11_commands::{
-    Answer, find_rt_file, print_rt_delete, print_rt_put, read_rt_name, refuse_names, write_rt_file,
+    Answer, FileAnswer, RtServed, RtState, find_rt_file, print_rt_delete, print_rt_put,
+    read_rt_name, refuse_names, write_rt_file,
 };
 use f11_dev::FileImage;
 use std::io::Write;
 
+/// The answer of a command that serves any RT-11 volume, and what there is to say of its image. Where the report of a directory that can't be
+/// read was written, that is all.
+pub fn judged<'a>(
+    rt: &HostRuntime,
+    image: &'a str,
+    served: RtServed,
+    remark: &mut Option<Remark<'a>>,
+) -> Answer {
+    if let FileAnswer::Faulty(_) = served.answer {
+        return ended(rt, image, served.answer, remark);
+    }
+    *remark = remarks::of_rt_volume(rt, image, served.state);
+    match served.state {
+        RtState::Sound => served.answer.answer(),
+        RtState::Short(_) | RtState::Faulty => Answer::Fault,
+    }
+}
+
 /// Copies a file of an RT-11 volume, whose image is opened to be read alone, to a file of the host, which is made once the other one is
-/// found. Where the copy fails, what was made stays.
+/// found. Where the copy fails, what was made stays, unless nothing was written to it.
 pub fn get<'a, W: Write>(
     rt: &HostRuntime,
     image: &'a str,
@@ -25,11 +45,20 @@ pub fn get<'a, W: Write>(
     let device = opened(FileImage::open_to_read(rt, image), image, remark)?;
     let file = match find_rt_file(rt.alloc(), device, &name, writer) {
         Ok(file) => file,
-        Err((_, told)) => return Ok(ended(rt, image, told?, remark)),
+        Err((_, served)) => return Ok(judged(rt, image, served?, remark)),
     };
-    let mut made = opened(made(rt, host), host, remark)?;
-    let (_, told) = write_rt_file(file, &mut made, writer);
-    Ok(ended(rt, image, told?, remark))
+    let mut made = opened(HostFile::new(rt, host), host, remark)?;
+    let (_, served) = write_rt_file(file, &mut made, writer);
+    if !matches!(
+        served,
+        Ok(RtServed {
+            answer: FileAnswer::Done,
+            ..
+        },)
+    ) {
+        made.give_up(rt, host);
+    }
+    Ok(judged(rt, image, served?, remark))
 }
 
 /// Makes a file on an RT-11 volume with the bytes of a file of the host, which is opened first.

@@ -1,8 +1,8 @@
 //! The words of the command line.
 ghost use Rattle.std.specs.Prelude.{◌≡◌, ◌≤◌, ◌⊎◌, length, ℕ, Bool, true, false, List, codes, map, Option, None, Some, IfOk, IfErr, IsErr, IsOkAnd, MatchResult};
 ghost use Rattle.clap.specs.Words.{app_of, subcommand_rows_of};
-ghost use Rattle.f11_pip.specs.Words.{Asks, AsksDump, AsksFromRt, AsksGet, AsksGetAll, AsksHome, AsksInit, AsksLs, AsksName, AsksPut, AsksRights, AsksRtDel, AsksRtGet, AsksRtInit, AsksRtList, AsksRtPut, AsksRtVfy, AsksRun, AsksToRt, AsksVfy, CommandLine, FailsToAsk, IsLineOf, IsNoCopy, IsNoInit, IsNoMove, IsNoUser, IsUnreadable, rights_line, rt_init_line};
-ghost use Rattle.f11_pip.specs.Commands.{MeetsCopy, MeetsDump, MeetsGet, MeetsInit, MeetsLs, MeetsPut, MeetsRights, MeetsRtFile, MeetsRtHost, MeetsRtInit, MeetsRun, MeetsVfy, MeetsWord, files_app, program_app, volumes_app};
+ghost use Rattle.f11_pip.specs.Words.{Asks, AsksDump, AsksFromRt, AsksGet, AsksGetAll, AsksHome, AsksInit, AsksLs, AsksName, AsksPut, AsksRights, AsksRtDel, AsksRtGet, AsksRtGetAll, AsksRtInit, AsksRtList, AsksRtLs, AsksRtPut, AsksRtVfy, AsksRun, AsksToRt, AsksVfy, CommandLine, FailsToAsk, IsLineOf, IsNoCopy, IsNoInit, IsNoMove, IsNoUser, IsUnreadable, rights_line, rt_init_line};
+ghost use Rattle.f11_pip.specs.Commands.{MeetsCopy, MeetsDump, MeetsGet, MeetsInit, MeetsLs, MeetsPut, MeetsRights, MeetsRtFile, MeetsRtGet, MeetsRtHost, MeetsRtInit, MeetsRun, MeetsVfy, MeetsWord, files_app, program_app, volumes_app};
 ghost use Rattle.f11_numbers.specs.Decimal.{IsNumber};
 
 mod args;
@@ -113,6 +113,11 @@ pub enum Words<'a> {
         name: &'a str,
         host: &'a str,
     },
+    /// `rt-get --all RT FOLDER`: the folder in which all files of an RT-11 volume become files of the host
+    RtGetAll {
+        rt: &'a str,
+        folder: &'a str,
+    },
     /// `rt-init --blocks N --segments N IMAGE`
     RtInit {
         image: &'a str,
@@ -122,6 +127,10 @@ pub enum Words<'a> {
     /// `rt-list IMAGE`
     RtList {
         image: &'a str,
+    },
+    /// `rt-ls RT`
+    RtLs {
+        rt: &'a str,
     },
     /// `rt-put RT NAME HOST`: a file of an RT-11 volume that is made, and one of the host
     RtPut {
@@ -167,7 +176,7 @@ fn program<'a>(alloc: Global) -> Result<Command<'a>, AllocError>
     with_rt_files(alloc, volume_commands(alloc)?)
 }
 
-/// The commands but those on one file of an RT-11 volume.
+/// The commands but those on files of an RT-11 volume.
 fn volume_commands<'a>(alloc: Global) -> Result<Command<'a>, AllocError>
     ensures { IfOk result (λ command. app_of command ≡ volumes_app) }
 {
@@ -249,8 +258,14 @@ fn command_of<'a>(matches: &ArgMatches<'a>) -> Result<Words<'a>, Failure>
         → MeetsRtFile (codes "rt-del") rt name (subcommand_rows_of matches.now)
         → IsOkAnd result (AsksRtDel rt name) }
     ensures rt_get { (rt name host : List ℕ)
-        → MeetsRtHost (codes "rt-get") rt name host (subcommand_rows_of matches.now)
+        → MeetsRtGet false rt name (Some host) (subcommand_rows_of matches.now)
         → IsOkAnd result (AsksRtGet rt name host) }
+    ensures rt_get_all { (rt folder : List ℕ)
+        → MeetsRtGet true rt folder None (subcommand_rows_of matches.now)
+        → IsOkAnd result (AsksRtGetAll rt folder) }
+    ensures rt_ls { (rt : List ℕ)
+        → MeetsWord (codes "rt-ls") (codes "rt") rt (subcommand_rows_of matches.now)
+        → IsOkAnd result (AsksRtLs rt) }
     ensures rt_put { (rt name host : List ℕ)
         → MeetsRtHost (codes "rt-put") rt name host (subcommand_rows_of matches.now)
         → IsOkAnd result (AsksRtPut rt name host) }

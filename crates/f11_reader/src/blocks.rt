@@ -35,7 +35,7 @@ pub(crate) fn has_slot(index: &IndexFile, number: u16) -> bool
 }
 
 /// Whether an identification may be that of a file: its number is a slot's, and it is of no other volume.
-fn is_slot(index: &IndexFile, id: FileId) -> bool
+pub fn is_slot(index: &IndexFile, id: FileId) -> bool
     ensures { IsTrue result ↔ ((id.volume ≡ 0)
         × ((0 < id.number) × (id.number ≤ slots (index_kept index.now)))) }
 {

@@ -11,4 +11,5 @@ pub mod laws;
 mod missing;
 mod slot;
 
+pub use blocks::is_slot;
 pub use file::FileReader;

@@ -88,16 +88,17 @@ fn all_files_are_taken_out(rt: HostRuntime) -> Result<(), Fail> {
         let Some(found) = all.next() else {
             return Err(DeviceFault)?;
         };
-        assert_eq!(rt; all.write(&found, &mut sink(), &mut told), Ok(()));
+        assert_eq!(rt; all.write(&found, None, &mut sink(), &mut told), Ok(()));
     }
     assert!(rt; all.next().is_none());
+    let (_, served) = all.end(&mut told);
     let wanted = b"[0,0] INDEXF.SYS;1 copied 9728 bytes\n\
         [0,0] BITMAP.SYS;1 copied 1024 bytes\n\
         [0,0] BADBLK.SYS;1 copied 0 bytes\n\
         [0,0] 000000.DIR;1 copied 80 bytes\n\
-        [0,0] CORIMG.SYS;1 copied 0 bytes\n";
+        [0,0] CORIMG.SYS;1 copied 0 bytes\n\
+        all 5 copied, 0 cut, 0 not copied, 0 in lost\n";
     assert!(rt; text_of(&told) == wanted.as_slice());
-    let (_, served) = all.end();
     let wanted = Served {
         answer: Answer::Done,
         faulty: false,

@@ -7,6 +7,9 @@ pub mod Searching
 pub mod BlockLemmas
 pub mod AnswerLemmas
 pub mod ListLemmas
+pub mod SurveyLemmas
+pub mod SurveyFiles
+pub mod BadBlockLemmas
 pub mod DeleteLemmas
 pub mod CreateLemmas
 pub mod Splitting

@@ -62,12 +62,12 @@ listed-more image place k words before at is so_far =
     ∙ ap (flat_map shown_segment) (sym (take_more (segments_of image) place none inside))
 
 -- what two functions agree on, piece by piece
-flat_map-agree : {A B : Type 0} (f g : A → List B) (xs : List A) → ((j : ℕ) (x : A) → slice_get xs j ≡ Some x → f x ≡ g x)
+pub flat_map-agree : {A B : Type 0} (f g : A → List B) (xs : List A) → ((j : ℕ) (x : A) → slice_get xs j ≡ Some x → f x ≡ g x)
     → flat_map f xs ≡ flat_map g xs
 flat_map-agree f g [] same = refl
 flat_map-agree f g (x ∷ xs) same = λ i. same 0 x refl i ++ flat_map-agree f g xs (λ j y at. same (suc j) y at) i
 
-map-flat_map : {A B C : Type 0} (h : B → C) (f : A → List B) (xs : List A) → map h (flat_map f xs) ≡ flat_map (λ x. map h (f x)) xs
+pub map-flat_map : {A B C : Type 0} (h : B → C) (f : A → List B) (xs : List A) → map h (flat_map f xs) ≡ flat_map (λ x. map h (f x)) xs
 map-flat_map h f [] = refl
 map-flat_map h f (x ∷ xs) = map-append h (f x) (flat_map f xs) ∙ ap (λ r. map h (f x) ++ r) (map-flat_map h f xs)
 

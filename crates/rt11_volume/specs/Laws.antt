@@ -1,12 +1,16 @@
 -- Laws of what the calls make of a store's files, for whoever keeps files on an RT-11 volume (profile).
-use Rattle.std.specs.Prelude.{◌≡◌, ℕ, ◌<◌, false, List, [], ◌∷◌, length, slice_set}
+use Rattle.std.specs.Prelude.{◌≡◌, ℕ, ◌<◌, true, false, List, [], ◌∷◌, find, length, map, option_map, slice_set}
+use Rattle.std.specs.List.{slice_get}
 use Rattle.f11_dev.specs.Image.{Image}
+use Rattle.rt11_volume.specs.AnyDirectory.{as_area, blocks_from, directory_entries, is_sound_file_named}
 use Rattle.rt11_volume.specs.Entry.{is_same_name}
 use Rattle.rt11_volume.specs.Files.{HasFile, HasNoFile, file_area, CreatesFile, WritesBlock, DeletesFile}
+use Rattle.rt11_volume.specs.Listing.{shown_area}
 use Rattle.rt11_volume.specs.Named.{files_named}
-use Rattle.rt11_volume.specs.RtName.{IsRtName}
-use Rattle.rt11_volume.specs.Store.{RtStore, Area, rt_store_of}
+use Rattle.rt11_volume.specs.RtName.{IsRtName, is_rt_name}
+use Rattle.rt11_volume.specs.Store.{RtStore, Area, areas_of, rt_store_of}
 use Rattle.rt11_volume.specs.Verifying.Verdict.{IsRtAccepted}
+use Rattle.rt11_volume.specs.declared.any_entries.RtEntry.{RtEntry}
 
 -- the files of every other name are as they were
 abbrev pub KeepsOtherNames : List ℕ → RtStore → RtStore → Type 0
@@ -64,3 +68,15 @@ WrittenIsReplaced =
 -- what delete takes away
 abbrev pub DeletedIsGone : Type 0
 DeletedIsGone = (name : List ℕ) (old new : Image) → DeletesFile name old new → HasGone name (rt_store_of old) (rt_store_of new)
+
+-- The entries that are read of an accepted volume are its store's areas, in order.
+abbrev pub ListsTheStoresAreas : Type 0
+ListsTheStoresAreas =
+    (image : Image) → IsRtAccepted image → map as_area (directory_entries image) ≡ map shown_area (areas_of (rt_store_of image))
+
+-- The first entry of a file of a name that can be taken out of an accepted volume is that of its store's first file of it, and has its
+-- blocks.
+abbrev pub FindsTheStoresFile : Type 0
+FindsTheStoresFile = (image : Image) (name : List ℕ) → IsRtAccepted image → is_rt_name name ≡ true →
+    option_map (λ (e : RtEntry). blocks_from image e.first e.blocks) (find (is_sound_file_named name) (directory_entries image))
+    ≡ slice_get (map (λ (f : Area). f.contents) (files_named name (rt_store_of image))) 0

@@ -12,6 +12,9 @@ pub mod Fresh
 pub mod Refusal
 pub mod Files
 pub mod Listing
+pub mod AnyDirectory
+pub mod Surveying
+pub mod BadBlocks
 pub mod Rewriting
 pub mod FreshLaws
 pub mod Named

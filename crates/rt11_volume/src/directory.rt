@@ -16,7 +16,7 @@ pub(crate) const MOST_SEGMENTS: u16 = 31;
 
 /// Why a directory could not be read.
 #[derive(Clone, Copy, Debug, PartialEq, Eq)]
-pub(crate) enum LookFault {
+pub enum LookFault {
     /// A transfer failed.
     DeviceFault,
     /// There was no memory.

@@ -1,5 +1,6 @@
 //! An entry of the directory.
 ghost use Rattle.std.specs.Prelude.{◌≡◌, ◌<◌, ◌&&◌};
+ghost use Rattle.rt11_volume.specs.AnyDirectory.{only_kind};
 ghost use Rattle.rt11_volume.specs.Entry.{has_bit, is_one_kind, is_same_name, kind_of};
 
 use crate::area::RtKind;
@@ -67,6 +68,17 @@ impl Entry {
         }
     }
 
+    /// The kind of its area, where its status says exactly one.
+    pub(crate) fn only_kind(&self) -> Option<RtKind>
+        ensures { result ≡ only_kind self.now.status }
+    {
+        if is_one_kind(self.status) {
+            Some(self.kind())
+        } else {
+            None
+        }
+    }
+
     /// Whether it is protected.
     pub(crate) fn is_protected(&self) -> bool
         ensures { result ≡ has_bit self.now.status 15 }
@@ -84,7 +96,7 @@ impl Entry {
 }
 
 /// Whether two names are the same.
-fn is_same_name(one: [u16; 3], other: [u16; 3]) -> bool
+pub(crate) fn is_same_name(one: [u16; 3], other: [u16; 3]) -> bool
     ensures { result ≡ is_same_name one other }
 {
     one[0] == other[0] && (one[1] == other[1] && one[2] == other[2])

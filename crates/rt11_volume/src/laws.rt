@@ -13,3 +13,9 @@ pub fn changes()
     ensures replaced { laws.WrittenIsReplaced }
     ensures gone { laws.DeletedIsGone }
 {}
+
+/// What is read of the directory of a volume with faults or without.
+pub fn entries()
+    ensures areas { laws.ListsTheStoresAreas }
+    ensures file { laws.FindsTheStoresFile }
+{}

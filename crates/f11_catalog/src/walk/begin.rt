@@ -6,7 +6,7 @@ ghost use Rattle.f11_catalog.specs.Walking.{OpensMaster};
 
 use crate::directory::DirectoryReader;
 use crate::fault::WalkFault;
-use crate::walk::state::{AllFiles, OtherFiles, UserFiles};
+use crate::walk::state::{AllFiles, EnteredFiles, OtherFiles};
 use f11_dev::{Device, DeviceFault};
 use f11_index::IndexFile;
 use f11_store::FileId;
@@ -45,7 +45,7 @@ impl AllFiles {
         ensures next { result.others.next ≡ 1 }
     {
         AllFiles {
-            entered: UserFiles { hand: None, master },
+            entered: EnteredFiles { hand: None, master },
             others: OtherFiles { met, next: 1 },
         }
     }

@@ -1,8 +1,10 @@
-//! The files that no user's directory names, one after another.
-ghost use Rattle.std.specs.Prelude.{◌≡◌, ◌+◌, ◌<◌, ◌||◌, ◌==◌, IfOk, IfSome, IfNone, OnErr, length, ℕ};
+//! The files that no directory names, one after another.
+ghost use Rattle.std.specs.Prelude.{◌≡◌, ◌+◌, ◌<◌, ◌||◌, ◌&&◌, ◌==◌, Bool, IfOk, IfSome, IfNone, OnErr, length, ℕ};
 ghost use Rattle.f11_index.specs.Kept.{index_kept, IndexLiesWithin};
 ghost use Rattle.f11_catalog.specs.Records.{Reads};
 
+use crate::own_name::own_name;
+use crate::walk::content::Content;
 use crate::walk::place::{FileAt, Place};
 use crate::walk::state::OtherFiles;
 use f11_dev::{Device, DeviceFault};
@@ -11,17 +13,20 @@ use f11_reader::FileReader;
 
 impl OtherFiles {
     ghost use Rattle.f11_catalog.specs.AllFiles.{place_lost};
-    ghost use Rattle.f11_catalog.specs.Walking.{EntersNone, EntersOne, FindsNoOther, FindsOther, is_met};
+    ghost use Rattle.f11_catalog.specs.Walking.{EntersNone, FindsLost, FindsNoOther, FindsOther, is_met};
 
-    /// A file was met in a user's directory.
-    pub(crate) fn meet(&mut self, number: u16)
-        ensures adds { (n : ℕ) → is_met self.new n ≡ (is_met self.old n || (number == n)) }
+    /// The number of a file was met in a directory, if it is one of a file.
+    pub(crate) fn meet(&mut self, number: u16, is_file: bool)
+        ensures adds { (n : ℕ) → is_met self.new n
+            ≡ (is_met self.old n || (is_file && (number == n))) }
         ensures next { self.new.next ≡ self.old.next }
     {
-        self.met[usize::from(number)] = true;
+        if is_file {
+            self.met[usize::from(number)] = true;
+        }
     }
 
-    /// Whether a file was met in a user's directory.
+    /// Whether a file was met in a directory.
     fn has_met(&self, number: u16) -> bool
         ensures { result ≡ is_met self.now number }
     {
@@ -53,7 +58,7 @@ impl OtherFiles {
     ) -> Result<Option<FileAt>, DeviceFault>
         requires within { IndexLiesWithin (index_kept index.now) (length (D.disk device.old).image) }
         ensures one { IfOk result (λ answer. IfSome answer (λ found.
-            EntersOne (λ image t. place_lost t (is_met self.now) number) (index_kept index.now)
+            FindsLost (λ image t. place_lost t (is_met self.now) number) (index_kept index.now)
             found (D.disk device.old) (D.disk device.new))) }
         ensures none { IfOk result (λ answer. IfNone answer (
             EntersNone (λ image t. place_lost t (is_met self.now) number) (index_kept index.now)
@@ -65,8 +70,8 @@ impl OtherFiles {
         }
         match FileReader::open_slot(device, index, number) {
             Ok(Some(file)) => Ok(Some(FileAt {
-                place: Place::Lost(file.id()),
-                file,
+                place: Place::Lost(own_name(file.header()), file.id()),
+                content: Content::File(file),
             })),
             Ok(None) => Ok(None),
             Err(DeviceFault) => Err(DeviceFault),

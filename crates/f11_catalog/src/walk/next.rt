@@ -3,29 +3,15 @@ ghost use Rattle.std.specs.Prelude.{◌≡◌, IfOk, IfSome, IfNone, OnErr, leng
 ghost use Rattle.f11_index.specs.Kept.{index_kept, IndexLiesWithin};
 ghost use Rattle.f11_catalog.specs.Records.{Reads};
 
-use crate::walk::place::{FileAt, Place};
+use crate::walk::place::FileAt;
 use crate::walk::state::AllFiles;
 use f11_dev::{Device, DeviceFault};
 use f11_index::IndexFile;
 
-impl Place {
-    ghost use Rattle.f11_catalog.specs.AllFiles.{id_of};
-
-    /// The number of the file that stands there.
-    fn number(&self) -> u16
-        ensures { result ≡ (id_of self.now).number }
-    {
-        match self {
-            Place::Entered(_, _, id) => id.number,
-            Place::Lost(id) => id.number,
-        }
-    }
-}
-
 impl AllFiles {
     ghost use Rattle.f11_catalog.specs.Walking.{GivesFile, HasNoFile, IsWalking};
 
-    /// The next file, with its first header in hand; `None` behind the last.
+    /// What stands in the next place; `None` behind the last. `wide` is the index file that takes each slot as in use.
     ///
     /// # Errors
     ///
@@ -34,21 +20,24 @@ impl AllFiles {
         &mut self,
         device: &mut D,
         index: &IndexFile,
+        wide: &IndexFile,
     ) -> Result<Option<FileAt>, DeviceFault>
         requires within { IndexLiesWithin (index_kept index.now) (length (D.disk device.old).image) }
+        requires wide { IndexLiesWithin (index_kept wide.now) (length (D.disk device.old).image) }
         requires walking { IsWalking (index_kept index.now) self.old (D.disk device.old) }
         ensures walking { IsWalking (index_kept index.now) self.new (D.disk device.new) }
         ensures gives { IfOk result (λ answer. IfSome answer (λ found.
-            GivesFile (index_kept index.now) self.old self.new found
+            GivesFile (index_kept index.now) (index_kept wide.now) self.old self.new found
             (D.disk device.old) (D.disk device.new))) }
         ensures ended { IfOk result (λ answer. IfNone answer (
             HasNoFile (index_kept index.now) self.old self.new
             (D.disk device.old) (D.disk device.new))) }
         ensures failed { OnErr result (Reads (D.disk device.old) (D.disk device.new) 1) }
     {
-        match self.entered.next(device, index) {
+        match self.entered.next(device, index, wide) {
             Ok(Some(found)) => {
-                self.others.meet(found.place.number());
+                let id = found.place.id();
+                self.others.meet(id.number, found.content.is_file());
                 Ok(Some(found))
             }
             Ok(None) => match self.others.next(device, index) {

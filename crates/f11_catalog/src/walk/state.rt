@@ -2,28 +2,28 @@
 ghost use Rattle.std.specs.Prelude.{◌≡◌, ◌≤◌, vec_len};
 
 use crate::directory::DirectoryReader;
-use f11_store::Uic;
+use crate::directory_name::DirectoryName;
 
-/// A user's directory, whose records are read.
+/// A directory, whose records are read.
 #[derive(Clone, Copy)]
-pub(crate) struct UserDirectory {
-    pub(crate) user: Uic,
+pub(crate) struct OpenDirectory {
+    pub(crate) name: DirectoryName,
     pub(crate) directory: DirectoryReader,
 }
 
-/// The files that users' directories name, one after another.
+/// What directories name, one record after another.
 #[derive(Clone, Copy)]
-pub(crate) struct UserFiles {
-    /// The user's directory in hand, if there is one.
-    pub(crate) hand: Option<UserDirectory>,
-    /// The master file directory, of whose records those of further users are still to come, if it can be read.
+pub(crate) struct EnteredFiles {
+    /// The directory in hand, if there is one.
+    pub(crate) hand: Option<OpenDirectory>,
+    /// The master file directory, of whose records those of further directories are still to come, if it can be read.
     pub(crate) master: Option<DirectoryReader>,
 }
 
-/// The files that no user's directory names, one after another.
+/// The files that no directory names, one after another.
 #[derive(Drop)]
 pub(crate) struct OtherFiles {
-    /// Of each file number, whether the file was met in a user's directory.
+    /// Of each file number, whether the file was met in a directory.
     pub(crate) met: Vec<bool>,
     /// The least number that wasn't looked at, from 1.
     pub(crate) next: u32,
@@ -32,10 +32,10 @@ pub(crate) struct OtherFiles {
     pub ghost few: { next ≤ 65536 },
 }
 
-/// All files of a volume, one after another: those that users' directories name, in the order in which [`crate::list_users`] goes over
-/// them, and behind them the others by their numbers.
+/// All files of a volume, one after another: what the directories name that the master file directory names, a record at a time, in the order
+/// in which [`crate::list_directories`] goes over them, and behind them by their numbers the files that none of them names.
 #[derive(Drop)]
 pub struct AllFiles {
-    pub(crate) entered: UserFiles,
+    pub(crate) entered: EnteredFiles,
     pub(crate) others: OtherFiles,
 }

@@ -1,6 +1,6 @@
 //! A copy between two accepted volumes.
-ghost use Rattle.std.specs.Prelude.{◌≡◌, false, IsTrue};
-ghost use Rattle.f11_commands.specs.CopyCommand.{EndsBetween};
+ghost use Rattle.std.specs.Prelude.{◌≡◌, ◌*◌, false, IfErr, IfOk, IsTrue};
+ghost use Rattle.f11_commands.specs.CopyCommand.{EndsBetween, FailsToSyncTarget, TellsKeptCopy};
 ghost use Rattle.f11_commands.specs.Copying.{OutcomeIs};
 ghost use Rattle.f11_commands.specs.Finding.{FaresAsAnswered, WithinDirectory};
 ghost use Rattle.f11_commands.specs.Stopping.{StopsCopy, StopsWithin};
@@ -16,6 +16,7 @@ use crate::copy::finding::{
 use crate::copy::telling::tell;
 use crate::copy::{Copying, Direction, FileAnswer};
 use crate::outcome::Failure;
+use crate::sync::synced;
 use f11_dev::Device;
 use f11_flx::{FlxRefusal, copy_from_rt, copy_to_rt};
 use f11_serving::f11_fcp::{Failed, Volume};
@@ -26,7 +27,7 @@ use rt11_volume::RtAccepted;
 use std::alloc::Global;
 use std::io::Write;
 
-/// Mounts an accepted volume, copies a file between it and an RT-11 volume, tells that, and dismounts it.
+/// Mounts an accepted volume, copies a file between it and an RT-11 volume, dismounts it, and tells that, once it is kept.
 pub fn serve<D: Device, E: Device, W: Write>(
     alloc: Global,
     accepted: Accepted<D>,
@@ -44,8 +45,13 @@ pub fn serve<D: Device, E: Device, W: Write>(
     match Volume::mount(alloc, accepted) {
         Ok(mut volume) => {
             let copied = copy_by_names(&mut volume, &mut rt, copy);
-            let told = tell(copied, writer);
-            (dismount(volume), rt.device(), told)
+            tell_kept(
+                copied,
+                copy.direction,
+                dismount(volume),
+                rt.device(),
+                writer,
+            )
         }
         Err(OpenFault::DeviceFault(files) | OpenFault::Damaged(files)) => {
             (files, rt.device(), Err(Failure::DeviceFault))
@@ -53,6 +59,49 @@ pub fn serve<D: Device, E: Device, W: Write>(
         Err(OpenFault::NoMemory(accepted)) => {
             (accepted.device(), rt.device(), Err(Failure::NoMemory))
         }
+    }
+}
+
+/// Tells what came of a copy, and where it was made syncs the device that was copied to before.
+fn tell_kept<D: Device, E: Device, W: Write>(
+    copied: Result<u32, FlxRefusal>,
+    direction: Direction,
+    files: D,
+    rt: E,
+    writer: &mut W,
+) -> (D, E, Result<FileAnswer, Failure>)
+    ensures tells { TellsKeptCopy direction copied result.2 (D.disk files) (D.disk result.0) (E.disk rt)
+        (E.disk result.1) W.contents writer.old writer.new }
+{
+    match copied {
+        Ok(blocks) => match synced_target(direction, files, rt) {
+            Ok((files, rt)) => (files, rt, tell(Ok(blocks), writer)),
+            Err((files, rt)) => (files, rt, Err(Failure::DeviceFault)),
+        },
+        Err(refusal) => (files, rt, tell(Err(refusal), writer)),
+    }
+}
+
+/// Syncs the device that was copied to, and gives both back; as an error where that failed.
+fn synced_target<D: Device, E: Device>(
+    direction: Direction,
+    files: D,
+    rt: E,
+) -> Result<(D, E), (D, E)>
+    ensures synced { IfOk result (λ both. (D.disk both.0 ≡ D.disk files)
+        × (E.disk both.1 ≡ E.disk rt)) }
+    ensures failed { IfErr result (λ both. FailsToSyncTarget direction
+        (D.disk files) (D.disk both.0) (E.disk rt) (E.disk both.1)) }
+{
+    match direction {
+        Direction::ToRt => match synced(rt) {
+            Ok(rt) => Ok((files, rt)),
+            Err(rt) => Err((files, rt)),
+        },
+        Direction::FromRt => match synced(files) {
+            Ok(files) => Ok((files, rt)),
+            Err(files) => Err((files, rt)),
+        },
     }
 }
 

@@ -66,7 +66,7 @@ pub fn accept_rt<E: Device, W: Write>(
 }
 
 /// Writes the report of a volume with faults.
-fn write_report<W: Write>(
+pub(crate) fn write_report<W: Write>(
     writer: &mut W,
     system: System,
     faults: &Findings,

@@ -1,7 +1,9 @@
-//! The command `get --all`: every file of a volume, one after another.
+//! The command `get --all`.
 
 pub mod begin;
-pub mod line;
+pub(crate) mod counts;
+pub mod left_out;
+pub(crate) mod line;
 pub mod next;
 pub mod state;
-pub mod taking;
+pub(crate) mod taking;

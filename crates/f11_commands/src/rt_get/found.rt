@@ -1,21 +1,15 @@
 //! A file of an RT-11 volume that was found.
-ghost use Rattle.std.specs.Prelude.{◌≡◌, false};
-ghost use Rattle.f11_commands.specs.RtGet.{HasLength};
-ghost use Rattle.rt11_volume.specs.Calls.{has_failed, volume_device};
-ghost use Rattle.rt11_volume.specs.Store.{rt_store_of};
-ghost use Rattle.rt11_volume.specs.Verifying.Verdict.{IsSoundDisk};
 
 use f11_dev::Device;
-use rt11_volume::{RtAccepted, RtName};
+use rt11_volume::{RtEntry, RtState};
 
-/// A file of an RT-11 volume that was found, by its name, and the volume, which no call has failed.
+/// A file of an RT-11 volume, faulty or not, that was found, none of whose blocks was read, on its device.
 #[derive(Drop)]
 pub struct FoundRtFile<D: Device> {
-    pub(crate) volume: RtAccepted<D>,
-    pub(crate) name: RtName,
-    /// How many blocks it has.
-    pub(crate) blocks: u16,
-    pub ghost fresh: { has_failed volume ≡ false },
-    /// On a sound disk it is there, and has so many blocks.
-    pub ghost file: { IsSoundDisk (D.disk (volume_device volume)) → HasLength name blocks (rt_store_of (D.disk (volume_device volume)).image) },
+    /// The device that has the volume.
+    pub(crate) device: D,
+    /// Its entry.
+    pub(crate) entry: RtEntry,
+    /// How the volume is.
+    pub(crate) state: RtState,
 }

@@ -84,6 +84,30 @@ fn volumes_on_devices_that_fail(rt: HostRuntime) -> Result<(), Fail> {
     Ok(())
 }
 
+#[test]
+fn a_sync_that_fails_writes_no_line(rt: HostRuntime) -> Result<(), Fail> {
+    let fault = Err(Failure::DeviceFault);
+    let mut done = lines();
+    let (made, answer) = print_init(memory(rt.alloc(), 22)?, &mut done, &params());
+    assert_eq!(rt; answer, Ok(Answer::Done));
+    let mut lines = lines();
+    // behind the last transfer the sync is the next that fails, and the volume is whole
+    let next = made.transfers().saturating_add(1);
+    let device = FailOnce::new(memory(rt.alloc(), 22)?, next, false);
+    let (device, answer) = print_init(device, &mut lines, &params());
+    assert_eq!(rt; answer, fault);
+    let (device, answer) = print_vfy(rt.alloc(), device.into_inner(), &mut done);
+    assert_eq!(rt; answer, Ok(Answer::Done));
+    // of an RT-11 volume the two blocks of its segment are written before
+    let device = FailOnce::new(device, 3, false);
+    let (device, answer) = print_rt_init(device, 1, &mut lines);
+    assert_eq!(rt; answer, fault);
+    let (_, answer) = print_rt_vfy(rt.alloc(), device.into_inner(), &mut done);
+    assert_eq!(rt; answer, Ok(Answer::Done));
+    assert_eq!(rt; text_of(&lines), b"".as_slice());
+    Ok(())
+}
+
 /// A writer that takes so many bytes.
 fn room(space: &mut [u8; 40], size: usize) -> Cursor<&mut [u8]> {
     Cursor::new(&mut space[..size.min(40)])

@@ -101,7 +101,7 @@ fn get_all_of<'a>(given: &ArgMatches<'a>) -> Result<Words<'a>, Failure>
 }
 
 /// Whether there is a word of this name.
-fn has(given: &ArgMatches<'_>, name: &str) -> bool
+pub(crate) fn has(given: &ArgMatches<'_>, name: &str) -> bool
     ensures { result ≡ is_some (first_value (found_of given.now) name.now) }
 {
     given.get_str(name).is_some()

@@ -1,18 +1,18 @@
-//! The words of the commands on one file of an RT-11 volume.
-ghost use Rattle.std.specs.Prelude.{◌≡◌, List, Option, None, ℕ, codes, IfErr, IfOk, IsErr, IsOkAnd, MatchResult};
+//! The words of the commands on files of an RT-11 volume.
+ghost use Rattle.std.specs.Prelude.{◌≡◌, List, Bool, Option, None, Some, ℕ, codes, false, true, IfErr, IfOk, IsErr, IsOkAnd, MatchResult};
 ghost use Rattle.clap.specs.Words.{app_of, subcommand_rows_of};
-ghost use Rattle.f11_pip.specs.Commands.{HasRtFileWords, HasRtHostWords, MeetsCopy, MeetsPut, MeetsRtFile, MeetsRtHost, rt_del_app, rt_get_app, rt_put_app, rt_file_app, with_rt_files};
-ghost use Rattle.f11_pip.specs.Words.{AsksFromRt, AsksPut, AsksRtDel, AsksRtGet, AsksRtPut, AsksToRt, IsNoCopy, IsNoMove};
+ghost use Rattle.f11_pip.specs.Commands.{HasRtFileWords, HasRtGetWords, HasRtHostWords, HasWord, MeetsCopy, MeetsPut, MeetsRtFile, MeetsRtGet, MeetsRtHost, MeetsWord, rt_del_app, rt_file_app, rt_get_app, rt_ls_app, rt_put_app, with_rt_files};
+ghost use Rattle.f11_pip.specs.Words.{AsksFromRt, AsksPut, AsksRtDel, AsksRtGet, AsksRtGetAll, AsksRtLs, AsksRtPut, AsksToRt, IsNoCopy, IsNoMove};
 
 use crate::outcome::Failure;
 use crate::words::Words;
-use crate::words::args::{needed, word_of};
+use crate::words::args::{flag, needed, word, word_of};
 use crate::words::copies::copy_of;
-use crate::words::host_files::put_of;
+use crate::words::host_files::{has, put_of};
 use clap::{ArgMatches, Command};
 use std::alloc::{AllocError, Global};
 
-/// The command with these three behind its own.
+/// The command with these four behind its own.
 pub(crate) fn with_rt_files<'a>(
     alloc: Global,
     command: Command<'a>,
@@ -22,6 +22,7 @@ pub(crate) fn with_rt_files<'a>(
     command
         .subcommand(rt_del(alloc)?)?
         .subcommand(rt_get(alloc)?)?
+        .subcommand(rt_ls(alloc)?)?
         .subcommand(rt_put(alloc)?)
 }
 
@@ -34,7 +35,17 @@ fn rt_del<'a>(alloc: Global) -> Result<Command<'a>, AllocError>
 fn rt_get<'a>(alloc: Global) -> Result<Command<'a>, AllocError>
     ensures { IfOk result (λ command. app_of command ≡ rt_get_app) }
 {
-    rt_file(alloc, "rt-get")?.arg(needed(alloc, "host"))
+    Command::new(alloc, "rt-get")
+        .arg(flag(alloc, "all"))?
+        .arg(needed(alloc, "rt"))?
+        .arg(needed(alloc, "name"))?
+        .arg(word(alloc, "host"))
+}
+
+fn rt_ls<'a>(alloc: Global) -> Result<Command<'a>, AllocError>
+    ensures { IfOk result (λ command. app_of command ≡ rt_ls_app) }
+{
+    Command::new(alloc, "rt-ls").arg(needed(alloc, "rt"))
 }
 
 fn rt_put<'a>(alloc: Global) -> Result<Command<'a>, AllocError>
@@ -64,7 +75,23 @@ pub(crate) fn rt_del_of<'a>(given: &ArgMatches<'a>) -> Result<Words<'a>, Failure
 }
 
 pub(crate) fn rt_get_of<'a>(given: &ArgMatches<'a>) -> Result<Words<'a>, Failure>
-    ensures rt_get { (rt name host : List ℕ) → HasRtHostWords rt name host given.now
+    ensures rt_get { (rt name host : List ℕ) → HasRtGetWords false rt name (Some host) given.now
+        → IsOkAnd result (AsksRtGet rt name host) }
+    ensures all { (rt folder : List ℕ) → HasRtGetWords true rt folder None given.now
+        → IsOkAnd result (AsksRtGetAll rt folder) }
+    ensures usage { IfErr result (λ failure. failure ≡ Failure.Usage) }
+{
+    if given.get_flag("all") {
+        rt_get_all_of(given)
+    } else {
+        rt_get_file_of(given)
+    }
+}
+
+/// The words of `rt-get` for one file.
+fn rt_get_file_of<'a>(given: &ArgMatches<'a>) -> Result<Words<'a>, Failure>
+    ensures rt_get { (all : Bool) → (rt name host : List ℕ)
+        → HasRtGetWords all rt name (Some host) given.now
         → IsOkAnd result (AsksRtGet rt name host) }
     ensures usage { IfErr result (λ failure. failure ≡ Failure.Usage) }
 {
@@ -73,6 +100,29 @@ pub(crate) fn rt_get_of<'a>(given: &ArgMatches<'a>) -> Result<Words<'a>, Failure
         name: word_of(given, "name")?,
         host: word_of(given, "host")?,
     })
+}
+
+/// The words of `rt-get` for all files, which are of no file of the host.
+fn rt_get_all_of<'a>(given: &ArgMatches<'a>) -> Result<Words<'a>, Failure>
+    ensures all { (rt folder : List ℕ) → HasRtGetWords true rt folder None given.now
+        → IsOkAnd result (AsksRtGetAll rt folder) }
+    ensures usage { IfErr result (λ failure. failure ≡ Failure.Usage) }
+{
+    if has(given, "host") {
+        return Err(Failure::Usage);
+    }
+    let rt = word_of(given, "rt")?;
+    let folder = word_of(given, "name")?;
+    Ok(Words::RtGetAll { rt, folder })
+}
+
+pub(crate) fn rt_ls_of<'a>(given: &ArgMatches<'a>) -> Result<Words<'a>, Failure>
+    ensures rt_ls { (rt : List ℕ) → HasWord (codes "rt") rt given.now
+        → IsOkAnd result (AsksRtLs rt) }
+    ensures usage { IfErr result (λ failure. failure ≡ Failure.Usage) }
+{
+    let rt = word_of(given, "rt")?;
+    Ok(Words::RtLs { rt })
 }
 
 pub(crate) fn rt_put_of<'a>(given: &ArgMatches<'a>) -> Result<Words<'a>, Failure>
@@ -87,7 +137,7 @@ pub(crate) fn rt_put_of<'a>(given: &ArgMatches<'a>) -> Result<Words<'a>, Failure
     })
 }
 
-/// The command that the words named, of those that write a file to a volume, or take one from an RT-11 volume.
+/// The command that the words named, of those that write a file to a volume, or take files from an RT-11 volume, or list them.
 pub(crate) fn moving_of<'a>(matches: &ArgMatches<'a>) -> Result<Words<'a>, Failure>
     ensures from_rt { (mode rt rt_name image uic name : List ℕ)
         → MeetsCopy (codes "flx-from-rt") mode image uic name rt rt_name
@@ -106,8 +156,14 @@ pub(crate) fn moving_of<'a>(matches: &ArgMatches<'a>) -> Result<Words<'a>, Failu
         → MeetsRtFile (codes "rt-del") rt name (subcommand_rows_of matches.now)
         → IsOkAnd result (AsksRtDel rt name) }
     ensures rt_get { (rt name host : List ℕ)
-        → MeetsRtHost (codes "rt-get") rt name host (subcommand_rows_of matches.now)
+        → MeetsRtGet false rt name (Some host) (subcommand_rows_of matches.now)
         → IsOkAnd result (AsksRtGet rt name host) }
+    ensures rt_get_all { (rt folder : List ℕ)
+        → MeetsRtGet true rt folder None (subcommand_rows_of matches.now)
+        → IsOkAnd result (AsksRtGetAll rt folder) }
+    ensures rt_ls { (rt : List ℕ)
+        → MeetsWord (codes "rt-ls") (codes "rt") rt (subcommand_rows_of matches.now)
+        → IsOkAnd result (AsksRtLs rt) }
     ensures rt_put { (rt name host : List ℕ)
         → MeetsRtHost (codes "rt-put") rt name host (subcommand_rows_of matches.now)
         → IsOkAnd result (AsksRtPut rt name host) }
@@ -118,6 +174,7 @@ pub(crate) fn moving_of<'a>(matches: &ArgMatches<'a>) -> Result<Words<'a>, Failu
         Some(("put", given)) => put_of(given),
         Some(("rt-del", given)) => rt_del_of(given),
         Some(("rt-get", given)) => rt_get_of(given),
+        Some(("rt-ls", given)) => rt_ls_of(given),
         Some(("rt-put", given)) => rt_put_of(given),
         _ => copy_of(matches),
     }

@@ -99,7 +99,7 @@ behind-kept test block lbn bytes at (p ∷ ps) low up =
     (behind-kept test block lbn bytes (p.start + area_length p.entry) ps (omega (arith, low, up.0)) up.1)
 
 -- an area begins no sooner than those before it do
-begins-behind : (at : ℕ) (before : List Placed) (p : Placed) (behind : List Placed) → Ascends at (before ++ (p ∷ behind)) → at ≤ p.start
+pub begins-behind : (at : ℕ) (before : List Placed) (p : Placed) (behind : List Placed) → Ascends at (before ++ (p ∷ behind)) → at ≤ p.start
 unfolding Ascends
 begins-behind at [] p behind up = up.0
 begins-behind at (q ∷ before) p behind up = omega (arith, up.0, begins-behind (q.start + area_length q.entry) before p behind up.1)

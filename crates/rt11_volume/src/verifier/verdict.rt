@@ -40,7 +40,7 @@ pub enum RtVfyError<D> {
 }
 
 /// Whether the directory has the size that it should have, by segment 1, on a device of so many blocks.
-fn is_sized(first: &Segment, blocks: u32) -> bool
+pub(crate) fn is_sized(first: &Segment, blocks: u32) -> bool
     ensures { IsTrue result ↔ HasSize (segment_count first.now) blocks }
 {
     let count = first.count();
@@ -48,7 +48,7 @@ fn is_sized(first: &Segment, blocks: u32) -> bool
 }
 
 /// The fault that the directory's size is wrong, alone.
-fn wrong_size(alloc: Global) -> Result<(Faults, Notes), NoMemory>
+pub(crate) fn wrong_size(alloc: Global) -> Result<(Faults, Notes), NoMemory>
     ensures { IfOk result (λ lists.
         AddsFindings [] lists.0 (finding 1 0 0 ∷ []) × (lists.1 ≡ [])) }
 {

@@ -4,14 +4,14 @@ use Rattle.f11_commands.proofs.ls.list_user.Goals as goal
 
 pub returns-in-Ok-Ok-list_directory-clause-lists : goal.returns-in-Ok-Ok-list_directory-clause-lists
 returns-in-Ok-Ok-list_directory-clause-lists g c =
-    user-lists _ _ _ _ c.directory_name-name.ensures _ _ _ (rw c.in-Ok-Ok.field-0-is at c.in-Ok-Ok.ensures.found) _ _ _
+    user-lists _ _ _ _ _ c.directory_name-name.ensures _ _ _ (rw c.in-Ok-Ok.field-0-is at c.in-Ok-Ok.ensures.found) _ _ _
     (rw c.in-Ok-Ok-list_directory.field-0-is at c.in-Ok-Ok-list_directory.ensures.lists)
 
 pub returns-in-Ok-Err-list_directory-clause-refused : goal.returns-in-Ok-Err-list_directory-clause-refused
 returns-in-Ok-Err-list_directory-clause-refused g c =
     let refused = rw c.in-Ok-Err-list_directory.field-0-is at c.in-Ok-Err-list_directory.ensures.refused in (
       refused.0,
-      user-refused _ g.W.Write.contents _ _ c.directory_name-name.ensures _ _ _
+      user-refused _ _ g.W.Write.contents _ _ c.directory_name-name.ensures _ _ _
           (rw c.in-Ok-Ok.field-0-is at c.in-Ok-Ok.ensures.found) _ _ refused.1,
     )
 

@@ -7,8 +7,8 @@ returns-in-Ok-Accepted g c =
     record {
       runs =
           ends-behind (g.R.Read.remaining c.args.script) g.W.Write.contents c.args.writer.now c.serve.new.writer
-          (g.D.Device.disk c.args.device) _
-          (g.D.Device.disk c.serve.result.0) _ report.looked.looked c.serve.result.1 c.serve.ensures.serves;
+          (g.D.Device.disk c.args.device) _ _ report.looked.looked (g.D.Device.disk c.serve.result.0) c.serve.result.1
+          c.serve.ensures.serves;
     }
 
 pub returns-in-Ok-Faulty : goal.returns-in-Ok-Faulty

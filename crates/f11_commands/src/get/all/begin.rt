@@ -2,14 +2,16 @@
 ghost use Rattle.std.specs.Prelude.{◌≡◌, false, length, IfErr, IfOk};
 ghost use Rattle.f11_catalog.specs.Walking.{IsWalking};
 ghost use Rattle.f11_index.specs.Kept.{index_kept, IndexLiesWithin};
-ghost use Rattle.f11_commands.specs.AllCommand.{BeginsAll, FailsToBeginAll, device_of, files_of, has_failed, has_faults, index_of};
+ghost use Rattle.f11_commands.specs.AllCommand.{BeginsAll, FailsToBeginAll, counts_of, device_of, files_of, has_failed, has_faults, index_of, no_counts, wide_of};
 ghost use Rattle.f11_commands.specs.AnyVolume.{IsVerified, TellsFault};
 
 use crate::copy::finding::MASTER_DIRECTORY;
+use crate::get::all::counts::Counts;
 use crate::get::all::state::TakingAll;
 use crate::ls::Served;
 use crate::outcome::{Answer, Failure};
 use crate::volume::read_index;
+use f11_bytes::NoMemory;
 use f11_catalog::{AllFiles, WalkFault};
 use f11_dev::Device;
 use f11_index::IndexFile;
@@ -17,8 +19,8 @@ use f11_serving::f11_vfy::{Report, VfyError, verify};
 use std::alloc::Global;
 use std::io::Write;
 
-/// Verifies a volume and begins with all its files: those that users' directories name, in the order in which [`crate::print_ls`] lists
-/// them, and behind them by their numbers those that no user's directory names. It serves any volume whose home block and index file can
+/// Verifies a volume and begins with all its files: what the directories name, a record at a time, in the order in which [`crate::print_ls`]
+/// lists them, and behind them by their numbers the files that none of them names. It serves any volume whose home block and index file can
 /// be read, faulty or not, and writes nothing to it.
 ///
 /// Where the volume can't be read it writes the line of its fault, F1 or F2: then it gives the device back, and what the command answers.
@@ -36,7 +38,9 @@ pub fn begin_all<D: Device, W: Write>(
     ensures begins { IfOk result (λ all. (writer.new ≡ writer.old)
         × IsVerified (has_faults all) (D.disk device)
         × (has_failed all ≡ false)
-        × BeginsAll (index_of all) (files_of all) (D.disk device) (D.disk (device_of all))) }
+        × (counts_of all ≡ no_counts)
+        × BeginsAll (index_of all) (wide_of all) (files_of all)
+        (D.disk device) (D.disk (device_of all))) }
     ensures told { IfErr result (λ told. IfOk told.1 (λ served.
         IsVerified served.faulty (D.disk device)
         × TellsFault served.answer
@@ -62,7 +66,9 @@ fn begin<D: Device, W: Write>(
     ensures begins { IfOk result (λ all. (writer.new ≡ writer.old)
         × (has_faults all ≡ faulty)
         × (has_failed all ≡ false)
-        × BeginsAll (index_of all) (files_of all) (D.disk device) (D.disk (device_of all))) }
+        × (counts_of all ≡ no_counts)
+        × BeginsAll (index_of all) (wide_of all) (files_of all)
+        (D.disk device) (D.disk (device_of all))) }
     ensures told { IfErr result (λ told. IfOk told.1 (λ served. (served.faulty ≡ faulty)
         × TellsFault served.answer
         (D.disk device) (D.disk told.0) W.contents writer.old writer.new)) }
@@ -71,12 +77,14 @@ fn begin<D: Device, W: Write>(
 {
     let mut device = device;
     match begin_on_volume(alloc, &mut device, writer) {
-        Ok(Ok((index, files))) => Ok(TakingAll {
+        Ok(Ok((index, wide, files))) => Ok(TakingAll {
             device,
             index,
+            wide,
             files,
             faulty,
             failed: false,
+            counts: Counts::none(),
         }),
         Ok(Err(answer)) => Err((device, Ok(Served { answer, faulty }))),
         Err(failure) => Err((device, Err(failure))),
@@ -88,21 +96,26 @@ fn begin_on_volume<D: Device, W: Write>(
     alloc: Global,
     device: &mut D,
     writer: &mut W,
-) -> Result<Result<(IndexFile, AllFiles), Answer>, Failure>
+) -> Result<Result<(IndexFile, IndexFile, AllFiles), Answer>, Failure>
     ensures begins { IfOk result (λ answer. IfOk answer (λ found. (writer.new ≡ writer.old)
         × IndexLiesWithin (index_kept found.0) (length (D.disk device.new).image)
-        × IsWalking (index_kept found.0) found.1 (D.disk device.new)
-        × BeginsAll (index_kept found.0) found.1 (D.disk device.old) (D.disk device.new))) }
+        × IndexLiesWithin (index_kept found.1) (length (D.disk device.new).image)
+        × IsWalking (index_kept found.0) found.2 (D.disk device.new)
+        × BeginsAll (index_kept found.0) (index_kept found.1) found.2
+        (D.disk device.old) (D.disk device.new))) }
     ensures told { IfOk result (λ answer. IfErr answer (λ told.
         TellsFault told (D.disk device.old) (D.disk device.new) W.contents writer.old writer.new)) }
     ensures failed { IfErr result (λ failure.
         FailsToBeginAll failure (D.disk device.old) (D.disk device.new) writer.old writer.new) }
 {
     match read_index(alloc, device) {
-        Ok(Ok((_, index))) => match AllFiles::begin(alloc, device, &index, MASTER_DIRECTORY) {
-            Ok(files) => Ok(Ok((index, files))),
-            Err(WalkFault::DeviceFault) => Err(Failure::DeviceFault),
-            Err(WalkFault::NoMemory) => Err(Failure::NoMemory),
+        Ok(Ok((_, index))) => match index.with_all_in_use(alloc) {
+            Ok(wide) => match AllFiles::begin(alloc, device, &index, MASTER_DIRECTORY) {
+                Ok(files) => Ok(Ok((index, wide, files))),
+                Err(WalkFault::DeviceFault) => Err(Failure::DeviceFault),
+                Err(WalkFault::NoMemory) => Err(Failure::NoMemory),
+            },
+            Err(NoMemory) => Err(Failure::NoMemory),
         },
         Ok(Err(fault)) => match writeln!(writer, "fault {fault}") {
             Ok(()) => Ok(Err(Answer::Fault)),

@@ -1,22 +1,85 @@
-//! The line of a file that was taken out.
+//! The lines of `get --all`.
 ghost use Rattle.std.specs.Prelude.{OnOk};
 ghost use Rattle.f11_commands.specs.Output.{WriterTakes};
-ghost use Rattle.f11_commands.specs.AllCommand.{taken_at_line};
+ghost use Rattle.f11_commands.specs.AllCommand.{all_line, left_out_line, taken_at_line};
 
+use crate::get::all::counts::Counts;
+use crate::get::all::left_out::LeftOut;
+use crate::get::all::taking::Taken;
 use crate::get::missing::ShownMissing;
 use f11_catalog::Place;
+use f11_store::FileId;
+use std::fmt;
 use std::io::{self, Write};
 
-/// Writes the line of a file that was taken out: its place, how many bytes were written, and which block is the first that isn't there.
+/// The identification of a file that stands beside another of its name.
+#[derive(Clone, Copy)]
+struct Beside(Option<FileId>);
+
+impl fmt::Display for Beside {
+    ghost use Rattle.std.specs.Prelude.{Some};
+    ghost use Rattle.f11_commands.specs.AllCommand.{beside_text};
+
+    ghost output = { λ beside. Some (beside_text beside.0) };
+
+    fn fmt<W: fmt::Write>(&self, f: &mut fmt::Formatter<W>) -> fmt::Result {
+        match self.0 {
+            Some(id) => write!(f, " ({id})"),
+            None => Ok(()),
+        }
+    }
+}
+
+/// Writes the line of a file that was taken out: its place, how many bytes were written, whether these are all its blocks since it wasn't
+/// closed, and which block is the first that isn't there.
 pub(crate) fn write_line<W: Write>(
     writer: &mut W,
     place: &Place,
-    bytes: u64,
-    missing: Option<u64>,
+    beside: Option<FileId>,
+    taken: &Taken,
 ) -> io::Result<()>
     ensures { OnOk result (WriterTakes W.contents writer.old writer.new
-        (taken_at_line place.now bytes missing)) }
+        (taken_at_line place.now beside taken.now)) }
 {
+    let beside = Beside(beside);
+    let Taken {
+        bytes,
+        missing,
+        all_blocks,
+        ..
+    } = *taken;
     let missing = ShownMissing(missing);
-    writeln!(writer, "{place} copied {bytes} bytes{missing}")
+    let open = if all_blocks { " open, all blocks" } else { "" };
+    writeln!(
+        writer,
+        "{place}{beside} copied {bytes} bytes{open}{missing}"
+    )
+}
+
+/// Writes the line of a file that isn't taken out.
+pub(crate) fn write_left_out<W: Write>(
+    writer: &mut W,
+    place: &Place,
+    why: &LeftOut,
+) -> io::Result<()>
+    ensures { OnOk result (WriterTakes W.contents writer.old writer.new
+        (left_out_line place.now why.now)) }
+{
+    writeln!(writer, "{place} not copied {why}")
+}
+
+/// Writes the last line.
+pub(crate) fn write_all_line<W: Write>(writer: &mut W, counts: &Counts) -> io::Result<()>
+    ensures { OnOk result (WriterTakes W.contents writer.old writer.new (all_line counts.now)) }
+{
+    let Counts {
+        copied,
+        cut,
+        left_out,
+        lost,
+    } = *counts;
+    writeln!(
+        writer,
+        "all {copied} copied, {cut} cut, {left_out} not copied, {lost} in lost"
+    )
 }

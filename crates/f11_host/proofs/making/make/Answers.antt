@@ -2,9 +2,11 @@ use Rattle.std.proofs.Common.{◌≡◌, [], arith, inl, inr, refl, subst}
 use Rattle.f11_store.specs.Ident.{ident_with}
 use Rattle.f11_store.specs.declared.requests.Reply.TheVariants as reply
 use Rattle.f11_store.specs.declared.requests.Request.TheVariants as request
-use Rattle.f11_flx.specs.Asking.{Fails, Grants, Who, told, who_asks}
+use Rattle.f11_flx.specs.Asking.{BreaksOffAsking, Fails, Granted, Grants, Who, told, who_asks}
+use Rattle.f11_flx.specs.CopyFromRt.{as_stated, entry}
 use Rattle.f11_flx.specs.Making.{is_created}
 use Rattle.f11_flx.specs.Spelled.{image_attributes_to}
+use Rattle.f11_host.specs.CopyFromHost.{image_attr}
 use Rattle.f11_host.specs.Pieces.{blocks_for}
 use Rattle.f11_host.proofs.FillLemmas.{attributes-are}
 use Rattle.f11_host.proofs.making.make.Goals as goal
@@ -12,15 +14,15 @@ use Rattle.f11_host.proofs.making.make.Goals as goal
 pub returns-in-Err-clause-fails : goal.returns-in-Err-clause-fails
 returns-in-Err-clause-fails g c =
     let who : Who = who_asks c.args.by.now.task c.args.by.now.uic in
-    let attr : c.image_attributes_to-attr.result ≡ image_attributes_to (blocks_for c.args.bytes) c.args.bytes =
-    attributes-are c.image_attributes_to-attr.result c.div_ceil-blocks.result c.args.bytes c.image_attributes_to-attr.ensures
+    let first : c.image_attributes_to-first.result ≡ image_attributes_to (blocks_for c.args.bytes) 0 =
+    attributes-are c.image_attributes_to-first.result c.div_ceil-blocks.result c.args.bytes 0 c.image_attributes_to-first.ensures
     (omega (arith, c.div_ceil-blocks.ensures)) in (
       [],
       λ pieces. inl (record {
         e = c.in-Err.refusal;
         is = refl;
         fails = subst (λ a. Fails g.S.Asked.service who is_created (request.Create 0 (ident_with c.args.entry.now.name) a) c.in-Err.refusal
-            c.args.service.now c.create.new.service) attr c.in-Err.ensures.refused;
+            c.args.service.now c.create.new.service) first c.in-Err.ensures.refused;
         unread = refl;
       }),
     )
@@ -28,8 +30,8 @@ returns-in-Err-clause-fails g c =
 pub returns-in-Err-fill_file-clause-fails : goal.returns-in-Err-fill_file-clause-fails
 returns-in-Err-fill_file-clause-fails g c =
     let who : Who = who_asks c.args.by.now.task c.args.by.now.uic in
-    let attr : c.image_attributes_to-attr.result ≡ image_attributes_to (blocks_for c.args.bytes) c.args.bytes =
-    attributes-are c.image_attributes_to-attr.result c.div_ceil-blocks.result c.args.bytes c.image_attributes_to-attr.ensures
+    let first : c.image_attributes_to-first.result ≡ image_attributes_to (blocks_for c.args.bytes) 0 =
+    attributes-are c.image_attributes_to-first.result c.div_ceil-blocks.result c.args.bytes 0 c.image_attributes_to-first.ensures
     (omega (arith, c.div_ceil-blocks.ensures)) in
     let k = c.in-Err-fill_file.ensures.fails in (
       k.0,
@@ -42,7 +44,7 @@ returns-in-Err-fill_file-clause-fails g c =
           c.create.new.service,
           subst (λ a. Grants g.S.Asked.service who
               (told (request.Create 0 (ident_with c.args.entry.now.name) a) (reply.Created c.in-Ok.id)) c.args.service.now
-              c.create.new.service) attr c.in-Ok.ensures.created,
+              c.create.new.service) first c.in-Ok.ensures.created,
           refl,
         );
         fails = k.1;
@@ -50,12 +52,15 @@ returns-in-Err-fill_file-clause-fails g c =
       })),
     )
 
-pub returns-in-Ok-enter-clause-makes : goal.returns-in-Ok-enter-clause-makes
-returns-in-Ok-enter-clause-makes g c =
+pub returns-in-Ok-finish-clause-makes : goal.returns-in-Ok-finish-clause-makes
+returns-in-Ok-finish-clause-makes g c =
     let who : Who = who_asks c.args.by.now.task c.args.by.now.uic in
-    let attr : c.image_attributes_to-attr.result ≡ image_attributes_to (blocks_for c.args.bytes) c.args.bytes =
-    attributes-are c.image_attributes_to-attr.result c.div_ceil-blocks.result c.args.bytes c.image_attributes_to-attr.ensures
+    let first : c.image_attributes_to-first.result ≡ image_attributes_to (blocks_for c.args.bytes) 0 =
+    attributes-are c.image_attributes_to-first.result c.div_ceil-blocks.result c.args.bytes 0 c.image_attributes_to-first.ensures
     (omega (arith, c.div_ceil-blocks.ensures)) in
+    let attr : c.image_attributes_to-attr.result ≡ image_attr c.args.bytes =
+    attributes-are c.image_attributes_to-attr.result c.div_ceil-blocks.result c.args.bytes c.args.bytes
+    c.image_attributes_to-attr.ensures (omega (arith, c.div_ceil-blocks.ensures)) in
     let k = c.in-Ok-fill_file.ensures.fills in (
       k.0,
       λ pieces. record {
@@ -66,37 +71,46 @@ returns-in-Ok-enter-clause-makes g c =
           c.create.new.service,
           subst (λ a. Grants g.S.Asked.service who
               (told (request.Create 0 (ident_with c.args.entry.now.name) a) (reply.Created c.in-Ok.id)) c.args.service.now
-              c.create.new.service) attr c.in-Ok.ensures.created,
+              c.create.new.service) first c.in-Ok.ensures.created,
           refl,
         );
         fills = k.1;
-        enters = c.in-Ok-enter.ensures.granted (image_attributes_to (blocks_for c.args.bytes) c.args.bytes) pieces;
+        enters = subst (λ a. Granted g.S.Asked.service who
+            (entry (as_stated c.args.entry.now.name c.args.entry.now.dir c.args.entry.now.protection
+            (image_attributes_to (blocks_for c.args.bytes) 0) a pieces) c.in-Ok.id) c.fill_file.new.service c.finish.new.service) attr
+            (c.in-Ok-finish.ensures.granted (image_attributes_to (blocks_for c.args.bytes) 0) pieces);
       },
     )
 
-pub returns-in-Err-enter-clause-fails : goal.returns-in-Err-enter-clause-fails
-returns-in-Err-enter-clause-fails g c =
+pub returns-in-Err-finish-clause-fails : goal.returns-in-Err-finish-clause-fails
+returns-in-Err-finish-clause-fails g c =
     let who : Who = who_asks c.args.by.now.task c.args.by.now.uic in
-    let attr : c.image_attributes_to-attr.result ≡ image_attributes_to (blocks_for c.args.bytes) c.args.bytes =
-    attributes-are c.image_attributes_to-attr.result c.div_ceil-blocks.result c.args.bytes c.image_attributes_to-attr.ensures
+    let first : c.image_attributes_to-first.result ≡ image_attributes_to (blocks_for c.args.bytes) 0 =
+    attributes-are c.image_attributes_to-first.result c.div_ceil-blocks.result c.args.bytes 0 c.image_attributes_to-first.ensures
     (omega (arith, c.div_ceil-blocks.ensures)) in
+    let attr : c.image_attributes_to-attr.result ≡ image_attr c.args.bytes =
+    attributes-are c.image_attributes_to-attr.result c.div_ceil-blocks.result c.args.bytes c.args.bytes
+    c.image_attributes_to-attr.ensures (omega (arith, c.div_ceil-blocks.ensures)) in
     let k = c.in-Ok-fill_file.ensures.fills in (
       k.0,
       λ pieces. inr (inr (record {
         id = c.in-Ok.id;
-        e = c.in-Err-enter.refusal;
+        e = c.in-Err-finish.refusal;
         created = c.create.new.service;
         filled = c.fill_file.new.service;
-        left = c.enter.new.service;
+        left = c.finish.new.service;
         creates = (
           c.create.new.service,
           subst (λ a. Grants g.S.Asked.service who
               (told (request.Create 0 (ident_with c.args.entry.now.name) a) (reply.Created c.in-Ok.id)) c.args.service.now
-              c.create.new.service) attr c.in-Ok.ensures.created,
+              c.create.new.service) first c.in-Ok.ensures.created,
           refl,
         );
         fills = k.1;
-        breaks = c.in-Err-enter.ensures.denied (image_attributes_to (blocks_for c.args.bytes) c.args.bytes) pieces;
-        undoes = c.undo-in-Err-enter.ensures;
+        breaks = subst (λ a. BreaksOffAsking g.S.Asked.service who
+            (entry (as_stated c.args.entry.now.name c.args.entry.now.dir c.args.entry.now.protection
+            (image_attributes_to (blocks_for c.args.bytes) 0) a pieces) c.in-Ok.id) c.in-Err-finish.refusal c.fill_file.new.service
+            c.finish.new.service) attr (c.in-Err-finish.ensures.denied (image_attributes_to (blocks_for c.args.bytes) 0) pieces);
+        undoes = c.undo-in-Err-finish.ensures;
       })),
     )

@@ -1,15 +1,17 @@
-use Rattle.std.proofs.Common.{◌≡◌, false, true, le-ltb, subst, sym}
+use Rattle.std.proofs.Common.{◌≡◌, Some, false, inl, le-ltb, refl, subst, sym, true}
 use Rattle.f11_flx.specs.fcp.Lists.{is_sound, store_of_volume}
 use Rattle.f11_flx.specs.Asking.{Who, who_asks}
-use Rattle.f11_flx.specs.Copying.{MayMakeFile, is_whole, of_volume}
+use Rattle.f11_flx.specs.Copying.{MayMake, MayMakeStated, is_whole, of_volume}
 use Rattle.f11_flx.specs.Ended.{Ends}
 use Rattle.f11_flx.specs.Refusal.{is_lethal}
 use Rattle.f11_host.specs.CopyTextFromHost.{FailsTextSpent, FailsToCopyTextFromHost, ReadsTexts, is_text_too_long}
 use Rattle.f11_host.specs.Refusal.{as_copy, copy_result}
+use Rattle.f11_host.specs.TextFilling.{attributes_of}
 use Rattle.f11_host.specs.declared.refusal.HostRefusal.{HostRefusal}
 use Rattle.f11_host.proofs.HostLemmas.{unmade}
-use Rattle.f11_host.proofs.HostTextLemmas.{text-made-copied, text-made-files, text-made-host, text-made-spent}
-use Rattle.f11_host.proofs.HostTextLemmas.{text-unmade-ends, text-unmade-files, text-unmade-host, text-unmade-refused, text-unmade-spent}
+use Rattle.f11_host.proofs.HostTextLemmas.{text-made-copied, text-made-files, text-made-host, text-made-order, text-made-spent}
+use Rattle.f11_host.proofs.HostTextLemmas.{text-unmade-ends, text-unmade-files, text-unmade-host, text-unmade-order}
+use Rattle.f11_host.proofs.HostTextLemmas.{text-unmade-refused, text-unmade-spent}
 use Rattle.f11_host.proofs.HostTextLemmas.{unplanned-ends, unplanned-files, unplanned-host, unplanned-refused, unplanned-spent}
 use Rattle.f11_host.proofs.text_copy.copy_judged.Goals as goal
 
@@ -24,10 +26,13 @@ returns-in-Err-clause-hosts g c =
 pub returns-in-Err-clause-files : goal.returns-in-Err-clause-files
 returns-in-Err-clause-files g c =
     let who : Who = who_asks c.args.by.now.task c.args.by.now.uic in
-    subst (λ (e : HostRefusal). MayMakeFile (copy_result (unmade e)) who c.args.by.now.lun c.args.entry.now.dir c.args.entry.now.name
+    subst (λ (e : HostRefusal). MayMakeStated (copy_result (unmade e)) who c.args.by.now.lun c.args.entry.now.dir c.args.entry.now.name
     c.args.entry.now.protection c.args.vol.now c.args.vol.now) (sym c.told.ensures)
     (unplanned-files who c.args.by.now.lun c.args.entry.now.dir c.args.entry.now.name c.args.entry.now.protection c.args.vol.now
     c.in-Err.refusal c.args.bytes _ _ c.in-Err.ensures.fails)
+
+pub returns-in-Err-clause-order : goal.returns-in-Err-clause-order
+returns-in-Err-clause-order g c = inl refl
 
 pub returns-in-Err-clause-spent : goal.returns-in-Err-clause-spent
 returns-in-Err-clause-spent g c = λ dead.
@@ -67,10 +72,20 @@ returns-in-Ok-make_text-clause-hosts g c =
 pub returns-in-Ok-make_text-clause-files : goal.returns-in-Ok-make_text-clause-files
 returns-in-Ok-make_text-clause-files g c =
     let who : Who = who_asks c.args.by.now.task c.args.by.now.uic in
+    let k = c.in-Ok-make_text.ensures.makes in (
+      attributes_of c.in-Ok.plan,
+      text-made-files who c.args.by.now.lun c.args.bytes c.in-Ok.plan c.args.entry.now.dir c.args.entry.now.name
+          c.args.entry.now.protection (g.R.Read.remaining c.args.again.now) (g.R.Read.remaining c.make_text.new.host) k.0 c.args.vol.now
+          c.make_text.new.service c.in-Ok.plan.blocks k.1,
+    )
+
+pub returns-in-Ok-make_text-clause-order : goal.returns-in-Ok-make_text-clause-order
+returns-in-Ok-make_text-clause-order g c =
+    let who : Who = who_asks c.args.by.now.task c.args.by.now.uic in
     let k = c.in-Ok-make_text.ensures.makes in
-    text-made-files who c.args.by.now.lun c.args.bytes c.in-Ok.plan c.args.entry.now.dir c.args.entry.now.name
+    text-made-order who c.args.by.now.lun c.args.bytes c.in-Ok.plan c.args.entry.now.dir c.args.entry.now.name
     c.args.entry.now.protection (g.R.Read.remaining c.args.again.now) (g.R.Read.remaining c.make_text.new.host) k.0 c.args.vol.now
-    c.make_text.new.service c.in-Ok.plan.blocks k.1
+    c.make_text.new.service k.1
 
 pub returns-in-Ok-make_text-clause-spent : goal.returns-in-Ok-make_text-clause-spent
 returns-in-Ok-make_text-clause-spent g c = λ dead.
@@ -104,13 +119,23 @@ returns-in-Err-make_text-clause-hosts g c =
 pub returns-in-Err-make_text-clause-files : goal.returns-in-Err-make_text-clause-files
 returns-in-Err-make_text-clause-files g c =
     let who : Who = who_asks c.args.by.now.task c.args.by.now.uic in
+    let k = c.in-Err-make_text.ensures.fails in (
+      attributes_of c.in-Ok.plan,
+      subst (λ (e : HostRefusal). MayMake (copy_result (unmade e)) who c.args.by.now.lun c.args.entry.now.dir c.args.entry.now.name
+          c.args.entry.now.protection (Some (attributes_of c.in-Ok.plan)) c.args.vol.now c.make_text.new.service)
+          (sym c.told-in-Err-make_text.ensures)
+          (text-unmade-files who c.args.by.now.lun c.args.bytes c.in-Ok.plan c.args.entry.now.dir c.args.entry.now.name
+          c.args.entry.now.protection (g.R.Read.remaining c.args.again.now) (g.R.Read.remaining c.make_text.new.host) k.0 c.args.vol.now
+          c.make_text.new.service c.in-Err-make_text.refusal k.1),
+    )
+
+pub returns-in-Err-make_text-clause-order : goal.returns-in-Err-make_text-clause-order
+returns-in-Err-make_text-clause-order g c =
+    let who : Who = who_asks c.args.by.now.task c.args.by.now.uic in
     let k = c.in-Err-make_text.ensures.fails in
-    subst (λ (e : HostRefusal). MayMakeFile (copy_result (unmade e)) who c.args.by.now.lun c.args.entry.now.dir c.args.entry.now.name
-    c.args.entry.now.protection c.args.vol.now c.make_text.new.service)
-    (sym c.told-in-Err-make_text.ensures)
-    (text-unmade-files who c.args.by.now.lun c.args.bytes c.in-Ok.plan c.args.entry.now.dir c.args.entry.now.name
+    text-unmade-order who c.args.by.now.lun c.args.bytes c.in-Ok.plan c.args.entry.now.dir c.args.entry.now.name
     c.args.entry.now.protection (g.R.Read.remaining c.args.again.now) (g.R.Read.remaining c.make_text.new.host) k.0 c.args.vol.now
-    c.make_text.new.service c.in-Err-make_text.refusal k.1)
+    c.make_text.new.service c.in-Err-make_text.refusal k.1
 
 pub returns-in-Err-make_text-clause-spent : goal.returns-in-Err-make_text-clause-spent
 returns-in-Err-make_text-clause-spent g c = λ dead.

@@ -1,4 +1,4 @@
-use Rattle.std.proofs.Common.{◌≡◌, lt-ltb, true}
+use Rattle.std.proofs.Common.{◌≡◌, [], inl, lt-ltb, refl, true}
 use Rattle.f11_flx.specs.fcp.Lists.{store_of_volume}
 use Rattle.f11_flx.specs.Asking.{who_asks}
 use Rattle.f11_host.specs.CopyTextFromHost.{is_text_too_long}
@@ -13,7 +13,10 @@ returns-then-bytes-gt-MOST_TEXT-clause-hosts g c =
 
 pub returns-then-bytes-gt-MOST_TEXT-clause-files : goal.returns-then-bytes-gt-MOST_TEXT-clause-files
 returns-then-bytes-gt-MOST_TEXT-clause-files g c =
-    too-long-files (who_asks c.args.task c.args.uic) c.args.lun c.args.dir c.args.to.now c.args.protection c.args.vol.now
+    ([], too-long-files (who_asks c.args.task c.args.uic) c.args.lun c.args.dir c.args.to.now c.args.protection [] c.args.vol.now)
+
+pub returns-then-bytes-gt-MOST_TEXT-clause-order : goal.returns-then-bytes-gt-MOST_TEXT-clause-order
+returns-then-bytes-gt-MOST_TEXT-clause-order g c = inl refl
 
 pub returns-then-bytes-gt-MOST_TEXT-clause-spent : goal.returns-then-bytes-gt-MOST_TEXT-clause-spent
 returns-then-bytes-gt-MOST_TEXT-clause-spent g c = λ dead.

@@ -15,9 +15,11 @@ use Rattle.f11_pip.specs.Words.{
   put_line,
   rights_line,
   rt_del_line,
+  rt_get_all_line,
   rt_get_line,
   rt_init_line,
   rt_list_line,
+  rt_ls_line,
   rt_put_line,
   rt_vfy_line,
   run_line,
@@ -29,7 +31,8 @@ use Rattle.f11_pip.specs.Words.{
 use Rattle.f11_pip.proofs.CopyLemmas.{subcommand_of-from_rt, subcommand_of-to_rt}
 use Rattle.f11_pip.proofs.HostFileLemmas.{subcommand_of-get, subcommand_of-get_all, subcommand_of-put}
 use Rattle.f11_pip.proofs.LineLemmas.{takes-line, subcommand_of-rt_init}
-use Rattle.f11_pip.proofs.RtFileLemmas.{subcommand_of-rt_del, subcommand_of-rt_get, subcommand_of-rt_put}
+use Rattle.f11_pip.proofs.RtFileLemmas.{subcommand_of-rt_del, subcommand_of-rt_get, subcommand_of-rt_get_all, subcommand_of-rt_ls}
+use Rattle.f11_pip.proofs.RtFileLemmas.{subcommand_of-rt_put}
 use Rattle.f11_pip.proofs.WordsLemmas.{failure_out_of_memory, match_ok, no_memory_or_none, none_or_no_memory, subcommand_of-rt_list}
 use Rattle.f11_pip.proofs.WordsLemmas.{subcommand_of-rt_vfy, subcommand_of-run, subcommand_of-update, subcommand_of-vfy, subcommand_of-dump}
 use Rattle.f11_pip.proofs.WordsLemmas.{subcommand_of-home, subcommand_of-ls, subcommand_of-name, subcommand_of-rights, subcommand_of-none}
@@ -170,10 +173,26 @@ returns-clause-asks g c (rt_get_line rt name host) line =
     let simple = ap is_simple c.in_ok-program.ensures ∙ is_simple-program in
     let met = (c.in_ok-matches.ensures.matches simple).1 ∙ ap₂ subcommand_of c.in_ok-program.ensures line.is_line in
     none_or_no_memory (Asks (rt_get_line rt name host)) (IsUnreadable (rt_get_line rt name host)) c.command_of.result
+    (let these = subcommand_of-rt_get line.program rt name host (line.plain 0 [] (omega arith)) (line.plain 1 [] (omega arith))
+    (line.plain 2 [] (omega arith)) in
+    match_ok _ _ c.command_of.result
+    (c.command_of.ensures.rt_get rt name host
+    (ap (command_and_words rt_host_names) met ∙ these.0, ap (command_and_flag (codes "all")) met ∙ these.1)))
+returns-clause-asks g c (rt_get_all_line rt folder) line =
+    let simple = ap is_simple c.in_ok-program.ensures ∙ is_simple-program in
+    let met = (c.in_ok-matches.ensures.matches simple).1 ∙ ap₂ subcommand_of c.in_ok-program.ensures line.is_line in
+    none_or_no_memory (Asks (rt_get_all_line rt folder)) (IsUnreadable (rt_get_all_line rt folder)) c.command_of.result
+    (let these = subcommand_of-rt_get_all line.program rt folder (line.plain 0 [] (omega arith)) (line.plain 1 [] (omega arith)) in
+    match_ok _ _ c.command_of.result
+    (c.command_of.ensures.rt_get_all rt folder
+    (ap (command_and_words rt_host_names) met ∙ these.0, ap (command_and_flag (codes "all")) met ∙ these.1)))
+returns-clause-asks g c (rt_ls_line rt) line =
+    let simple = ap is_simple c.in_ok-program.ensures ∙ is_simple-program in
+    let met = (c.in_ok-matches.ensures.matches simple).1 ∙ ap₂ subcommand_of c.in_ok-program.ensures line.is_line in
+    none_or_no_memory (Asks (rt_ls_line rt)) (IsUnreadable (rt_ls_line rt)) c.command_of.result
     (match_ok _ _ c.command_of.result
-    (c.command_of.ensures.rt_get rt name host (ap (command_and_words rt_host_names) met
-    ∙ subcommand_of-rt_get line.program rt name host (line.plain 0 [] (omega arith)) (line.plain 1 [] (omega arith))
-    (line.plain 2 [] (omega arith)))))
+    (c.command_of.ensures.rt_ls rt
+    (ap (command_and_word (codes "rt")) met ∙ subcommand_of-rt_ls line.program rt (line.plain 0 [] (omega arith)))))
 returns-clause-asks g c (rt_put_line rt name host) line =
     let simple = ap is_simple c.in_ok-program.ensures ∙ is_simple-program in
     let met = (c.in_ok-matches.ensures.matches simple).1 ∙ ap₂ subcommand_of c.in_ok-program.ensures line.is_line in

@@ -1,16 +1,16 @@
-use Rattle.std.proofs.Common.{refl}
-use Rattle.f11_catalog.proofs.WalkLemmas.{file-entered, no-file-entered, no-name-entered}
+use Rattle.std.proofs.Common.{ap}
+use Rattle.f11_index.specs.Kept.{index_kept}
+use Rattle.f11_catalog.specs.declared.directory_name.DirectoryName.{DirectoryName}
+use Rattle.f11_catalog.specs.declared.walk.place.Place.TheVariants.{Entered}
+use Rattle.f11_catalog.proofs.WalkLemmas.{empty-entered, record-entered}
 use Rattle.f11_catalog.proofs.walk.entered.open_record.Goals as goal
 
-pub returns-in_default-clause-none : goal.returns-in_default-clause-none
-returns-in_default-clause-none g c = λ bytes is. no-name-entered bytes _ is _ _ _ (rw c.in_default.is at c.name.ensures)
+pub returns-then-is_empty-clause-none : goal.returns-then-is_empty-clause-none
+returns-then-is_empty-clause-none g c =
+    λ bytes is. empty-entered bytes _ is _ _ (index_kept c.args.wide.now) _ _ c.is_empty.ensures c.if-is_empty.true
 
-pub returns-in-Ok-Some-clause-enters : goal.returns-in-Ok-Some-clause-enters
-returns-in-Ok-Some-clause-enters g c = λ bytes is.
-    file-entered bytes _ is _ _ c.in-Some.name (rw c.in-Some.is at c.name.ensures) _ _ _ refl
-    (rw c.in-Ok-Some.field-0-is at c.in-Ok-Some.ensures.opens)
-
-pub returns-in-Ok-None-clause-none : goal.returns-in-Ok-None-clause-none
-returns-in-Ok-None-clause-none g c = λ bytes is.
-    no-file-entered bytes _ is _ _ c.in-Some.name (rw c.in-Some.is at c.name.ensures) _ _
-    (rw c.in-Ok-None.field-0-is at c.in-Ok-None.ensures.none)
+pub returns-in-Ok-clause-enters : goal.returns-in-Ok-clause-enters
+returns-in-Ok-clause-enters g c = λ bytes is.
+    record-entered bytes _ is _ _ _ _ _ _ c.is_empty.ensures c.if-is_empty.false c.name.ensures
+    (ap (λ (d : DirectoryName). Entered d c.name.result c.args.record.now.id) c.copy.ensures) _ _
+    c.in-Ok.ensures.holds

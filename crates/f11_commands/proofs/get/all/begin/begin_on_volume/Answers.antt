@@ -1,13 +1,19 @@
 use Rattle.std.proofs.Common.{refl}
 use Rattle.f11_catalog.proofs.ListingLemmas.{reads-then}
-use Rattle.f11_commands.proofs.AllLemmas.{begins-all, lies-within}
+use Rattle.f11_commands.proofs.AllLemmas.{begins-all, lies-within, wide-within}
 use Rattle.f11_commands.proofs.get.all.begin.begin_on_volume.Goals as goal
 
-pub returns-in-Ok-clause-begins : goal.returns-in-Ok-clause-begins
-returns-in-Ok-clause-begins g c =
+pub returns-in-Ok-begin-clause-begins : goal.returns-in-Ok-begin-clause-begins
+returns-in-Ok-begin-clause-begins g c =
     let found = rw c.in-Ok-Ok.field-0-is at c.in-Ok-Ok.ensures.found in
-    let begins = c.in-Ok.ensures.begins in
-    (refl, lies-within _ _ _ _ found _ _ begins, begins.walking, begins-all _ _ _ _ found _ _ begins)
+    let begins = c.in-Ok-begin.ensures.begins in
+    let all-used = c.in-Ok.ensures in (
+      refl,
+      lies-within _ _ _ _ found _ _ begins _ all-used,
+      wide-within _ _ _ _ found _ _ begins _ all-used,
+      begins.walking,
+      begins-all _ _ _ _ found _ _ begins _ all-used,
+    )
 
 pub returns-in-Err-DeviceFault-clause-failed : goal.returns-in-Err-DeviceFault-clause-failed
 returns-in-Err-DeviceFault-clause-failed g c =

@@ -1,0 +1,85 @@
+//! The command `rt-get --all`: the files of the host that it makes, in a folder.
+use crate::host_file::HostFile;
+use crate::opened;
+use crate::outcome::Failure;
+use crate::remarks::{Remark, Which, Why};
+use crate::rt_files::judged;
+use f11_commands::{Answer, RtFate, RtPlace, TakingAllRt, begin_all_rt};
+use f11_dev::{CannotOpen, FileImage};
+use std::fs::{self, File};
+use std::io::Write;
+
+/// Takes all files out of an RT-11 volume, into a folder that is made: each under its name, and those that have none, or aren't the first of
+/// theirs, into the folder `lost` in it, under the number of their segment and their own in it.
+///
+/// # Errors
+///
+/// Beside those of the command [`Failure::CannotOpen`] where not all files of the host could be made, behind what was done: which ones
+/// is told on standard error. A transfer that failed is told before what the host refused.
+pub fn get_all<'a, W: Write>(
+    rt: &HostRuntime,
+    image: &'a str,
+    folder: &'a str,
+    writer: &mut W,
+    remark: &mut Option<Remark<'a>>,
+) -> Result<Answer, Failure> {
+    let device = opened(FileImage::open_to_read(rt, image), image, remark)?;
+    let mut all = match begin_all_rt(rt.alloc(), device, writer) {
+        Ok(all) => all,
+        Err((_device, served)) => return Ok(judged(rt, image, served?, remark)),
+    };
+    let new = fs::create_dir(rt, folder).map_err(CannotOpen::from);
+    opened(new, folder, remark)?;
+    let complete = take_all(rt, &mut all, folder, writer)?;
+    let (_device, served) = all.end(writer);
+    let answer = judged(rt, image, served?, remark);
+    if complete {
+        Ok(answer)
+    } else {
+        Err(Failure::CannotOpen)
+    }
+}
+
+/// Takes out the files that are still to come: whether a file of the host could be made for each.
+fn take_all<W: Write>(
+    rt: &HostRuntime,
+    all: &mut TakingAllRt<FileImage<File>>,
+    folder: &str,
+    writer: &mut W,
+) -> Result<bool, Failure> {
+    let mut complete = true;
+    while let Some(found) = all.next() {
+        match found.fate {
+            RtFate::NoFile => {}
+            RtFate::NotCopied(_) => all.refuse(&found, writer)?,
+            RtFate::Copied => match file_at(rt, folder, &found.place)? {
+                Some(mut file) => all.write(&found, &mut file, writer)?,
+                None => {
+                    complete = false;
+                    all.refuse(&found, writer)?;
+                }
+            },
+        }
+    }
+    Ok(complete)
+}
+
+/// The file of the host that is made for one in this place; `None` where it can't be, which is told.
+fn file_at(rt: &HostRuntime, folder: &str, place: &RtPlace) -> Result<Option<HostFile>, Failure> {
+    let path = format!(in rt.alloc(); "{folder}/{place}")?;
+    if let RtPlace::Lost(_, _, _) = place {
+        let lost = format!(in rt.alloc(); "{folder}/lost")?;
+        let _ = fs::create_dir(rt, lost.as_str());
+    }
+    match HostFile::new(rt, path.as_str()) {
+        Ok(file) => Ok(Some(file)),
+        Err(why) => {
+            let remark = Remark {
+                word: Which::Text(path.as_str()),
+                why: Why::CannotOpen(why),
+            };
+            let _ = eprintln!(rt; "{remark}");
+            Ok(None)
+        }
+    }
+}
