@@ -181,6 +181,13 @@ class Files:
         header = self.valid.get(number)
         return header is not None and header.segment == 0 and header.sequence == sequence and volume == 0
 
+    def wanted(self):
+        """How many blocks the volume should have, by its control block, where the image has fewer; or None."""
+        places = self.places(2) if self.has(2, 2, 0) else []
+        control = self.block(places[0]) if places else bytes(BLOCK)
+        size = long(control, 4 + 4 * control[3]) if 1 <= control[3] <= 126 else 0
+        return size if size > self.blocks else None
+
     def listed(self, number, sequence, volume):
         """The lines of a directory."""
         if not self.has(number, sequence, volume):
@@ -202,6 +209,15 @@ class Files:
         for _, *found, name in self.records(4):
             if found[0] and is_name(name) and self.has(*found) and self.files[found[0]].is_directory():
                 yield *called(shown(name)), found
+
+    def all_directories(self):
+        """The same of all directories that `get --all` goes over: behind those the others that have a name, by their numbers."""
+        named = [*self.directories()] if self.has(4, 4, 0) and self.files[4].is_directory() else []
+        yield from named
+        for n in sorted(self.files.keys() - {found[0] for _, _, found in named}):
+            name = word_name(self.files[n])
+            if self.files[n].is_directory() and name:
+                yield *called(name), (n, self.files[n].sequence, 0)
 
     def all_listed(self):
         """The lines of all directories."""
@@ -228,50 +244,43 @@ class Files:
         """The lines of the user's directory with a name."""
         return self.listed(*self.found((4, 4, 0), name))
 
-    def sought(self, user, name):
-        """The number of the file that a user's directory has under a name."""
-        found = self.found(self.found((4, 4, 0), user), name)
-        if not self.has(*found):
+    def sought(self, directory, name):
+        """The number of the file that a directory has under a name, and the headers by which it is read."""
+        found = self.found(self.found((4, 4, 0), directory), name)
+        if not self.is_there(*found):
             raise Refused("NoSuchFile")
-        return found[0]
+        return found[0], self.live if self.has(*found) else self.valid
 
-    def taken(self, n):
-        """A file's bytes up to its end, and what the line says that tells of them."""
-        content, missing = self.bytes_of(n), self.first_missing(n)
-        return content, f"copied {len(content)} bytes" + (f" broke off at VBN {missing}" if missing else "")
+    def up_to(self, end, places):
+        """The bytes of blocks up to an end, the VBN of the first block before the end that isn't there, or None, and what is said of it."""
+        content = b"".join(map(self.block, places))[:end]
+        missing = next((i + 1 for i in range((end + BLOCK - 1) // BLOCK) if i == len(places) or places[i] >= self.blocks), None)
+        if missing is None:
+            return content, None, ""
+        return content, missing, f" {'zeros from' if missing <= len(places) else 'broke off at'} VBN {missing}"
 
-    def bytes_of(self, n):
-        """A file's bytes up to its end."""
-        return b"".join(map(self.block, self.places(n)))[:self.files[n].end()]
-
-    def first_missing(self, n):
-        """The VBN of a file's first block before its end that isn't there, or None."""
-        places = self.places(n)
-        for i in range((self.files[n].end() + BLOCK - 1) // BLOCK):
-            if i == len(places) or places[i] >= self.blocks:
-                return i + 1
-        return None
+    def taken(self, n, of, all_blocks=False):
+        """A file's bytes up to its end, or all, by these headers, and what the line says that tells of them."""
+        places = self.places(n, of)
+        content, _, said = self.up_to(BLOCK * len(places) if all_blocks else of[n].end(), places)
+        return content, f"copied {len(content)} bytes{said}"
 
     def whole(self, n, of):
         """As taken, of a file by these headers: all its blocks where it wasn't closed and states the end 0."""
         header, places = of[n], self.places(n, of)
         all_blocks = header.end() == 0 and header.b[12] >> 6 & 1
-        end = BLOCK * len(places) if all_blocks else header.end()
-        content = b"".join(map(self.block, places))[:end]
-        missing = next((i + 1 for i in range((end + BLOCK - 1) // BLOCK) if i == len(places) or places[i] >= self.blocks), None)
-        said = f"copied {len(content)} bytes" + " open, all blocks" * bool(all_blocks and places)
-        return content, said + (f" broke off at VBN {missing}" if missing else ""), missing
+        content, missing, said = self.up_to(BLOCK * len(places) if all_blocks else header.end(), places)
+        return content, f"copied {len(content)} bytes" + " open, all blocks" * bool(all_blocks and places) + said, missing
 
     def everything(self):
         """What `get --all` goes over: where each stands, as its line says, the folder and the name of the host, and its identification."""
         known = set()
-        if self.has(4, 4, 0) and self.files[4].is_directory():
-            for text, folder, directory in self.directories():
-                for _, *found, words in self.records(directory[0]):
-                    if found[0]:
-                        if self.has(*found):
-                            known.add(found[0])
-                        yield f"{text} {shown(words)}", folder if is_name(words) else None, shown(words), found
+        for text, folder, directory in self.all_directories():
+            for _, *found, words in self.records(directory[0]):
+                if found[0]:
+                    if self.has(*found):
+                        known.add(found[0])
+                    yield f"{text} {shown(words)}", folder if is_name(words) else None, shown(words), found
         for n in sorted(self.files.keys() - known):
             name = word_name(self.files[n])
             yield f"lost {n},{self.files[n].sequence}" + f" {name}" * bool(name), None, name, (n, self.files[n].sequence, 0)
@@ -282,9 +291,10 @@ class Files:
             return f"header {number} bad"
         return f"no file {identified(number, sequence, volume)}"
 
-    def names(self):
-        """Names of all directories' records."""
-        return [shown(words) for d, h in self.files.items() if h.is_directory() for _, *found, words in self.records(d) if found[0] and is_name(words)]
+    def names(self, directory=None):
+        """Names of the records of a directory, or of all."""
+        directories = [d for d, h in self.files.items() if h.is_directory() and directory in (None, d)]
+        return [shown(words) for d in directories for _, *found, words in self.records(d) if found[0] and is_name(words)]
 
 
 def listing(image, user=None):

@@ -9,6 +9,11 @@ pub mod DirectoryLemmas
 pub mod ContentLemmas
 pub mod NameLemmas
 pub mod WalkLemmas
+pub mod UnmetLemmas
+pub mod ScanLemmas
+pub mod TurnLemmas
+pub mod GoingLemmas
+pub mod SlotLemmas
 pub mod EnteredLemmas
 pub mod LostLemmas
 pub mod FilesLemmas

@@ -1,28 +1,27 @@
 -- The files that no directory names, one after another.
-use Rattle.std.proofs.Common.{◌≡◌, ◌++◌, ◌+◌, ◌-◌, ◌<◌, ◌≤◌, ◌&&◌, ℕ, suc, Bool, true, false, not, IsTrue, List, [], ◌∷◌}
-use Rattle.std.proofs.Common.{cond, get_or, refl, sym, ap, subst, ◌∙◌, inl, inr, arith, if◌then◌else◌}
+use Rattle.std.proofs.Common.{◌≡◌, ◌+◌, ◌<◌, ◌≤◌, ◌&&◌, ℕ, Bool, true, false, not, List, [], ◌∷◌}
+use Rattle.std.proofs.Common.{cond, sym, ap, subst, ◌∙◌, inl, inr, arith, if◌then◌else◌}
 use Rattle.std.proofs.lemmas.Bool.{cases_Bool}
-use Rattle.std.proofs.lemmas.List.Concat.{flat_map-cons}
-use Rattle.std.specs.List.{range_with_len}
 use Rattle.f11_chain.specs.Calls.{FindsNoFile, table}
 use Rattle.f11_dev.specs.Disk.{Disk}
 use Rattle.f11_header.specs.Fields.{file_sequence, ident_area}
 use Rattle.f11_image_store.proofs.StoreLemmas.{first-is-tested}
 use Rattle.f11_image_store.specs.StoreOf.{is_first}
 use Rattle.f11_index.specs.IndexFile.{Index, slots}
-use Rattle.f11_index.specs.Table.{IsFile, Table, table_in}
+use Rattle.f11_index.specs.Table.{IsFile, Table}
 use Rattle.f11_reader.specs.Reading.{OpensSlot, header_in_hand, id_in_hand}
 use Rattle.f11_reader.specs.declared.file.FileReader.{FileReader}
-use Rattle.f11_catalog.specs.AllFiles.{id_at, lost_files, name_in, place_lost}
-use Rattle.f11_catalog.specs.Records.{Reads}
-use Rattle.f11_catalog.specs.Walking.{EntersNone, FindsLost, FindsNoOther, FindsOther, is_met, others_to_come}
+use Rattle.f11_catalog.specs.AllDirectories.{id_at, name_in}
+use Rattle.f11_catalog.specs.AllFiles.{place_lost}
+use Rattle.f11_catalog.specs.Steps.{EntersNone}
+use Rattle.f11_catalog.specs.Walking.{FindsLost, FindsNoOther, FindsOther}
 use Rattle.f11_catalog.specs.declared.walk.content.Content.TheVariants.{File}
 use Rattle.f11_catalog.specs.declared.walk.place.FileAt.{FileAt}
 use Rattle.f11_catalog.specs.declared.walk.place.Place.{Place}
 use Rattle.f11_catalog.specs.declared.walk.place.Place.TheVariants.{Lost}
-use Rattle.f11_catalog.specs.declared.walk.state.OtherFiles.{OtherFiles}
-use Rattle.f11_catalog.proofs.ContentLemmas.{slots-are}
-use Rattle.f11_catalog.proofs.ListingLemmas.{reads-none, reads-then, said-later}
+use Rattle.f11_catalog.specs.declared.walk.state.Unmet.{Unmet}
+use Rattle.f11_catalog.proofs.ListingLemmas.{reads-none}
+use Rattle.f11_catalog.proofs.ScanLemmas.{SeesNone, none-first, none-here, sees-front}
 use Rattle.f11_catalog.proofs.WalkLemmas.{opens-behind}
 
 -- where file n stands if it is lost
@@ -69,66 +68,24 @@ module _ (known : ℕ → Bool) (index : Index) (n : ℕ) (old new : Disk) where
   }
 
 -- So many slots were looked at, and none has such a file.
-pub record SeesNone (known : ℕ → Bool) (index : Index) (first here : OtherFiles) (old now : Disk) : Type 0 where
-  pub rest : IsTrue old.honest → others_to_come (table index old) known first ≡ others_to_come (table index old) known here
-  pub forward : first.next ≤ here.next
-  pub reads : Reads old now 0
+module _ (known : ℕ → Bool) (index : Index) (first here : Unmet) (old now : Disk)
+    (seen : SeesNone (λ image t. place_lost t known) index first here old now) where
+  -- nor has another one
+  pub lost-all : slots index < here.next → FindsNoOther known index first here old now
+  lost-all past = record {
+    none = λ honest. none-first (λ known image t. place_lost t known) known index first here old now seen past honest;
+    ended = λ _. none-here (λ known image t. place_lost t known) known index first here old now seen past;
+    reads = seen.reads;
+  }
 
-module _ (known : ℕ → Bool) (index : Index) where
-  module _ (first here : OtherFiles) (old now : Disk) (seen : SeesNone known index first here old now) where
-    module _ (past : slots index < here.next) where
-      none-here : others_to_come (table index old) known here ≡ []
-      none-here =
-          let none : (table index old).slots + 1 - here.next ≡ 0 = let all = slots-are index old in omega (arith, past, all) in
-          ap (lost_files (table index old) known here.next) none
-
-      pub lost-all : FindsNoOther known index first here old now
-      lost-all = record { none = λ honest. seen.rest honest ∙ none-here; ended = λ _. none-here; reads = seen.reads }
-
-    module _ (later : OtherFiles) (inside : here.next ≤ slots index) (on : later.next ≡ here.next + 1) where
-      step : IsTrue old.honest → others_to_come (table index old) known first
-          ≡ place_lost (table index old) known here.next ++ others_to_come (table index old) known later
-      step honest =
-          let t : Table = table index old in
-          let all = slots-are index old in
-          let one : t.slots + 1 - here.next ≡ suc (t.slots + 1 - later.next) = omega (arith, inside, on, all) in
-          seen.rest honest
-          ∙ ap (lost_files t known here.next) one
-          ∙ flat_map-cons (place_lost t known) here.next (range_with_len (here.next + 1) (t.slots + 1 - later.next))
-          ∙ ap (λ (k : ℕ). place_lost t known here.next ++ lost_files t known k (t.slots + 1 - later.next)) (sym on)
-
-      same : place_lost (table index now) known here.next ≡ place_lost (table index old) known here.next
-      same = said-later (λ image t. place_lost t known here.next) index seen.reads.1
-
-      sees-more : (new : Disk) → EntersNone (λ image t. place_lost t known here.next) index now new
-          → SeesNone known index first later old new
-      sees-more new none = record {
-        rest = λ honest. step honest
-            ∙ ap (λ ps. ps ++ others_to_come (table index old) known later) (sym same ∙ none.none (seen.reads.1.honest ∙ honest));
-        forward = omega (arith, seen.forward, on);
-        reads = reads-then seen.reads none.reads;
-      }
-
-      sees-that : (found : FileAt) (new : Disk) → FindsLost (λ image t. place_lost t known here.next) index found now new
-          → FindsOther known index first later found old new
-      sees-that found new one = record {
-        next = λ honest. step honest
-            ∙ ap (λ ps. ps ++ others_to_come (table index old) known later) (sym same ∙ one.one (seen.reads.1.honest ∙ honest));
-        forward = omega (arith, seen.forward, on);
-        opens = opens-behind index found old now new seen.reads one.opens;
-      }
-
-      -- by what was known here, and this number
-      module _ (met : ℕ → Bool) (n : ℕ) (same-met : met ≡ known) (same-n : n ≡ here.next) (new : Disk) where
-        pub sees-on : EntersNone (λ image t. place_lost t met n) index now new → SeesNone known index first later old new
-        sees-on none = sees-more new (subst (λ (k : ℕ). EntersNone (λ image t. place_lost t known k) index now new) same-n
-            (subst (λ (f : ℕ → Bool). EntersNone (λ image t. place_lost t f n) index now new) same-met none))
-
-        pub sees-one : (found : FileAt) → FindsLost (λ image t. place_lost t met n) index found now new
-            → FindsOther known index first later found old new
-        sees-one found one = sees-that found new (subst (λ (k : ℕ). FindsLost (λ image t. place_lost t known k) index found now new) same-n
-            (subst (λ (f : ℕ → Bool). FindsLost (λ image t. place_lost t f n) index found now new) same-met one))
-
--- what was met is the same where this is
-pub met-same : (one other : OtherFiles) → one.met ≡ other.met → is_met one ≡ is_met other
-met-same one other same = λ i. λ n. get_or (same i).items n false
+  -- or the next one has
+  pub sees-one : (later : Unmet) → here.next ≤ slots index → later.next ≡ here.next + 1 → (met : ℕ → Bool) (n : ℕ) → met ≡ known
+      → n ≡ here.next → (found : FileAt) (new : Disk) → FindsLost (λ image t. place_lost t met n) index found now new
+      → FindsOther known index first later found old new
+  sees-one later inside on met n same-met same-n found new one = record {
+    next = λ honest.
+        sees-front (λ known image t. place_lost t known) known index first here old now seen later inside on met n same-met same-n
+        (found.place ∷ []) one.one honest;
+    forward = omega (arith, seen.forward, on);
+    opens = opens-behind index found old now new seen.reads one.opens;
+  }

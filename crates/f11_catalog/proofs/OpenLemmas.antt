@@ -20,7 +20,7 @@ use Rattle.f11_store.specs.declared.refusals.Refusal.TheVariants.{NoSuchFile, No
 use Rattle.f11_volume.specs.Contents.{block_or_zeros, blocks_reached, file_of}
 use Rattle.f11_catalog.specs.Facts.{facts_in, is_directory_header}
 use Rattle.f11_catalog.specs.Lines.{facts_of}
-use Rattle.f11_catalog.specs.Records.{FindsNoDirectory, HasBlockInHand, HasNoRecord, OpensDirectory, ReadsRecord}
+use Rattle.f11_catalog.specs.Records.{BeginsDirectory, FindsNoDirectory, HasBlockInHand, HasNoRecord, OpensDirectory, ReadsRecord}
 use Rattle.f11_catalog.specs.Records.{all_records, directory_refusal, file_named}
 use Rattle.f11_catalog.specs.declared.directory.DirectoryReader.{DirectoryReader}
 use Rattle.f11_catalog.proofs.ComingLemmas.{coming-begin, coming-behind, coming-ended, coming-next, coming-none, named-none, named-some}
@@ -71,22 +71,21 @@ module _ (index : Index) (id : FileId) (old new : Disk) where
     }
 
     -- it is one
-    pub begins : (directory : DirectoryReader) → is_directory_header file.header ≡ true → directory.file ≡ file → directory.at ≡ 32
-        → directory.left ≡ stated_end (attributes file.header) / 16 → OpensDirectory index id directory old new
-    begins directory passes same at left = record {
-      reading = subst (λ (f : FileReader). IsReading index f new) (sym same) opens.reading;
+    pub begins : (directory : DirectoryReader) → BeginsDirectory file directory → OpensDirectory index id directory old new
+    begins directory from = record {
+      reading = subst (λ (f : FileReader). IsReading index f new) (sym from.same) opens.reading;
       readable = λ honest.
-          ap directory_refusal (named honest) ∙ ap (λ (b : Bool). cond b None (Some NotDirectory)) (tested honest true passes);
+          ap directory_refusal (named honest) ∙ ap (λ (b : Bool). cond b None (Some NotDirectory)) (tested honest true from.is);
       records = λ honest.
           let t = table index old in
           let f = file_of old.image t file.number in
           let contents : contents_to_come index old directory.file ≡ f.blocks =
-          ap (contents_to_come index old) same ∙ ap (map (block_or_zeros old.image)) (opens.blocks honest)
+          ap (contents_to_come index old) from.same ∙ ap (map (block_or_zeros old.image)) (opens.blocks honest)
           ∙ sym (blocks-are old.image t file.number) in
           let end : directory.left ≡ stated_end f.attr / 16 =
-          left ∙ ap (λ b. stated_end (attributes b) / 16) (opens.header_is honest)
+          from.left ∙ ap (λ b. stated_end (attributes b) / 16) (opens.header_is honest)
           ∙ ap (λ a. stated_end a / 16) (sym (attr-is old.image t file.number)) in
-          coming-behind index old directory at
+          coming-behind index old directory from.at
           ∙ ap (λ k. take k (all_records (contents_to_come index old directory.file))) end
           ∙ ap (λ bs. take (stated_end f.attr / 16) (all_records bs)) contents
           ∙ entries-are f

@@ -1,5 +1,5 @@
 -- Records that are read one after another, each of which gives places.
-use Rattle.std.proofs.Common.{◌≡◌, ◌≢◌, ◌++◌, ◌≤◌, ℕ, Bool, true, false, IsTrue, List, [], ◌∷◌, Option, Some, None, SomeIff, cond}
+use Rattle.std.proofs.Common.{◌≡◌, ◌≢◌, ◌++◌, ◌≤◌, ℕ, Bool, true, false, IsTrue, List, [], ◌∷◌, Option, None, SomeIff, cond}
 use Rattle.std.proofs.Common.{refl, sym, ap, subst, ◌∙◌, inl, inr, arith}
 use Rattle.std.proofs.lemmas.Bool.{cases_Bool}
 use Rattle.std.proofs.lemmas.List.Concat.{flat_map-cons}
@@ -13,15 +13,17 @@ use Rattle.f11_dir.specs.declared.record.Record.{Record}
 use Rattle.f11_index.specs.IndexFile.{Index}
 use Rattle.f11_index.specs.Table.{Table}
 use Rattle.f11_rad50.specs.Name.{IsName}
-use Rattle.f11_store.specs.Directory.{is_empty, record_id, record_name}
+use Rattle.f11_store.specs.Directory.{record_id, record_name}
 use Rattle.f11_store.specs.declared.files.FileId.{FileId}
 use Rattle.f11_volume.specs.Notes.{IsIdOf}
-use Rattle.f11_catalog.specs.AllFiles.{id_of, place_entered, places_by, places_under}
+use Rattle.f11_catalog.specs.AllDirectories.{directory_by, directory_under}
+use Rattle.f11_catalog.specs.AllFiles.{id_of, place_entered}
 use Rattle.f11_catalog.specs.Contents.{Holds}
 use Rattle.f11_catalog.specs.Lines.{name_found}
 use Rattle.f11_catalog.specs.Records.{HasNoRecord, Reads, ReadsRecord}
 use Rattle.f11_catalog.specs.Records.{is_id_of_file, records_to_come}
-use Rattle.f11_catalog.specs.Walking.{ComesTo, EntersNone, EntersOne, HasNoneLeft, HoldsAt, OpensAt}
+use Rattle.f11_catalog.specs.Steps.{ComesTo, EntersNone, HasNoneLeft}
+use Rattle.f11_catalog.specs.Walking.{EntersOne, HoldsAt, OpensAt}
 use Rattle.f11_catalog.specs.declared.directory.DirectoryReader.{DirectoryReader}
 use Rattle.f11_catalog.specs.declared.directory_name.DirectoryName.{DirectoryName}
 use Rattle.f11_catalog.specs.declared.walk.content.Content.{Content}
@@ -80,26 +82,26 @@ module _ (bytes : List ℕ) (r : Record) (is : r ≡ record_of_bytes bytes) (nam
 
 -- A record of the master file directory that has no name.
 pub no-name-directory : (bytes : List ℕ) (r : Record) → r ≡ record_of_bytes bytes → (index : Index) (disk : Disk)
-    → SomeIff None ((r.id.number ≢ 0) × IsName r.words) r.words → EntersNone (λ image t. places_under image t bytes) index disk disk
+    → SomeIff None ((r.id.number ≢ 0) × IsName r.words) r.words → EntersNone (λ image t. directory_under image t bytes) index disk disk
 no-name-directory bytes r is index disk named = record {
-  none = λ honest. by-no-name bytes r is [] (places_by disk.image (table index disk)) named (λ id. refl);
+  none = λ honest. by-no-name bytes r is [] (directory_by disk.image (table index disk)) named (λ id. refl);
   reads = reads-none disk;
 }
 
--- So many records were read, none of which gives a place.
-pub record Passed (places : Image → Table → List ℕ → List Place) (index : Index) (first here : DirectoryReader) (old now : Disk) : Type 0
-  where
-    pub rest : IsTrue old.honest → flat_map (places old.image (table index old)) (records_to_come index old first)
-        ≡ flat_map (places old.image (table index old)) (records_to_come index old here)
-    pub no_more : here.left ≤ first.left
-    pub reads : Reads old now 0
+-- So many records were read, none of which gives a place, or a directory.
+pub record Passed {X : Type 0} (places : Image → Table → List ℕ → List X) (index : Index) (first here : DirectoryReader) (old now : Disk)
+    : Type 0 where
+  pub rest : IsTrue old.honest → flat_map (places old.image (table index old)) (records_to_come index old first)
+      ≡ flat_map (places old.image (table index old)) (records_to_come index old here)
+  pub no_more : here.left ≤ first.left
+  pub reads : Reads old now 0
 
-module _ (places : Image → Table → List ℕ → List Place) (index : Index) where
+module _ {X : Type 0} (places : Image → Table → List ℕ → List X) (index : Index) where
   pub passed-none : (first : DirectoryReader) (disk : Disk) → Passed places index first first disk disk
   passed-none first disk = record { rest = λ _. refl; no_more = omega arith; reads = reads-none disk }
 
   module _ (first here : DirectoryReader) (old now : Disk) (passed : Passed places index first here old now) where
-    abbrev given : List ℕ → List Place
+    abbrev given : List ℕ → List X
     given = places old.image (table index old)
 
     -- one more is read
@@ -133,7 +135,7 @@ module _ (places : Image → Table → List ℕ → List Place) (index : Index) 
       }
 
       -- or these
-      pub passed-to : (next : Disk) (front : List Place)
+      pub passed-to : (next : Disk) (front : List X)
           → (IsTrue mid.honest → places mid.image (table index mid) read.bytes ≡ front) → Reads mid next 0
           → ComesTo places index front first later old next
       passed-to next front gives reads = record {

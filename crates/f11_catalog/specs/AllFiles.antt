@@ -1,19 +1,16 @@
--- All files of a volume, in the order in which they are gone over: what the directories name that the master file directory names, record
--- after record, and behind it the files that none of them names, so that none is left out (Files-11 On-Disk Structure Level 1, "Index File"
--- and "Directories"; profile: the order).
-use Rattle.std.specs.Prelude.{ℕ, ◌==◌, ◌&&◌, Bool, not, List, [], ◌∷◌, ◌++◌, Option, Some, None, if◌then◌else◌}
+-- All files of a volume, in the order in which they are gone over: what directories name, record after record, and behind it the files
+-- that none of them names, so that none is left out (Files-11 On-Disk Structure Level 1, "Index File" and "Directories"; profile: order).
+use Rattle.std.specs.Prelude.{ℕ, ◌==◌, ◌&&◌, Bool, not, List, [], ◌∷◌, ◌++◌, if◌then◌else◌}
 use Rattle.std.specs.List.{flat_map, list_any, range_with_len}
-use Rattle.f11_bytes.specs.Words.{word}
 use Rattle.f11_dev.specs.Image.{Image}
 use Rattle.f11_header.specs.Fields.{ident_area}
 use Rattle.f11_image_store.specs.StoreOf.{is_first}
-use Rattle.f11_index.specs.Table.{Table, last_sequence}
-use Rattle.f11_rad50.specs.Name.{is_name}
+use Rattle.f11_index.specs.Table.{Table}
 use Rattle.f11_store.specs.Directory.{is_empty, record_id, record_name}
 use Rattle.f11_store.specs.declared.files.FileId.{FileId}
-use Rattle.f11_catalog.specs.DirectoryNames.{directory_called}
-use Rattle.f11_catalog.specs.Lines.{name_found, names_directory}
-use Rattle.f11_catalog.specs.Records.{file_named, is_id_of_file, records_of}
+use Rattle.f11_catalog.specs.AllDirectories.{DirectoryAt, all_directories, id_at, name_in}
+use Rattle.f11_catalog.specs.Lines.{name_found}
+use Rattle.f11_catalog.specs.Records.{is_id_of_file, records_of}
 use Rattle.f11_catalog.specs.declared.directory_name.DirectoryName.{DirectoryName}
 use Rattle.f11_catalog.specs.declared.walk.place.Place.{Place}
 use Rattle.f11_catalog.specs.declared.walk.place.Place.TheVariants.{Entered, Lost}
@@ -31,44 +28,17 @@ place_entered directory r = if is_empty r then [] else Entered directory (name_f
 abbrev pub places_entered : DirectoryName → List (List ℕ) → List Place
 places_entered directory records = flat_map (place_entered directory) records
 
--- those of the directory with an identification, if it is one
-abbrev pub places_in : Image → Table → FileId → DirectoryName → List Place
-places_in image t id directory =
-    if names_directory (file_named image t id) then places_entered directory (records_of image t id) else []
+-- the places in a directory
+abbrev pub places_in : Image → Table → DirectoryAt → List Place
+places_in image t directory = places_entered directory.name (records_of image t directory.id)
 
--- those of the directory that has this name, if that is one
-abbrev pub places_by : Image → Table → FileId → Option (List ℕ) → List Place
-places_by image t id (Some words) = places_in image t id (directory_called words)
-places_by image t id None = []
-
--- those of the directory that a record of the master file directory names, if it names one
-abbrev pub places_under : Image → Table → List ℕ → List Place
-places_under image t r = if is_empty r then [] else places_by image t (record_id r) (name_found (record_name r))
-
--- those of all directories that records name, in their order
-abbrev pub places_of_directories : Image → Table → List (List ℕ) → List Place
-places_of_directories image t records = flat_map (places_under image t) records
-
--- the places in directories, where the master file directory can be read
+-- the places in all directories
 abbrev pub entered_files : Image → Table → FileId → List Place
-entered_files image t master =
-    if names_directory (file_named image t master) then places_of_directories image t (records_of image t master) else []
+entered_files image t master = flat_map (places_in image t) (all_directories image t master)
 
 -- file n stands in one of these places
 abbrev pub is_among : Table → List Place → ℕ → Bool
 is_among t places n = list_any (λ p. is_id_of_file t (id_of p) && ((id_of p).number == n)) places
-
--- the identification of file n
-abbrev pub id_at : Table → ℕ → FileId
-id_at t n = record { number = n; sequence = last_sequence t n; volume = 0 }
-
--- the five words that an ident area begins with ("Ident Area")
-abbrev pub words_in : List ℕ → List ℕ
-words_in ident = word ident 0 ∷ word ident 2 ∷ word ident 4 ∷ word ident 6 ∷ word ident 8 ∷ []
-
--- the name in an ident area, if they are one
-abbrev pub name_in : List ℕ → Option (List ℕ)
-name_in ident = name_found (words_in ident)
 
 -- the place of file n, if there is one and it isn't known from elsewhere
 abbrev pub place_lost : Table → (ℕ → Bool) → ℕ → List Place

@@ -1,5 +1,5 @@
--- What the directories are called that the master file directory names: `[g,m]` where the name is that of a user's directory, six octal
--- digits, else `[NAME]` (profile; RSX-11M-PLUS has directories by name).
+-- What the directories are called that have a name, in the master file directory or in their own headers: `[g,m]` where it is that of a
+-- user's directory, six octal digits, else `[NAME]` (profile; RSX-11M-PLUS has directories by name).
 use Rattle.std.specs.Prelude.{ℕ, ◌-◌, ◌&&◌, nat_le, Bool, List, length, take, drop, codes, ◌++◌, Option, Some, None, if◌then◌else◌}
 use Rattle.std.specs.Str.{bytes_eq}
 use Rattle.f11_rad50.specs.Name.{name_text}

@@ -1,16 +1,18 @@
 -- Laws of directories and files (Files-11 On-Disk Structure Level 1, "Index File" and "Directories").
-use Rattle.std.specs.Prelude.{◌≡◌, ℕ, ◌==◌, false, true, List, Option, None, nat_le, option_map, if◌then◌else◌}
+use Rattle.std.specs.Prelude.{◌≡◌, ℕ, ◌==◌, false, true, List, Option, Some, None, nat_le, option_map, if◌then◌else◌}
 use Rattle.f11_dev.specs.Image.{Image}
 use Rattle.f11_volume.specs.home.Home.{HomeFields}
+use Rattle.f11_header.specs.Fields.{ident_area}
 use Rattle.f11_image_store.specs.StoreOf.{as_seen, is_first, store_of}
 use Rattle.f11_index.specs.IndexFile.{Index}
 use Rattle.f11_index.specs.Table.{Table, table_in, table_of}
-use Rattle.f11_store.specs.Directory.{entries_of, is_empty, record_id, record_name}
+use Rattle.f11_store.specs.Directory.{entries_of, is_directory, is_empty, record_id, record_name}
 use Rattle.f11_store.specs.File.{File}
 use Rattle.f11_store.specs.Store as store
 use Rattle.f11_store.specs.Store.{Store}
 use Rattle.f11_store.specs.declared.files.FileId.{FileId}
 use Rattle.f11_volume.specs.Contents.{file_of}
+use Rattle.f11_catalog.specs.AllDirectories.{all_directories, is_named, name_in}
 use Rattle.f11_catalog.specs.AllFiles.{all_files, is_among}
 use Rattle.f11_catalog.specs.Lines.{name_shown, named_line, record_line}
 use Rattle.f11_catalog.specs.Records.{file_named, records_of}
@@ -20,6 +22,14 @@ abbrev pub NoFileIsLeftOut : Type 0
 NoFileIsLeftOut =
     (image : Image) (index : Index) (master : FileId) (n : ℕ) → is_first (table_in image index) n ≡ true →
     is_among (table_in image index) (all_files image (table_in image index) master) n ≡ true
+
+-- each directory of a volume is gone over whose own header has a name
+abbrev pub NoDirectoryIsLeftOut : Type 0
+NoDirectoryIsLeftOut =
+    (image : Image) (index : Index) (master : FileId) (n : ℕ) (name : List ℕ) → is_first (table_in image index) n ≡ true →
+    is_directory (file_of image (table_in image index) n) ≡ true →
+    name_in (ident_area ((table_in image index).header n)) ≡ Some name →
+    is_named (all_directories image (table_in image index) master) n ≡ true
 
 -- the file that the plain store has with an identification on this volume is the one that it names, as requests see it: files 1 to 3
 -- without their blocks

@@ -4,8 +4,11 @@ pub mod Users
 pub mod DirectoryNames
 pub mod Lines
 pub mod Listing
+pub mod AllDirectories
 pub mod AllFiles
 pub mod Contents
+pub mod Steps
+pub mod GoingOver
 pub mod Walking
 pub mod Laws
 pub use Rattle.f11_image_store.specs as image_store

@@ -1,5 +1,5 @@
 -- A directory of any volume, whose records are read one after another (Files-11 On-Disk Structure Level 1, "Directories").
-use Rattle.std.specs.Prelude.{◌≡◌, ℕ, ◌<◌, ◌==◌, ◌&&◌, Bool, IsTrue, List, [], ◌∷◌, ◌++◌, drop, take}
+use Rattle.std.specs.Prelude.{◌≡◌, ℕ, ◌/◌, ◌<◌, ◌==◌, ◌&&◌, Bool, true, IsTrue, List, [], ◌∷◌, ◌++◌, drop, take}
 use Rattle.std.specs.Prelude.{Option, Some, None, unwrap_or, if◌then◌else◌}
 use Rattle.std.specs.List.{flat_map}
 use Rattle.f11_chain.specs.Calls.{table}
@@ -8,16 +8,19 @@ use Rattle.f11_dev.specs.Image.{Image}
 use Rattle.f11_dev.specs.Looked.{Looked}
 use Rattle.f11_dir.specs.Records.{records_in, record_of_bytes}
 use Rattle.f11_dir.specs.declared.record.Record.{Record}
+use Rattle.f11_header.specs.Fields.{attributes}
 use Rattle.f11_image_store.specs.StoreOf.{is_first}
 use Rattle.f11_index.specs.IndexFile.{Index}
 use Rattle.f11_index.specs.Table.{Table, last_sequence}
-use Rattle.f11_reader.specs.Reading.{IsReading, contents_to_come}
+use Rattle.f11_reader.specs.Reading.{IsReading, contents_to_come, header_in_hand}
+use Rattle.f11_reader.specs.declared.file.FileReader.{FileReader}
 use Rattle.f11_store.specs.Directory.{entries_of, is_directory}
-use Rattle.f11_store.specs.File.{File, no_file}
+use Rattle.f11_store.specs.File.{File, no_file, stated_end}
 use Rattle.f11_store.specs.declared.files.FileId.{FileId}
 use Rattle.f11_store.specs.declared.refusals.Refusal.{Refusal}
 use Rattle.f11_store.specs.declared.refusals.Refusal.TheVariants.{NoSuchFile, NotDirectory}
 use Rattle.f11_volume.specs.Contents.{file_of}
+use Rattle.f11_catalog.specs.Facts.{is_directory_header}
 use Rattle.f11_catalog.specs.declared.directory.DirectoryReader.{DirectoryReader}
 
 -- an identification is that of a file: its number, its sequence number, and no other volume
@@ -60,6 +63,13 @@ pub record OpensDirectory (index : Index) (id : FileId) (directory : DirectoryRe
   pub readable : IsTrue old.honest → directory_refusal (file_named old.image (table index old) id) ≡ None
   pub records : IsTrue old.honest → records_to_come index old directory ≡ records_of old.image (table index old) id
   pub looked : Looked old new 1 0
+
+-- A file whose first header is in hand is a directory, none of whose records was read.
+pub record BeginsDirectory (file : FileReader) (directory : DirectoryReader) : Type 0 where
+  pub is : is_directory_header (header_in_hand file) ≡ true
+  pub same : directory.file ≡ file
+  pub at : directory.at ≡ 32
+  pub left : directory.left ≡ stated_end (attributes (header_in_hand file)) / 16
 
 -- It can't be read.
 pub record FindsNoDirectory (index : Index) (id : FileId) (refusal : Refusal) (old new : Disk) : Type 0 where

@@ -1,5 +1,5 @@
 -- What the steps of a walk over all files tell, and what is still to come (profile).
-use Rattle.std.specs.Prelude.{◌≡◌, ℕ, ◌+◌, ◌-◌, ◌*◌, ◌^◌, ◌<◌, ◌≤◌, ◌||◌, Bool, false, IsTrue, List, [], ◌∷◌, ◌++◌, get_or}
+use Rattle.std.specs.Prelude.{◌≡◌, ℕ, ◌+◌, ◌-◌, ◌*◌, ◌^◌, ◌<◌, ◌≤◌, ◌||◌, Bool, IsTrue, List, [], ◌∷◌, ◌++◌}
 use Rattle.std.specs.Prelude.{Option, Some, None, IfSome}
 use Rattle.std.specs.List.{flat_map}
 use Rattle.f11_chain.specs.Calls.{table}
@@ -10,10 +10,11 @@ use Rattle.f11_index.specs.IndexFile.{Index}
 use Rattle.f11_index.specs.Table.{Table}
 use Rattle.f11_reader.specs.declared.file.FileReader.{FileReader}
 use Rattle.f11_store.specs.declared.files.FileId.{FileId}
-use Rattle.f11_catalog.specs.AllFiles.{all_files, entered_files, id_of, is_among, lost_files, place_entered}
-use Rattle.f11_catalog.specs.AllFiles.{places_entered, places_of_directories, places_under}
+use Rattle.f11_catalog.specs.AllFiles.{all_files, id_of, is_among, lost_files, place_entered, places_entered, places_in}
 use Rattle.f11_catalog.specs.Contents.{Holds, OpensBehind}
+use Rattle.f11_catalog.specs.GoingOver.{IsReadingMaster, directories_left, directories_to_come}
 use Rattle.f11_catalog.specs.Records.{IsReadingRecords, Reads, records_to_come}
+use Rattle.f11_catalog.specs.Steps.{ComesTo, is_met}
 use Rattle.f11_catalog.specs.declared.directory.DirectoryReader.{DirectoryReader}
 use Rattle.f11_catalog.specs.declared.directory_name.DirectoryName.{DirectoryName}
 use Rattle.f11_catalog.specs.declared.fault.WalkFault.{WalkFault}
@@ -22,30 +23,23 @@ use Rattle.f11_catalog.specs.declared.walk.content.Content.TheVariants.{File}
 use Rattle.f11_catalog.specs.declared.walk.place.FileAt.{FileAt}
 use Rattle.f11_catalog.specs.declared.walk.place.Place.{Place}
 use Rattle.f11_catalog.specs.declared.walk.state.AllFiles.{AllFiles}
-use Rattle.f11_catalog.specs.declared.walk.state.OtherFiles.{OtherFiles}
-use Rattle.f11_catalog.specs.declared.walk.state.OpenDirectory.{OpenDirectory}
 use Rattle.f11_catalog.specs.declared.walk.state.EnteredFiles.{EnteredFiles}
+use Rattle.f11_catalog.specs.declared.walk.state.OpenDirectory.{OpenDirectory}
+use Rattle.f11_catalog.specs.declared.walk.state.Unmet.{Unmet}
 
 -- what the rest of a directory names
 abbrev pub hand_to_come : Index → Disk → Option OpenDirectory → List Place
 hand_to_come index disk None = []
 hand_to_come index disk (Some hand) = places_entered hand.name (records_to_come index disk hand.directory)
 
--- what the directories name that the rest of the master file directory names
-abbrev pub master_to_come : Index → Disk → Option DirectoryReader → List Place
-master_to_come index disk None = []
-master_to_come index disk (Some master) = places_of_directories disk.image (table index disk) (records_to_come index disk master)
-
 -- what directories name that is still to come
 abbrev pub entered_to_come : Index → Disk → EnteredFiles → List Place
-entered_to_come index disk files = hand_to_come index disk files.hand ++ master_to_come index disk files.master
-
--- file n was met in a directory
-abbrev pub is_met : OtherFiles → ℕ → Bool
-is_met others n = get_or others.met.items n false
+entered_to_come index disk files =
+    hand_to_come index disk files.hand
+    ++ flat_map (places_in disk.image (table index disk)) (directories_to_come index disk files.directories)
 
 -- those of other files that are still to come, where these are known
-abbrev pub others_to_come : Table → (ℕ → Bool) → OtherFiles → List Place
+abbrev pub others_to_come : Table → (ℕ → Bool) → Unmet → List Place
 others_to_come t known others = lost_files t known others.next (t.slots + 1 - others.next)
 
 -- file n was met, or will be
@@ -60,31 +54,22 @@ files_to_come index disk files =
 -- directories of this disk are read
 abbrev pub IsWalkingDirectories : Index → EnteredFiles → Disk → Type 0
 IsWalkingDirectories index files disk =
-    IfSome files.hand (λ hand. IsReadingRecords index hand.directory disk) × IfSome files.master (λ d. IsReadingRecords index d disk)
+    IfSome files.hand (λ hand. IsReadingRecords index hand.directory disk) × IsReadingMaster index files.directories.master disk
 
 abbrev pub IsWalking : Index → AllFiles → Disk → Type 0
 IsWalking index files disk = IsWalkingDirectories index files.entered disk
 
--- how many more files may come at most from what is in hand, and from the master file directory: no directory has more than 2^38 records
+-- how many more files may come at most from what is in hand, and from directories: none has more than 2^38 records
 abbrev pub hand_left : Option OpenDirectory → ℕ
 hand_left None = 0
 hand_left (Some hand) = hand.directory.left
 
-abbrev pub master_left : Option DirectoryReader → ℕ
-master_left None = 0
-master_left (Some master) = master.left
-
 abbrev pub entered_left : EnteredFiles → ℕ
-entered_left files = master_left files.master * 2 ^ 38 + hand_left files.hand
+entered_left files = directories_left files.directories * 2 ^ 38 + hand_left files.hand
 
 -- how many more files may come at most
 unfoldable pub files_left : AllFiles → ℕ
 files_left files = entered_left files.entered + (65536 - files.others.next)
-
--- A record is empty, or names no directory.
-pub record EntersNone (places : Image → Table → List Place) (index : Index) (old new : Disk) : Type 0 where
-  pub none : IsTrue old.honest → places old.image (table index old) ≡ []
-  pub reads : Reads old new 0
 
 -- What stands in a place was found, behind other reads.
 pub record HoldsAt (index wide : Index) (found : FileAt) (old new : Disk) : Type 0 where
@@ -108,36 +93,11 @@ pub record FindsLost (places : Image → Table → List Place) (index : Index) (
   pub one : IsTrue old.honest → places old.image (table index old) ≡ found.place ∷ []
   pub opens : OpensAt index found old new
 
--- A directory was found, whose records give these places.
-pub record OpensNamed (places : Image → Table → List Place) (index : Index) (hand : OpenDirectory) (old new : Disk) : Type 0 where
-  pub reading : IsReadingRecords index hand.directory new
-  pub come : IsTrue old.honest → places old.image (table index old) ≡ hand_to_come index old (Some hand)
-  pub looked : Looked old new 1 0
-
--- Records were read of a directory: these places come first, and those of the rest behind.
-pub record ComesTo (places : Image → Table → List ℕ → List Place) (index : Index) (front : List Place) (directory later : DirectoryReader)
-    (old new : Disk) : Type 0 where
-  pub next : IsTrue old.honest → flat_map (places old.image (table index old)) (records_to_come index old directory)
-      ≡ front ++ flat_map (places old.image (table index old)) (records_to_come index old later)
-  pub fewer : later.left < directory.left
-  pub reads : Reads old new 0
-
--- No place is left.
-pub record HasNoneLeft (places : Image → Table → List ℕ → List Place) (index : Index) (directory : DirectoryReader) (old new : Disk)
-    : Type 0 where
-  pub none : IsTrue old.honest → flat_map (places old.image (table index old)) (records_to_come index old directory) ≡ []
-  pub reads : Reads old new 0
-
 -- The next record of a directory that isn't empty was read, and what it names was found.
 pub record ComesToFile (index wide : Index) (name : DirectoryName) (directory later : DirectoryReader) (found : FileAt) (old new : Disk)
     : Type 0 where
   pub comes : ComesTo (λ image t. place_entered name) index (found.place ∷ []) directory later old new
   pub holds : HoldsAt index wide found old new
-
--- The next directory was found.
-pub record ComesToDirectory (index : Index) (master later : DirectoryReader) (hand : OpenDirectory) (old new : Disk) : Type 0 where
-  pub reading : IsReadingRecords index hand.directory new
-  pub comes : ComesTo (λ image t. places_under image t) index (hand_to_come index old (Some hand)) master later old new
 
 -- What the next record names was found.
 pub record EntersFile (index wide : Index) (files later : EnteredFiles) (found : FileAt) (old new : Disk) : Type 0 where
@@ -154,7 +114,7 @@ pub record StaysToCome (index : Index) (files later : EnteredFiles) (old new : D
 -- The next directory was taken in hand.
 pub record TakesDirectory (index : Index) (files later : EnteredFiles) (old new : Disk) : Type 0 where
   pub stays : StaysToCome index files later old new
-  pub fewer : master_left later.master < master_left files.master
+  pub fewer : directories_left later.directories < directories_left files.directories
 
 -- Directories name no more.
 pub record EntersNoMore (index : Index) (files later : EnteredFiles) (old new : Disk) : Type 0 where
@@ -164,23 +124,17 @@ pub record EntersNoMore (index : Index) (files later : EnteredFiles) (old new : 
   pub reads : Reads old new 0
 
 -- The next file that isn't known was found.
-pub record FindsOther (known : ℕ → Bool) (index : Index) (others later : OtherFiles) (found : FileAt) (old new : Disk) : Type 0 where
+pub record FindsOther (known : ℕ → Bool) (index : Index) (others later : Unmet) (found : FileAt) (old new : Disk) : Type 0 where
   pub next : IsTrue old.honest →
       others_to_come (table index old) known others ≡ found.place ∷ others_to_come (table index old) known later
   pub forward : others.next < later.next
   pub opens : OpensAt index found old new
 
 -- There is none.
-pub record FindsNoOther (known : ℕ → Bool) (index : Index) (others later : OtherFiles) (old new : Disk) : Type 0 where
+pub record FindsNoOther (known : ℕ → Bool) (index : Index) (others later : Unmet) (old new : Disk) : Type 0 where
   pub none : IsTrue old.honest → others_to_come (table index old) known others ≡ []
   pub ended : IsTrue old.honest → others_to_come (table index old) known later ≡ []
   pub reads : Reads old new 0
-
--- The master file directory is to be read, where it is a directory.
-pub record OpensMaster (index : Index) (id : FileId) (master : Option DirectoryReader) (old new : Disk) : Type 0 where
-  pub reading : IfSome master (λ directory. IsReadingRecords index directory new)
-  pub come : IsTrue old.honest → master_to_come index old master ≡ entered_files old.image (table index old) id
-  pub looked : Looked old new 1 0
 
 -- A walk has begun: all files are to come.
 pub record BeginsWalk (index : Index) (master : FileId) (files : AllFiles) (old new : Disk) : Type 0 where

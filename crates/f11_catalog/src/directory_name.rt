@@ -7,8 +7,8 @@ use f11_rad50::Name;
 use f11_store::Uic;
 use std::fmt;
 
-/// What a directory is called that the master file directory names: by its user, or by its name where that is no user's, as RSX-11M-PLUS
-/// names them.
+/// What a directory is called that has a name, in the master file directory or in its own header: by its user, or by its name where that is
+/// no user's, as RSX-11M-PLUS names them.
 #[derive(Clone, Copy)]
 pub enum DirectoryName {
     /// The directory of a user.

@@ -6,6 +6,11 @@ pub fn all_files()
     ensures { laws.NoFileIsLeftOut }
 {}
 
+/// All directories of a volume.
+pub fn all_directories()
+    ensures { laws.NoDirectoryIsLeftOut }
+{}
+
 /// The files that the plain store has, what it has of directories, and the lines that tell of them.
 pub fn stored_files()
     ensures named { laws.NamesTheStoresFile }

@@ -3,7 +3,7 @@ ghost use Rattle.std.specs.Prelude.{◌≡◌, IsTrue, length};
 ghost use Rattle.f11_header.specs.Fields.{ident_area};
 ghost use Rattle.f11_header.specs.Header.{holds_header};
 ghost use Rattle.f11_volume.specs.map.HeaderBlock.{segment_number};
-ghost use Rattle.f11_catalog.specs.AllFiles.{name_in};
+ghost use Rattle.f11_catalog.specs.AllDirectories.{name_in};
 
 use f11_bytes::{Block, read_word};
 use f11_header::Header;

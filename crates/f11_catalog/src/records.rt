@@ -46,6 +46,21 @@ fn is_of_directory(block: &Block) -> bool
 
 impl DirectoryReader {
     ghost use Rattle.f11_catalog.specs.Records.{OpensDirectory, FindsNoDirectory, Reads, IsReadingRecords, ReadsRecord, HasBlockInHand, HasNoRecord};
+    ghost use Rattle.f11_catalog.specs.Records.{BeginsDirectory};
+    ghost use Rattle.f11_reader.specs.Reading.{header_in_hand};
+
+    /// The directory whose first header is in hand, if it is one: all its records are to come.
+    pub(crate) fn of(file: FileReader) -> Option<DirectoryReader>
+        requires first { segment_number (header_in_hand file) ≡ 0 }
+        ensures begins { IfSome result (λ directory. BeginsDirectory file directory) }
+        ensures other { IfNone result (is_directory_header (header_in_hand file) ≡ false) }
+    {
+        if !is_of_directory(file.header()) {
+            return None;
+        }
+        let left = stated_end(&Header::new(file.header()).attributes()) / 16;
+        Some(DirectoryReader::begin(file, left))
+    }
 
     /// Begins to read the directory with an identification. Its header is read once.
     ///
@@ -68,11 +83,10 @@ impl DirectoryReader {
         let Some(file) = FileReader::open(device, index, id)? else {
             return Ok(Err(Refusal::NoSuchFile));
         };
-        if !is_of_directory(file.header()) {
-            return Ok(Err(Refusal::NotDirectory));
+        match DirectoryReader::of(file) {
+            Some(directory) => Ok(Ok(directory)),
+            None => Ok(Err(Refusal::NotDirectory)),
         }
-        let left = stated_end(&Header::new(file.header()).attributes()) / 16;
-        Ok(Ok(DirectoryReader::begin(file, left)))
     }
 
     /// Reads the next record, empty ones too; `None` behind the last. A block of the directory is read once.

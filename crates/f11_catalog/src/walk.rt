@@ -1,5 +1,6 @@
 //! All files of a volume, one after another.
 
+pub mod all_directories;
 pub mod begin;
 pub mod content;
 pub mod directories;
@@ -8,3 +9,5 @@ pub mod lost;
 pub mod next;
 pub mod place;
 pub mod state;
+pub mod unmet;
+pub mod unnamed;

@@ -75,8 +75,10 @@ module _ {D : Type 0} {G : Ghosts D} {H W : Type 0} where
 -- behind some reads the same directories are read, and the index file lies on the device
 pub walking-on : (index : Index) (files : AllFiles) (old new : Disk) (faults : ℕ) → Reads old new faults → IsWalking index files old
     → IsWalking index files new
-walking-on index files old new faults reads walking =
-    (hand-on index files.entered.hand old new faults reads walking.0, master-on index files.entered.master old new faults reads walking.1)
+walking-on index files old new faults reads walking = (
+  hand-on index files.entered.hand old new faults reads walking.0,
+  master-on index files.entered.directories.master old new faults reads walking.1,
+)
 
 pub within-on : (index : Index) (old new : Disk) (faults : ℕ) → Reads old new faults → IndexLiesWithin index (length old.image)
     → IndexLiesWithin index (length new.image)

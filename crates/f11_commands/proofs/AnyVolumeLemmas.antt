@@ -1,7 +1,6 @@
--- What holds of commands that serve any volume: what was read or verified before, and whose directory a name is.
+-- What holds of commands that serve any volume: what was read or verified before.
 use Rattle.std.proofs.Common.{◌≡◌, ℕ, Bool, IsTrue, List, Option, Ok, not, ap, subst, sym, ◌∙◌}
 use Rattle.f11_catalog.proofs.ListingLemmas.{reads-then}
-use Rattle.f11_catalog.specs.Listing.{FindsId, id_entered}
 use Rattle.f11_catalog.specs.Records.{Reads}
 use Rattle.f11_catalog.specs.chain.Calls.{table}
 use Rattle.f11_dev.specs.Disk.{Disk}
@@ -10,23 +9,14 @@ use Rattle.f11_findings.specs.declared.finding.Finding.{Finding}
 use Rattle.f11_home.specs.Home.{HomeFields}
 use Rattle.f11_index.specs.IndexFile.{Index, index_of}
 use Rattle.f11_index.specs.Table.{Table, table_in, table_of}
-use Rattle.f11_store.specs.declared.callers.Uic.{Uic}
-use Rattle.f11_store.specs.declared.files.FileId.{FileId}
 use Rattle.f11_serving.specs.vfy.Verify.{Examines}
-use Rattle.f11_commands.specs.AnyVolume.{CannotBeRead, FailsToServe, FindsVolume, IsVerified, TellsFault, user_directory}
-use Rattle.f11_commands.specs.Copying.{directory_name, master_directory}
+use Rattle.f11_commands.specs.AnyVolume.{CannotBeRead, FailsToServe, FindsVolume, IsVerified, TellsFault}
 use Rattle.f11_commands.specs.DumpCommand.{HasFault}
 use Rattle.f11_commands.specs.VfyCommand.{IsVerdict}
 use Rattle.f11_commands.specs.declared.outcome.Answer.{Answer}
 use Rattle.f11_commands.specs.declared.outcome.Failure.{Failure}
 use Rattle.f11_commands.specs.declared.outcome.Failure.TheVariants.{DeviceFault, NoMemory, CannotWrite}
 use Rattle.f11_commands.specs.declared.volume.VolumeFault.{VolumeFault}
-
--- a user's directory was looked for in the master file directory
-module _ (index : Index) (user : Uic) (name : List ℕ) (is : name ≡ directory_name user) (old new : Disk) where
-  pub directory-of-user : {id : FileId} → FindsId index master_directory name id old new → IsTrue old.honest
-      → user_directory old.image (table index old) user ≡ Ok id
-  directory-of-user found honest = ap (id_entered old.image (table index old) master_directory) (sym is) ∙ found.found honest
 
 -- the index file was read: what is said of the files that it has is said of the volume's
 pub said-of-volume : (home : HomeFields) (index : Index) (old new : Disk) → FindsVolume home index old new → {X : Type 0}

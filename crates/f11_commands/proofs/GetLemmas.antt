@@ -1,77 +1,74 @@
 -- What finding a file by its name tells, step by step.
-use Rattle.std.proofs.Common.{◌≡◌, ℕ, IsTrue, List, Option, Result, length, refl, ap, subst, sym, take, ◌∙◌}
+use Rattle.std.proofs.Common.{◌≡◌, ℕ, Bool, true, false, IsTrue, List, Option, Some, None, Result, Ok, length, refl, ap, subst, sym, take}
+use Rattle.std.proofs.Common.{◌∙◌}
+use Rattle.std.proofs.Common.{if◌then◌else◌}
 use Rattle.std.specs.List.{concat}
-use Rattle.std.specs.Option.{ok_or}
+use Rattle.std.specs.Option.{ok_or, option_or}
 use Rattle.f11_catalog.proofs.ComingLemmas.{named-none, named-some}
 use Rattle.f11_catalog.proofs.ListingLemmas.{reads-then, said-later}
 use Rattle.f11_catalog.proofs.OpenLemmas.{attr-is}
 use Rattle.f11_catalog.specs.Listing.{FindsId, FindsNoId}
-use Rattle.f11_catalog.specs.Records.{Reads}
+use Rattle.f11_catalog.specs.Records.{Reads, file_named}
 use Rattle.f11_catalog.specs.chain.Calls.{table}
 use Rattle.f11_dev.specs.Disk.{Disk}
 use Rattle.f11_dev.specs.Image.{Image}
 use Rattle.f11_header.specs.Fields.{attributes}
 use Rattle.f11_home.specs.Home.{HomeFields}
-use Rattle.f11_index.specs.IndexFile.{Index}
+use Rattle.f11_index.proofs.UsedLemmas.{all-lies-within}
+use Rattle.f11_index.specs.IndexFile.{Index, all_in_use}
 use Rattle.f11_index.specs.Kept.{IndexLiesWithin}
-use Rattle.f11_index.specs.Table.{Table, table_of}
+use Rattle.f11_index.specs.Table.{Table, table_in, table_of}
 use Rattle.f11_reader.proofs.LawLemmas.{opened-has}
 use Rattle.f11_reader.specs.Reading.{FindsNone, OpensFile, blocks_to_come}
 use Rattle.f11_reader.specs.declared.file.FileReader.{FileReader}
 use Rattle.f11_store.specs.File.{File, stated_end}
-use Rattle.f11_store.specs.declared.callers.Uic.{Uic}
 use Rattle.f11_store.specs.declared.files.FileId.{FileId}
 use Rattle.f11_store.specs.declared.refusals.Refusal.{Refusal}
 use Rattle.f11_store.specs.declared.refusals.Refusal.TheVariants.{NoSuchFile}
 use Rattle.f11_volume.specs.Contents.{blocks_reached, file_of}
 use Rattle.f11_commands.specs.AnyVolume.{FindsVolume, IsReadable, unless_refused}
-use Rattle.f11_commands.specs.Copying.{directory_name, master_directory}
+use Rattle.f11_commands.specs.Copying.{master_directory}
 use Rattle.f11_commands.specs.GetCommand.{CannotBeFound, FailsToSeek, FindsSought, IsToRead, LacksFile, LacksSought, OpensSought}
 use Rattle.f11_commands.specs.GetCommand.{TellsWhyNot, cannot_be_read, lacks_file, tells_fault, tells_none}
-use Rattle.f11_commands.specs.GetCommand.{file_entered, file_identified, file_sought}
+use Rattle.f11_commands.specs.GetCommand.{file_entered, file_identified, file_sought, index_read, volume_file}
 use Rattle.f11_commands.specs.TakingOut.{bytes_to_come, lbns_to_come}
 use Rattle.f11_commands.specs.TakingText.{file_to_come}
 use Rattle.f11_commands.specs.declared.outcome.Answer.{Answer}
 use Rattle.f11_commands.specs.declared.outcome.Failure.{Failure}
 use Rattle.f11_commands.specs.declared.outcome.Failure.TheVariants.{DeviceFault, NoMemory, CannotWrite}
-use Rattle.f11_commands.proofs.AnyVolumeLemmas.{directory-of-user, fault-behind, hindered-behind, said-of-volume}
+use Rattle.f11_commands.proofs.AnyVolumeLemmas.{fault-behind, hindered-behind, index-of-volume, said-of-volume}
 use Rattle.f11_commands.proofs.TakingOutLemmas.{contents-stay}
 
--- the file with an identification was opened
-module _ (index : Index) (id : FileId) (old new : Disk) where
-  pub opened-finds : (file : FileReader) (end : ℕ) → OpensFile index id file old new → end ≡ stated_end (attributes file.header)
-      → OpensSought (λ image t. file_identified image t id) index file end old new
-  opened-finds file end opens end-is =
-      let t = table index old in
+-- the file with an identification was opened by an index file
+module _ (sought : Image → Table → Result File Refusal) (index by : Index) (id : FileId) (old new : Disk) (file : FileReader) (end : ℕ)
+    (opens : OpensFile by id file old new) (end-is : end ≡ stated_end (attributes file.header))
+    (is : IsTrue old.honest → sought old.image (table index old) ≡ Ok (file_of old.image (table by old) file.number)) where
+  opened-as : OpensSought sought index by file end old new
+  opened-as =
+      let t = table by old in
       let f = file_of old.image t file.number in
       record {
         found = f;
         number = file.number;
         found_is = λ honest. refl;
-        places = λ honest. said-later (λ image t'. blocks_to_come t' file) index opens.looked ∙ opens.blocks honest;
-        is = λ honest. ap (λ x. ok_or x NoSuchFile) (named-some old.image t id file.number (opens.is_id honest));
+        places = λ honest. said-later (λ image t'. blocks_to_come t' file) by opens.looked ∙ opens.blocks honest;
+        is = is;
         to_come = λ honest.
             ap (λ (bs : List (List ℕ)). take end (concat bs))
-            (contents-stay index file old new _ _ opens.looked ∙ opened-has index id file old new opens honest)
+            (contents-stay by file old new _ _ opens.looked ∙ opened-has by id file old new opens honest)
             ∙ ap (λ (n : ℕ). take n (concat f.blocks)) (its-end honest);
         end_is = its-end;
         attr_is = λ honest. ap attributes (opens.header_is honest) ∙ sym (attr-is old.image t file.number);
         blocks_are = λ honest.
-            contents-stay index file old new _ _ opens.looked ∙ opened-has index id file old new opens honest;
+            contents-stay by file old new _ _ opens.looked ∙ opened-has by id file old new opens honest;
         reading = opens.reading;
         reads = (_, opens.looked);
       }
     where
-      its-end : IsTrue old.honest → end ≡ stated_end (file_of old.image (table index old) file.number).attr
+      its-end : IsTrue old.honest → end ≡ stated_end (file_of old.image (table by old) file.number).attr
       its-end honest =
           end-is ∙ ap (λ b. stated_end (attributes b)) (opens.header_is honest)
-          ∙ ap stated_end (sym (attr-is old.image (table index old) file.number))
-
-  pub opened-none : FindsNone index id old new → LacksSought (λ image t. file_identified image t id) index NoSuchFile old new
-  opened-none none = record {
-    refused = λ honest. ap (λ x. ok_or x NoSuchFile) (named-none old.image (table index old) id (none.none honest));
-    reads = (_, none.looked);
-  }
+          ∙ ap stated_end (sym (attr-is old.image (table by old) file.number))
 
 -- what is found behind a look is what is sought
 module _ (sought next : Image → Table → Result File Refusal) (index : Index) (old mid new : Disk) (reads : Reads old mid 0)
@@ -79,14 +76,15 @@ module _ (sought next : Image → Table → Result File Refusal) (index : Index)
   later : IsTrue old.honest → sought old.image (table index old) ≡ next mid.image (table index mid)
   later honest = same honest ∙ sym (said-later next index reads.1)
 
-  pub finds-behind : (file : FileReader) (end : ℕ) → OpensSought next index file end mid new → OpensSought sought index file end old new
-  finds-behind file end finds = record {
+  pub finds-behind : (by : Index) (file : FileReader) (end : ℕ) → OpensSought next index by file end mid new
+      → OpensSought sought index by file end old new
+  finds-behind by file end finds = record {
     found = finds.found;
     is = λ honest. later honest ∙ finds.is (reads.1.honest ∙ honest);
     number = finds.number;
     found_is = λ honest.
-        finds.found_is (reads.1.honest ∙ honest) ∙ said-later (λ image t. file_of image t finds.number) index reads.1;
-    places = λ honest. finds.places (reads.1.honest ∙ honest) ∙ said-later (λ image t. blocks_reached t finds.number) index reads.1;
+        finds.found_is (reads.1.honest ∙ honest) ∙ said-later (λ image t. file_of image t finds.number) by reads.1;
+    places = λ honest. finds.places (reads.1.honest ∙ honest) ∙ said-later (λ image t. blocks_reached t finds.number) by reads.1;
     to_come = λ honest. finds.to_come (reads.1.honest ∙ honest);
     end_is = λ honest. finds.end_is (reads.1.honest ∙ honest);
     attr_is = λ honest. finds.attr_is (reads.1.honest ∙ honest);
@@ -101,47 +99,118 @@ module _ (sought next : Image → Table → Result File Refusal) (index : Index)
     reads = reads-then reads none.reads;
   }
 
+-- the file with an identification is the one whose slot is in use, else the one whose slot isn't
+module _ (index wide : Index) (id : FileId) where
+  abbrev identified : Image → Table → Result File Refusal
+  identified image t = file_identified wide image t id
+
+  identified-as : (image : Image) (t : Table) (first other : Option File) → file_named image t id ≡ first
+      → file_named image (table_in image wide) id ≡ other → identified image t ≡ ok_or (option_or first other) NoSuchFile
+  identified-as image t first other first-is other-is =
+      ap (λ x. ok_or (option_or x (file_named image (table_in image wide) id)) NoSuchFile) first-is
+      ∙ ap (λ x. ok_or (option_or first x) NoSuchFile) other-is
+
+  pub opened-finds : (old new : Disk) (file : FileReader) (end : ℕ) → OpensFile index id file old new
+      → end ≡ stated_end (attributes file.header) → OpensSought identified index index file end old new
+  opened-finds old new file end opens end-is =
+      opened-as identified index index id old new file end opens end-is (λ honest.
+      identified-as old.image (table index old) (Some (file_of old.image (table index old) file.number)) _
+      (named-some old.image (table index old) id file.number (opens.is_id honest)) refl)
+
+  -- so it is told, with whether its slot is in use
+  pub told-as : (old new : Disk) (file found : FileReader) (end : ℕ) (used in_use : Bool)
+      → OpensSought identified index (if used then index else wide) file end old new → found ≡ file → in_use ≡ used
+      → OpensSought identified index (if in_use then index else wide) found end old new
+  told-as old new file found end used in_use finds file-is use-is =
+      subst (λ (b : Bool). OpensSought identified index (if b then index else wide) found end old new) (sym use-is)
+      (subst (λ (f : FileReader). OpensSought identified index (if used then index else wide) f end old new) (sym file-is) finds)
+
+  module _ (old mid : Disk) (none : FindsNone index id old mid) where
+    none-later : IsTrue mid.honest → file_named mid.image (table index mid) id ≡ None
+    none-later honest =
+        said-later (λ image t. file_named image t id) index none.looked
+        ∙ named-none old.image (table index old) id (none.none (sym none.looked.honest ∙ honest))
+
+    pub opened-else : (new : Disk) (file : FileReader) (end : ℕ) → OpensFile wide id file mid new
+        → end ≡ stated_end (attributes file.header) → OpensSought identified index wide file end old new
+    opened-else new file end opens end-is =
+        finds-behind identified identified index old mid new (_, none.looked) (λ honest. refl) wide file end
+        (opened-as identified index wide id mid new file end opens end-is (λ honest.
+        identified-as mid.image (table index mid) None (Some (file_of mid.image (table wide mid) file.number)) (none-later honest)
+        (named-some mid.image (table wide mid) id file.number (opens.is_id honest))))
+
+    pub opened-none : (new : Disk) → FindsNone wide id mid new → LacksSought identified index NoSuchFile old new
+    opened-none new other =
+        none-behind identified identified index old mid new (_, none.looked) (λ honest. refl) NoSuchFile (record {
+          refused = λ honest.
+              identified-as mid.image (table index mid) None None (none-later honest)
+              (named-none mid.image (table wide mid) id (other.none honest));
+          reads = (_, other.looked);
+        })
+
 -- a directory has the name, or hasn't
-module _ (index : Index) (directory : FileId) (name : List ℕ) (old new : Disk) where
+module _ (index wide : Index) (directory : FileId) (name : List ℕ) (old new : Disk) where
   pub entered-is : (id : FileId) → FindsId index directory name id old new → IsTrue old.honest
-      → file_entered old.image (table index old) name directory ≡ file_identified old.image (table index old) id
-  entered-is id found honest = ap (unless_refused (file_identified old.image (table index old))) (found.found honest)
+      → file_entered wide old.image (table index old) name directory ≡ file_identified wide old.image (table index old) id
+  entered-is id found honest = ap (unless_refused (file_identified wide old.image (table index old))) (found.found honest)
 
   pub none-entered : (refusal : Refusal) → FindsNoId index directory name refusal old new
-      → LacksSought (λ image t. file_entered image t name directory) index refusal old new
+      → LacksSought (λ image t. file_entered wide image t name directory) index refusal old new
   none-entered refusal none = record {
-    refused = λ honest. ap (unless_refused (file_identified old.image (table index old))) (none.refused honest);
+    refused = λ honest. ap (unless_refused (file_identified wide old.image (table index old))) (none.refused honest);
     reads = none.reads;
   }
 
--- and the master file directory that of the user
-module _ (index : Index) (user : Uic) (text : List ℕ) (is : text ≡ directory_name user) (name : List ℕ) (old new : Disk) where
-  pub sought-is : (id : FileId) → FindsId index master_directory text id old new → IsTrue old.honest
-      → file_sought old.image (table index old) user name ≡ file_entered old.image (table index old) name id
-  sought-is id found honest =
-      ap (unless_refused (file_entered old.image (table index old) name)) (directory-of-user index user text is old new found honest)
+-- and the master file directory that of the directory
+module _ (index wide : Index) (directory name : List ℕ) (old new : Disk) where
+  pub sought-is : (id : FileId) → FindsId index master_directory directory id old new → IsTrue old.honest
+      → file_sought wide old.image (table index old) directory name ≡ file_entered wide old.image (table index old) name id
+  sought-is id found honest = ap (unless_refused (file_entered wide old.image (table index old) name)) (found.found honest)
 
--- the index file was read before
-module _ (home : HomeFields) (index : Index) (old mid : Disk) (found : FindsVolume home index old mid) (user : Uic) (name : List ℕ)
-    (new : Disk) where
+-- the index file was read before, and the one that takes each slot as in use was made of it
+module _ (home : HomeFields) (index wide : Index) (old mid : Disk) (found : FindsVolume home index old mid)
+    (all-used : wide ≡ all_in_use index) (directory name : List ℕ) (new : Disk) where
+  -- that by which a file is read
+  abbrev by : Bool → Index
+  by in_use = if in_use then index else wide
+
+  by-volume : (in_use : Bool) → IsTrue old.honest → by in_use ≡ index_read in_use old.image home
+  by-volume true honest = index-of-volume home index old mid found honest
+  by-volume false honest = all-used ∙ ap all_in_use (index-of-volume home index old mid found honest)
+
+  by-within : (in_use : Bool) → IndexLiesWithin (by in_use) (length mid.image)
+  by-within true = found.is_for.within
+  by-within false =
+      subst (λ (i : Index). IndexLiesWithin i (length mid.image)) (sym all-used)
+      (all-lies-within index (length mid.image) found.is_for.within)
+
+  of-table : {X : Type 0} (text : Image → Table → X) (in_use : Bool) → IsTrue old.honest
+      → text mid.image (table (by in_use) mid) ≡ text old.image (table_in old.image (index_read in_use old.image home))
+  of-table text in_use honest =
+      ap (λ (i : Image). text i (table_in i (by in_use))) found.looked.image
+      ∙ ap (λ (x : Index). text old.image (table_in old.image x)) (by-volume in_use honest)
+
   of-volume : IsTrue old.honest
-      → file_sought mid.image (table index mid) user name ≡ file_sought old.image (table_of old.image home) user name
-  of-volume honest = said-of-volume home index old mid found (λ image t. file_sought image t user name) honest
+      → file_sought wide mid.image (table index mid) directory name ≡ volume_file old.image home directory name
+  of-volume honest =
+      said-of-volume home index old mid found (λ image t. file_sought wide image t directory name) honest
+      ∙ ap (λ (x : Index). file_sought x old.image (table_of old.image home) directory name) (by-volume false honest)
 
-  pub volume-has : (file : FileReader) (end : ℕ) → OpensSought (λ image t. file_sought image t user name) index file end mid new
-      → FindsSought user name (bytes_to_come index new file end) end (lbns_to_come index new file) (file_to_come index new file) old new
-  volume-has file end finds = record {
+  volume-has : (in_use : Bool) (file : FileReader) (end : ℕ)
+      → OpensSought (λ image t. file_sought wide image t directory name) index (by in_use) file end mid new
+      → FindsSought directory name (bytes_to_come (by in_use) new file end) end (lbns_to_come (by in_use) new file)
+      (file_to_come (by in_use) new file) old new
+  volume-has in_use file end finds = record {
     home = home;
     readable = found.readable;
     found = finds.found;
     is = λ honest. sym (of-volume honest) ∙ finds.is (found.looked.honest ∙ honest);
+    in_use = in_use;
     number = finds.number;
     found_is = λ honest.
-        finds.found_is (found.looked.honest ∙ honest)
-        ∙ said-of-volume home index old mid found (λ image t. file_of image t finds.number) honest;
+        finds.found_is (found.looked.honest ∙ honest) ∙ of-table (λ image t. file_of image t finds.number) in_use honest;
     places = λ honest.
-        finds.places (found.looked.honest ∙ honest)
-        ∙ said-of-volume home index old mid found (λ image t. blocks_reached t finds.number) honest;
+        finds.places (found.looked.honest ∙ honest) ∙ of-table (λ image t. blocks_reached t finds.number) in_use honest;
     bytes_are = λ honest. finds.to_come (found.looked.honest ∙ honest);
     end_is = λ honest. finds.end_is (found.looked.honest ∙ honest);
     attr_is = λ honest. finds.attr_is (found.looked.honest ∙ honest);
@@ -149,15 +218,27 @@ module _ (home : HomeFields) (index : Index) (old mid : Disk) (found : FindsVolu
     reads = reads-then (_, found.looked) finds.reads;
   }
 
-  pub is-to-read : (file : FileReader) (end : ℕ) → OpensSought (λ image t. file_sought image t user name) index file end mid new
-      → IsToRead index file new
-  is-to-read file end finds = record {
-    within = subst (λ (i : Image). IndexLiesWithin index (length i)) (sym finds.reads.1.image) found.is_for.within;
+  is-to-read : (in_use : Bool) (file : FileReader) (end : ℕ)
+      → OpensSought (λ image t. file_sought wide image t directory name) index (by in_use) file end mid new
+      → IsToRead (by in_use) file new
+  is-to-read in_use file end finds = record {
+    within = subst (λ (i : Image). IndexLiesWithin (by in_use) (length i)) (sym finds.reads.1.image) (by-within in_use);
     reading = finds.reading;
   }
 
-  pub volume-lacks : (refusal : Refusal) → LacksSought (λ image t. file_sought image t user name) index refusal mid new
-      → LacksFile user name refusal old new
+  -- so it is by the one that is kept
+  pub volume-gives : (chosen : Index) (in_use : Bool) → chosen ≡ by in_use → (file : FileReader) (end : ℕ)
+      → OpensSought (λ image t. file_sought wide image t directory name) index (by in_use) file end mid new
+      → IsToRead chosen file new
+      × FindsSought directory name (bytes_to_come chosen new file end) end (lbns_to_come chosen new file) (file_to_come chosen new file)
+      old new
+  volume-gives chosen in_use is file end finds =
+      subst (λ (i : Index). IsToRead i file new
+      × FindsSought directory name (bytes_to_come i new file end) end (lbns_to_come i new file) (file_to_come i new file) old new)
+      (sym is) (is-to-read in_use file end finds, volume-has in_use file end finds)
+
+  pub volume-lacks : (refusal : Refusal) → LacksSought (λ image t. file_sought wide image t directory name) index refusal mid new
+      → LacksFile directory name refusal old new
   volume-lacks refusal none = record {
     home = home;
     readable = found.readable;
@@ -166,22 +247,23 @@ module _ (home : HomeFields) (index : Index) (old mid : Disk) (found : FindsVolu
   }
 
 -- the volume was verified before
-module _ (user : Uic) (name : List ℕ) (old mid new : Disk) (reads : Reads old mid 0) where
-  pub sought-behind : (bytes : List ℕ) (end : ℕ) (lbns : List ℕ) (come : File) → FindsSought user name bytes end lbns come mid new
-      → FindsSought user name bytes end lbns come old new
+module _ (directory name : List ℕ) (old mid new : Disk) (reads : Reads old mid 0) where
+  pub sought-behind : (bytes : List ℕ) (end : ℕ) (lbns : List ℕ) (come : File) → FindsSought directory name bytes end lbns come mid new
+      → FindsSought directory name bytes end lbns come old new
   sought-behind bytes end lbns come finds = record {
     home = finds.home;
     readable = λ honest. subst (λ (i : Image). IsReadable i finds.home) reads.1.image (finds.readable (reads.1.honest ∙ honest));
     found = finds.found;
     is = λ honest.
-        sym (ap (λ (i : Image). file_sought i (table_of i finds.home) user name) reads.1.image) ∙ finds.is (reads.1.honest ∙ honest);
+        sym (ap (λ (i : Image). volume_file i finds.home directory name) reads.1.image) ∙ finds.is (reads.1.honest ∙ honest);
+    in_use = finds.in_use;
     number = finds.number;
     found_is = λ honest.
         finds.found_is (reads.1.honest ∙ honest)
-        ∙ ap (λ (i : Image). file_of i (table_of i finds.home) finds.number) reads.1.image;
+        ∙ ap (λ (i : Image). file_of i (table_in i (index_read finds.in_use i finds.home)) finds.number) reads.1.image;
     places = λ honest.
         finds.places (reads.1.honest ∙ honest)
-        ∙ ap (λ (i : Image). blocks_reached (table_of i finds.home) finds.number) reads.1.image;
+        ∙ ap (λ (i : Image). blocks_reached (table_in i (index_read finds.in_use i finds.home)) finds.number) reads.1.image;
     bytes_are = λ honest. finds.bytes_are (reads.1.honest ∙ honest);
     end_is = λ honest. finds.end_is (reads.1.honest ∙ honest);
     attr_is = λ honest. finds.attr_is (reads.1.honest ∙ honest);
@@ -189,17 +271,17 @@ module _ (user : Uic) (name : List ℕ) (old mid new : Disk) (reads : Reads old 
     reads = reads-then reads finds.reads;
   }
 
-  lacks-behind : (refusal : Refusal) → LacksFile user name refusal mid new → LacksFile user name refusal old new
+  lacks-behind : (refusal : Refusal) → LacksFile directory name refusal mid new → LacksFile directory name refusal old new
   lacks-behind refusal lacks = record {
     home = lacks.home;
     readable = λ honest. subst (λ (i : Image). IsReadable i lacks.home) reads.1.image (lacks.readable (reads.1.honest ∙ honest));
     refused = λ honest.
-        sym (ap (λ (i : Image). file_sought i (table_of i lacks.home) user name) reads.1.image) ∙ lacks.refused (reads.1.honest ∙ honest);
+        sym (ap (λ (i : Image). volume_file i lacks.home directory name) reads.1.image) ∙ lacks.refused (reads.1.honest ∙ honest);
     reads = reads-then reads lacks.reads;
   }
 
   pub why-not-behind : {W : Type 0} (answer : Answer) (contents : W → Option (List ℕ)) (before after : W)
-      → TellsWhyNot user name answer mid new contents before after → TellsWhyNot user name answer old new contents before after
+      → TellsWhyNot directory name answer mid new contents before after → TellsWhyNot directory name answer old new contents before after
   why-not-behind answer contents before after (tells_none none) = tells_none (record {
     is_fault = none.is_fault;
     refusal = none.refusal;
@@ -209,12 +291,12 @@ module _ (user : Uic) (name : List ℕ) (old mid new : Disk) (reads : Reads old 
   why-not-behind answer contents before after (tells_fault fault) =
       tells_fault (fault-behind answer old mid new contents before after reads fault)
 
-  unfound-behind : CannotBeFound user name mid new → CannotBeFound user name old new
+  unfound-behind : CannotBeFound directory name mid new → CannotBeFound directory name old new
   unfound-behind (lacks_file refusal lacks) = lacks_file refusal (lacks-behind refusal lacks)
   unfound-behind (cannot_be_read fault hindered) = cannot_be_read fault (hindered-behind fault old mid new reads hindered)
 
-  pub unsought-behind : {W : Type 0} (failure : Failure) (before after : W) → FailsToSeek failure user name mid new before after
-      → FailsToSeek failure user name old new before after
+  pub unsought-behind : {W : Type 0} (failure : Failure) (before after : W) → FailsToSeek failure directory name mid new before after
+      → FailsToSeek failure directory name old new before after
   unsought-behind DeviceFault before after fails = (reads-then reads fails.0, fails.1)
   unsought-behind NoMemory before after fails = (reads-then reads fails.0, fails.1)
   unsought-behind CannotWrite before after fails = unfound-behind fails

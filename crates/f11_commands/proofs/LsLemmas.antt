@@ -13,38 +13,36 @@ use Rattle.f11_findings.specs.declared.finding.Finding.{Finding}
 use Rattle.f11_home.specs.Home.{HomeFields}
 use Rattle.f11_index.specs.IndexFile.{Index, all_in_use}
 use Rattle.f11_index.specs.Table.{Table, table_of}
-use Rattle.f11_store.specs.declared.callers.Uic.{Uic}
 use Rattle.f11_store.specs.declared.files.FileId.{FileId}
 use Rattle.f11_store.specs.declared.refusals.Refusal.{Refusal}
 use Rattle.f11_serving.specs.vfy.Verify.{Examines}
-use Rattle.f11_commands.specs.Copying.{directory_name, master_directory}
+use Rattle.f11_commands.specs.Copying.{master_directory}
 use Rattle.f11_commands.specs.AnyVolume.{FailsToServe, FindsVolume, IsReadable, unless_refused}
 use Rattle.f11_commands.specs.LsCommand.{FailsToListIndex, IsNotListed, ListsIndex, ListsVolume, lists, tells}
 use Rattle.f11_commands.specs.LsCommand.{PrintsListing, WritesListing, directory_listed, lines_or, listed}
-use Rattle.f11_commands.specs.LsCommand.{listing_answer, listing_text, user_listed, volume_listed}
+use Rattle.f11_commands.specs.LsCommand.{listing_answer, listing_text, one_listed, volume_listed}
 use Rattle.f11_commands.specs.VfyCommand.{IsVerdict}
-use Rattle.f11_commands.proofs.AnyVolumeLemmas.{directory-of-user, fault-behind, index-of-volume, said-of-volume, verified-first}
+use Rattle.f11_commands.proofs.AnyVolumeLemmas.{fault-behind, index-of-volume, said-of-volume, verified-first}
 use Rattle.f11_commands.specs.declared.ls.Served.{Served}
 use Rattle.f11_commands.specs.declared.outcome.Answer.{Answer}
 use Rattle.f11_commands.specs.declared.outcome.Failure.{Failure}
 use Rattle.f11_commands.specs.declared.outcome.Failure.TheVariants.{DeviceFault, NoMemory, CannotWrite}
 
 module _ {W : Type 0} (index wide : Index) (contents : W → Option (List ℕ)) where
-  module _ (user : Uic) (name : List ℕ) (is : name ≡ directory_name user) (old mid : Disk) where
-    module _ (id : FileId) (found : FindsId index master_directory name id old mid) where
+  module _ (directory : List ℕ) (old mid : Disk) where
+    module _ (id : FileId) (found : FindsId index master_directory directory id old mid) where
       is-listed : IsTrue old.honest
-          → user_listed wide old.image (table index old) user ≡ directory_listed wide old.image (table index old) id
+          → one_listed wide old.image (table index old) directory ≡ directory_listed wide old.image (table index old) id
       is-listed honest =
-          ap (unless_refused (directory_listed wide old.image (table index old)))
-          (directory-of-user index user name is old mid found honest)
+          ap (unless_refused (directory_listed wide old.image (table index old))) (found.found honest)
 
       later : {X : Type 0} (text : Image → Table → X) → text mid.image (table index mid) ≡ text old.image (table index old)
       later text = said-later text index found.reads.1
 
       -- one that is
-      pub user-lists : (new : Disk) (before after : W) → Lists (record_lines wide) index id mid new contents before after
-          → WritesListing (λ image t. user_listed wide image t user) index old new contents before after
-      user-lists new before after all = record {
+      pub one-lists : (new : Disk) (before after : W) → Lists (record_lines wide) index id mid new contents before after
+          → WritesListing (λ image t. one_listed wide image t directory) index old new contents before after
+      one-lists new before after all = record {
         lines = all.writes.written;
         lines_are = λ honest.
             let honest' : IsTrue mid.honest = found.reads.1.honest ∙ honest in
@@ -56,9 +54,9 @@ module _ {W : Type 0} (index wide : Index) (contents : W → Option (List ℕ)) 
         reads = reads-then found.reads all.writes.reads;
       }
 
-      pub user-refused : (new : Disk) (refusal : Refusal) → IsRefused index id refusal mid new
-          → IsNotListed (λ image t. user_listed wide image t user) index refusal old new
-      user-refused new refusal none = record {
+      pub one-refused : (new : Disk) (refusal : Refusal) → IsRefused index id refusal mid new
+          → IsNotListed (λ image t. one_listed wide image t directory) index refusal old new
+      one-refused new refusal none = record {
         refused = λ honest.
             let honest' : IsTrue mid.honest = found.reads.1.honest ∙ honest in
             is-listed honest ∙ sym (later (λ image t. directory_listed wide image t id))
@@ -68,10 +66,11 @@ module _ {W : Type 0} (index wide : Index) (contents : W → Option (List ℕ)) 
       }
 
 -- the index file was read before
-pub volume-lists : {W : Type 0} (home : HomeFields) (index wide : Index) (user : Option Uic) (answer : Answer) (old mid new : Disk)
+pub volume-lists : {W : Type 0} (home : HomeFields) (index wide : Index) (directory : Option (List ℕ)) (answer : Answer)
+    (old mid new : Disk)
     (contents : W → Option (List ℕ)) (before after : W) → FindsVolume home index old mid → wide ≡ all_in_use index
-    → ListsIndex index wide user answer mid new contents before after → ListsVolume user answer old new contents before after
-volume-lists home index wide user answer old mid new contents before after found all-used all = lists (record {
+    → ListsIndex index wide directory answer mid new contents before after → ListsVolume directory answer old new contents before after
+volume-lists home index wide directory answer old mid new contents before after found all-used all = lists (record {
   home = home;
   readable = found.readable;
   text = all.text;
@@ -84,30 +83,30 @@ volume-lists home index wide user answer old mid new contents before after found
     same : IsTrue old.honest → IsTrue mid.honest
     same honest = found.looked.honest ∙ honest
 
-    volumes : IsTrue old.honest → listed wide mid.image (table index mid) user ≡ volume_listed old.image home user
+    volumes : IsTrue old.honest → listed wide mid.image (table index mid) directory ≡ volume_listed old.image home directory
     volumes honest =
-        said-of-volume home index old mid found (λ image t. listed wide image t user) honest
-        ∙ ap (λ (i : Index). listed i old.image (table_of old.image home) user)
+        said-of-volume home index old mid found (λ image t. listed wide image t directory) honest
+        ∙ ap (λ (i : Index). listed i old.image (table_of old.image home) directory)
         (all-used ∙ ap all_in_use (index-of-volume home index old mid found honest))
 
 -- what is said of a volume behind a look at it
-pub volume-behind : {W : Type 0} (user : Option Uic) (answer : Answer) (old mid new : Disk) (contents : W → Option (List ℕ))
-    (before after : W) → Reads old mid 0 → ListsVolume user answer mid new contents before after
-    → ListsVolume user answer old new contents before after
-volume-behind user answer old mid new contents before after reads (lists all) = lists (record {
+pub volume-behind : {W : Type 0} (directory : Option (List ℕ)) (answer : Answer) (old mid new : Disk) (contents : W → Option (List ℕ))
+    (before after : W) → Reads old mid 0 → ListsVolume directory answer mid new contents before after
+    → ListsVolume directory answer old new contents before after
+volume-behind directory answer old mid new contents before after reads (lists all) = lists (record {
   home = all.home;
   readable = λ honest. subst (λ (i : Image). IsReadable i all.home) reads.1.image (all.readable (reads.1.honest ∙ honest));
   text = all.text;
   text_is = λ honest.
       all.text_is (reads.1.honest ∙ honest)
-      ∙ ap (λ (i : Image). listing_text (volume_listed i all.home user)) reads.1.image;
+      ∙ ap (λ (i : Image). listing_text (volume_listed i all.home directory)) reads.1.image;
   answer_is = λ honest.
       all.answer_is (reads.1.honest ∙ honest)
-      ∙ ap (λ (i : Image). listing_answer (volume_listed i all.home user)) reads.1.image;
+      ∙ ap (λ (i : Image). listing_answer (volume_listed i all.home directory)) reads.1.image;
   takes = all.takes;
   reads = reads-then reads all.reads;
 })
-volume-behind user answer old mid new contents before after reads (tells fault) =
+volume-behind directory answer old mid new contents before after reads (tells fault) =
     tells (fault-behind answer old mid new contents before after reads fault)
 
 pub fails-to-list : {W : Type 0} (failure : Failure) (old mid new : Disk) (contents : W → Option (List ℕ)) (before after : W)
@@ -117,11 +116,12 @@ fails-to-list NoMemory old mid new contents before after reads fails = absurd fa
 fails-to-list CannotWrite old mid new contents before after reads fails = reads-then reads fails
 
 -- the volume was verified before: it has faults, or has none
-pub judged-listing : {W : Type 0} (user : Option Uic) (served : Served) (faulty : Bool) (faults notes : List Finding) (old mid new : Disk)
+pub judged-listing : {W : Type 0} (directory : Option (List ℕ)) (served : Served) (faulty : Bool) (faults notes : List Finding)
+    (old mid new : Disk)
     (contents : W → Option (List ℕ)) (before after : W) → Examines faults notes old mid → IsVerdict (not faulty) faults
-    → (served.faulty ≡ faulty) × ListsVolume user served.answer mid new contents before after
-    → PrintsListing user served old new contents before after
-judged-listing user served faulty faults notes old mid new contents before after examines verdict all = record {
+    → (served.faulty ≡ faulty) × ListsVolume directory served.answer mid new contents before after
+    → PrintsListing directory served old new contents before after
+judged-listing directory served faulty faults notes old mid new contents before after examines verdict all = record {
   verified = verified-first served.faulty faulty faults notes old mid examines verdict all.0;
-  lists = volume-behind user served.answer old mid new contents before after (_, examines.looked.looked) all.1;
+  lists = volume-behind directory served.answer old mid new contents before after (_, examines.looked.looked) all.1;
 }

@@ -44,7 +44,7 @@ use Rattle.f11_commands.proofs.MomentsLemmas.{stood-then, stood-weaker, whole-st
 use Rattle.f11_commands.proofs.WholeLemmas.{ends-whole}
 use Rattle.f11_commands.proofs.NamedLemmas.{alone-behind, alone-not-found, not-found-seen, undamaged-asked}
 use Rattle.f11_commands.specs.CopyCommand.{VerifiesFiles}
-use Rattle.f11_commands.specs.Copying.{directory_name, master_directory, operator}
+use Rattle.f11_commands.specs.Copying.{master_directory, operator}
 use Rattle.f11_commands.specs.Finding.{is_found}
 use Rattle.f11_commands.specs.PutCommand.{FailsFor, HoldFor, Hosts, MakesFor, ReadsFor}
 use Rattle.f11_commands.specs.PutCommand.{EndsAccepted, EndsPutting, PutsByName, PutsInto, PutsNamed, PutsOnImage}
@@ -75,12 +75,12 @@ unread-for bytes u mode.Text e = inl refl
 
 -- the look for the directory was stopped
 sought : (p : Putting) (bytes : ℕ) (h h' : Hosts) (a : Reply) (s t : Store)
-    → IsStopped (told (request.Find master_directory (directory_name p.directory)) a) s t
+    → IsStopped (told (request.Find master_directory p.directory) a) s t
     → StopsPut p.directory p.name (HoldFor p.mode bytes h h') s t
 sought p bytes h h' a s t stopped =
-    let r : Request = request.Find master_directory (directory_name p.directory) in
+    let r : Request = request.Find master_directory p.directory in
     let alone : IsStopped (asks r) s t = asked-alone r a s t stopped in
-    seeking alone (find-leaves master_directory (directory_name p.directory) s t alone)
+    seeking alone (find-leaves master_directory p.directory s t alone)
 
 -- a file that ends at its beginning, or holds the copy of a text
 text-held : (bytes : ℕ) (plan : Extent) (u u' : Hosts) (f : File) → (end_of f ≡ 0) ⊎ (HoldText bytes plan u.again u'.again f.blocks)
@@ -224,19 +224,20 @@ module _ {D : Type 0} {met : Ghosts D} (p : Putting) (bytes : ℕ) (u : Hosts) w
       → FailsToCopyTextFromHost e bytes u.first u'.first u.again u'.again who l dir p.name 0 (store_of_volume v) (store_of_volume w)))
       refused))
 
-  -- the user's directory was found
-  pub put-found : (name : List ℕ) → name ≡ directory_name p.directory → (dir : FileId) (result : Result ℕ HostRefusal)
-      (u' : Hosts) (v m w : Volume D met) → Grants of_volume operator (told (request.Find master_directory name) (reply.Found dir)) v m
+  -- the directory was found
+  pub put-found : (dir : FileId) (result : Result ℕ HostRefusal)
+      (u' : Hosts) (v m w : Volume D met)
+      → Grants of_volume operator (told (request.Find master_directory p.directory) (reply.Found dir)) v m
       → PutsNamed p.mode bytes result u u' (PutsInto p bytes dir result u u')
       (WhereUnheld (StopsPutting dir p.name (HoldFor p.mode bytes u u'))) m w
       → PutsNamed p.mode bytes result u u' (PutsByName p bytes result u u')
       (WhereUnheld (StopsPut p.directory p.name (HoldFor p.mode bytes u u'))) v w
-  put-found name name-is dir result u' v m w grants' a = record {
-    fares = alone-behind (copy_result result) (told (request.Find master_directory (directory_name p.directory)) (reply.Found dir)) v m w
+  put-found dir result u' v m w grants a = record {
+    fares = alone-behind (copy_result result) (told (request.Find master_directory p.directory) (reply.Found dir)) v m w
         grants a.fares;
     host = a.host;
     outcome = λ sound whole.
-        let seen = volume-seen.granted operator (told (request.Find master_directory (directory_name p.directory)) (reply.Found dir)) v m
+        let seen = volume-seen.granted operator (told (request.Find master_directory p.directory) (reply.Found dir)) v m
         grants sound in
         inl (record {
           dir = dir;
@@ -245,12 +246,12 @@ module _ {D : Type 0} {met : Ghosts D} (p : Putting) (bytes : ℕ) (u : Hosts) w
           puts = a.outcome seen.1 whole;
         });
     stops = λ sound fault unheld.
-        let seen = volume-seen.granted operator (told (request.Find master_directory (directory_name p.directory)) (reply.Found dir)) v m
+        let seen = volume-seen.granted operator (told (request.Find master_directory p.directory) (reply.Found dir)) v m
         grants sound in
         making dir (store_of_volume m) (store_of_volume m, seen.0, refl)
         (a.stops seen.1 fault (subst IsUnheld (sym seen.0.2.changes) unheld));
     moments = λ sound unheld.
-        let x : Asking = told (request.Find master_directory (directory_name p.directory)) (reply.Found dir) in
+        let x : Asking = told (request.Find master_directory p.directory) (reply.Found dir) in
         let seen = volume-seen.granted operator x v m grants sound in
         stood-then (λ image. WhereUnheld (StopsPut p.directory p.name (HoldFor p.mode bytes u u')) (store_of_volume v) (at v image))
         (disk v) (disk m) (disk w)
@@ -266,33 +267,30 @@ module _ {D : Type 0} {met : Ghosts D} (p : Putting) (bytes : ℕ) (u : Hosts) w
         (making dir (store_of_volume m) (store_of_volume m, seen.0, refl) (is (subst IsUnheld (sym seen.0.2.changes) unheld))))
         (a.moments seen.1 (subst IsUnheld (sym seen.0.2.changes) unheld)));
   }
-    where
-      grants : Grants of_volume operator (told (request.Find master_directory (directory_name p.directory)) (reply.Found dir)) v m
-      grants = subst (λ n. Grants of_volume operator (told (request.Find master_directory n) (reply.Found dir)) v m) name-is grants'
 
   -- it isn't there
-  pub put-nowhere : (name : List ℕ) → name ≡ directory_name p.directory → (e : Refusal) (v w : Volume D met)
-      → Fails of_volume operator is_found (request.Find master_directory name) e v w
+  pub put-nowhere : (e : Refusal) (v w : Volume D met)
+      → Fails of_volume operator is_found (request.Find master_directory p.directory) e v w
       → PutsNamed p.mode bytes (Err (Files e)) u u (PutsByName p bytes (Err (Files e)) u u)
       (WhereUnheld (StopsPut p.directory p.name (HoldFor p.mode bytes u u))) v
       w
-  put-nowhere name name-is e v w fails' = record {
-    fares = alone-not-found master_directory (directory_name p.directory) e v w fails;
+  put-nowhere e v w fails = record {
+    fares = alone-not-found master_directory p.directory e v w fails;
     host = unread-for bytes u p.mode e;
     outcome = λ sound whole. inr (record {
       refusal = e;
       is = refl;
-      not_found = not-found-seen master_directory (directory_name p.directory) e v w sound whole fails;
+      not_found = not-found-seen master_directory p.directory e v w sound whole fails;
       unread = refl;
     });
     stops = λ sound fault unheld.
-        let at = find-stopped master_directory (directory_name p.directory) e v w sound fault fails in
-        seeking at (find-leaves master_directory (directory_name p.directory) (store_of_volume v) (stored w) at);
+        let at = find-stopped master_directory p.directory e v w sound fault fails in
+        seeking at (find-leaves master_directory p.directory (store_of_volume v) (stored w) at);
     moments = λ sound unheld. missed sound fails;
   }
     where
       r : Request
-      r = request.Find master_directory (directory_name p.directory)
+      r = request.Find master_directory p.directory
 
       missed : is_sound v ≡ true → Fails of_volume operator is_found r e v w
           → Stood (λ image. WhereUnheld (StopsPut p.directory p.name (HoldFor p.mode bytes u u)) (store_of_volume v) (at v image))
@@ -301,16 +299,13 @@ module _ {D : Type 0} {met : Ghosts D} (p : Putting) (bytes : ℕ) (u : Hosts) w
           stood-weaker (λ image. IsStopped (asks r) (store_of_volume v) (at v image))
           (λ image. WhereUnheld (StopsPut p.directory p.name (HoldFor p.mode bytes u u)) (store_of_volume v) (at v image))
           (disk v) (disk w) (λ image stopped. λ unheld. seeking stopped
-          (find-leaves master_directory (directory_name p.directory) (store_of_volume v) (at v image) stopped))
+          (find-leaves master_directory p.directory (store_of_volume v) (at v image) stopped))
           (asked-stood (asks r) v w sound (inr (e, d)))
       missed sound (inr g) =
           stood-weaker (λ image. IsStopped (told r g.0) (store_of_volume v) (at v image))
           (λ image. WhereUnheld (StopsPut p.directory p.name (HoldFor p.mode bytes u u)) (store_of_volume v) (at v image))
           (disk v) (disk w) (λ image stopped. λ unheld. sought p bytes u u g.0 (store_of_volume v) (at v image) stopped)
           (asked-stood (told r g.0) v w sound (inl g.3))
-
-      fails : Fails of_volume operator is_found (request.Find master_directory (directory_name p.directory)) e v w
-      fails = subst (λ n. Fails of_volume operator is_found (request.Find master_directory n) e v w) name-is fails'
 
   -- on the volume of an image
   module _ (result : Result ℕ HostRefusal) (u' : Hosts) (old : Disk) (first last : Volume D met) (mounts : Mounts old first)

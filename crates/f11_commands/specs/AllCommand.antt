@@ -123,7 +123,7 @@ open_text all_blocks = if all_blocks then codes " open, all blocks" else []
 -- the line of a file that was taken out: where it stands, how many bytes were written, and which block breaks it off
 abbrev pub taken_at_line : Place → Option FileId → Taken → List ℕ
 taken_at_line place beside taken = concat (place_text place ∷ beside_text beside ∷ codes " copied " ∷ decimal taken.bytes ∷ codes " bytes"
-    ∷ open_text taken.all_blocks ∷ missing_text taken.missing ∷ (10 ∷ []) ∷ [])
+    ∷ open_text taken.all_blocks ∷ missing_text taken.bytes taken.missing ∷ (10 ∷ []) ∷ [])
 
 -- why a file isn't taken out
 abbrev pub left_out_text : LeftOut → List ℕ

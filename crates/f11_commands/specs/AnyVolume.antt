@@ -13,10 +13,9 @@ use Rattle.f11_index.specs.Kept.{IsIndexFor}
 use Rattle.f11_index.specs.Sound.{IsIndexFile}
 use Rattle.f11_index.specs.Table.{Table}
 use Rattle.f11_store.specs.declared.files.FileId.{FileId}
-use Rattle.f11_store.specs.declared.callers.Uic.{Uic}
 use Rattle.f11_store.specs.declared.refusals.Refusal.{Refusal}
 use Rattle.f11_serving.specs.vfy.Verify.{Verifies}
-use Rattle.f11_commands.specs.Copying.{directory_name, master_directory}
+use Rattle.f11_commands.specs.Copying.{master_directory}
 use Rattle.f11_commands.specs.DumpCommand.{HasFault, fault_line, index_reads}
 use Rattle.f11_commands.specs.Output.{WriterTakes}
 use Rattle.f11_commands.specs.VfyCommand.{IsVerdict}
@@ -32,9 +31,9 @@ abbrev pub unless_refused : {A B : Type 0} → (A → Result B Refusal) → Resu
 unless_refused next (Ok given) = next given
 unless_refused next (Err refusal) = Err refusal
 
--- the identification of a user's directory, which the master file directory names, or why there is none
-abbrev pub user_directory : Image → Table → Uic → Result FileId Refusal
-user_directory image t user = id_entered image t master_directory (directory_name user)
+-- the identification that the master file directory has under a directory's name, or why it has none
+abbrev pub directory_named : Image → Table → List ℕ → Result FileId Refusal
+directory_named image t directory = id_entered image t master_directory directory
 
 -- The volume was verified: it has faults, or has none.
 pub record IsVerified (faulty : Bool) (disk : Disk) : Type 0 where

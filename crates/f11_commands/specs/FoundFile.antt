@@ -1,8 +1,12 @@
 -- A file that was found, on its device (profile).
-use Rattle.std.specs.Prelude.{ℕ, Bool}
+use Rattle.std.specs.Prelude.{◌≡◌, ℕ, ◌*◌, Bool, IsTrue, length}
+use Rattle.f11_catalog.specs.chain.Calls.{table}
+use Rattle.f11_dev.specs.Disk.{Disk}
+use Rattle.f11_dev.specs.Looked.{Looked}
 use Rattle.f11_dev.specs.declared.device.Device.{Ghosts}
 use Rattle.f11_index.specs.IndexFile.{Index}
 use Rattle.f11_index.specs.Kept.{index_kept}
+use Rattle.f11_reader.specs.Reading.{blocks_to_come, headers_left}
 use Rattle.f11_reader.specs.declared.file.FileReader.{FileReader}
 use Rattle.f11_commands.specs.declared.get.found.FoundFile.{FoundFile}
 
@@ -23,3 +27,12 @@ reader_of found = found.file
 
 abbrev pub end_found : {D : Type 0} {G : Ghosts D} → FoundFile D G → ℕ
 end_found found = found.end
+
+-- The same file is to come up to its last block.
+pub record EndsAtLast {D : Type 0} {G : Ghosts D} (disk : D → Disk) (found later : FoundFile D G) : Type 0 where
+  pub index : index_with later ≡ index_with found
+  pub file : reader_of later ≡ reader_of found
+  pub faulty : has_faults later ≡ has_faults found
+  pub end_is : IsTrue (disk (device_with found)).honest →
+      end_found later ≡ 512 * length (blocks_to_come (table (index_with found) (disk (device_with found))) (reader_of found))
+  pub looked : Looked (disk (device_with found)) (disk (device_with later)) (headers_left (reader_of found)) 0

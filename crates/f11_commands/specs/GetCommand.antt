@@ -1,8 +1,8 @@
 -- What `get` takes out of a volume, faulty or not (profile).
-use Rattle.std.specs.Prelude.{◌≡◌, ℕ, ◌+◌, IsTrue, List, [], ◌∷◌, ◌++◌, codes, length, take, Option, Result, Ok, Err}
+use Rattle.std.specs.Prelude.{◌≡◌, ℕ, ◌+◌, Bool, IsTrue, List, [], ◌∷◌, ◌++◌, codes, length, take, Option, Result, Ok, Err, if◌then◌else◌}
 use Rattle.std.specs.Fmt.{decimal}
 use Rattle.std.specs.List.{concat}
-use Rattle.std.specs.Option.{ok_or}
+use Rattle.std.specs.Option.{ok_or, option_or}
 use Rattle.f11_catalog.specs.Listing.{id_entered}
 use Rattle.f11_catalog.specs.Records.{Reads, file_named}
 use Rattle.f11_catalog.specs.chain.Calls.{table}
@@ -14,25 +14,24 @@ use Rattle.f11_flx.specs.declared.mode.CopyMode.TheVariants as mode
 use Rattle.f11_flx.specs.Refusal.{flx_refusal_name}
 use Rattle.f11_flx.specs.declared.refusal.FlxRefusal.TheVariants.{BadRecord, Files}
 use Rattle.f11_home.specs.Home.{HomeFields}
-use Rattle.f11_index.specs.IndexFile.{Index}
+use Rattle.f11_index.specs.IndexFile.{Index, all_in_use, index_of}
 use Rattle.f11_index.specs.Kept.{IndexLiesWithin}
-use Rattle.f11_index.specs.Table.{Table, table_of}
+use Rattle.f11_index.specs.Table.{Table, table_in, table_of}
 use Rattle.f11_reader.specs.Missing.{FindsMissing}
 use Rattle.f11_reader.specs.Reading.{IsReading, headers_left}
 use Rattle.f11_reader.specs.declared.file.FileReader.{FileReader}
 use Rattle.f11_store.specs.File.{File, stated_end}
-use Rattle.f11_store.specs.declared.callers.Uic.{Uic}
 use Rattle.f11_store.specs.declared.files.FileId.{FileId}
 use Rattle.f11_store.specs.declared.refusals.Refusal.{Refusal}
 use Rattle.f11_store.specs.declared.refusals.Refusal.TheVariants.{NoSuchFile}
 use Rattle.f11_volume.specs.Contents.{blocks_reached, file_of}
-use Rattle.f11_commands.specs.AnyVolume.{CannotBeRead, IsReadable, TellsFault, unless_refused, user_directory}
+use Rattle.f11_commands.specs.AnyVolume.{CannotBeRead, IsReadable, TellsFault, directory_named, unless_refused}
 use Rattle.f11_commands.specs.CopyCommand.{refused_line}
 use Rattle.f11_commands.specs.Output.{WriterTakes}
 use Rattle.f11_commands.specs.TakingOut.{FailsToWriteContent, WritesContent, blocks_before_end, bytes_to_come, lbns_to_come, missing_text}
 use Rattle.f11_commands.specs.TakingText.{FailsToWriteText, WritesGoodText, WritesText, file_to_come}
 use Rattle.f11_commands.specs.declared.get.told.Told.{Told}
-use Rattle.f11_commands.specs.declared.get.told.Told.TheVariants.{Copied, BadRecords}
+use Rattle.f11_commands.specs.declared.get.told.Told.TheVariants.{BadRecords, Copied, Lines}
 use Rattle.f11_commands.specs.declared.outcome.Answer.{Answer}
 use Rattle.f11_commands.specs.declared.outcome.Answer.TheVariants.{Done, Fault}
 use Rattle.f11_commands.specs.declared.outcome.Failure.{Failure}
@@ -43,32 +42,41 @@ use Rattle.f11_commands.specs.declared.volume.VolumeFault.{VolumeFault}
 abbrev pub bytes_of : File → List ℕ
 bytes_of f = take (stated_end f.attr) (concat f.blocks)
 
--- the file with an identification, if there is one
-abbrev pub file_identified : Image → Table → FileId → Result File Refusal
-file_identified image t id = ok_or (file_named image t id) NoSuchFile
+-- the file with an identification: one whose slot is in use, else the one that the index file has which takes each slot as in use
+abbrev pub file_identified : Index → Image → Table → FileId → Result File Refusal
+file_identified wide image t id = ok_or (option_or (file_named image t id) (file_named image (table_in image wide) id)) NoSuchFile
 
 -- the file that a directory has under a name, or why there is none
-abbrev pub file_entered : Image → Table → List ℕ → FileId → Result File Refusal
-file_entered image t name directory =
-    unless_refused (file_identified image t) (id_entered image t directory name)
+abbrev pub file_entered : Index → Image → Table → List ℕ → FileId → Result File Refusal
+file_entered wide image t name directory =
+    unless_refused (file_identified wide image t) (id_entered image t directory name)
 
--- the file that a user's directory has under a name, or why there is none
-abbrev pub file_sought : Image → Table → Uic → List ℕ → Result File Refusal
-file_sought image t user name = unless_refused (file_entered image t name) (user_directory image t user)
+-- the file that the directory with a name has under a name, or why there is none
+abbrev pub file_sought : Index → Image → Table → List ℕ → List ℕ → Result File Refusal
+file_sought wide image t directory name = unless_refused (file_entered wide image t name) (directory_named image t directory)
 
--- A file was found, by what this says of the files that an index file has: it has this number, and all its bytes and blocks are to come.
-pub record OpensSought (sought : Image → Table → Result File Refusal) (index : Index) (file : FileReader) (end : ℕ) (old new : Disk)
+-- so on a volume
+abbrev pub volume_file : Image → HomeFields → List ℕ → List ℕ → Result File Refusal
+volume_file image home directory name = file_sought (all_in_use (index_of image home)) image (table_of image home) directory name
+
+-- the index file by which a file is read: its slot is in use, or isn't
+abbrev pub index_read : Bool → Image → HomeFields → Index
+index_read in_use image home = if in_use then index_of image home else all_in_use (index_of image home)
+
+-- A file was found, by what this says of the files that an index file has: it has this number, and all its bytes and blocks are to come,
+-- read by this index file.
+pub record OpensSought (sought : Image → Table → Result File Refusal) (index by : Index) (file : FileReader) (end : ℕ) (old new : Disk)
     : Type 0 where
   pub found : File
   pub is : IsTrue old.honest → sought old.image (table index old) ≡ Ok found
   pub number : ℕ
-  pub found_is : IsTrue old.honest → found ≡ file_of old.image (table index old) number
-  pub places : IsTrue old.honest → lbns_to_come index new file ≡ blocks_reached (table index old) number
-  pub to_come : IsTrue old.honest → bytes_to_come index new file end ≡ bytes_of found
+  pub found_is : IsTrue old.honest → found ≡ file_of old.image (table by old) number
+  pub places : IsTrue old.honest → lbns_to_come by new file ≡ blocks_reached (table by old) number
+  pub to_come : IsTrue old.honest → bytes_to_come by new file end ≡ bytes_of found
   pub end_is : IsTrue old.honest → end ≡ stated_end found.attr
-  pub attr_is : IsTrue old.honest → (file_to_come index new file).attr ≡ found.attr
-  pub blocks_are : IsTrue old.honest → (file_to_come index new file).blocks ≡ found.blocks
-  pub reading : IsReading index file new
+  pub attr_is : IsTrue old.honest → (file_to_come by new file).attr ≡ found.attr
+  pub blocks_are : IsTrue old.honest → (file_to_come by new file).blocks ≡ found.blocks
+  pub reading : IsReading by file new
   pub reads : Reads old new 0
 
 -- It wasn't.
@@ -81,16 +89,18 @@ pub record IsToRead (index : Index) (file : FileReader) (disk : Disk) : Type 0 w
   pub within : IndexLiesWithin index (length disk.image)
   pub reading : IsReading index file disk
 
--- The file of a user's directory was found on a volume that can be read, and has this number. What is to come is all of it: its bytes, up
--- to the end that it states; its blocks, which lie there; and, as another file, what its attributes and its blocks say.
-pub record FindsSought (user : Uic) (name bytes : List ℕ) (end : ℕ) (lbns : List ℕ) (come : File) (old new : Disk) : Type 0 where
+-- The file of a directory was found on a volume that can be read, and has this number; its slot is in use, or isn't. What is to come is
+-- all of it: its bytes, up to the end that it states; its blocks, which lie there; and, as another file, what its attributes and its blocks
+-- say.
+pub record FindsSought (directory name bytes : List ℕ) (end : ℕ) (lbns : List ℕ) (come : File) (old new : Disk) : Type 0 where
   pub home : HomeFields
   pub readable : IsTrue old.honest → IsReadable old.image home
   pub found : File
-  pub is : IsTrue old.honest → file_sought old.image (table_of old.image home) user name ≡ Ok found
+  pub is : IsTrue old.honest → volume_file old.image home directory name ≡ Ok found
+  pub in_use : Bool
   pub number : ℕ
-  pub found_is : IsTrue old.honest → found ≡ file_of old.image (table_of old.image home) number
-  pub places : IsTrue old.honest → lbns ≡ blocks_reached (table_of old.image home) number
+  pub found_is : IsTrue old.honest → found ≡ file_of old.image (table_in old.image (index_read in_use old.image home)) number
+  pub places : IsTrue old.honest → lbns ≡ blocks_reached (table_in old.image (index_read in_use old.image home)) number
   pub bytes_are : IsTrue old.honest → bytes ≡ bytes_of found
   pub end_is : IsTrue old.honest → end ≡ stated_end found.attr
   pub attr_is : IsTrue old.honest → come.attr ≡ found.attr
@@ -98,49 +108,57 @@ pub record FindsSought (user : Uic) (name bytes : List ℕ) (end : ℕ) (lbns : 
   pub reads : Reads old new 0
 
 -- There is none on it, and this says why.
-pub record LacksFile (user : Uic) (name : List ℕ) (refusal : Refusal) (old new : Disk) : Type 0 where
+pub record LacksFile (directory name : List ℕ) (refusal : Refusal) (old new : Disk) : Type 0 where
   pub home : HomeFields
   pub readable : IsTrue old.honest → IsReadable old.image home
-  pub refused : IsTrue old.honest → file_sought old.image (table_of old.image home) user name ≡ Err refusal
+  pub refused : IsTrue old.honest → volume_file old.image home directory name ≡ Err refusal
   pub reads : Reads old new 0
 
 -- No file can be found: it isn't on a volume that can be read, or the volume can't be read.
-pub data CannotBeFound (user : Uic) (name : List ℕ) (old new : Disk) : Type 0 where
-  lacks_file : (refusal : Refusal) → LacksFile user name refusal old new → CannotBeFound user name old new
-  cannot_be_read : (fault : VolumeFault) → CannotBeRead fault old new → CannotBeFound user name old new
+pub data CannotBeFound (directory name : List ℕ) (old new : Disk) : Type 0 where
+  lacks_file : (refusal : Refusal) → LacksFile directory name refusal old new → CannotBeFound directory name old new
+  cannot_be_read : (fault : VolumeFault) → CannotBeRead fault old new → CannotBeFound directory name old new
 
 -- The line was written that says why there is none.
-pub record TellsNone {W : Type 0} (user : Uic) (name : List ℕ) (answer : Answer) (old new : Disk) (contents : W → Option (List ℕ))
+pub record TellsNone {W : Type 0} (directory name : List ℕ) (answer : Answer) (old new : Disk) (contents : W → Option (List ℕ))
     (before after : W) : Type 0 where
   pub is_fault : answer ≡ Fault
   pub refusal : Refusal
-  pub lacks : LacksFile user name refusal old new
+  pub lacks : LacksFile directory name refusal old new
   pub takes : WriterTakes contents before after (refused_line (Files refusal))
 
 -- Nothing is taken out: the volume can be read and the file isn't found, or it can't be read.
-pub data TellsWhyNot {W : Type 0} (user : Uic) (name : List ℕ) (answer : Answer) (old new : Disk) (contents : W → Option (List ℕ))
+pub data TellsWhyNot {W : Type 0} (directory name : List ℕ) (answer : Answer) (old new : Disk) (contents : W → Option (List ℕ))
     (before after : W) : Type 0 where
-  tells_none : TellsNone user name answer old new contents before after → TellsWhyNot user name answer old new contents before after
-  tells_fault : TellsFault answer old new contents before after → TellsWhyNot user name answer old new contents before after
+  tells_none : TellsNone directory name answer old new contents before after
+      → TellsWhyNot directory name answer old new contents before after
+  tells_fault : TellsFault answer old new contents before after → TellsWhyNot directory name answer old new contents before after
 
 -- The file couldn't be sought: a transfer failed, or there was no memory, and nothing was written; or there was a line to write, and the
 -- writer takes no more.
-abbrev pub FailsToSeek : {W : Type 0} → Failure → Uic → List ℕ → Disk → Disk → W → W → Type 0
-FailsToSeek DeviceFault user name old new before after = Reads old new 1 × (after ≡ before)
-FailsToSeek NoMemory user name old new before after = Reads old new 0 × (after ≡ before)
-FailsToSeek CannotWrite user name old new before after = CannotBeFound user name old new
+abbrev pub FailsToSeek : {W : Type 0} → Failure → List ℕ → List ℕ → Disk → Disk → W → W → Type 0
+FailsToSeek DeviceFault directory name old new before after = Reads old new 1 × (after ≡ before)
+FailsToSeek NoMemory directory name old new before after = Reads old new 0 × (after ≡ before)
+FailsToSeek CannotWrite directory name old new before after = CannotBeFound directory name old new
 
 -- what a line says of a file that was taken out: how many bytes were given, or that its records can't all be read
 abbrev pub told_text : Told → List ℕ
 told_text (Copied count) = codes "copied " ++ (decimal count ++ codes " bytes")
+told_text (Lines count) = codes "copied " ++ (decimal count ++ codes " bytes")
 told_text BadRecords = codes "no " ++ flx_refusal_name BadRecord
+
+-- how many bytes of its blocks were written, as far as that is told: of lines it isn't
+abbrev pub bytes_told : Told → ℕ
+bytes_told (Copied count) = count
+bytes_told (Lines count) = 0
+bytes_told BadRecords = 0
 
 -- The line was written that tells this of a file, and which of its blocks before an end is the first that isn't there.
 pub record Tells {W : Type 0} (index : Index) (file : FileReader) (end : ℕ) (told : Told) (old new : Disk) (contents : W → Option (List ℕ))
     (before after : W) : Type 0 where
   pub missing : Option ℕ
   pub finds : FindsMissing index file (blocks_before_end end) missing old new
-  pub takes : WriterTakes contents before after (told_text told ++ (missing_text missing ++ 10 ∷ []))
+  pub takes : WriterTakes contents before after (told_text told ++ (missing_text (bytes_told told) missing ++ 10 ∷ []))
 
 -- It wasn't: a transfer failed before that block was found, and nothing is told; or it was found, and the writer takes no more.
 abbrev pub FailsToTell : {W : Type 0} → Failure → Index → FileReader → ℕ → Disk → Disk → W → W → Type 0
@@ -149,13 +167,14 @@ FailsToTell NoMemory index file end old new before after = ⊥
 FailsToTell CannotWrite index file end old new before after =
     (missing : Option ℕ) × FindsMissing index file (blocks_before_end end) missing old new
 
--- What `Gives` says was given to the host: so many bytes; and then its line was written.
-pub record TakesOut {W : Type 0} (Gives : ℕ → Disk → Disk → Type 0) (index : Index) (file : FileReader) (end : ℕ) (old new : Disk)
+-- What `Gives` says was given to the host: so many bytes; and then the line was written that tells so.
+pub record TakesOut {W : Type 0} (told : ℕ → Told) (Gives : ℕ → Disk → Disk → Type 0) (index : Index) (file : FileReader) (end : ℕ)
+    (old new : Disk)
     (contents : W → Option (List ℕ)) (before after : W) : Type 0 where
   pub count : ℕ
   pub mid : Disk
   pub gives : Gives count old mid
-  pub tells : Tells index file end (Copied count) mid new contents before after
+  pub tells : Tells index file end (told count) mid new contents before after
 
 -- It couldn't all be given, as `Stops` says, and nothing is told; or it was, and its line couldn't be written.
 pub data FailsToTakeOut {W : Type 0} (Gives : ℕ → Disk → Disk → Type 0) (Stops : Failure → Disk → Disk → Type 0) (failure : Failure)
@@ -168,7 +187,8 @@ pub data FailsToTakeOut {W : Type 0} (Gives : ℕ → Disk → Disk → Type 0) 
 abbrev pub TakesOutImage : {H W : Type 0} → Index → FileReader → ℕ → Disk → Disk → (H → Option (List ℕ)) → H → H
     → (W → Option (List ℕ)) → W → W → Type 0
 TakesOutImage index file end old new held host_before host_after contents before after =
-    TakesOut (λ count a b. WritesContent index file end count a b held host_before host_after) index file end old new contents before after
+    TakesOut Copied (λ count a b. WritesContent index file end count a b held host_before host_after) index file end old new contents before
+    after
 
 -- It couldn't be: a transfer failed, and then the host was given a beginning of it; or the host or the writer takes no more. It takes no
 -- memory.
@@ -182,7 +202,7 @@ FailsToTakeOutImage failure index file end old new held host_before host_after b
 abbrev pub TakesOutText : {H W : Type 0} → Index → FileReader → ℕ → Disk → Disk → (H → Option (List ℕ)) → H → H
     → (W → Option (List ℕ)) → W → W → Type 0
 TakesOutText index file end old new held host_before host_after contents before after =
-    TakesOut (λ count a b. WritesText index file count a b held host_before host_after) index file end old new contents before after
+    TakesOut Lines (λ count a b. WritesText index file count a b held host_before host_after) index file end old new contents before after
 
 -- Its records can't all be read: the text of those before the first that can't was written to the host, and the line that says so.
 pub record TellsBadRecord {H W : Type 0} (index : Index) (file : FileReader) (end : ℕ) (old new : Disk) (held : H → Option (List ℕ))

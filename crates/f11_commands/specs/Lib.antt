@@ -1,5 +1,6 @@
 pub mod CopyCommand
 pub mod Copying
+pub mod CutShort
 pub mod Dump
 pub mod DumpCommand
 pub mod FileAnswers
@@ -39,4 +40,5 @@ pub mod TakingText
 pub mod VfyCommand
 pub mod UpdateCommand
 pub use Rattle.f11_flx.specs as flx
+pub use Rattle.f11_rad50.specs as rad50
 pub use Rattle.f11_serving.specs as serving

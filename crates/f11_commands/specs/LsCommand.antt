@@ -10,9 +10,8 @@ use Rattle.f11_home.specs.Home.{HomeFields}
 use Rattle.f11_index.specs.IndexFile.{Index, all_in_use, index_of}
 use Rattle.f11_index.specs.Table.{Table, table_of}
 use Rattle.f11_store.specs.declared.files.FileId.{FileId}
-use Rattle.f11_store.specs.declared.callers.Uic.{Uic}
 use Rattle.f11_store.specs.declared.refusals.Refusal.{Refusal}
-use Rattle.f11_commands.specs.AnyVolume.{IsVerified, IsReadable, TellsFault, unless_refused, user_directory}
+use Rattle.f11_commands.specs.AnyVolume.{IsVerified, IsReadable, TellsFault, directory_named, unless_refused}
 use Rattle.f11_commands.specs.CopyCommand.{refused_line}
 use Rattle.f11_commands.specs.Copying.{master_directory}
 use Rattle.f11_commands.specs.Output.{WriterTakes}
@@ -37,18 +36,18 @@ abbrev pub directories_listed : Index → Image → Table → Result (List ℕ) 
 directories_listed wide image t = lines_or (directory_refusal (file_named image t master_directory))
     (all_directory_lines wide image t (records_of image t master_directory))
 
--- of a user's directory
-abbrev pub user_listed : Index → Image → Table → Uic → Result (List ℕ) Refusal
-user_listed wide image t user = unless_refused (directory_listed wide image t) (user_directory image t user)
+-- of the directory with a name
+abbrev pub one_listed : Index → Image → Table → List ℕ → Result (List ℕ) Refusal
+one_listed wide image t directory = unless_refused (directory_listed wide image t) (directory_named image t directory)
 
--- of what is asked for: one user's directory, or all
-abbrev pub listed : Index → Image → Table → Option Uic → Result (List ℕ) Refusal
-listed wide image t (Some user) = user_listed wide image t user
+-- of what is asked for: the directory with a name, or all
+abbrev pub listed : Index → Image → Table → Option (List ℕ) → Result (List ℕ) Refusal
+listed wide image t (Some directory) = one_listed wide image t directory
 listed wide image t None = directories_listed wide image t
 
 -- of a volume, where a file is read by its record though the bit of its slot is 0
-abbrev pub volume_listed : Image → HomeFields → Option Uic → Result (List ℕ) Refusal
-volume_listed image home user = listed (all_in_use (index_of image home)) image (table_of image home) user
+abbrev pub volume_listed : Image → HomeFields → Option (List ℕ) → Result (List ℕ) Refusal
+volume_listed image home directory = listed (all_in_use (index_of image home)) image (table_of image home) directory
 
 -- what is written: the lines, or why there are none
 abbrev pub listing_text : Result (List ℕ) Refusal → List ℕ
@@ -74,37 +73,37 @@ pub record IsNotListed (lists : Image → Table → Result (List ℕ) Refusal) (
   pub reads : Reads old new 0
 
 -- What is asked for was listed, of the files that an index file has.
-pub record ListsIndex {W : Type 0} (index wide : Index) (user : Option Uic) (answer : Answer) (old new : Disk)
+pub record ListsIndex {W : Type 0} (index wide : Index) (directory : Option (List ℕ)) (answer : Answer) (old new : Disk)
     (contents : W → Option (List ℕ))
     (before after : W) : Type 0 where
   pub text : List ℕ
-  pub text_is : IsTrue old.honest → text ≡ listing_text (listed wide old.image (table index old) user)
-  pub answer_is : IsTrue old.honest → answer ≡ listing_answer (listed wide old.image (table index old) user)
+  pub text_is : IsTrue old.honest → text ≡ listing_text (listed wide old.image (table index old) directory)
+  pub answer_is : IsTrue old.honest → answer ≡ listing_answer (listed wide old.image (table index old) directory)
   pub takes : WriterTakes contents before after text
   pub reads : Reads old new 0
 
 -- What is asked for was listed, of a volume that can be read.
-pub record ListsFiles {W : Type 0} (user : Option Uic) (answer : Answer) (old new : Disk) (contents : W → Option (List ℕ))
+pub record ListsFiles {W : Type 0} (directory : Option (List ℕ)) (answer : Answer) (old new : Disk) (contents : W → Option (List ℕ))
     (before after : W) : Type 0 where
   pub home : HomeFields
   pub readable : IsTrue old.honest → IsReadable old.image home
   pub text : List ℕ
-  pub text_is : IsTrue old.honest → text ≡ listing_text (volume_listed old.image home user)
-  pub answer_is : IsTrue old.honest → answer ≡ listing_answer (volume_listed old.image home user)
+  pub text_is : IsTrue old.honest → text ≡ listing_text (volume_listed old.image home directory)
+  pub answer_is : IsTrue old.honest → answer ≡ listing_answer (volume_listed old.image home directory)
   pub takes : WriterTakes contents before after text
   pub reads : Reads old new 0
 
 -- What `ls` does to a volume: it can be read, or can't.
-pub data ListsVolume {W : Type 0} (user : Option Uic) (answer : Answer) (old new : Disk) (contents : W → Option (List ℕ))
+pub data ListsVolume {W : Type 0} (directory : Option (List ℕ)) (answer : Answer) (old new : Disk) (contents : W → Option (List ℕ))
     (before after : W) : Type 0 where
-  lists : ListsFiles user answer old new contents before after → ListsVolume user answer old new contents before after
-  tells : TellsFault answer old new contents before after → ListsVolume user answer old new contents before after
+  lists : ListsFiles directory answer old new contents before after → ListsVolume directory answer old new contents before after
+  tells : TellsFault answer old new contents before after → ListsVolume directory answer old new contents before after
 
 -- The volume was verified and what is asked for listed: it is said whether it has faults.
-pub record PrintsListing {W : Type 0} (user : Option Uic) (served : Served) (old new : Disk) (contents : W → Option (List ℕ))
+pub record PrintsListing {W : Type 0} (directory : Option (List ℕ)) (served : Served) (old new : Disk) (contents : W → Option (List ℕ))
     (before after : W) : Type 0 where
   pub verified : IsVerified served.faulty old
-  pub lists : ListsVolume user served.answer old new contents before after
+  pub lists : ListsVolume directory served.answer old new contents before after
 
 -- The files that an index file has couldn't be listed: a transfer failed, or the writer takes no more.
 abbrev pub FailsToListIndex : Failure → Disk → Disk → Type 0

@@ -28,7 +28,7 @@ use Rattle.f11_store.specs.declared.refusals.Refusal.TheVariants.{Damaged, Volum
 use Rattle.f11_volume.specs.Verdict.{IsAccepted}
 use Rattle.f11_serving.specs.writes.Moments.{StandsAccepted}
 use Rattle.f11_commands.specs.CopyCommand.{EndsFiles, FailsToMount, TellsCopy, VerifiesFiles}
-use Rattle.f11_commands.specs.Copying.{FindsName, FindsNoName, directory_name, master_directory, operator}
+use Rattle.f11_commands.specs.Copying.{FindsName, FindsNoName, master_directory, operator}
 use Rattle.f11_commands.specs.Finding.{FaresAlone}
 use Rattle.f11_commands.specs.RtPut.{put_told}
 use Rattle.f11_commands.specs.Stopping.{IsUnheld, Stood, StopsPut}
@@ -82,19 +82,19 @@ abbrev pub PutsInto : Putting → ℕ → FileId → Result ℕ HostRefusal → 
 PutsInto p bytes dir (Ok blocks) h h' s s' = MakesFor p.mode bytes blocks h h' dir p.name s s'
 PutsInto p bytes dir (Err e) h h' s s' = LeavesAll p bytes dir e h h' s s'
 
--- The user's directory was found, and then it is so.
+-- The directory was found, and then it is so.
 pub record FindsAndPuts (p : Putting) (bytes : ℕ) (result : Result ℕ HostRefusal) (h h' : Hosts) (s s' : Store)
     : Type 0 where
   pub dir : FileId
   pub found : Store
-  pub finds : FindsName master_directory (directory_name p.directory) dir s found
+  pub finds : FindsName master_directory p.directory dir s found
   pub puts : PutsInto p bytes dir result h h' found s'
 
 -- It isn't there, and nothing was read of the host's file.
 pub record HasNoDirectory (p : Putting) (result : Result ℕ HostRefusal) (h h' : Hosts) (s s' : Store) : Type 0 where
   pub refusal : Refusal
   pub is : result ≡ Err (Files refusal)
-  pub not_found : FindsNoName master_directory (directory_name p.directory) refusal s s'
+  pub not_found : FindsNoName master_directory p.directory refusal s s'
   pub unread : h' ≡ h
 
 abbrev pub PutsByName : Putting → ℕ → Result ℕ HostRefusal → Hosts → Hosts → Store → Store → Type 0

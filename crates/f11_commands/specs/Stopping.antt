@@ -92,20 +92,20 @@ pub record StopsPutting (dir : FileId) (to : List ℕ) (AreSuch : List (List ℕ
 abbrev pub KeepsFiles : Store → Store → Type 0
 KeepsFiles s t = (n : ℕ) → t.file n ≡ s.file n
 
--- A file was to be made in a user's directory under a name: the look for the directory was stopped, and all files are as they were; or the
--- making of the file was, in the directory that was found.
-pub data StopsBelow (user : Uic) (Stops : FileId → Store → Store → Type 0) (s t : Store) : Type 0 where
-  seeking : IsStopped (asks (request.Find master_directory (directory_name user))) s t → KeepsFiles s t → StopsBelow user Stops s t
-  making : (dir : FileId) (found : Store) → FindsName master_directory (directory_name user) dir s found → Stops dir found t
-      → StopsBelow user Stops s t
+-- A file was to be made under a name in the directory with one: the look for the directory was stopped, and all files are as they were; or
+-- the making of the file was, in the directory that was found.
+pub data StopsBelow (directory : List ℕ) (Stops : FileId → Store → Store → Type 0) (s t : Store) : Type 0 where
+  seeking : IsStopped (asks (request.Find master_directory directory)) s t → KeepsFiles s t → StopsBelow directory Stops s t
+  making : (dir : FileId) (found : Store) → FindsName master_directory directory dir s found → Stops dir found t
+      → StopsBelow directory Stops s t
 
 -- so of a copy,
-abbrev pub StopsNamed : Uic → List ℕ → Store → Store → Type 0
-StopsNamed user name s t = StopsBelow user (λ dir. StopsMaking dir name) s t
+abbrev pub StopsNamed : List ℕ → List ℕ → Store → Store → Type 0
+StopsNamed directory name s t = StopsBelow directory (λ dir. StopsMaking dir name) s t
 
 -- and of a file of the host
-abbrev pub StopsPut : Uic → List ℕ → (List (List ℕ) → Type 0) → Store → Store → Type 0
-StopsPut user name AreSuch s t = StopsBelow user (λ dir. StopsPutting dir name AreSuch) s t
+abbrev pub StopsPut : List ℕ → List ℕ → (List (List ℕ) → Type 0) → Store → Store → Type 0
+StopsPut directory name AreSuch s t = StopsBelow directory (λ dir. StopsPutting dir name AreSuch) s t
 
 -- nobody holds an access
 abbrev pub IsUnheld : Store → Type 0
@@ -124,7 +124,7 @@ StopsWithin FromRt dir name s t = StopsMaking dir name s t
 -- and so one of names
 abbrev pub StopsCopy : Direction → Uic → List ℕ → Store → Store → Type 0
 StopsCopy ToRt user name s t = KeepsFiles s t
-StopsCopy FromRt user name s t = StopsNamed user name s t
+StopsCopy FromRt user name s t = StopsNamed (directory_name user) name s t
 
 -- P holds of each image that stood meanwhile: of `since`, the newest first, whose newest stands at the end.
 pub record Stood (P : Image → Type 0) (old new : Disk) : Type 0 where

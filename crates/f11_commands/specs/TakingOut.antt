@@ -1,5 +1,5 @@
 -- What taking out a file's content tells (profile).
-use Rattle.std.specs.Prelude.{◌≡◌, ℕ, ◌+◌, ◌/◌, ◌≤◌, IsTrue, List, [], ◌++◌, codes, length, take, Option, Some, None}
+use Rattle.std.specs.Prelude.{◌≡◌, ℕ, ◌+◌, ◌/◌, ◌≤◌, IsTrue, List, [], ◌++◌, codes, length, nat_le, take, Option, Some, None, if◌then◌else◌}
 use Rattle.std.specs.Fmt.{decimal}
 use Rattle.std.specs.Int.{div_ceil}
 use Rattle.std.specs.List.{concat}
@@ -24,10 +24,14 @@ pub record BeginsWith (part whole : List ℕ) : Type 0 where
 abbrev pub blocks_before_end : ℕ → ℕ
 blocks_before_end end = div_ceil end 512
 
--- the block that a file breaks off at
-abbrev pub missing_text : Option ℕ → List ℕ
-missing_text (Some vbn) = codes " broke off at VBN " ++ decimal vbn
-missing_text None = []
+-- zeros were written for a block that isn't there where the bytes that were written reach into it; else the file breaks off there
+abbrev pub missing_words : ℕ → ℕ → List ℕ
+missing_words written vbn = if nat_le vbn (blocks_before_end written) then codes "zeros from" else codes "broke off at"
+
+-- the first block that isn't there, of a file of which so many bytes were written
+abbrev pub missing_text : ℕ → Option ℕ → List ℕ
+missing_text written (Some vbn) = codes " " ++ (missing_words written vbn ++ (codes " VBN " ++ decimal vbn))
+missing_text written None = []
 
 -- where the blocks of a file lie that are still to come
 abbrev pub lbns_to_come : Index → Disk → FileReader → List ℕ

@@ -1,6 +1,7 @@
 //! The command `get`.
 
 pub mod all;
+pub mod blocks;
 pub mod found;
 mod missing;
 pub mod name;

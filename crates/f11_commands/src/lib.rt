@@ -9,6 +9,7 @@
 
 mod contents;
 mod copy;
+mod cut_short;
 mod dump;
 mod get;
 mod home;
@@ -40,17 +41,21 @@ mod vfy;
 mod volume;
 mod volume_dump;
 
+pub use copy::finding::directory_name;
 pub use copy::names::{read_names, refuse_names};
 pub use copy::{Copying, Direction, FileAnswer, print_copy};
+pub use cut_short::blocks_wanted;
 pub use dump::dump_header;
 pub use f11_catalog;
 pub use f11_flx;
+pub use f11_rad50;
 pub use f11_serving;
 pub use f11_serving::{f11_fcp, f11_files, f11_vfy};
 pub use f11_volume::f11_layout;
 pub use get::all::begin::begin_all;
 pub use get::all::left_out::LeftOut;
 pub use get::all::state::TakingAll;
+pub use get::blocks::to_last_block;
 pub use get::found::FoundFile;
 pub use get::name::read_name;
 pub use get::seek::seek_file;

@@ -3,17 +3,18 @@ ghost use Rattle.std.specs.Prelude.{◌≡◌, IfErr, IfOk, OnOk, length};
 ghost use Rattle.f11_catalog.specs.Listing.{BreaksOff};
 ghost use Rattle.f11_index.specs.Kept.{index_kept, IndexLiesWithin};
 ghost use Rattle.f11_commands.specs.AnyVolume.{FailsToServe};
-ghost use Rattle.f11_commands.specs.LsCommand.{FailsToListIndex, IsNotListed, ListsIndex, ListsVolume, PrintsListing, WritesListing, listed, user_listed};
+ghost use Rattle.f11_commands.specs.LsCommand.{FailsToListIndex, IsNotListed, ListsIndex, ListsVolume, PrintsListing, WritesListing, listed, one_listed};
 
-use crate::copy::finding::{MASTER_DIRECTORY, directory_name};
+use crate::copy::finding::MASTER_DIRECTORY;
 use crate::outcome::{Answer, Failure};
 use crate::volume::read_index;
 use f11_bytes::NoMemory;
 use f11_catalog::{ListFault, find, list_directories, list_directory};
 use f11_dev::{Device, DeviceFault};
 use f11_index::IndexFile;
+use f11_rad50::Name;
 use f11_serving::f11_vfy::{Report, VfyError, verify};
-use f11_store::{Refusal, Uic};
+use f11_store::Refusal;
 use std::alloc::Global;
 use std::io::Write;
 
@@ -26,8 +27,9 @@ pub struct Served {
     pub faulty: bool,
 }
 
-/// Lists a user's directory, or without a user each directory that the master file directory names, under `[g,m]`, or `[NAME]` where its name
-/// is no user's: a line for each record, in their order. It serves any volume whose home block and index file can be read, faulty or not, and writes nothing to it.
+/// Lists the directory that the master file directory has under a name, or without one each that it names, under `[g,m]`, or `[NAME]`
+/// where its name is no user's: a line for each record, in their order. It serves any volume whose home block and index file can be
+/// read, faulty or not, and writes nothing to it.
 ///
 /// A record's line is `file NAME.TYP;V N,S blocks B bytes E owner [g,m] prot W`, and behind it ` contiguous`, ` marked` or ` open` where
 /// the file is that, and ` out of use` where the bit of its slot is 0, with the blocks that are reached from its first header; or `entry NAME.TYP;V N,S no file` where it names none; `?` stands for
@@ -42,16 +44,22 @@ pub fn print_ls<D: Device, W: Write>(
     alloc: Global,
     device: D,
     writer: &mut W,
-    user: Option<Uic>,
+    directory: Option<Name>,
 ) -> (D, Result<Served, Failure>)
-    ensures lists { IfOk result.1 (λ served. PrintsListing user served
+    ensures lists { IfOk result.1 (λ served. PrintsListing directory served
         (D.disk device) (D.disk result.0) W.contents writer.old writer.new) }
     ensures failed { IfErr result.1 (λ failure. FailsToServe failure
         (D.disk device) (D.disk result.0) W.contents writer.old writer.new) }
 {
     match verify(alloc, device) {
-        Ok(Report::Accepted(accepted, _)) => list(alloc, accepted.device(), false, writer, user),
-        Ok(Report::Faulty(device, _, _)) => list(alloc, device, true, writer, user),
+        Ok(Report::Accepted(accepted, _)) => list(
+            alloc,
+            accepted.device(),
+            false,
+            writer,
+            directory,
+        ),
+        Ok(Report::Faulty(device, _, _)) => list(alloc, device, true, writer, directory),
         Err(VfyError::DeviceFault(device)) => (device, Err(Failure::DeviceFault)),
         Err(VfyError::NoMemory(device)) => (device, Err(Failure::NoMemory)),
     }
@@ -63,15 +71,15 @@ fn list<D: Device, W: Write>(
     device: D,
     faulty: bool,
     writer: &mut W,
-    user: Option<Uic>,
+    directory: Option<Name>,
 ) -> (D, Result<Served, Failure>)
     ensures served { IfOk result.1 (λ served. (served.faulty ≡ faulty)
-        × ListsVolume user served.answer (D.disk device) (D.disk result.0) W.contents writer.old writer.new) }
+        × ListsVolume directory served.answer (D.disk device) (D.disk result.0) W.contents writer.old writer.new) }
     ensures failed { IfErr result.1 (λ failure. FailsToServe failure
         (D.disk device) (D.disk result.0) W.contents writer.old writer.new) }
 {
     let mut device = device;
-    match list_volume(alloc, &mut device, writer, user) {
+    match list_volume(alloc, &mut device, writer, directory) {
         Ok(answer) => (device, Ok(Served { answer, faulty })),
         Err(failure) => (device, Err(failure)),
     }
@@ -82,16 +90,16 @@ fn list_volume<D: Device, W: Write>(
     alloc: Global,
     device: &mut D,
     writer: &mut W,
-    user: Option<Uic>,
+    directory: Option<Name>,
 ) -> Result<Answer, Failure>
-    ensures lists { IfOk result (λ answer. ListsVolume user answer
+    ensures lists { IfOk result (λ answer. ListsVolume directory answer
         (D.disk device.old) (D.disk device.new) W.contents writer.old writer.new) }
     ensures failed { IfErr result (λ failure. FailsToServe failure
         (D.disk device.old) (D.disk device.new) W.contents writer.old writer.new) }
 {
     match read_index(alloc, device) {
         Ok(Ok((_, index))) => match index.with_all_in_use(alloc) {
-            Ok(wide) => match list_index(device, &index, &wide, writer, user) {
+            Ok(wide) => match list_index(device, &index, &wide, writer, directory) {
                 Ok(answer) => Ok(answer),
                 Err(failure) => Err(failure),
             },
@@ -111,16 +119,16 @@ fn list_index<D: Device, W: Write>(
     index: &IndexFile,
     wide: &IndexFile,
     writer: &mut W,
-    user: Option<Uic>,
+    directory: Option<Name>,
 ) -> Result<Answer, Failure>
     requires within { IndexLiesWithin (index_kept index.now) (length (D.disk device.old).image) }
     requires wide { IndexLiesWithin (index_kept wide.now) (length (D.disk device.old).image) }
-    ensures lists { IfOk result (λ answer. ListsIndex (index_kept index.now) (index_kept wide.now) user answer
+    ensures lists { IfOk result (λ answer. ListsIndex (index_kept index.now) (index_kept wide.now) directory answer
         (D.disk device.old) (D.disk device.new) W.contents writer.old writer.new) }
     ensures failed { IfErr result (λ failure. FailsToListIndex failure
         (D.disk device.old) (D.disk device.new)) }
 {
-    match list_asked(device, index, wide, writer, user) {
+    match list_asked(device, index, wide, writer, directory) {
         Ok(Ok(())) => Ok(Answer::Done),
         Ok(Err(refusal)) => match writeln!(writer, "no {refusal}") {
             Ok(()) => Ok(Answer::Fault),
@@ -131,25 +139,25 @@ fn list_index<D: Device, W: Write>(
     }
 }
 
-/// Lists one user's directory, or all directories.
+/// Lists one directory, or all.
 fn list_asked<D: Device, W: Write>(
     device: &mut D,
     index: &IndexFile,
     wide: &IndexFile,
     writer: &mut W,
-    user: Option<Uic>,
+    directory: Option<Name>,
 ) -> Result<Result<(), Refusal>, ListFault>
     requires within { IndexLiesWithin (index_kept index.now) (length (D.disk device.old).image) }
     requires wide { IndexLiesWithin (index_kept wide.now) (length (D.disk device.old).image) }
-    ensures lists { IfOk result (λ answer. OnOk answer (WritesListing (λ image t. listed (index_kept wide.now) image t user)
+    ensures lists { IfOk result (λ answer. OnOk answer (WritesListing (λ image t. listed (index_kept wide.now) image t directory)
         (index_kept index.now) (D.disk device.old) (D.disk device.new) W.contents writer.old writer.new)) }
     ensures refused { IfOk result (λ answer. IfErr answer (λ refusal. (writer.new ≡ writer.old)
-        × IsNotListed (λ image t. listed (index_kept wide.now) image t user) (index_kept index.now) refusal
+        × IsNotListed (λ image t. listed (index_kept wide.now) image t directory) (index_kept index.now) refusal
         (D.disk device.old) (D.disk device.new))) }
     ensures failed { IfErr result (λ fault. BreaksOff fault (D.disk device.old) (D.disk device.new)) }
 {
-    match user {
-        Some(user) => list_user(device, index, wide, writer, user),
+    match directory {
+        Some(directory) => list_one(device, index, wide, writer, &directory),
         None => match list_directories(device, index, wide, writer, MASTER_DIRECTORY) {
             Ok(Ok(())) => Ok(Ok(())),
             Ok(Err(refusal)) => Ok(Err(refusal)),
@@ -158,25 +166,24 @@ fn list_asked<D: Device, W: Write>(
     }
 }
 
-/// Lists a user's directory, which the master file directory names.
-fn list_user<D: Device, W: Write>(
+/// Lists the directory that the master file directory has under a name.
+fn list_one<D: Device, W: Write>(
     device: &mut D,
     index: &IndexFile,
     wide: &IndexFile,
     writer: &mut W,
-    user: Uic,
+    name: &Name,
 ) -> Result<Result<(), Refusal>, ListFault>
     requires within { IndexLiesWithin (index_kept index.now) (length (D.disk device.old).image) }
     requires wide { IndexLiesWithin (index_kept wide.now) (length (D.disk device.old).image) }
-    ensures lists { IfOk result (λ answer. OnOk answer (WritesListing (λ image t. user_listed (index_kept wide.now) image t user)
+    ensures lists { IfOk result (λ answer. OnOk answer (WritesListing (λ image t. one_listed (index_kept wide.now) image t name.now)
         (index_kept index.now) (D.disk device.old) (D.disk device.new) W.contents writer.old writer.new)) }
     ensures refused { IfOk result (λ answer. IfErr answer (λ refusal. (writer.new ≡ writer.old)
-        × IsNotListed (λ image t. user_listed (index_kept wide.now) image t user) (index_kept index.now) refusal
+        × IsNotListed (λ image t. one_listed (index_kept wide.now) image t name.now) (index_kept index.now) refusal
         (D.disk device.old) (D.disk device.new))) }
     ensures failed { IfErr result (λ fault. BreaksOff fault (D.disk device.old) (D.disk device.new)) }
 {
-    let name = directory_name(user);
-    match find(device, index, MASTER_DIRECTORY, &name) {
+    match find(device, index, MASTER_DIRECTORY, name) {
         Ok(Ok(id)) => match list_directory(device, index, wide, writer, id) {
             Ok(Ok(())) => Ok(Ok(())),
             Ok(Err(refusal)) => Ok(Err(refusal)),

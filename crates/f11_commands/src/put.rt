@@ -6,9 +6,7 @@ ghost use Rattle.f11_commands.specs.PutCommand.{TellsKeptFile, TellsPutting, hos
 ghost use Rattle.f11_commands.specs.Stopping.{StopsPut, StopsPutting, WhereUnheld};
 
 use crate::copy::FileAnswer;
-use crate::copy::finding::{
-    MASTER_DIRECTORY, OPERATOR, directory_name, find, first_lun, first_task,
-};
+use crate::copy::finding::{MASTER_DIRECTORY, OPERATOR, find, first_lun, first_task};
 use crate::copy::serving::dismount;
 use crate::copy::telling::tell;
 use crate::copy::verifying::accept_files;
@@ -22,15 +20,15 @@ use f11_rad50::Name;
 use f11_serving::f11_fcp::Volume;
 use f11_serving::f11_files::OpenFault;
 use f11_serving::f11_vfy::Accepted;
-use f11_store::{FileId, Uic};
+use f11_store::FileId;
 use std::alloc::Global;
 use std::io::{Read, Write};
 
 /// Which file is made on a Files-11 volume.
 #[derive(Clone, Copy, Debug)]
 pub struct Putting {
-    /// Whose directory it gets to stand in.
-    pub directory: Uic,
+    /// Under which name the master file directory has the directory that it gets to stand in.
+    pub directory: Name,
     /// Its name there.
     pub name: Name,
     /// As it is, or as a text's records.
@@ -43,8 +41,7 @@ pub struct Putting {
 /// synced. It writes the line `copied N`, N being how many blocks the file has, or `no` and the refusal's name; where the volume has faults
 /// nothing is read of either, and it writes the lines of `vfy`. The device comes back.
 ///
-/// The directory is the one that [4,4]'s file has under the name of the user's code, as `200001.DIR;1`. The operator, [1,1], asks; the file
-/// has the protection 0.
+/// The directory is the one that file 4,4 has under that name. The operator, [1,1], asks; the file has the protection 0.
 ///
 /// # Errors
 ///
@@ -122,7 +119,7 @@ fn tell_kept<D: Device, W: Write>(
     }
 }
 
-/// Finds the user's directory, and makes a file in it: how many blocks it has.
+/// Finds the directory, and makes a file in it: how many blocks it has.
 fn put_by_name<D: Device, R: Read>(
     volume: &mut Volume<D>,
     put: &Putting,
@@ -139,8 +136,7 @@ fn put_by_name<D: Device, R: Read>(
         (hosts (R.remaining host.old) (R.remaining again.old))
         (hosts (R.remaining host.new) (R.remaining again.new))))) volume.old volume.new }
 {
-    let directory = directory_name(put.directory);
-    match find(volume, MASTER_DIRECTORY, &directory) {
+    match find(volume, MASTER_DIRECTORY, &put.directory) {
         Ok(dir) => put_into(volume, dir, put, host, again, bytes),
         Err(refusal) => Err(HostRefusal::Files(refusal)),
     }

@@ -1,4 +1,5 @@
 mod CopyLemmas
+mod DirectoryLemmas
 mod HostFileLemmas
 mod LineLemmas
 mod PlainLemmas

@@ -8,6 +8,7 @@ use Rattle.f11_pip.specs.Words.{
   dump_line,
   from_rt_line,
   get_all_line,
+  get_blocks_line,
   get_line,
   home_line,
   is_option,
@@ -32,7 +33,7 @@ use Rattle.f11_pip.specs.Words.{
   words_given,
 }
 use Rattle.f11_pip.proofs.CopyLemmas.{takes-from_rt, takes-to_rt}
-use Rattle.f11_pip.proofs.HostFileLemmas.{takes-get, takes-get_all, takes-put}
+use Rattle.f11_pip.proofs.HostFileLemmas.{takes-get, takes-get_all, takes-get_blocks, takes-put}
 use Rattle.f11_pip.proofs.RtFileLemmas.{takes-rt_del, takes-rt_get, takes-rt_get_all, takes-rt_ls, takes-rt_put}
 use Rattle.f11_pip.proofs.PlainLemmas.{no_hyphens, not_two}
 use Rattle.f11_pip.proofs.WordsLemmas.{takes-dump, takes-home, takes-name, takes-rights, takes-rt_list, takes-rt_vfy, takes-run}
@@ -79,6 +80,7 @@ takes-line (dump_line image number) program plain = takes-dump program image num
 takes-line (from_rt_line mode rt rt_name image uic name) program plain = takes-from_rt program mode rt rt_name image uic name plain
 takes-line (to_rt_line mode image uic name rt rt_name) program plain = takes-to_rt program mode image uic name rt rt_name plain
 takes-line (get_line mode image uic name host) program plain = takes-get program mode image uic name host plain
+takes-line (get_blocks_line image uic name host) program plain = takes-get_blocks program image uic name host plain
 takes-line (get_all_line image folder) program plain =
     takes-get_all program image folder (plain 0 [] (omega arith)) (plain 1 [] (omega arith))
 takes-line (home_line image) program plain = takes-home program image (plain 0 [] (omega arith))

@@ -10,12 +10,10 @@ use Rattle.clap.specs.declared.error.kind.ErrorKind.TheVariants.{OutOfMemory}
 use Rattle.f11_pip.specs.declared.outcome.Failure.{Failure}
 use Rattle.f11_pip.specs.declared.outcome.Failure.TheVariants.{NoMemory}
 use Rattle.f11_pip.specs.Outcome.{failure_of_kind}
-use Rattle.f11_store.specs.declared.callers.Uic.{Uic}
 use Rattle.f11_pip.specs.Commands.{MeetsDump, MeetsLs, MeetsRights, MeetsRun, MeetsVfy, command_and_flag, command_and_word}
 use Rattle.f11_pip.specs.Commands.{command_and_words}
 use Rattle.f11_pip.specs.Commands.{program_app, words_in}
-use Rattle.f11_numbers.specs.Octal.{SpellsUic}
-use Rattle.f11_pip.specs.Words.{IsNoUic, is_option}
+use Rattle.f11_pip.specs.Words.{is_option}
 
 pub is_simple-program : is_simple program_app ≡ true
 unfolding clap_on_literals
@@ -223,11 +221,11 @@ pub match_ok : {T E : Type 0} (P : T → Type 0) (Q : E → Type 0) (r : Result 
 match_ok P Q (Ok x) holds = holds
 match_ok P Q (Err e) holds = absurd holds
 
-pub uic_or_none : (r : Option Uic) (out : Result Uic Failure) (failure : Failure) (text : Text) → out ≡ ok_or r failure
-    → IfSome r (SpellsUic text)
-    → ((uic : Uic) → SpellsUic text uic → r ≡ Some uic) → MatchResult out (SpellsUic text) (λ _. IsNoUic text)
-uic_or_none None out failure text is spelled every = rw is (λ uic s. let same = every uic s in cc)
-uic_or_none (Some uic) out failure text is spelled every = rw is spelled
+-- what a text spells, if it spells anything
+pub spelled_or_none : {T : Type 0} (P : T → Type 0) (r : Option T) (out : Result T Failure) (failure : Failure) → out ≡ ok_or r failure
+    → IfSome r P → ((x : T) → P x → r ≡ Some x) → MatchResult out P (λ _. (x : T) → ¬ P x)
+spelled_or_none P None out failure is spelled every = rw is (λ x s. let same = every x s in cc)
+spelled_or_none P (Some x) out failure is spelled every = rw is spelled
 
 pub at_err : {T E Q : Type 0} (P : T → Type 0) (F : E → Type 0) (r : Result T E) → IsErrAnd r F → Q → MatchResult r P (λ _. Q)
 at_err P F (Ok x) fails holds = absurd fails
@@ -243,7 +241,5 @@ pub none_or_no_memory : {T : Type 0} (P : T → Type 0) (N : Type 0) (r : Result
 none_or_no_memory P N (Ok x) holds = holds
 none_or_no_memory P N (Err failure) none = inr none
 
--- the user whose code a text spells
-pub user-or-none : (r : Option Uic) (text : Text) → IfSome r (SpellsUic text) → ((uic : Uic) → SpellsUic text uic → r ≡ Some uic)
-    → r ≡ None → IsNoUic text
-user-or-none r text spelled every none = λ uic s. let same = sym none ∙ every uic s in absurd cc
+pub spells-none : {T : Type 0} (P : T → Type 0) (r : Option T) → ((x : T) → P x → r ≡ Some x) → r ≡ None → (x : T) → ¬ P x
+spells-none P r every none x s = let same = sym none ∙ every x s in absurd cc

@@ -63,11 +63,12 @@ vfy_app = with_rule (with_rule (new_app (codes "vfy")) (flag_rule (codes "update
 abbrev pub option_rule : Text → Bool → Rule
 option_rule name needed = record (new_rule name) { long = Some name; required = needed; action = Some Set }
 
--- `get` with the words that may stand before its others: `--all`, and `--mode` with a mode
+-- `get` with the words that may stand before its others: `--all`, `--blocks`, and `--mode` with a mode
 abbrev pub get_options : App
-get_options = with_rule (with_rule (new_app (codes "get")) (flag_rule (codes "all"))) (option_rule (codes "mode") false)
+get_options = with_rule (with_rule (with_rule (new_app (codes "get")) (flag_rule (codes "all"))) (flag_rule (codes "blocks")))
+    (option_rule (codes "mode") false)
 
--- `get [--mode M] IMAGE UIC NAME HOST`, or `get --all IMAGE FOLDER`: then the folder stands in the place of the user's code
+-- `get [--mode M|--blocks] IMAGE DIR NAME HOST`, or `get --all IMAGE FOLDER`: then the folder stands in the directory's place
 abbrev pub get_app : App
 get_app = with_rule (with_rule (with_rule (with_rule get_options (needed_rule (codes "image"))) (needed_rule (codes "uic")))
     (word_rule (codes "name"))) (word_rule (codes "host"))
@@ -245,11 +246,13 @@ abbrev pub MeetsCopy : Text → Text → Text → Text → Text → Text → Tex
 MeetsCopy command mode image uic name rt rt_name met = command_and_words copy_names met ≡
     Some (command, Some mode ∷ Some image ∷ Some uic ∷ Some name ∷ Some rt ∷ Some rt_name ∷ [])
 
--- `get` was met, with `--all` or without, and with these words: the mode, the name and the host's file among them or not
-abbrev pub MeetsGet : Bool → Option Text → Text → Text → Option Text → Option Text → Option (Text × List Row) → Type 0
-MeetsGet all mode image uic name host met =
+-- `get` was met, with `--all` or without, with `--blocks` or without, and with these words: the mode, the name and the host's file among
+-- them or not
+abbrev pub MeetsGet : Bool → Bool → Option Text → Text → Text → Option Text → Option Text → Option (Text × List Row) → Type 0
+MeetsGet all blocks mode image uic name host met =
     (command_and_words host_names met ≡ Some (codes "get", mode ∷ Some image ∷ Some uic ∷ name ∷ host ∷ []))
     × (command_and_flag (codes "all") met ≡ Some (codes "get", Some (flag_text all)))
+    × (command_and_flag (codes "blocks") met ≡ Some (codes "get", Some (flag_text blocks)))
 
 -- `put` was met, with these words, the mode among them or not
 abbrev pub MeetsPut : Option Text → Text → Text → Text → Text → Option (Text × List Row) → Type 0
@@ -301,14 +304,16 @@ pub record HasCopyWords (mode image uic name rt rt_name : Text) (given : ArgMatc
   pub rt_is : HasWord (codes "rt") rt given
   pub rt_name_is : HasWord (codes "rt-name") rt_name given
 
--- `get` has `--all` or hasn't, and has these words, the mode, the name and the host's file among them or not
-pub record HasGetWords (all : Bool) (mode : Option Text) (image uic : Text) (name host : Option Text) (given : ArgMatches) : Type 0 where
-  pub all_is : one_text (found_of given) (codes "all") ≡ Some (flag_text all)
-  pub mode_is : first_value (found_of given) (codes "mode") ≡ mode
-  pub image_is : HasWord (codes "image") image given
-  pub uic_is : HasWord (codes "uic") uic given
-  pub name_is : first_value (found_of given) (codes "name") ≡ name
-  pub host_is : first_value (found_of given) (codes "host") ≡ host
+-- `get` has `--all` or hasn't, `--blocks` or hasn't, and has these words, the mode, the name and the host's file among them or not
+pub record HasGetWords (all blocks : Bool) (mode : Option Text) (image uic : Text) (name host : Option Text) (given : ArgMatches) : Type 0
+  where
+    pub all_is : one_text (found_of given) (codes "all") ≡ Some (flag_text all)
+    pub blocks_is : one_text (found_of given) (codes "blocks") ≡ Some (flag_text blocks)
+    pub mode_is : first_value (found_of given) (codes "mode") ≡ mode
+    pub image_is : HasWord (codes "image") image given
+    pub uic_is : HasWord (codes "uic") uic given
+    pub name_is : first_value (found_of given) (codes "name") ≡ name
+    pub host_is : first_value (found_of given) (codes "host") ≡ host
 
 -- `put` has these words, the mode among them or not
 pub record HasPutWords (mode : Option Text) (image uic name host : Text) (given : ArgMatches) : Type 0 where

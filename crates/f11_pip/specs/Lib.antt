@@ -1,3 +1,4 @@
 pub mod Commands
+pub mod Directory
 pub mod Outcome
 pub mod Words

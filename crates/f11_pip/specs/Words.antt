@@ -6,6 +6,7 @@ use Rattle.f11_commands.specs.flx.declared.mode.CopyMode.TheVariants.{Image, Tex
 use Rattle.f11_store.specs.declared.callers.Uic.{Uic}
 use Rattle.f11_numbers.specs.Decimal.{IsCount, IsNumber, SpellsNumber, SpellsCount}
 use Rattle.f11_numbers.specs.Octal.{IsProtection, SpellsProtection, SpellsUic}
+use Rattle.f11_pip.specs.Directory.{IsNoDirectory, IsNoUic, SpellsDirectory}
 use Rattle.f11_pip.specs.declared.outcome.Failure.{Failure}
 use Rattle.f11_pip.specs.declared.outcome.Failure.TheVariants.{NoMemory}
 use Rattle.f11_pip.specs.declared.words.Words.{Words}
@@ -18,6 +19,7 @@ use Rattle.f11_pip.specs.declared.words.Words.TheVariants.{
   Home,
   Init,
   Ls,
+  LsIn,
   Name,
   Put,
   Rights,
@@ -44,6 +46,7 @@ pub data CommandLine : Type 0 where
   from_rt_line : (mode rt rt_name image uic name : List ℕ) → CommandLine
   to_rt_line : (mode image uic name rt rt_name : List ℕ) → CommandLine
   get_line : (mode : Option (List ℕ)) → (image uic name host : List ℕ) → CommandLine
+  get_blocks_line : (image uic name host : List ℕ) → CommandLine
   get_all_line : (image folder : List ℕ) → CommandLine
   home_line : (image : List ℕ) → CommandLine
   ls_line : (image : List ℕ) → CommandLine
@@ -76,6 +79,7 @@ words_given (from_rt_line mode rt rt_name image uic name) =
 words_given (to_rt_line mode image uic name rt rt_name) =
     codes "flx-to-rt" ∷ codes "--mode" ∷ mode ∷ image ∷ uic ∷ name ∷ rt ∷ rt_name ∷ []
 words_given (get_line mode image uic name host) = codes "get" ∷ (mode_words mode ++ (image ∷ uic ∷ name ∷ host ∷ []))
+words_given (get_blocks_line image uic name host) = codes "get" ∷ codes "--blocks" ∷ image ∷ uic ∷ name ∷ host ∷ []
 words_given (get_all_line image folder) = codes "get" ∷ codes "--all" ∷ image ∷ folder ∷ []
 words_given (home_line image) = codes "home" ∷ image ∷ []
 words_given (ls_line image) = codes "ls" ∷ image ∷ []
@@ -101,6 +105,7 @@ texts_of (dump_line image number) = image ∷ number ∷ []
 texts_of (from_rt_line mode rt rt_name image uic name) = mode ∷ rt ∷ rt_name ∷ image ∷ uic ∷ name ∷ []
 texts_of (to_rt_line mode image uic name rt rt_name) = mode ∷ image ∷ uic ∷ name ∷ rt ∷ rt_name ∷ []
 texts_of (get_line mode image uic name host) = option_to_list mode ++ (image ∷ uic ∷ name ∷ host ∷ [])
+texts_of (get_blocks_line image uic name host) = image ∷ uic ∷ name ∷ host ∷ []
 texts_of (get_all_line image folder) = image ∷ folder ∷ []
 texts_of (home_line image) = image ∷ []
 texts_of (ls_line image) = image ∷ []
@@ -157,11 +162,13 @@ abbrev pub SpellsModeOrNone : Option (List ℕ) → CopyMode → Type 0
 SpellsModeOrNone None mode = mode ≡ Image
 SpellsModeOrNone (Some text) mode = SpellsMode text mode
 
--- the words ask that the file of this name in this directory of this image become, in this mode, a file of the host under this name
-abbrev pub AsksGet : Option (List ℕ) → List ℕ → List ℕ → List ℕ → List ℕ → Words → Type 0
-AsksGet mode image uic name host (Get in_mode from directory file to) =
-    SpellsModeOrNone mode in_mode × (from.now ≡ image) × SpellsUic uic directory × (file.now ≡ name) × (to.now ≡ host)
-AsksGet mode image uic name host _ = ⊥
+-- the words ask that the file of this name in this directory of this image become, in this mode, a file of the host under this name: up to
+-- the end that it states, or up to its last block
+abbrev pub AsksGet : Bool → Option (List ℕ) → List ℕ → List ℕ → List ℕ → List ℕ → Words → Type 0
+AsksGet blocks mode image uic name host (Get in_mode all_blocks from directory file to) =
+    (all_blocks ≡ blocks) × SpellsModeOrNone mode in_mode × (from.now ≡ image) × SpellsDirectory uic directory × (file.now ≡ name)
+    × (to.now ≡ host)
+AsksGet blocks mode image uic name host _ = ⊥
 
 -- the words ask that all files of this image become files of the host in this folder
 abbrev pub AsksGetAll : List ℕ → List ℕ → Words → Type 0
@@ -171,7 +178,7 @@ AsksGetAll name text _ = ⊥
 -- the words ask that this file of the host become, in this mode, the file of this name in this directory of this image
 abbrev pub AsksPut : Option (List ℕ) → List ℕ → List ℕ → List ℕ → List ℕ → Words → Type 0
 AsksPut mode image uic name host (Put in_mode to directory file from) =
-    SpellsModeOrNone mode in_mode × (to.now ≡ image) × SpellsUic uic directory × (file.now ≡ name) × (from.now ≡ host)
+    SpellsModeOrNone mode in_mode × (to.now ≡ image) × SpellsDirectory uic directory × (file.now ≡ name) × (from.now ≡ host)
 AsksPut mode image uic name host _ = ⊥
 
 -- the words ask for the home block of this image
@@ -239,15 +246,16 @@ AsksRtInit blocks segments image (RtInit to count segments_are) =
     (to.now ≡ image) × SpellsNumber blocks count × SpellsNumber segments segments_are
 AsksRtInit blocks segments image _ = ⊥
 
--- the user whose code a text spells, and none where there is no text
-abbrev pub SpellsUser : Option (List ℕ) → Option Uic → Type 0
-SpellsUser (Some text) (Some user) = SpellsUic text user
-SpellsUser None None = Unit {0}
-SpellsUser _ _ = ⊥
+-- the directory that a text spells, and none where there is no text
+abbrev pub SpellsOneOrNone : Option (List ℕ) → Option (List ℕ) → Type 0
+SpellsOneOrNone (Some text) (Some directory) = SpellsDirectory text directory
+SpellsOneOrNone None None = Unit {0}
+SpellsOneOrNone _ _ = ⊥
 
--- the words ask that this user's directory be listed, or without a text those of all users
+-- the words ask that this directory be listed, or without a text all
 abbrev pub AsksLs : List ℕ → Option (List ℕ) → Words → Type 0
-AsksLs name uic (Ls image user) = (image.now ≡ name) × SpellsUser uic user
+AsksLs name uic (Ls image) = (image.now ≡ name) × SpellsOneOrNone uic None
+AsksLs name uic (LsIn image directory) = (image.now ≡ name) × SpellsOneOrNone uic (Some directory)
 AsksLs name uic _ = ⊥
 
 -- the words ask for this name's words
@@ -265,7 +273,8 @@ abbrev pub Asks : CommandLine → Words → Type 0
 Asks (dump_line image number) words = AsksDump image number words
 Asks (from_rt_line mode rt rt_name image uic name) words = AsksFromRt mode rt rt_name image uic name words
 Asks (to_rt_line mode image uic name rt rt_name) words = AsksToRt mode image uic name rt rt_name words
-Asks (get_line mode image uic name host) words = AsksGet mode image uic name host words
+Asks (get_line mode image uic name host) words = AsksGet false mode image uic name host words
+Asks (get_blocks_line image uic name host) words = AsksGet true None image uic name host words
 Asks (get_all_line image folder) words = AsksGetAll image folder words
 Asks (home_line image) words = AsksHome image words
 Asks (ls_line image) words = AsksLs image None words
@@ -285,19 +294,15 @@ Asks (run_line image script) words = AsksRun image script words
 Asks (vfy_line image) words = AsksVfy false image words
 Asks (update_line image) words = AsksVfy true image words
 
--- a text spells no user's code
-abbrev pub IsNoUic : List ℕ → Type 0
-IsNoUic text = (uic : Uic) → ¬ SpellsUic text uic
-
 -- a text is there, and no number
 abbrev pub IsNoMax : Option (List ℕ) → Type 0
 IsNoMax None = ⊥
 IsNoMax (Some text) = ¬ IsNumber text
 
--- a text is there, and no user's code
-abbrev pub IsNoUser : Option (List ℕ) → Type 0
-IsNoUser None = ⊥
-IsNoUser (Some text) = IsNoUic text
+-- a text is there, and spells no directory
+abbrev pub IsNoOne : Option (List ℕ) → Type 0
+IsNoOne None = ⊥
+IsNoOne (Some text) = IsNoDirectory text
 
 -- one of the numbers of `init` isn't one
 abbrev pub IsNoInit : List ℕ → List ℕ → Option (List ℕ) → Type 0
@@ -308,9 +313,9 @@ abbrev pub IsNoModeOrNone : Option (List ℕ) → Type 0
 IsNoModeOrNone None = ⊥
 IsNoModeOrNone (Some text) = ¬ IsMode text
 
--- a mode is there that isn't one, or the user's code isn't
+-- a mode is there that isn't one, or a text spells no directory
 abbrev pub IsNoMove : Option (List ℕ) → List ℕ → Type 0
-IsNoMove mode uic = IsNoModeOrNone mode ⊎ IsNoUic uic
+IsNoMove mode uic = IsNoModeOrNone mode ⊎ IsNoDirectory uic
 
 -- a copy's mode isn't one, or its user's code
 abbrev pub IsNoCopy : List ℕ → List ℕ → Type 0
@@ -322,10 +327,11 @@ IsUnreadable (dump_line image number) = ¬ IsNumber number
 IsUnreadable (from_rt_line mode rt rt_name image uic name) = IsNoCopy mode uic
 IsUnreadable (to_rt_line mode image uic name rt rt_name) = IsNoCopy mode uic
 IsUnreadable (get_line mode image uic name host) = IsNoMove mode uic
+IsUnreadable (get_blocks_line image uic name host) = IsNoDirectory uic
 IsUnreadable (get_all_line image folder) = ⊥
 IsUnreadable (home_line image) = ⊥
 IsUnreadable (ls_line image) = ⊥
-IsUnreadable (user_line image uic) = IsNoUic uic
+IsUnreadable (user_line image uic) = IsNoDirectory uic
 IsUnreadable (name_line text) = ⊥
 IsUnreadable (put_line mode image uic name host) = IsNoMove mode uic
 IsUnreadable (rights_line caller owner word) = IsNoUic caller ⊎ (IsNoUic owner ⊎ ¬ IsProtection word)

@@ -29,8 +29,8 @@ const COMMANDS: [Synopsis; 19] = [
     },
     Synopsis {
         name: "get",
-        words: "f11_pip get [--mode M] IMAGE UIC NAME HOST | get --all IMAGE FOLDER",
-        does: "copies a file of a Files-11 volume to a new file HOST, or all files into a new FOLDER, also of a volume that has faults: M is image or text, UIC names the directory",
+        words: "f11_pip get [--mode M|--blocks] IMAGE DIR NAME HOST | get --all IMAGE FOLDER",
+        does: "copies a file of a Files-11 volume to a new file HOST, or all files into a new FOLDER, also of a volume that has faults: M is image or text, --blocks takes all blocks past the end too, DIR is 200,1 or [NAME]",
     },
     Synopsis {
         name: "home",
@@ -44,8 +44,8 @@ const COMMANDS: [Synopsis; 19] = [
     },
     Synopsis {
         name: "ls",
-        words: "f11_pip ls IMAGE [UIC]",
-        does: "lists the directories of a Files-11 volume, or one, as 200,1, also of a volume that has faults",
+        words: "f11_pip ls IMAGE [DIR]",
+        does: "lists the directories of a Files-11 volume, or one, as 200,1 or [NAME], also of a volume that has faults",
     },
     Synopsis {
         name: "name",
@@ -54,8 +54,8 @@ const COMMANDS: [Synopsis; 19] = [
     },
     Synopsis {
         name: "put",
-        words: "f11_pip put [--mode M] IMAGE UIC NAME HOST",
-        does: "makes a file on a Files-11 volume with the bytes of a file of the host, HOST, or with its lines: M is image or text, UIC names the directory",
+        words: "f11_pip put [--mode M] IMAGE DIR NAME HOST",
+        does: "makes a file on a Files-11 volume with the bytes of a file of the host, HOST, or with its lines: M is image or text, DIR is 200,1 or [NAME]",
     },
     Synopsis {
         name: "rights",

@@ -4,12 +4,12 @@ use crate::outcome::Failure;
 use crate::remarks::{self, Remark, Which, Why};
 use crate::{judged, opened};
 use f11_commands::f11_flx::CopyMode;
+use f11_commands::f11_rad50::Name;
 use f11_commands::{
     Answer, FileAnswer, FoundFile, PutFailure, Putting, Served, print_put, read_name, refuse_names,
-    seek_file, write_file,
+    seek_file, to_last_block, write_file,
 };
 use f11_dev::{CannotOpen, FileImage};
-use f11_store::Uic;
 use std::fs::{self, File};
 use std::io::{self, Read, Write};
 
@@ -17,15 +17,24 @@ use std::io::{self, Read, Write};
 #[derive(Clone, Copy)]
 pub struct Named<'a> {
     pub image: &'a str,
-    pub directory: Uic,
+    /// Under which name the master file directory has it.
+    pub directory: Name,
     pub name: &'a str,
+}
+
+/// How a file is taken out.
+#[derive(Clone, Copy)]
+pub struct Taking {
+    pub mode: CopyMode,
+    /// Up to its last block, whatever end it states.
+    pub all_blocks: bool,
 }
 
 /// Takes a file out of a volume. A file of the host is made for it, where none is yet, once it is found.
 pub fn get<'a, W: Write>(
     rt: &HostRuntime,
     file: &Named<'a>,
-    mode: CopyMode,
+    taking: Taking,
     host: &'a str,
     writer: &mut W,
     remark: &mut Option<Remark<'a>>,
@@ -34,12 +43,29 @@ pub fn get<'a, W: Write>(
         return Ok(refuse_names(writer)?);
     };
     let device = opened(FileImage::open_to_read(rt, file.image), file.image, remark)?;
-    let served = match seek_file(rt.alloc(), device, writer, file.directory, &name) {
-        Ok(Ok(found)) => take_out(rt, found, mode, host, writer, remark)?,
+    let served = match seek_file(rt.alloc(), device, writer, &file.directory, &name) {
+        Ok(Ok(found)) => {
+            let found = as_far_as(found, taking.all_blocks)?;
+            take_out(rt, found, taking.mode, host, writer, remark)?
+        }
         Ok(Err((_device, served))) => served,
         Err((_device, failure)) => return Err(Failure::from(failure)),
     };
     Ok(judged(rt, file.image, served, remark))
+}
+
+/// The file up to the end that it states, or up to its last block.
+fn as_far_as(
+    found: FoundFile<FileImage<File>>,
+    all_blocks: bool,
+) -> Result<FoundFile<FileImage<File>>, Failure> {
+    if !all_blocks {
+        return Ok(found);
+    }
+    match to_last_block(found) {
+        Ok(found) => Ok(found),
+        Err(_device) => Err(Failure::DeviceFault),
+    }
 }
 
 /// Makes a file of the host, and writes a file that was found to it. Where that fails with nothing written, what was made is removed again.

@@ -5,6 +5,7 @@
 //! spell, and on [`clap`], for the words.
 #![tactic(auto)]
 
+mod directory;
 mod folder;
 mod help;
 mod host_file;
@@ -16,6 +17,7 @@ mod rt_folder;
 mod words;
 
 use f11_commands::f11_flx::CopyMode;
+use f11_commands::f11_rad50::Name;
 use f11_commands::f11_vfy::{InitParams, MOST_BLOCKS};
 use f11_commands::{
     Answer, Copying, Direction, FileAnswer, Served, System, print_copy, print_header, print_home,
@@ -25,7 +27,7 @@ use f11_commands::{
 use f11_dev::{CannotOpen, FileImage};
 use f11_store::Uic;
 use folder::get_all;
-use host_files::Named;
+use host_files::{Named, Taking};
 use outcome::{Failure, status};
 use remarks::{Remark, Which, Why};
 use std::env;
@@ -183,6 +185,7 @@ fn run<'a, W: Write>(
         }
         Words::Get {
             mode,
+            all_blocks,
             image,
             directory,
             name,
@@ -193,7 +196,8 @@ fn run<'a, W: Write>(
                 directory,
                 name,
             };
-            host_files::get(rt, &file, mode, host, writer, remark)
+            let taking = Taking { mode, all_blocks };
+            host_files::get(rt, &file, taking, host, writer, remark)
         }
         Words::GetAll { image, folder } => get_all(rt, image, folder, writer, remark),
         Words::Home { image } => {
@@ -217,11 +221,8 @@ fn run<'a, W: Write>(
             };
             init(rt, image, blocks, &params, writer, remark)
         }
-        Words::Ls { image, user } => {
-            let device = opened(FileImage::open_to_read(rt, image), image, remark)?;
-            let (_, served) = print_ls(rt.alloc(), device, writer, user);
-            Ok(judged(rt, image, served?, remark))
-        }
+        Words::Ls { image } => ls(rt, image, None, writer, remark),
+        Words::LsIn { image, directory } => ls(rt, image, Some(directory), writer, remark),
         Words::Name { text } => Ok(print_name(text, writer)?),
         Words::Put {
             mode,
@@ -293,6 +294,19 @@ fn run<'a, W: Write>(
         }
         Words::Vfy { image, update } => vfy(rt, image, update, writer, remark),
     }
+}
+
+/// Lists one directory of a volume, or all.
+fn ls<'a, W: Write>(
+    rt: &HostRuntime,
+    image: &'a str,
+    directory: Option<Name>,
+    writer: &mut W,
+    remark: &mut Option<Remark<'a>>,
+) -> Result<Answer, Failure> {
+    let device = opened(FileImage::open_to_read(rt, image), image, remark)?;
+    let (_, served) = print_ls(rt.alloc(), device, writer, directory);
+    Ok(judged(rt, image, served?, remark))
 }
 
 /// Verifies a volume, and gives back what lies idle on it where that is asked: then alone is the image opened to be written.

@@ -1,7 +1,7 @@
 //! What is said on standard error beside the lines that are fixed: which word is meant, and why.
-use f11_commands::RtState;
 use f11_commands::f11_layout::{InitParams, MOST_BLOCKS, is_label};
-use f11_dev::{CannotOpen, MAX_BLOCKS};
+use f11_commands::{RtState, blocks_wanted};
+use f11_dev::{CannotOpen, FileImage, MAX_BLOCKS};
 use std::env::{Env, FillError};
 use std::fs::{self, File};
 use std::io::Read;
@@ -56,6 +56,9 @@ pub enum Why {
     /// The volume in it has faults.
     #[error("the volume has faults, which vfy tells")]
     Faulty,
+    /// The image of the volume in it ends early: how many blocks it should have, and how many bytes these are.
+    #[error("the volume has faults, which vfy tells: its image ends early, it should have {0} blocks, as truncate -s {1} makes it")]
+    CutShort(u32, u64),
     /// The RT-11 volume in it has faults.
     #[error("the volume has faults, which rt-vfy tells")]
     RtFaulty,
@@ -130,9 +133,20 @@ fn limit(word: &'static str, limit: &'static str) -> Remark<'static> {
 /// where it has none, that not all of its file is read.
 pub fn of_volume<'a>(rt: &HostRuntime, word: &'a str, is_faulty: bool) -> Option<Remark<'a>> {
     if is_faulty {
-        Some(unless_packed(rt, word, Why::Faulty))
+        Some(unless_packed(rt, word, of_faults(rt, word)))
     } else {
         of_image(rt, word, false)
+    }
+}
+
+/// What there is to say of a volume that has faults: where its image ends early, how long it should be.
+fn of_faults(rt: &HostRuntime, word: &str) -> Why {
+    let Ok(mut device) = FileImage::open_to_read(rt, word) else {
+        return Why::Faulty;
+    };
+    match blocks_wanted(rt.alloc(), &mut device) {
+        Some(blocks) => Why::CutShort(blocks, 512 * u64::from(blocks)),
+        None => Why::Faulty,
     }
 }
 

@@ -1,7 +1,8 @@
 //! The words of the command line.
 ghost use Rattle.std.specs.Prelude.{◌≡◌, ◌≤◌, ◌⊎◌, length, ℕ, Bool, true, false, List, codes, map, Option, None, Some, IfOk, IfErr, IsErr, IsOkAnd, MatchResult};
 ghost use Rattle.clap.specs.Words.{app_of, subcommand_rows_of};
-ghost use Rattle.f11_pip.specs.Words.{Asks, AsksDump, AsksFromRt, AsksGet, AsksGetAll, AsksHome, AsksInit, AsksLs, AsksName, AsksPut, AsksRights, AsksRtDel, AsksRtGet, AsksRtGetAll, AsksRtInit, AsksRtList, AsksRtLs, AsksRtPut, AsksRtVfy, AsksRun, AsksToRt, AsksVfy, CommandLine, FailsToAsk, IsLineOf, IsNoCopy, IsNoInit, IsNoMove, IsNoUser, IsUnreadable, rights_line, rt_init_line};
+ghost use Rattle.f11_pip.specs.Directory.{IsNoDirectory};
+ghost use Rattle.f11_pip.specs.Words.{Asks, AsksDump, AsksFromRt, AsksGet, AsksGetAll, AsksHome, AsksInit, AsksLs, AsksName, AsksPut, AsksRights, AsksRtDel, AsksRtGet, AsksRtGetAll, AsksRtInit, AsksRtList, AsksRtLs, AsksRtPut, AsksRtVfy, AsksRun, AsksToRt, AsksVfy, CommandLine, FailsToAsk, IsLineOf, IsNoCopy, IsNoInit, IsNoMove, IsNoOne, IsUnreadable, rights_line, rt_init_line};
 ghost use Rattle.f11_pip.specs.Commands.{MeetsCopy, MeetsDump, MeetsGet, MeetsInit, MeetsLs, MeetsPut, MeetsRights, MeetsRtFile, MeetsRtGet, MeetsRtHost, MeetsRtInit, MeetsRun, MeetsVfy, MeetsWord, files_app, program_app, volumes_app};
 ghost use Rattle.f11_numbers.specs.Decimal.{IsNumber};
 
@@ -24,6 +25,7 @@ use crate::words::volumes::{
 };
 use clap::{ArgMatches, Command};
 use f11_commands::f11_flx::CopyMode;
+use f11_commands::f11_rad50::Name;
 use f11_store::Uic;
 use std::alloc::{AllocError, Global};
 use std::convert::AsStr;
@@ -54,11 +56,13 @@ pub enum Words<'a> {
         rt: &'a str,
         rt_name: &'a str,
     },
-    /// `get [--mode M] IMAGE UIC NAME HOST`: how which file in which directory becomes a file of the host
+    /// `get [--mode M|--blocks] IMAGE DIR NAME HOST`: how which file in which directory becomes a file of the host, and whether up to its
+    /// last block
     Get {
         mode: CopyMode,
+        all_blocks: bool,
         image: &'a str,
-        directory: Uic,
+        directory: Name,
         name: &'a str,
         host: &'a str,
     },
@@ -79,20 +83,24 @@ pub enum Words<'a> {
         label: &'a str,
         max_files: u16,
     },
-    /// `ls IMAGE [UIC]`: of one user's directory, or of all
+    /// `ls IMAGE`: of all directories
     Ls {
         image: &'a str,
-        user: Option<Uic>,
+    },
+    /// `ls IMAGE DIR`: of one
+    LsIn {
+        image: &'a str,
+        directory: Name,
     },
     /// `name TEXT`
     Name {
         text: &'a str,
     },
-    /// `put [--mode M] IMAGE UIC NAME HOST`: how the file in which directory is made, and one of the host
+    /// `put [--mode M] IMAGE DIR NAME HOST`: how the file in which directory is made, and one of the host
     Put {
         mode: CopyMode,
         image: &'a str,
-        directory: Uic,
+        directory: Name,
         name: &'a str,
         host: &'a str,
     },
@@ -156,8 +164,9 @@ pub enum Words<'a> {
 
 /// Reads the words of a command line, of which the first is the program's name.
 ///
-/// Words that don't parse, that ask for help, or that are none at all are [`Failure::Usage`], and so are numbers, users' codes and
-/// protection words that [`read_number`], [`read_uic`] and [`read_protection`] don't read, and modes of a copy but `image` and `text`.
+/// Words that don't parse, that ask for help, or that are none at all are [`Failure::Usage`], and so are numbers, users' codes,
+/// directories and protection words that [`read_number`], [`read_uic`], [`read_directory`] and [`read_protection`] don't read, and modes
+/// of a copy but `image` and `text`.
 pub fn parse<'a, S: AsStr>(alloc: Global, words: &'a [S]) -> Result<Words<'a>, Failure>
     ensures asks { (command : CommandLine) → IsLineOf command (map S.text words.entry.now)
         → MatchResult result (Asks command) (FailsToAsk command) }
@@ -219,10 +228,13 @@ fn command_of<'a>(matches: &ArgMatches<'a>) -> Result<Words<'a>, Failure>
         → MatchResult result (AsksToRt mode image uic name rt rt_name)
         (λ _. IsNoCopy mode uic) }
     ensures get { (mode : Option (List ℕ)) → (image uic name host : List ℕ)
-        → MeetsGet false mode image uic (Some name) (Some host) (subcommand_rows_of matches.now)
-        → MatchResult result (AsksGet mode image uic name host) (λ _. IsNoMove mode uic) }
+        → MeetsGet false false mode image uic (Some name) (Some host) (subcommand_rows_of matches.now)
+        → MatchResult result (AsksGet false mode image uic name host) (λ _. IsNoMove mode uic) }
+    ensures get_whole { (image uic name host : List ℕ)
+        → MeetsGet false true None image uic (Some name) (Some host) (subcommand_rows_of matches.now)
+        → MatchResult result (AsksGet true None image uic name host) (λ _. IsNoDirectory uic) }
     ensures get_all { (image folder : List ℕ)
-        → MeetsGet true None image folder None None (subcommand_rows_of matches.now)
+        → MeetsGet true false None image folder None None (subcommand_rows_of matches.now)
         → IsOkAnd result (AsksGetAll image folder) }
     ensures put { (mode : Option (List ℕ)) → (image uic name host : List ℕ)
         → MeetsPut mode image uic name host (subcommand_rows_of matches.now)
@@ -232,7 +244,7 @@ fn command_of<'a>(matches: &ArgMatches<'a>) -> Result<Words<'a>, Failure>
         → IsOkAnd result (AsksHome image) }
     ensures ls { (image : List ℕ) → (uic : Option (List ℕ))
         → MeetsLs image uic (subcommand_rows_of matches.now)
-        → MatchResult result (AsksLs image uic) (λ _. IsNoUser uic) }
+        → MatchResult result (AsksLs image uic) (λ _. IsNoOne uic) }
     ensures name { (text : List ℕ)
         → MeetsWord (codes "name") (codes "text") text (subcommand_rows_of matches.now)
         → IsOkAnd result (AsksName text) }

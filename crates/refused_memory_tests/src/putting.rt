@@ -1,5 +1,5 @@
 //! Files of the host put on a volume.
-use crate::taking_out::{NOBODY, named};
+use crate::taking_out::{master_directory, named};
 use f11_commands::f11_flx::CopyMode;
 use f11_commands::{Failure, FileAnswer, PutFailure, Putting, print_put};
 use f11_dev::{DeviceFault, Memory};
@@ -47,7 +47,7 @@ fn a_text_is_put(rt: HostRuntime) -> Result<(), Fail> {
         return Err(DeviceFault)?;
     };
     let putting = Putting {
-        directory: NOBODY,
+        directory: master_directory(),
         name,
         mode: CopyMode::Text,
     };

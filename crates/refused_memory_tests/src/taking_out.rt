@@ -1,7 +1,8 @@
 //! A file taken out of a volume.
 use f11_commands::f11_flx::CopyMode;
 use f11_commands::{
-    Answer, Failure, FoundFile, Served, TakingAll, begin_all, read_name, seek_file, write_file,
+    Answer, Failure, FoundFile, Served, TakingAll, begin_all, directory_name, read_name, seek_file,
+    write_file,
 };
 use f11_dev::{DeviceFault, Memory};
 use f11_fixtures::{Lines, lines, text_of, volumes};
@@ -11,17 +12,19 @@ use std::alloc::Global;
 use std::io::sink;
 use std::test::Fail;
 
-/// The user whose directory is the master file directory.
-pub const NOBODY: Uic = Uic {
-    group: 0,
-    member: 0,
-};
+/// The name of the master file directory, which names itself.
+pub fn master_directory() -> Name {
+    directory_name(Uic {
+        group: 0,
+        member: 0,
+    })
+}
 
 /// What seeking a file gives.
 type Sought = Result<Result<FoundFile<Memory>, (Memory, Served)>, (Memory, Failure)>;
 
 fn once(alloc: Global, device: Memory, lines: &mut Lines, name: &Name) -> Sought {
-    seek_file(alloc, device, lines, NOBODY, name)
+    seek_file(alloc, device, lines, &master_directory(), name)
 }
 
 /// Seeks a file, once more where there was no memory, and nothing was written.

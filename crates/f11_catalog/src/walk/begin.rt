@@ -1,12 +1,12 @@
 //! The beginning of a walk over all files.
-ghost use Rattle.std.specs.Prelude.{◌≡◌, IfOk, IfErr, IfSome, None, OnErr, length, vec_len};
+ghost use Rattle.std.specs.Prelude.{IfOk, IfErr, OnErr, length};
 ghost use Rattle.f11_dev.specs.Looked.{Looked};
 ghost use Rattle.f11_index.specs.Kept.{index_kept, IndexLiesWithin};
-ghost use Rattle.f11_catalog.specs.Walking.{OpensMaster};
+ghost use Rattle.f11_catalog.specs.GoingOver.{OpensMaster};
 
 use crate::directory::DirectoryReader;
 use crate::fault::WalkFault;
-use crate::walk::state::{AllFiles, EnteredFiles, OtherFiles};
+use crate::walk::state::{AllFiles, Directories, EnteredFiles, Unmet};
 use f11_dev::{Device, DeviceFault};
 use f11_index::IndexFile;
 use f11_store::FileId;
@@ -37,20 +37,7 @@ fn open_master<D: Device>(
 impl AllFiles {
     ghost use Rattle.f11_catalog.specs.Walking.{BeginsWalk, FailsToBegin};
 
-    /// A walk that begins with this master file directory, where no file was met.
-    fn start(master: Option<DirectoryReader>, met: Vec<bool>) -> AllFiles
-        requires { vec_len met ≡ 65536 }
-        ensures entered { result.entered ≡ record { hand = None; master = master } }
-        ensures met { result.others.met ≡ met }
-        ensures next { result.others.next ≡ 1 }
-    {
-        AllFiles {
-            entered: EnteredFiles { hand: None, master },
-            others: OtherFiles { met, next: 1 },
-        }
-    }
-
-    /// Begins with all files of a volume whose master file directory has this identification. One transfer at most. It takes 64 KiB of
+    /// Begins with all files of a volume whose master file directory has this identification. One transfer at most. It takes 128 KiB of
     /// memory, which is all that a walk takes.
     ///
     /// # Errors
@@ -70,12 +57,23 @@ impl AllFiles {
         ensures failed { IfErr result (λ fault. FailsToBegin fault
             (D.disk device.old) (D.disk device.new)) }
     {
-        let met = match vec![in alloc; false; 65536] {
-            Ok(met) => met,
-            Err(_) => return Err(WalkFault::NoMemory),
+        let Some(directories) = Unmet::begin(alloc) else {
+            return Err(WalkFault::NoMemory);
+        };
+        let Some(files) = Unmet::begin(alloc) else {
+            return Err(WalkFault::NoMemory);
         };
         match open_master(device, index, master) {
-            Ok(master) => Ok(AllFiles::start(master, met)),
+            Ok(master) => Ok(AllFiles {
+                entered: EnteredFiles {
+                    hand: None,
+                    directories: Directories {
+                        master,
+                        others: directories,
+                    },
+                },
+                others: files,
+            }),
             Err(DeviceFault) => Err(WalkFault::DeviceFault),
         }
     }

@@ -1,9 +1,9 @@
-//! What all directories name that the master file directory names, one after another.
+//! What all directories name, one after another.
 ghost use Rattle.std.specs.Prelude.{◌≡◌, IfOk, IfSome, IfNone, OnErr, Ok, true, false, None, length};
 ghost use Rattle.f11_index.specs.Kept.{index_kept, IndexLiesWithin};
 ghost use Rattle.f11_catalog.specs.Records.{Reads};
 
-use crate::walk::entered::{next_directory, next_record};
+use crate::walk::entered::next_record;
 use crate::walk::place::FileAt;
 use crate::walk::state::{EnteredFiles, OpenDirectory};
 use f11_dev::{Device, DeviceFault};
@@ -73,7 +73,14 @@ impl EnteredFiles {
             × (self.new.hand ≡ None))) }
         ensures failed { OnErr result (Reads (D.disk device.old) (D.disk device.new) 1) }
     {
-        let Some(OpenDirectory { name, directory }) = self.hand else {
+        let Some(
+            OpenDirectory {
+                name,
+                id,
+                directory,
+            },
+        ) = self.hand
+        else {
             return Ok(None);
         };
         let mut directory = directory;
@@ -81,6 +88,7 @@ impl EnteredFiles {
             Ok(Some(found)) => {
                 self.hand = Some(OpenDirectory {
                     name: name.copy(),
+                    id,
                     directory,
                 });
                 Ok(Some(found))
@@ -116,24 +124,13 @@ impl EnteredFiles {
             self.old self.new (D.disk device.old) (D.disk device.new) }
         ensures failed { OnErr result (Reads (D.disk device.old) (D.disk device.new) 1) }
     {
-        let Some(master) = self.master else {
-            return Ok(false);
-        };
-        let mut master = master;
-        match next_directory(device, index, &mut master) {
+        match self.directories.next(device, index) {
             Ok(Some(hand)) => {
                 self.hand = Some(hand);
-                self.master = Some(master);
                 Ok(true)
             }
-            Ok(None) => {
-                self.master = None;
-                Ok(false)
-            }
-            Err(DeviceFault) => {
-                self.master = None;
-                Err(DeviceFault)
-            }
+            Ok(None) => Ok(false),
+            Err(DeviceFault) => Err(DeviceFault),
         }
     }
 }

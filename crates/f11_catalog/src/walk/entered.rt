@@ -3,9 +3,12 @@ ghost use Rattle.std.specs.Prelude.{◌≡◌, IfOk, IfSome, IfNone, OnErr, leng
 ghost use Rattle.f11_dev.specs.Looked.{Looked};
 ghost use Rattle.f11_dir.specs.Records.{record_of_bytes};
 ghost use Rattle.f11_index.specs.Kept.{index_kept, IndexLiesWithin};
-ghost use Rattle.f11_catalog.specs.AllFiles.{place_entered, places_in, places_under};
+ghost use Rattle.f11_catalog.specs.AllDirectories.{directory_in, directory_under};
+ghost use Rattle.f11_catalog.specs.AllFiles.{place_entered};
+ghost use Rattle.f11_catalog.specs.GoingOver.{ComesToDirectory, OpensNamed};
 ghost use Rattle.f11_catalog.specs.Records.{IsReadingRecords, Reads};
-ghost use Rattle.f11_catalog.specs.Walking.{ComesToDirectory, ComesToFile, EntersNone, EntersOne, HasNoneLeft, OpensNamed};
+ghost use Rattle.f11_catalog.specs.Steps.{EntersNone, HasNoneLeft};
+ghost use Rattle.f11_catalog.specs.Walking.{ComesToFile, EntersOne};
 
 use crate::directory::DirectoryReader;
 use crate::directory_name::DirectoryName;
@@ -104,11 +107,11 @@ fn open_named<D: Device>(
     requires within { IndexLiesWithin (index_kept index.now) (length (D.disk device.old).image) }
     ensures opens { IfOk result (λ answer. IfSome answer (λ hand.
         (bytes : List ℕ) → «record».now ≡ record_of_bytes bytes
-        → OpensNamed (λ image t. places_under image t bytes) (index_kept index.now) hand
+        → OpensNamed (λ image t. directory_under image t bytes) (index_kept index.now) hand
         (D.disk device.old) (D.disk device.new))) }
     ensures none { IfOk result (λ answer. IfNone answer (
         (bytes : List ℕ) → «record».now ≡ record_of_bytes bytes
-        → EntersNone (λ image t. places_under image t bytes) (index_kept index.now)
+        → EntersNone (λ image t. directory_under image t bytes) (index_kept index.now)
         (D.disk device.old) (D.disk device.new))) }
     ensures failed { OnErr result (Looked (D.disk device.old) (D.disk device.new) 1 1) }
 {
@@ -135,15 +138,19 @@ fn open_directory<D: Device>(
 ) -> Result<Option<OpenDirectory>, DeviceFault>
     requires within { IndexLiesWithin (index_kept index.now) (length (D.disk device.old).image) }
     ensures opens { IfOk result (λ answer. IfSome answer (λ hand.
-        OpensNamed (λ image t. places_in image t id name) (index_kept index.now) hand
+        OpensNamed (λ image t. directory_in image t id name) (index_kept index.now) hand
         (D.disk device.old) (D.disk device.new))) }
     ensures none { IfOk result (λ answer. IfNone answer (
-        EntersNone (λ image t. places_in image t id name) (index_kept index.now)
+        EntersNone (λ image t. directory_in image t id name) (index_kept index.now)
         (D.disk device.old) (D.disk device.new))) }
     ensures failed { OnErr result (Looked (D.disk device.old) (D.disk device.new) 1 1) }
 {
     match DirectoryReader::open(device, index, id) {
-        Ok(Ok(directory)) => Ok(Some(OpenDirectory { name, directory })),
+        Ok(Ok(directory)) => Ok(Some(OpenDirectory {
+            name,
+            id,
+            directory,
+        })),
         Ok(Err(_)) => Ok(None),
         Err(DeviceFault) => Err(DeviceFault),
     }
@@ -166,7 +173,7 @@ pub(crate) fn next_directory<D: Device>(
         ComesToDirectory (index_kept index.now) master.old master.new hand
         (D.disk device.old) (D.disk device.new))) }
     ensures none { IfOk result (λ answer. IfNone answer (
-        HasNoneLeft (λ image t. places_under image t) (index_kept index.now) master.old
+        HasNoneLeft (λ image t. directory_under image t) (index_kept index.now) master.old
         (D.disk device.old) (D.disk device.new))) }
     ensures failed { OnErr result (Reads (D.disk device.old) (D.disk device.new) 1) }
 {

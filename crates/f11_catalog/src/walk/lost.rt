@@ -1,56 +1,27 @@
 //! The files that no directory names, one after another.
-ghost use Rattle.std.specs.Prelude.{◌≡◌, ◌+◌, ◌<◌, ◌||◌, ◌&&◌, ◌==◌, Bool, IfOk, IfSome, IfNone, OnErr, length, ℕ};
+ghost use Rattle.std.specs.Prelude.{◌≡◌, IfOk, IfSome, IfNone, OnErr, length};
 ghost use Rattle.f11_index.specs.Kept.{index_kept, IndexLiesWithin};
 ghost use Rattle.f11_catalog.specs.Records.{Reads};
 
 use crate::own_name::own_name;
 use crate::walk::content::Content;
 use crate::walk::place::{FileAt, Place};
-use crate::walk::state::OtherFiles;
+use crate::walk::state::Unmet;
 use f11_dev::{Device, DeviceFault};
 use f11_index::IndexFile;
 use f11_reader::FileReader;
 
-impl OtherFiles {
+impl Unmet {
     ghost use Rattle.f11_catalog.specs.AllFiles.{place_lost};
-    ghost use Rattle.f11_catalog.specs.Walking.{EntersNone, FindsLost, FindsNoOther, FindsOther, is_met};
-
-    /// The number of a file was met in a directory, if it is one of a file.
-    pub(crate) fn meet(&mut self, number: u16, is_file: bool)
-        ensures adds { (n : ℕ) → is_met self.new n
-            ≡ (is_met self.old n || (is_file && (number == n))) }
-        ensures next { self.new.next ≡ self.old.next }
-    {
-        if is_file {
-            self.met[usize::from(number)] = true;
-        }
-    }
-
-    /// Whether a file was met in a directory.
-    fn has_met(&self, number: u16) -> bool
-        ensures { result ≡ is_met self.now number }
-    {
-        self.met[usize::from(number)]
-    }
-
-    /// The next number, which is looked at then.
-    fn take_number(&mut self) -> u16
-        requires { self.old.next < 65536 }
-        ensures number { result ≡ self.old.next }
-        ensures next { self.new.next ≡ self.old.next + 1 }
-        ensures met { self.new.met ≡ self.old.met }
-    {
-        let number = self.next as u16;
-        self.next += 1;
-        number
-    }
+    ghost use Rattle.f11_catalog.specs.Steps.{EntersNone, is_met};
+    ghost use Rattle.f11_catalog.specs.Walking.{FindsLost, FindsNoOther, FindsOther};
 
     /// The file whose first header is in this slot, if there is one and it wasn't met. One transfer at most.
     ///
     /// # Errors
     ///
     /// `DeviceFault` where the transfer failed.
-    fn open<D: Device>(
+    fn open_lost<D: Device>(
         &self,
         device: &mut D,
         index: &IndexFile,
@@ -83,7 +54,7 @@ impl OtherFiles {
     /// # Errors
     ///
     /// `DeviceFault` where a transfer failed.
-    pub(crate) fn next<D: Device>(
+    pub(crate) fn next_lost<D: Device>(
         &mut self,
         device: &mut D,
         index: &IndexFile,
@@ -100,7 +71,7 @@ impl OtherFiles {
     {
         while self.next <= index.slots() {
             let number = self.take_number();
-            match self.open(device, index, number) {
+            match self.open_lost(device, index, number) {
                 Ok(Some(found)) => return Ok(Some(found)),
                 Ok(None) => {}
                 Err(DeviceFault) => return Err(DeviceFault),

@@ -40,7 +40,7 @@ impl AllFiles {
                 self.others.meet(id.number, found.content.is_file());
                 Ok(Some(found))
             }
-            Ok(None) => match self.others.next(device, index) {
+            Ok(None) => match self.others.next_lost(device, index) {
                 Ok(Some(found)) => Ok(Some(found)),
                 Ok(None) => Ok(None),
                 Err(DeviceFault) => Err(DeviceFault),

@@ -3,27 +3,20 @@ ghost use Rattle.std.specs.Prelude.{◌≡◌, ◌≤◌, vec_len};
 
 use crate::directory::DirectoryReader;
 use crate::directory_name::DirectoryName;
+use f11_store::FileId;
 
 /// A directory, whose records are read.
 #[derive(Clone, Copy)]
 pub(crate) struct OpenDirectory {
     pub(crate) name: DirectoryName,
+    pub(crate) id: FileId,
     pub(crate) directory: DirectoryReader,
 }
 
-/// What directories name, one record after another.
-#[derive(Clone, Copy)]
-pub(crate) struct EnteredFiles {
-    /// The directory in hand, if there is one.
-    pub(crate) hand: Option<OpenDirectory>,
-    /// The master file directory, of whose records those of further directories are still to come, if it can be read.
-    pub(crate) master: Option<DirectoryReader>,
-}
-
-/// The files that no directory names, one after another.
+/// The file numbers that weren't met, one after another.
 #[derive(Drop)]
-pub(crate) struct OtherFiles {
-    /// Of each file number, whether the file was met in a directory.
+pub(crate) struct Unmet {
+    /// Of each number, whether it was met.
     pub(crate) met: Vec<bool>,
     /// The least number that wasn't looked at, from 1.
     pub(crate) next: u32,
@@ -32,10 +25,31 @@ pub(crate) struct OtherFiles {
     pub ghost few: { next ≤ 65536 },
 }
 
-/// All files of a volume, one after another: what the directories name that the master file directory names, a record at a time, in the order
-/// in which [`crate::list_directories`] goes over them, and behind them by their numbers the files that none of them names.
+/// The directories, one after another: those that the master file directory names, and behind them, by their numbers and under the names
+/// that their own headers have, those that it doesn't name.
+#[derive(Drop)]
+pub(crate) struct Directories {
+    /// The master file directory, of whose records those of further directories are still to come, if it can be read.
+    pub(crate) master: Option<DirectoryReader>,
+    /// The numbers that weren't met there as those of a directory.
+    pub(crate) others: Unmet,
+}
+
+/// What directories name, one record after another.
+#[derive(Drop)]
+pub(crate) struct EnteredFiles {
+    /// The directory in hand, if there is one.
+    pub(crate) hand: Option<OpenDirectory>,
+    /// Those that are still to come.
+    pub(crate) directories: Directories,
+}
+
+/// All files of a volume, one after another: what the directories name that the master file directory names, a record at a time, in the
+/// order in which [`crate::list_directories`] goes over them; then what the other directories name whose own headers have names, in the
+/// order of their numbers; and behind all that, by their numbers, the files that none of these directories names.
 #[derive(Drop)]
 pub struct AllFiles {
     pub(crate) entered: EnteredFiles,
-    pub(crate) others: OtherFiles,
+    /// The numbers that weren't met in a directory as those of a file.
+    pub(crate) others: Unmet,
 }

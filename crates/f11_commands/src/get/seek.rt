@@ -1,18 +1,23 @@
 //! The first step of `get`: the file is found.
-ghost use Rattle.std.specs.Prelude.{◌≡◌, IfErr, IfOk, OnErr, length};
+ghost use Rattle.std.specs.Prelude.{◌≡◌, IfErr, IfOk, OnErr, length, if◌then◌else◌};
 ghost use Rattle.f11_catalog.specs.Records.{Reads};
+ghost use Rattle.f11_header.specs.Fields.{attributes};
 ghost use Rattle.f11_index.specs.Kept.{index_kept, IndexLiesWithin};
+ghost use Rattle.f11_reader.specs.Reading.{header_in_hand};
+ghost use Rattle.f11_store.specs.File.{stated_end};
 ghost use Rattle.f11_commands.specs.AnyVolume.{IsVerified};
 ghost use Rattle.f11_commands.specs.FoundFile.{device_with, end_found, has_faults, index_with, reader_of};
-ghost use Rattle.f11_commands.specs.GetCommand.{FailsToSeek, FindsSought, IsToRead, LacksSought, OpensSought, TellsWhyNot, file_entered, file_identified, file_sought};
+ghost use Rattle.f11_commands.specs.GetCommand.{FailsToSeek, FindsSought, IsToRead, LacksSought, OpensSought, TellsWhyNot};
+ghost use Rattle.f11_commands.specs.GetCommand.{file_entered, file_identified, file_sought};
 ghost use Rattle.f11_commands.specs.TakingOut.{bytes_to_come, lbns_to_come};
 ghost use Rattle.f11_commands.specs.TakingText.{file_to_come};
 
-use crate::copy::finding::{MASTER_DIRECTORY, directory_name};
+use crate::copy::finding::MASTER_DIRECTORY;
 use crate::get::found::FoundFile;
 use crate::ls::Served;
 use crate::outcome::{Answer, Failure};
 use crate::volume::read_index;
+use f11_bytes::NoMemory;
 use f11_catalog::{find, stated_end};
 use f11_dev::{Device, DeviceFault};
 use f11_header::Header;
@@ -20,11 +25,13 @@ use f11_index::IndexFile;
 use f11_rad50::Name;
 use f11_reader::FileReader;
 use f11_serving::f11_vfy::{Report, VfyError, verify};
-use f11_store::{FileId, Refusal, Uic};
+use f11_store::{FileId, Refusal};
 use std::alloc::Global;
 use std::io::Write;
 
-/// Finds the file that a user's directory has under a name, by the first record with that name; the master file directory names the user's.
+/// Finds the file that a directory has under a name, by the first record with that name; the directory is the one that the master file
+/// directory has under its name. A file whose slot's bit is 0 is found all the same, where its header is valid and has the number and the
+/// sequence number of the record.
 /// It serves any volume whose home block and index file can be read, faulty or not, and writes nothing to it.
 ///
 /// Where there is none it writes the line `no NoSuchFile`, `no NotDirectory` or `no NoSuchEntry`, and where the volume can't be read that of
@@ -38,12 +45,12 @@ pub fn seek_file<D: Device, W: Write>(
     alloc: Global,
     device: D,
     writer: &mut W,
-    user: Uic,
+    directory: &Name,
     name: &Name,
 ) -> Result<Result<FoundFile<D>, (D, Served)>, (D, Failure)>
     ensures found { IfOk result (λ answer. IfOk answer (λ found. (writer.new ≡ writer.old)
         × IsVerified (has_faults found) (D.disk device)
-        × FindsSought user name.now
+        × FindsSought directory.now name.now
         (bytes_to_come (index_with found) (D.disk (device_with found))
         (reader_of found) (end_found found)) (end_found found)
         (lbns_to_come (index_with found) (D.disk (device_with found)) (reader_of found))
@@ -51,16 +58,16 @@ pub fn seek_file<D: Device, W: Write>(
         (D.disk device) (D.disk (device_with found)))) }
     ensures none { IfOk result (λ answer. IfErr answer (λ told.
         IsVerified told.1.faulty (D.disk device)
-        × TellsWhyNot user name.now told.1.answer
+        × TellsWhyNot directory.now name.now told.1.answer
         (D.disk device) (D.disk told.0) W.contents writer.old writer.new)) }
-    ensures failed { IfErr result (λ failed. FailsToSeek failed.1 user name.now
+    ensures failed { IfErr result (λ failed. FailsToSeek failed.1 directory.now name.now
         (D.disk device) (D.disk failed.0) writer.old writer.new) }
 {
     match verify(alloc, device) {
         Ok(Report::Accepted(accepted, _)) => {
-            seek(alloc, accepted.device(), false, writer, user, name)
+            seek(alloc, accepted.device(), false, writer, directory, name)
         }
-        Ok(Report::Faulty(device, _, _)) => seek(alloc, device, true, writer, user, name),
+        Ok(Report::Faulty(device, _, _)) => seek(alloc, device, true, writer, directory, name),
         Err(VfyError::DeviceFault(device)) => Err((device, Failure::DeviceFault)),
         Err(VfyError::NoMemory(device)) => Err((device, Failure::NoMemory)),
     }
@@ -72,25 +79,25 @@ fn seek<D: Device, W: Write>(
     device: D,
     faulty: bool,
     writer: &mut W,
-    user: Uic,
+    directory: &Name,
     name: &Name,
 ) -> Result<Result<FoundFile<D>, (D, Served)>, (D, Failure)>
     ensures found { IfOk result (λ answer. IfOk answer (λ found. (writer.new ≡ writer.old)
         × (has_faults found ≡ faulty)
-        × FindsSought user name.now
+        × FindsSought directory.now name.now
         (bytes_to_come (index_with found) (D.disk (device_with found))
         (reader_of found) (end_found found)) (end_found found)
         (lbns_to_come (index_with found) (D.disk (device_with found)) (reader_of found))
         (file_to_come (index_with found) (D.disk (device_with found)) (reader_of found))
         (D.disk device) (D.disk (device_with found)))) }
     ensures none { IfOk result (λ answer. IfErr answer (λ told. (told.1.faulty ≡ faulty)
-        × TellsWhyNot user name.now told.1.answer
+        × TellsWhyNot directory.now name.now told.1.answer
         (D.disk device) (D.disk told.0) W.contents writer.old writer.new)) }
-    ensures failed { IfErr result (λ failed. FailsToSeek failed.1 user name.now
+    ensures failed { IfErr result (λ failed. FailsToSeek failed.1 directory.now name.now
         (D.disk device) (D.disk failed.0) writer.old writer.new) }
 {
     let mut device = device;
-    match seek_on_volume(alloc, &mut device, writer, user, name) {
+    match seek_on_volume(alloc, &mut device, writer, directory, name) {
         Ok(Ok((index, file, end))) => Ok(Ok(FoundFile {
             device,
             index,
@@ -108,29 +115,34 @@ fn seek_on_volume<D: Device, W: Write>(
     alloc: Global,
     device: &mut D,
     writer: &mut W,
-    user: Uic,
+    directory: &Name,
     name: &Name,
 ) -> Result<Result<(IndexFile, FileReader, u64), Answer>, Failure>
     ensures found { IfOk result (λ answer. IfOk answer (λ found. (writer.new ≡ writer.old)
         × IsToRead (index_kept found.0) found.1 (D.disk device.new)
-        × FindsSought user name.now
+        × FindsSought directory.now name.now
         (bytes_to_come (index_kept found.0) (D.disk device.new) found.1 found.2) found.2
         (lbns_to_come (index_kept found.0) (D.disk device.new) found.1)
         (file_to_come (index_kept found.0) (D.disk device.new) found.1)
         (D.disk device.old) (D.disk device.new))) }
-    ensures none { IfOk result (λ answer. IfErr answer (λ told. TellsWhyNot user name.now told
+    ensures none { IfOk result (λ answer. IfErr answer (λ told. TellsWhyNot directory.now name.now told
         (D.disk device.old) (D.disk device.new) W.contents writer.old writer.new)) }
-    ensures failed { IfErr result (λ failure. FailsToSeek failure user name.now
+    ensures failed { IfErr result (λ failure. FailsToSeek failure directory.now name.now
         (D.disk device.old) (D.disk device.new) writer.old writer.new) }
 {
     match read_index(alloc, device) {
-        Ok(Ok((_, index))) => match seek_in_index(device, &index, user, name) {
-            Ok(Ok((file, end))) => Ok(Ok((index, file, end))),
-            Ok(Err(refusal)) => match writeln!(writer, "no {refusal}") {
-                Ok(()) => Ok(Err(Answer::Fault)),
-                Err(_) => Err(Failure::CannotWrite),
+        Ok(Ok((_, index))) => match index.with_all_in_use(alloc) {
+            Ok(wide) => match seek_in_index(device, &index, &wide, directory, name) {
+                Ok(Ok(Sought { file, end, in_use })) => {
+                    Ok(Ok((if in_use { index } else { wide }, file, end)))
+                }
+                Ok(Err(refusal)) => match writeln!(writer, "no {refusal}") {
+                    Ok(()) => Ok(Err(Answer::Fault)),
+                    Err(_) => Err(Failure::CannotWrite),
+                },
+                Err(DeviceFault) => Err(Failure::DeviceFault),
             },
-            Err(DeviceFault) => Err(Failure::DeviceFault),
+            Err(NoMemory) => Err(Failure::NoMemory),
         },
         Ok(Err(fault)) => match writeln!(writer, "fault {fault}") {
             Ok(()) => Ok(Err(Answer::Fault)),
@@ -140,25 +152,39 @@ fn seek_on_volume<D: Device, W: Write>(
     }
 }
 
-/// Finds the file that a user's directory has under a name, among those that an index file has, with its end in bytes.
+/// A file that was found.
+#[derive(Clone, Copy)]
+struct Sought {
+    /// The file, whose first header is in hand.
+    file: FileReader,
+    /// Where it ends, in bytes, if it has blocks for so many.
+    end: u64,
+    /// Whether the bit of its slot says that it is in use.
+    in_use: bool,
+}
+
+/// Finds the file that the directory with a name has under a name, among those that an index file has, and where there is none among
+/// those that `wide` has, which takes each slot as in use.
 fn seek_in_index<D: Device>(
     device: &mut D,
     index: &IndexFile,
-    user: Uic,
+    wide: &IndexFile,
+    directory: &Name,
     name: &Name,
-) -> Result<Result<(FileReader, u64), Refusal>, DeviceFault>
+) -> Result<Result<Sought, Refusal>, DeviceFault>
     requires within { IndexLiesWithin (index_kept index.now) (length (D.disk device.old).image) }
-    ensures found { IfOk result (λ answer. IfOk answer (λ found.
-        OpensSought (λ image t. file_sought image t user name.now) (index_kept index.now)
-        found.0 found.1 (D.disk device.old) (D.disk device.new))) }
-    ensures none { IfOk result (λ answer. IfErr answer (λ refusal.
-        LacksSought (λ image t. file_sought image t user name.now) (index_kept index.now)
-        refusal (D.disk device.old) (D.disk device.new))) }
+    requires wide { IndexLiesWithin (index_kept wide.now) (length (D.disk device.old).image) }
+    ensures found { IfOk result (λ answer. IfOk answer (λ found. OpensSought
+        (λ image t. file_sought (index_kept wide.now) image t directory.now name.now)
+        (index_kept index.now) (if found.in_use then index_kept index.now else index_kept wide.now)
+        found.file found.end (D.disk device.old) (D.disk device.new))) }
+    ensures none { IfOk result (λ answer. IfErr answer (λ refusal. LacksSought
+        (λ image t. file_sought (index_kept wide.now) image t directory.now name.now)
+        (index_kept index.now) refusal (D.disk device.old) (D.disk device.new))) }
     ensures failed { OnErr result (Reads (D.disk device.old) (D.disk device.new) 1) }
 {
-    let directory = directory_name(user);
-    match find(device, index, MASTER_DIRECTORY, &directory) {
-        Ok(Ok(id)) => match open_entered(device, index, id, name) {
+    match find(device, index, MASTER_DIRECTORY, directory) {
+        Ok(Ok(id)) => match open_entered(device, index, wide, id, name) {
             Ok(Ok(found)) => Ok(Ok(found)),
             Ok(Err(refusal)) => Ok(Err(refusal)),
             Err(DeviceFault) => Err(DeviceFault),
@@ -172,20 +198,23 @@ fn seek_in_index<D: Device>(
 fn open_entered<D: Device>(
     device: &mut D,
     index: &IndexFile,
+    wide: &IndexFile,
     directory: FileId,
     name: &Name,
-) -> Result<Result<(FileReader, u64), Refusal>, DeviceFault>
+) -> Result<Result<Sought, Refusal>, DeviceFault>
     requires within { IndexLiesWithin (index_kept index.now) (length (D.disk device.old).image) }
-    ensures found { IfOk result (λ answer. IfOk answer (λ found.
-        OpensSought (λ image t. file_entered image t name.now directory) (index_kept index.now)
-        found.0 found.1 (D.disk device.old) (D.disk device.new))) }
-    ensures none { IfOk result (λ answer. IfErr answer (λ refusal.
-        LacksSought (λ image t. file_entered image t name.now directory) (index_kept index.now)
-        refusal (D.disk device.old) (D.disk device.new))) }
+    requires wide { IndexLiesWithin (index_kept wide.now) (length (D.disk device.old).image) }
+    ensures found { IfOk result (λ answer. IfOk answer (λ found. OpensSought
+        (λ image t. file_entered (index_kept wide.now) image t name.now directory)
+        (index_kept index.now) (if found.in_use then index_kept index.now else index_kept wide.now)
+        found.file found.end (D.disk device.old) (D.disk device.new))) }
+    ensures none { IfOk result (λ answer. IfErr answer (λ refusal. LacksSought
+        (λ image t. file_entered (index_kept wide.now) image t name.now directory)
+        (index_kept index.now) refusal (D.disk device.old) (D.disk device.new))) }
     ensures failed { OnErr result (Reads (D.disk device.old) (D.disk device.new) 1) }
 {
     match find(device, index, directory, name) {
-        Ok(Ok(id)) => match open_file(device, index, id) {
+        Ok(Ok(id)) => match open_file(device, index, wide, id) {
             Ok(Ok(found)) => Ok(Ok(found)),
             Ok(Err(refusal)) => Ok(Err(refusal)),
             Err(DeviceFault) => Err(DeviceFault),
@@ -195,27 +224,42 @@ fn open_entered<D: Device>(
     }
 }
 
-/// Opens the file with an identification, and reads off its header where it ends.
+/// Opens the file with an identification, and reads off its header where it ends. One whose slot is in use comes before one whose slot
+/// isn't.
 fn open_file<D: Device>(
     device: &mut D,
     index: &IndexFile,
+    wide: &IndexFile,
     id: FileId,
-) -> Result<Result<(FileReader, u64), Refusal>, DeviceFault>
+) -> Result<Result<Sought, Refusal>, DeviceFault>
     requires within { IndexLiesWithin (index_kept index.now) (length (D.disk device.old).image) }
-    ensures found { IfOk result (λ answer. IfOk answer (λ found.
-        OpensSought (λ image t. file_identified image t id) (index_kept index.now)
-        found.0 found.1 (D.disk device.old) (D.disk device.new))) }
-    ensures none { IfOk result (λ answer. IfErr answer (λ refusal.
-        LacksSought (λ image t. file_identified image t id) (index_kept index.now)
-        refusal (D.disk device.old) (D.disk device.new))) }
+    requires wide { IndexLiesWithin (index_kept wide.now) (length (D.disk device.old).image) }
+    ensures found { IfOk result (λ answer. IfOk answer (λ found. OpensSought
+        (λ image t. file_identified (index_kept wide.now) image t id)
+        (index_kept index.now) (if found.in_use then index_kept index.now else index_kept wide.now)
+        found.file found.end (D.disk device.old) (D.disk device.new))) }
+    ensures none { IfOk result (λ answer. IfErr answer (λ refusal. LacksSought
+        (λ image t. file_identified (index_kept wide.now) image t id)
+        (index_kept index.now) refusal (D.disk device.old) (D.disk device.new))) }
     ensures failed { OnErr result (Reads (D.disk device.old) (D.disk device.new) 1) }
 {
     match FileReader::open(device, index, id) {
-        Ok(Some(file)) => {
-            let end = stated_end(&Header::new(file.header()).attributes());
-            Ok(Ok((file, end)))
-        }
-        Ok(None) => Ok(Err(Refusal::NoSuchFile)),
+        Ok(Some(file)) => Ok(Ok(found_file(file, true))),
+        Ok(None) => match FileReader::open(device, wide, id) {
+            Ok(Some(file)) => Ok(Ok(found_file(file, false))),
+            Ok(None) => Ok(Err(Refusal::NoSuchFile)),
+            Err(DeviceFault) => Err(DeviceFault),
+        },
         Err(DeviceFault) => Err(DeviceFault),
     }
+}
+
+/// A file that was found, with the end that its header states.
+fn found_file(file: FileReader, in_use: bool) -> Sought
+    ensures file { result.file ≡ file }
+    ensures end { result.end ≡ stated_end (attributes (header_in_hand file)) }
+    ensures in_use { result.in_use ≡ in_use }
+{
+    let end = stated_end(&Header::new(file.header()).attributes());
+    Sought { file, end, in_use }
 }

@@ -19,8 +19,9 @@ use f11_index::IndexFile;
 use f11_reader::FileReader;
 use std::io::Write;
 
-/// Writes a file that was found to the host, and then the line `copied N bytes`, which tells how many bytes the host was given; ` broke off
-/// at VBN V` stands at its end where a block before the end isn't there: past the device's end it came as zeros, else the file ends there.
+/// Writes a file that was found to the host, and then the line `copied N bytes`, which tells how many bytes the host was given. Where a block
+/// before the end isn't there, V being the first, ` zeros from VBN V` stands at its end where that lies past the device's end, and came as
+/// zeros; else the file ends there, which is ` broke off at VBN V`, as it always is of lines.
 ///
 /// As it is: its bytes up to its end, or all where its blocks end before. It makes at most so many transfers: one for each block before
 /// the end and two for each header that a file may still have, and one that fails.
@@ -140,7 +141,7 @@ fn write_records<D: Device, H: Write, W: Write>(
         writer.old writer.new) }
 {
     match write_text(device, index, file, host) {
-        Ok(Ok(count)) => match tell(device, index, file, end, Told::Copied(count), writer) {
+        Ok(Ok(count)) => match tell(device, index, file, end, Told::Lines(count), writer) {
             Ok(()) => Ok(Answer::Done),
             Err(failure) => Err(failure),
         },
@@ -170,7 +171,10 @@ fn tell<D: Device, W: Write>(
 {
     match file.first_missing(device, index, end.div_ceil(512)) {
         Ok(missing) => {
-            let missing = ShownMissing(missing);
+            let missing = ShownMissing {
+                vbn: missing,
+                written: told.bytes(),
+            };
             match writeln!(writer, "{told}{missing}") {
                 Ok(()) => Ok(()),
                 Err(_) => Err(Failure::CannotWrite),

@@ -2,13 +2,16 @@
 ghost use Rattle.std.specs.Prelude.{◌≡◌, ℕ, List, false, option_map, IfErr, MatchResult};
 ghost use Rattle.std.specs.Result.{result_ok};
 ghost use Rattle.clap.specs.Words.{first_value, found_of, rule_of};
-ghost use Rattle.f11_pip.specs.Words.{IsMode, IsNoUic, SpellsMode};
+ghost use Rattle.f11_pip.specs.Directory.{IsNoDirectory, IsNoUic, SpellsDirectory};
+ghost use Rattle.f11_pip.specs.Words.{IsMode, SpellsMode};
 ghost use Rattle.f11_pip.specs.Commands.{HasWord, flag_rule, needed_rule, option_rule, word_rule};
 ghost use Rattle.f11_numbers.specs.Octal.{SpellsUic};
 
+use crate::directory::read_directory;
 use crate::outcome::Failure;
 use clap::{Arg, ArgAction, ArgMatches};
 use f11_commands::f11_flx::CopyMode;
+use f11_commands::f11_rad50::Name;
 use f11_numbers::read_uic;
 use f11_store::Uic;
 use std::alloc::Global;
@@ -75,4 +78,13 @@ pub fn uic_of(given: &ArgMatches<'_>, name: &str) -> Result<Uic, Failure>
     ensures usage { IfErr result (λ failure. failure ≡ Failure.Usage) }
 {
     read_uic(word_of(given, name)?).ok_or(Failure::Usage)
+}
+
+/// The directory that a word spells.
+pub fn directory_of(given: &ArgMatches<'_>, name: &str) -> Result<Name, Failure>
+    ensures directory { (text : List ℕ) → HasWord name.now text given.now
+        → MatchResult result (SpellsDirectory text) (λ _. IsNoDirectory text) }
+    ensures usage { IfErr result (λ failure. failure ≡ Failure.Usage) }
+{
+    read_directory(word_of(given, name)?).ok_or(Failure::Usage)
 }

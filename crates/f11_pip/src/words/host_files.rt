@@ -1,12 +1,13 @@
 //! The words of the commands on files of the host.
 ghost use Rattle.std.specs.Prelude.{◌≡◌, ℕ, List, Bool, Option, None, Some, codes, false, true, is_some, IfOk, IfErr, IsOkAnd, MatchResult};
 ghost use Rattle.clap.specs.Words.{app_of, first_value, found_of};
+ghost use Rattle.f11_pip.specs.Directory.{IsNoDirectory};
 ghost use Rattle.f11_pip.specs.Words.{AsksGet, AsksGetAll, AsksPut, IsNoModeOrNone, IsNoMove, SpellsModeOrNone};
 ghost use Rattle.f11_pip.specs.Commands.{HasGetWords, HasPutWords, get_app, get_options, put_app, with_host_files};
 
 use crate::outcome::Failure;
 use crate::words::Words;
-use crate::words::args::{flag, mode_in, needed, option, uic_of, word, word_of};
+use crate::words::args::{directory_of, flag, mode_in, needed, option, word, word_of};
 use crate::words::copies::with_file;
 use clap::{ArgMatches, Command};
 use f11_commands::f11_flx::CopyMode;
@@ -38,20 +39,26 @@ fn get_options<'a>(alloc: Global) -> Result<Command<'a>, AllocError>
 {
     Command::new(alloc, "get")
         .arg(flag(alloc, "all"))?
+        .arg(flag(alloc, "blocks"))?
         .arg(option(alloc, "mode", false))
 }
 
 pub fn get_of<'a>(given: &ArgMatches<'a>) -> Result<Words<'a>, Failure>
     ensures get { (mode : Option (List ℕ)) → (image uic name host : List ℕ)
-        → HasGetWords false mode image uic (Some name) (Some host) given.now
-        → MatchResult result (AsksGet mode image uic name host) (λ _. IsNoMove mode uic) }
+        → HasGetWords false false mode image uic (Some name) (Some host) given.now
+        → MatchResult result (AsksGet false mode image uic name host) (λ _. IsNoMove mode uic) }
+    ensures whole { (image uic name host : List ℕ)
+        → HasGetWords false true None image uic (Some name) (Some host) given.now
+        → MatchResult result (AsksGet true None image uic name host) (λ _. IsNoDirectory uic) }
     ensures all { (image folder : List ℕ)
-        → HasGetWords true None image folder None None given.now
+        → HasGetWords true false None image folder None None given.now
         → IsOkAnd result (AsksGetAll image folder) }
     ensures usage { IfErr result (λ failure. failure ≡ Failure.Usage) }
 {
     if given.get_flag("all") {
         get_all_of(given)
+    } else if given.get_flag("blocks") {
+        get_blocks_of(given)
     } else {
         get_file_of(given)
     }
@@ -59,15 +66,36 @@ pub fn get_of<'a>(given: &ArgMatches<'a>) -> Result<Words<'a>, Failure>
 
 /// The words of `get` for one file.
 fn get_file_of<'a>(given: &ArgMatches<'a>) -> Result<Words<'a>, Failure>
-    ensures get { (all : Bool) → (mode : Option (List ℕ)) → (image uic name host : List ℕ)
-        → HasGetWords all mode image uic (Some name) (Some host) given.now
-        → MatchResult result (AsksGet mode image uic name host) (λ _. IsNoMove mode uic) }
+    ensures get { (all blocks : Bool) → (mode : Option (List ℕ)) → (image uic name host : List ℕ)
+        → HasGetWords all blocks mode image uic (Some name) (Some host) given.now
+        → MatchResult result (AsksGet false mode image uic name host) (λ _. IsNoMove mode uic) }
     ensures usage { IfErr result (λ failure. failure ≡ Failure.Usage) }
 {
     Ok(Words::Get {
         mode: mode_or_image(given)?,
+        all_blocks: false,
         image: word_of(given, "image")?,
-        directory: uic_of(given, "uic")?,
+        directory: directory_of(given, "uic")?,
+        name: word_of(given, "name")?,
+        host: word_of(given, "host")?,
+    })
+}
+
+/// The words of `get` for all blocks of one file, among which is no mode.
+fn get_blocks_of<'a>(given: &ArgMatches<'a>) -> Result<Words<'a>, Failure>
+    ensures whole { (all blocks : Bool) → (image uic name host : List ℕ)
+        → HasGetWords all blocks None image uic (Some name) (Some host) given.now
+        → MatchResult result (AsksGet true None image uic name host) (λ _. IsNoDirectory uic) }
+    ensures usage { IfErr result (λ failure. failure ≡ Failure.Usage) }
+{
+    if has(given, "mode") {
+        return Err(Failure::Usage);
+    }
+    Ok(Words::Get {
+        mode: CopyMode::Image,
+        all_blocks: true,
+        image: word_of(given, "image")?,
+        directory: directory_of(given, "uic")?,
         name: word_of(given, "name")?,
         host: word_of(given, "host")?,
     })
@@ -88,10 +116,13 @@ fn mode_or_image(given: &ArgMatches<'_>) -> Result<CopyMode, Failure>
 /// The words of `get` for all files, none of which is of one file alone.
 fn get_all_of<'a>(given: &ArgMatches<'a>) -> Result<Words<'a>, Failure>
     ensures all { (image folder : List ℕ)
-        → HasGetWords true None image folder None None given.now
+        → HasGetWords true false None image folder None None given.now
         → IsOkAnd result (AsksGetAll image folder) }
     ensures usage { IfErr result (λ failure. failure ≡ Failure.Usage) }
 {
+    if given.get_flag("blocks") {
+        return Err(Failure::Usage);
+    }
     if has(given, "mode") || has(given, "name") || has(given, "host") {
         return Err(Failure::Usage);
     }
@@ -123,7 +154,7 @@ pub fn put_of<'a>(given: &ArgMatches<'a>) -> Result<Words<'a>, Failure>
     Ok(Words::Put {
         mode: mode_or_image(given)?,
         image: word_of(given, "image")?,
-        directory: uic_of(given, "uic")?,
+        directory: directory_of(given, "uic")?,
         name: word_of(given, "name")?,
         host: word_of(given, "host")?,
     })

@@ -1,16 +1,17 @@
 //! The words of the commands on a Files-11 volume.
 ghost use Rattle.std.specs.Prelude.{◌≡◌, ℕ, Bool, List, false, codes, Option, None, IfOk, IfErr, IsOkAnd, MatchResult};
 ghost use Rattle.clap.specs.Words.{app_of, first_value, found_of};
-ghost use Rattle.f11_pip.specs.Words.{AsksDump, AsksHome, AsksInit, AsksLs, AsksRun, AsksVfy, IsNoInit, IsNoMax, IsNoUser, SpellsMax, SpellsUser};
+ghost use Rattle.f11_pip.specs.Words.{AsksDump, AsksHome, AsksInit, AsksLs, AsksRun, AsksVfy, IsNoInit, IsNoMax, IsNoOne, SpellsMax, SpellsOneOrNone};
 ghost use Rattle.f11_pip.specs.Commands.{HasDumpWords, HasInitWords, HasLsWords, HasRunWords, HasVfyWords, HasWord, dump_app, home_app, init_app, init_options, ls_app, run_app, vfy_app};
 ghost use Rattle.f11_numbers.specs.Decimal.{IsNumber, SpellsNumber};
 
+use crate::directory::read_directory;
 use crate::outcome::Failure;
 use crate::words::Words;
 use crate::words::args::{flag, needed, option, word, word_of};
 use clap::{ArgMatches, Command};
-use f11_numbers::{read_count, read_number, read_uic};
-use f11_store::Uic;
+use f11_commands::f11_rad50::Name;
+use f11_numbers::{read_count, read_number};
 use std::alloc::{AllocError, Global};
 
 /// How many files a volume may have where no number is given.
@@ -115,24 +116,25 @@ pub fn ls<'a>(alloc: Global) -> Result<Command<'a>, AllocError>
 
 pub fn ls_of<'a>(given: &ArgMatches<'a>) -> Result<Words<'a>, Failure>
     ensures ls { (image : List ℕ) → (uic : Option (List ℕ)) → HasLsWords image uic given.now
-        → MatchResult result (AsksLs image uic) (λ _. IsNoUser uic) }
+        → MatchResult result (AsksLs image uic) (λ _. IsNoOne uic) }
     ensures usage { IfErr result (λ failure. failure ≡ Failure.Usage) }
 {
-    Ok(Words::Ls {
-        image: word_of(given, "image")?,
-        user: user_of(given)?,
-    })
+    let image = word_of(given, "image")?;
+    match directory_of(given)? {
+        Some(directory) => Ok(Words::LsIn { image, directory }),
+        None => Ok(Words::Ls { image }),
+    }
 }
 
-/// The user whose directory is listed, where one is among the words.
-fn user_of(given: &ArgMatches<'_>) -> Result<Option<Uic>, Failure>
-    ensures user { (uic : Option (List ℕ)) → first_value (found_of given.now) (codes "uic") ≡ uic
-        → MatchResult result (SpellsUser uic) (λ _. IsNoUser uic) }
+/// The directory that is listed, where one is among the words.
+fn directory_of(given: &ArgMatches<'_>) -> Result<Option<Name>, Failure>
+    ensures directory { (uic : Option (List ℕ)) → first_value (found_of given.now) (codes "uic") ≡ uic
+        → MatchResult result (SpellsOneOrNone uic) (λ _. IsNoOne uic) }
     ensures usage { IfErr result (λ failure. failure ≡ Failure.Usage) }
 {
     match given.get_str("uic") {
-        Some(text) => match read_uic(text) {
-            Some(user) => Ok(Some(user)),
+        Some(text) => match read_directory(text) {
+            Some(directory) => Ok(Some(directory)),
             None => Err(Failure::Usage),
         },
         None => Ok(None),

@@ -48,7 +48,10 @@ pub(crate) fn write_line<W: Write>(
         all_blocks,
         ..
     } = *taken;
-    let missing = ShownMissing(missing);
+    let missing = ShownMissing {
+        vbn: missing,
+        written: bytes,
+    };
     let open = if all_blocks { " open, all blocks" } else { "" };
     writeln!(
         writer,

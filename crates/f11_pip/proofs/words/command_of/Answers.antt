@@ -79,11 +79,16 @@ returns-in-Some-init-default-clause-init c blocks slots label image max met =
 pub returns-in-Some-get-default-clause-get : goal.returns-in-Some-get-default-clause-get
 returns-in-Some-get-default-clause-get c mode image uic name host met =
     c.get_of.ensures.get mode image uic name host
-    (has-get _ _ false mode image uic (Some name) (Some host) c.in-Some-get-default.ensures.rows met)
+    (has-get _ _ false false mode image uic (Some name) (Some host) c.in-Some-get-default.ensures.rows met)
+
+pub returns-in-Some-get-default-clause-get_whole : goal.returns-in-Some-get-default-clause-get_whole
+returns-in-Some-get-default-clause-get_whole c image uic name host met =
+    c.get_of.ensures.whole image uic name host
+    (has-get _ _ false true None image uic (Some name) (Some host) c.in-Some-get-default.ensures.rows met)
 
 pub returns-in-Some-get-default-clause-get_all : goal.returns-in-Some-get-default-clause-get_all
 returns-in-Some-get-default-clause-get_all c image folder met =
-    c.get_of.ensures.all image folder (has-get _ _ true None image folder None None c.in-Some-get-default.ensures.rows met)
+    c.get_of.ensures.all image folder (has-get _ _ true false None image folder None None c.in-Some-get-default.ensures.rows met)
 
 pub returns-in-Some-ls-default-clause-ls : goal.returns-in-Some-ls-default-clause-ls
 returns-in-Some-ls-default-clause-ls c image uic met =

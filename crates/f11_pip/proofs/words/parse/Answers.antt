@@ -8,6 +8,7 @@ use Rattle.f11_pip.specs.Words.{
   dump_line,
   from_rt_line,
   get_all_line,
+  get_blocks_line,
   get_line,
   home_line,
   ls_line,
@@ -29,7 +30,7 @@ use Rattle.f11_pip.specs.Words.{
   vfy_line,
 }
 use Rattle.f11_pip.proofs.CopyLemmas.{subcommand_of-from_rt, subcommand_of-to_rt}
-use Rattle.f11_pip.proofs.HostFileLemmas.{subcommand_of-get, subcommand_of-get_all, subcommand_of-put}
+use Rattle.f11_pip.proofs.HostFileLemmas.{subcommand_of-get, subcommand_of-get_all, subcommand_of-get_blocks, subcommand_of-put}
 use Rattle.f11_pip.proofs.LineLemmas.{takes-line, subcommand_of-rt_init}
 use Rattle.f11_pip.proofs.RtFileLemmas.{subcommand_of-rt_del, subcommand_of-rt_get, subcommand_of-rt_get_all, subcommand_of-rt_ls}
 use Rattle.f11_pip.proofs.RtFileLemmas.{subcommand_of-rt_put}
@@ -58,16 +59,32 @@ returns-clause-asks g c (get_line mode image uic name host) line =
     let met = (c.in_ok-matches.ensures.matches simple).1 ∙ ap₂ subcommand_of c.in_ok-program.ensures line.is_line in
     none_or_no_memory (Asks (get_line mode image uic name host)) (IsUnreadable (get_line mode image uic name host)) c.command_of.result
     (let these = subcommand_of-get line.program mode image uic name host line.plain in
-    c.command_of.ensures.get mode image uic name host
-    (ap (command_and_words host_names) met ∙ these.0, ap (command_and_flag (codes "all")) met ∙ these.1))
+    c.command_of.ensures.get mode image uic name host (
+      ap (command_and_words host_names) met ∙ these.0,
+      ap (command_and_flag (codes "all")) met ∙ these.1,
+      ap (command_and_flag (codes "blocks")) met ∙ these.2,
+    ))
+returns-clause-asks g c (get_blocks_line image uic name host) line =
+    let simple = ap is_simple c.in_ok-program.ensures ∙ is_simple-program in
+    let met = (c.in_ok-matches.ensures.matches simple).1 ∙ ap₂ subcommand_of c.in_ok-program.ensures line.is_line in
+    none_or_no_memory (Asks (get_blocks_line image uic name host)) (IsUnreadable (get_blocks_line image uic name host)) c.command_of.result
+    (let these = subcommand_of-get_blocks line.program image uic name host line.plain in
+    c.command_of.ensures.get_whole image uic name host (
+      ap (command_and_words host_names) met ∙ these.0,
+      ap (command_and_flag (codes "all")) met ∙ these.1,
+      ap (command_and_flag (codes "blocks")) met ∙ these.2,
+    ))
 returns-clause-asks g c (get_all_line image folder) line =
     let simple = ap is_simple c.in_ok-program.ensures ∙ is_simple-program in
     let met = (c.in_ok-matches.ensures.matches simple).1 ∙ ap₂ subcommand_of c.in_ok-program.ensures line.is_line in
     none_or_no_memory (Asks (get_all_line image folder)) (IsUnreadable (get_all_line image folder)) c.command_of.result
     (let these = subcommand_of-get_all line.program image folder (line.plain 0 [] (omega arith)) (line.plain 1 [] (omega arith)) in
     match_ok _ _ c.command_of.result
-    (c.command_of.ensures.get_all image folder
-    (ap (command_and_words host_names) met ∙ these.0, ap (command_and_flag (codes "all")) met ∙ these.1)))
+    (c.command_of.ensures.get_all image folder (
+      ap (command_and_words host_names) met ∙ these.0,
+      ap (command_and_flag (codes "all")) met ∙ these.1,
+      ap (command_and_flag (codes "blocks")) met ∙ these.2,
+    )))
 returns-clause-asks g c (put_line mode image uic name host) line =
     let simple = ap is_simple c.in_ok-program.ensures ∙ is_simple-program in
     let met = (c.in_ok-matches.ensures.matches simple).1 ∙ ap₂ subcommand_of c.in_ok-program.ensures line.is_line in

@@ -1,6 +1,6 @@
 use Rattle.f11_reader.proofs.ReadLemmas.{holds-on}
 use Rattle.f11_catalog.proofs.ListingLemmas.{reads-then}
-use Rattle.f11_catalog.proofs.EnteredLemmas.{directory-comes}
+use Rattle.f11_catalog.proofs.GoingLemmas.{directory-comes}
 use Rattle.f11_catalog.proofs.WalkLemmas.{before-mid, passed-all, passed-none, passed-on}
 use Rattle.f11_catalog.proofs.walk.entered.next_directory.Goals as goal
 
@@ -26,7 +26,7 @@ pub returns-in-Ok-Some-open_named-clause-reading : goal.returns-in-Ok-Some-open_
 returns-in-Ok-Some-open_named-clause-reading g c =
     let read = rw c.in-Ok-Some.field-0-is at c.in-Ok-Some.ensures.reads in
     let opens = (rw c.in-Ok-Some-open_named.field-0-is at c.in-Ok-Some-open_named.ensures.opens) read.bytes read.record_is in
-    holds-on opens.looked c.in-Ok-Some.ensures.reading
+    holds-on opens.takes.reads.1 c.in-Ok-Some.ensures.reading
 
 pub returns-in-Err-open_named-clause-failed : goal.returns-in-Err-open_named-clause-failed
 returns-in-Err-open_named-clause-failed g c =

@@ -1,4 +1,4 @@
-use Rattle.f11_catalog.proofs.EnteredLemmas.{named-none, named-opens}
+use Rattle.f11_catalog.proofs.GoingLemmas.{named-none, named-opens}
 use Rattle.f11_catalog.proofs.WalkLemmas.{no-name-directory}
 use Rattle.f11_catalog.proofs.walk.entered.open_named.Goals as goal
 

@@ -1,31 +1,50 @@
-use Rattle.std.proofs.Common.{refl}
+use Rattle.std.proofs.Common.{◌≡◌, Bool, ap, if◌then◌else◌, refl, sym, ◌∙◌}
 use Rattle.f11_catalog.proofs.ListingLemmas.{reads-then}
-use Rattle.f11_commands.proofs.GetLemmas.{is-to-read, volume-has, volume-lacks}
+use Rattle.f11_index.specs.IndexFile.{Index}
+use Rattle.f11_index.specs.Kept.{index_kept}
+use Rattle.f11_commands.proofs.GetLemmas.{volume-gives, volume-lacks}
 use Rattle.f11_commands.specs.GetCommand.{cannot_be_read, lacks_file, tells_none}
 use Rattle.f11_commands.proofs.get.seek.seek_on_volume.Goals as goal
+use Rattle.f11_commands.proofs.get.seek.seek_on_volume.Goals.{then-in_use, else-in_use}
 
 pub returns-in-Ok-Ok-seek_in_index-clause-found : goal.returns-in-Ok-Ok-seek_in_index-clause-found
 returns-in-Ok-Ok-seek_in_index-clause-found g c =
-    let found = rw c.in-Ok-Ok.field-0-is at c.in-Ok-Ok.ensures.found in
+    let volume = rw c.in-Ok-Ok.field-0-is at c.in-Ok-Ok.ensures.found in
+    let found = c.in-Ok-Ok-seek_in_index.field-0-0 in
     let finds = rw c.in-Ok-Ok-seek_in_index.field-0-is at c.in-Ok-Ok-seek_in_index.ensures.found in
-    (refl, is-to-read _ _ _ _ found _ _ _ _ _ finds, volume-has _ _ _ _ found _ _ _ _ _ finds)
+    let either : Bool → Index = λ b. if b then index_kept c.in-Ok-Ok.index else index_kept c.in-Ok.wide in
+    let chosen : index_kept c.if-in_use.result ≡ either found.in_use = elim c.if-in_use.branch [
+      | then-in_use w ↦ ap index_kept w.result-is ∙ sym (ap either w.if-in_use.true)
+      | else-in_use w ↦ ap index_kept w.result-is ∙ sym (ap either w.if-in_use.false)
+    ] in
+    let gives = volume-gives _ _ _ _ _ volume c.in-Ok.ensures _ _ _ _ found.in_use chosen found.file found.end finds in
+    (refl, gives.0, gives.1)
 
-pub returns-in-Ok-clause-none : goal.returns-in-Ok-clause-none
-returns-in-Ok-clause-none g c =
-    let found = rw c.in-Ok-Ok.field-0-is at c.in-Ok-Ok.ensures.found in
+pub returns-in-Ok-writeln-clause-none : goal.returns-in-Ok-writeln-clause-none
+returns-in-Ok-writeln-clause-none g c =
+    let volume = rw c.in-Ok-Ok.field-0-is at c.in-Ok-Ok.ensures.found in
     let none = rw c.in-Ok-Err-seek_in_index.field-0-is at c.in-Ok-Err-seek_in_index.ensures.none in
-    tells_none (record { is_fault = refl; refusal = _; lacks = volume-lacks _ _ _ _ found _ _ _ _ none; takes = c.in-Ok.ensures.bytes })
+    tells_none (record {
+      is_fault = refl;
+      refusal = _;
+      lacks = volume-lacks _ _ _ _ _ volume c.in-Ok.ensures _ _ _ _ none;
+      takes = c.in-Ok-writeln.ensures.bytes;
+    })
 
 pub returns-in-Ok-Err-seek_in_index-clause-failed : goal.returns-in-Ok-Err-seek_in_index-clause-failed
 returns-in-Ok-Err-seek_in_index-clause-failed g c =
-    let found = rw c.in-Ok-Ok.field-0-is at c.in-Ok-Ok.ensures.found in
+    let volume = rw c.in-Ok-Ok.field-0-is at c.in-Ok-Ok.ensures.found in
     let none = rw c.in-Ok-Err-seek_in_index.field-0-is at c.in-Ok-Err-seek_in_index.ensures.none in
-    lacks_file _ (volume-lacks _ _ _ _ found _ _ _ _ none)
+    lacks_file _ (volume-lacks _ _ _ _ _ volume c.in-Ok.ensures _ _ _ _ none)
+
+pub returns-in-Ok-clause-failed : goal.returns-in-Ok-clause-failed
+returns-in-Ok-clause-failed g c =
+    let volume = rw c.in-Ok-Ok.field-0-is at c.in-Ok-Ok.ensures.found in
+    (reads-then (_, volume.looked) c.in-Err-seek_in_index.ensures.failed, refl)
 
 pub returns-in-Ok-Ok-clause-failed : goal.returns-in-Ok-Ok-clause-failed
 returns-in-Ok-Ok-clause-failed g c =
-    let found = rw c.in-Ok-Ok.field-0-is at c.in-Ok-Ok.ensures.found in
-    (reads-then (_, found.looked) c.in-Err-seek_in_index.ensures.failed, refl)
+    let volume = rw c.in-Ok-Ok.field-0-is at c.in-Ok-Ok.ensures.found in ((_, volume.looked), refl)
 
 pub returns-in-Ok-Err-clause-failed : goal.returns-in-Ok-Err-clause-failed
 returns-in-Ok-Err-clause-failed g c =

@@ -1,5 +1,6 @@
 use Rattle.f11_index.specs.Kept.{index_kept}
-use Rattle.f11_catalog.specs.Walking.{IsWalkingDirectories, StaysToCome, master_left}
+use Rattle.f11_catalog.specs.GoingOver.{directories_left}
+use Rattle.f11_catalog.specs.Walking.{IsWalkingDirectories, StaysToCome}
 use Rattle.f11_catalog.proofs.walk.state.EnteredFiles.next.Given as goal
 
 -- the same files are to come
@@ -10,4 +11,4 @@ invariant-loop-found g l = record {
 }
 
 abbrev pub decreases-loop-found : goal.decreases-loop-found
-decreases-loop-found g l = master_left l.self.master
+decreases-loop-found g l = directories_left l.self.directories

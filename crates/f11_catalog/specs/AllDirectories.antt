@@ -1,0 +1,71 @@
+-- The directories of a volume that are gone over: those that the master file directory names, record after record, and behind them by their
+-- numbers those that it doesn't name, each under the name that its own header has (Files-11 On-Disk Structure Level 1, "Index File",
+-- "Directories" and "Ident Area"; profile: the order, and that the latter are gone over).
+use Rattle.std.specs.Prelude.{ℕ, ◌==◌, Bool, List, [], ◌∷◌, ◌++◌, Option, Some, None, if◌then◌else◌}
+use Rattle.std.specs.List.{flat_map, list_any, range_with_len}
+use Rattle.f11_bytes.specs.Words.{word}
+use Rattle.f11_dev.specs.Image.{Image}
+use Rattle.f11_header.specs.Fields.{ident_area}
+use Rattle.f11_index.specs.Table.{Table, last_sequence}
+use Rattle.f11_store.specs.Directory.{is_empty, record_id, record_name}
+use Rattle.f11_store.specs.declared.files.FileId.{FileId}
+use Rattle.f11_catalog.specs.DirectoryNames.{directory_called}
+use Rattle.f11_catalog.specs.Lines.{name_found, names_directory}
+use Rattle.f11_catalog.specs.Records.{file_named, records_of}
+use Rattle.f11_catalog.specs.declared.directory_name.DirectoryName.{DirectoryName}
+
+-- a directory: what it is called, and its identification
+pub record DirectoryAt : Type 0 where
+  pub name : DirectoryName
+  pub id : FileId
+
+-- the identification of file n
+abbrev pub id_at : Table → ℕ → FileId
+id_at t n = record { number = n; sequence = last_sequence t n; volume = 0 }
+
+-- the five words that an ident area begins with ("Ident Area")
+abbrev pub words_in : List ℕ → List ℕ
+words_in ident = word ident 0 ∷ word ident 2 ∷ word ident 4 ∷ word ident 6 ∷ word ident 8 ∷ []
+
+-- the name in an ident area, if they are one
+abbrev pub name_in : List ℕ → Option (List ℕ)
+name_in ident = name_found (words_in ident)
+
+-- the directory with an identification, called so, if it is one
+abbrev pub directory_in : Image → Table → FileId → DirectoryName → List DirectoryAt
+directory_in image t id name = if names_directory (file_named image t id) then record { name = name; id = id } ∷ [] else []
+
+-- the one that has this name, if that is one
+abbrev pub directory_by : Image → Table → FileId → Option (List ℕ) → List DirectoryAt
+directory_by image t id (Some words) = directory_in image t id (directory_called words)
+directory_by image t id None = []
+
+-- the directory that a record names, if it names one
+abbrev pub directory_under : Image → Table → List ℕ → List DirectoryAt
+directory_under image t r = if is_empty r then [] else directory_by image t (record_id r) (name_found (record_name r))
+
+-- those that records name, in their order
+abbrev pub directories_under : Image → Table → List (List ℕ) → List DirectoryAt
+directories_under image t records = flat_map (directory_under image t) records
+
+-- those that the master file directory names, where it can be read
+abbrev pub named_directories : Image → Table → FileId → List DirectoryAt
+named_directories image t master =
+    if names_directory (file_named image t master) then directories_under image t (records_of image t master) else []
+
+-- file n is one of these
+abbrev pub is_named : List DirectoryAt → ℕ → Bool
+is_named directories n = list_any (λ d. d.id.number == n) directories
+
+-- the directory that file n is, under its own name, if it is one, has one, and isn't known from elsewhere
+abbrev pub own_directory : Image → Table → (ℕ → Bool) → ℕ → List DirectoryAt
+own_directory image t known n = if known n then [] else directory_by image t (id_at t n) (name_in (ident_area (t.header n)))
+
+-- those of so many files from a number on, in the order of their numbers
+abbrev pub own_directories : Image → Table → (ℕ → Bool) → ℕ → ℕ → List DirectoryAt
+own_directories image t known first count = flat_map (own_directory image t known) (range_with_len first count)
+
+-- all directories: what the master file directory names, one that it names twice in both places, and then those that it doesn't name
+abbrev pub all_directories : Image → Table → FileId → List DirectoryAt
+all_directories image t master =
+    named_directories image t master ++ own_directories image t (is_named (named_directories image t master)) 1 t.slots

@@ -1,0 +1,90 @@
+//! All directories, one after another.
+ghost use Rattle.std.specs.Prelude.{◌≡◌, IfOk, IfSome, IfNone, OnErr, length};
+ghost use Rattle.f11_index.specs.Kept.{index_kept, IndexLiesWithin};
+ghost use Rattle.f11_catalog.specs.Records.{Reads};
+
+use crate::walk::entered::next_directory;
+use crate::walk::state::{Directories, OpenDirectory};
+use f11_dev::{Device, DeviceFault};
+use f11_index::IndexFile;
+
+impl Directories {
+    ghost use Rattle.f11_catalog.specs.GoingOver.{FindsNamed, FindsNoNamed, GivesDirectory, HasNoDirectory, IsReadingMaster};
+
+    /// The next directory, none of whose records was read; `None` behind the last.
+    ///
+    /// # Errors
+    ///
+    /// `DeviceFault` where a transfer failed.
+    pub(crate) fn next<D: Device>(
+        &mut self,
+        device: &mut D,
+        index: &IndexFile,
+    ) -> Result<Option<OpenDirectory>, DeviceFault>
+        requires within { IndexLiesWithin (index_kept index.now) (length (D.disk device.old).image) }
+        requires reading { IsReadingMaster (index_kept index.now) self.old.master (D.disk device.old) }
+        ensures reading { IsReadingMaster (index_kept index.now) self.new.master (D.disk device.new) }
+        ensures gives { IfOk result (λ answer. IfSome answer (λ hand.
+            GivesDirectory (index_kept index.now) self.old self.new hand
+            (D.disk device.old) (D.disk device.new))) }
+        ensures ended { IfOk result (λ answer. IfNone answer (
+            HasNoDirectory (index_kept index.now) self.old self.new
+            (D.disk device.old) (D.disk device.new))) }
+        ensures failed { OnErr result (Reads (D.disk device.old) (D.disk device.new) 1) }
+    {
+        match self.next_named(device, index) {
+            Ok(Some(hand)) => {
+                self.others.meet(hand.id.number, true);
+                Ok(Some(hand))
+            }
+            Ok(None) => match self.others.next_unnamed(device, index) {
+                Ok(Some(hand)) => Ok(Some(hand)),
+                Ok(None) => Ok(None),
+                Err(DeviceFault) => Err(DeviceFault),
+            },
+            Err(DeviceFault) => Err(DeviceFault),
+        }
+    }
+
+    /// The next directory that the master file directory names; `None` where it names no more, or can't be read.
+    ///
+    /// # Errors
+    ///
+    /// `DeviceFault` where a transfer failed.
+    fn next_named<D: Device>(
+        &mut self,
+        device: &mut D,
+        index: &IndexFile,
+    ) -> Result<Option<OpenDirectory>, DeviceFault>
+        requires within { IndexLiesWithin (index_kept index.now) (length (D.disk device.old).image) }
+        requires reading { IsReadingMaster (index_kept index.now) self.old.master (D.disk device.old) }
+        ensures reading { IsReadingMaster (index_kept index.now) self.new.master (D.disk device.new) }
+        ensures finds { IfOk result (λ answer. IfSome answer (λ hand.
+            FindsNamed (index_kept index.now) self.old.master self.new.master hand
+            (D.disk device.old) (D.disk device.new))) }
+        ensures none { IfOk result (λ answer. IfNone answer (
+            FindsNoNamed (index_kept index.now) self.old.master self.new.master
+            (D.disk device.old) (D.disk device.new))) }
+        ensures others { self.new.others ≡ self.old.others }
+        ensures failed { OnErr result (Reads (D.disk device.old) (D.disk device.new) 1) }
+    {
+        let Some(master) = self.master else {
+            return Ok(None);
+        };
+        let mut master = master;
+        match next_directory(device, index, &mut master) {
+            Ok(Some(hand)) => {
+                self.master = Some(master);
+                Ok(Some(hand))
+            }
+            Ok(None) => {
+                self.master = None;
+                Ok(None)
+            }
+            Err(DeviceFault) => {
+                self.master = None;
+                Err(DeviceFault)
+            }
+        }
+    }
+}
