@@ -186,7 +186,7 @@ class Files:
         places = self.places(2) if self.has(2, 2, 0) else []
         control = self.block(places[0]) if places else bytes(BLOCK)
         size = long(control, 4 + 4 * control[3]) if 1 <= control[3] <= 126 else 0
-        return size if size > self.blocks else None
+        return size if self.blocks < size <= 4096 * control[3] else None
 
     def listed(self, number, sequence, volume):
         """The lines of a directory."""
@@ -270,7 +270,8 @@ class Files:
         header, places = of[n], self.places(n, of)
         all_blocks = header.end() == 0 and header.b[12] >> 6 & 1
         content, missing, said = self.up_to(BLOCK * len(places) if all_blocks else header.end(), places)
-        return content, f"copied {len(content)} bytes" + " open, all blocks" * bool(all_blocks and places) + said, missing
+        open_text = " open, all blocks" * bool(all_blocks and places)
+        return content, f"copied {len(content)} bytes{open_text}{' out of use' * (of is self.valid)}{said}", missing
 
     def everything(self):
         """What `get --all` goes over: where each stands, as its line says, the folder and the name of the host, and its identification."""

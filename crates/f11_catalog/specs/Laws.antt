@@ -23,7 +23,7 @@ NoFileIsLeftOut =
     (image : Image) (index : Index) (master : FileId) (n : ℕ) → is_first (table_in image index) n ≡ true →
     is_among (table_in image index) (all_files image (table_in image index) master) n ≡ true
 
--- each directory of a volume is gone over whose own header has a name
+-- each directory is gone over whose slot is in use and whose own header has a name
 abbrev pub NoDirectoryIsLeftOut : Type 0
 NoDirectoryIsLeftOut =
     (image : Image) (index : Index) (master : FileId) (n : ℕ) (name : List ℕ) → is_first (table_in image index) n ≡ true →

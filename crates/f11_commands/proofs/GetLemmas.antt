@@ -198,14 +198,13 @@ module _ (home : HomeFields) (index wide : Index) (old mid : Disk) (found : Find
 
   volume-has : (in_use : Bool) (file : FileReader) (end : ℕ)
       → OpensSought (λ image t. file_sought wide image t directory name) index (by in_use) file end mid new
-      → FindsSought directory name (bytes_to_come (by in_use) new file end) end (lbns_to_come (by in_use) new file)
+      → FindsSought directory name in_use (bytes_to_come (by in_use) new file end) end (lbns_to_come (by in_use) new file)
       (file_to_come (by in_use) new file) old new
   volume-has in_use file end finds = record {
     home = home;
     readable = found.readable;
     found = finds.found;
     is = λ honest. sym (of-volume honest) ∙ finds.is (found.looked.honest ∙ honest);
-    in_use = in_use;
     number = finds.number;
     found_is = λ honest.
         finds.found_is (found.looked.honest ∙ honest) ∙ of-table (λ image t. file_of image t finds.number) in_use honest;
@@ -230,11 +229,12 @@ module _ (home : HomeFields) (index wide : Index) (old mid : Disk) (found : Find
   pub volume-gives : (chosen : Index) (in_use : Bool) → chosen ≡ by in_use → (file : FileReader) (end : ℕ)
       → OpensSought (λ image t. file_sought wide image t directory name) index (by in_use) file end mid new
       → IsToRead chosen file new
-      × FindsSought directory name (bytes_to_come chosen new file end) end (lbns_to_come chosen new file) (file_to_come chosen new file)
+      × FindsSought directory name in_use (bytes_to_come chosen new file end) end (lbns_to_come chosen new file)
+      (file_to_come chosen new file)
       old new
   volume-gives chosen in_use is file end finds =
       subst (λ (i : Index). IsToRead i file new
-      × FindsSought directory name (bytes_to_come i new file end) end (lbns_to_come i new file) (file_to_come i new file) old new)
+      × FindsSought directory name in_use (bytes_to_come i new file end) end (lbns_to_come i new file) (file_to_come i new file) old new)
       (sym is) (is-to-read in_use file end finds, volume-has in_use file end finds)
 
   pub volume-lacks : (refusal : Refusal) → LacksSought (λ image t. file_sought wide image t directory name) index refusal mid new
@@ -248,22 +248,21 @@ module _ (home : HomeFields) (index wide : Index) (old mid : Disk) (found : Find
 
 -- the volume was verified before
 module _ (directory name : List ℕ) (old mid new : Disk) (reads : Reads old mid 0) where
-  pub sought-behind : (bytes : List ℕ) (end : ℕ) (lbns : List ℕ) (come : File) → FindsSought directory name bytes end lbns come mid new
-      → FindsSought directory name bytes end lbns come old new
-  sought-behind bytes end lbns come finds = record {
+  pub sought-behind : (in_use : Bool) (bytes : List ℕ) (end : ℕ) (lbns : List ℕ) (come : File)
+      → FindsSought directory name in_use bytes end lbns come mid new → FindsSought directory name in_use bytes end lbns come old new
+  sought-behind in_use bytes end lbns come finds = record {
     home = finds.home;
     readable = λ honest. subst (λ (i : Image). IsReadable i finds.home) reads.1.image (finds.readable (reads.1.honest ∙ honest));
     found = finds.found;
     is = λ honest.
         sym (ap (λ (i : Image). volume_file i finds.home directory name) reads.1.image) ∙ finds.is (reads.1.honest ∙ honest);
-    in_use = finds.in_use;
     number = finds.number;
     found_is = λ honest.
         finds.found_is (reads.1.honest ∙ honest)
-        ∙ ap (λ (i : Image). file_of i (table_in i (index_read finds.in_use i finds.home)) finds.number) reads.1.image;
+        ∙ ap (λ (i : Image). file_of i (table_in i (index_read in_use i finds.home)) finds.number) reads.1.image;
     places = λ honest.
         finds.places (reads.1.honest ∙ honest)
-        ∙ ap (λ (i : Image). blocks_reached (table_in i (index_read finds.in_use i finds.home)) finds.number) reads.1.image;
+        ∙ ap (λ (i : Image). blocks_reached (table_in i (index_read in_use i finds.home)) finds.number) reads.1.image;
     bytes_are = λ honest. finds.bytes_are (reads.1.honest ∙ honest);
     end_is = λ honest. finds.end_is (reads.1.honest ∙ honest);
     attr_is = λ honest. finds.attr_is (reads.1.honest ∙ honest);

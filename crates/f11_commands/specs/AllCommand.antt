@@ -120,10 +120,15 @@ beside_text None = []
 abbrev pub open_text : Bool → List ℕ
 open_text all_blocks = if all_blocks then codes " open, all blocks" else []
 
--- the line of a file that was taken out: where it stands, how many bytes were written, and which block breaks it off
-abbrev pub taken_at_line : Place → Option FileId → Taken → List ℕ
-taken_at_line place beside taken = concat (place_text place ∷ beside_text beside ∷ codes " copied " ∷ decimal taken.bytes ∷ codes " bytes"
-    ∷ open_text taken.all_blocks ∷ missing_text taken.bytes taken.missing ∷ (10 ∷ []) ∷ [])
+-- its slot isn't in use
+abbrev pub use_text : Bool → List ℕ
+use_text in_use = if in_use then [] else codes " out of use"
+
+-- the line of a file that was taken out: where it stands, how many bytes were written, whether its slot is in use, and which block isn't
+-- there
+abbrev pub taken_at_line : Place → Bool → Option FileId → Taken → List ℕ
+taken_at_line place in_use beside taken = concat (place_text place ∷ beside_text beside ∷ codes " copied " ∷ decimal taken.bytes
+    ∷ codes " bytes" ∷ open_text taken.all_blocks ∷ use_text in_use ∷ missing_text (Some taken.bytes) taken.missing ∷ (10 ∷ []) ∷ [])
 
 -- why a file isn't taken out
 abbrev pub left_out_text : LeftOut → List ℕ
@@ -250,6 +255,7 @@ pub record TakesNothing {H : Type 0} (taken : Taken) (old new : Disk) (before af
   pub failed : taken.failed ≡ true
   pub none : taken.bytes ≡ 0
   pub missing : taken.missing ≡ Some 1
+  pub all_blocks : taken.all_blocks ≡ true
   pub untouched : after ≡ before
   pub reads : Reads old new 1
 
@@ -275,7 +281,7 @@ module _ {D : Type 0} {G : Ghosts D} where
       : Type 0 where
     pub taken : Taken
     pub takes_out : TakesOut place file in_use taken disk all later held host host'
-    pub line : WriterTakes contents before after (taken_at_line place beside taken)
+    pub line : WriterTakes contents before after (taken_at_line place in_use beside taken)
 
   -- One more was left out, and counted where it is wanting; nothing else changes.
   pub record CountsLeftOut (why : LeftOut) (all later : TakingAll D G) : Type 0 where

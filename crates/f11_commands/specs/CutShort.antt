@@ -1,5 +1,5 @@
 -- A volume whose image ends early (Files-11 On-Disk Structure Level 1, "Storage Bitmap File"; profile: what is said of it).
-use Rattle.std.specs.Prelude.{◌≡◌, ℕ, ◌<◌, ◌≤◌, IsTrue, List, ◌∷◌, length, Option, Some}
+use Rattle.std.specs.Prelude.{◌≡◌, ℕ, ◌*◌, ◌<◌, ◌≤◌, IsTrue, List, ◌∷◌, length, Option, Some}
 use Rattle.f11_catalog.specs.Records.{Reads, file_named}
 use Rattle.f11_catalog.specs.chain.Calls.{table}
 use Rattle.f11_dev.specs.Disk.{Disk}
@@ -15,11 +15,12 @@ use Rattle.f11_commands.specs.AnyVolume.{IsReadable}
 abbrev pub bitmap_file_id : FileId
 bitmap_file_id = record { number = 2; sequence = 2; volume = 0 }
 
--- A control block states so many blocks, behind the pairs of words for 1 to 126 bitmap blocks.
+-- A control block states so many blocks, behind the pairs of words for 1 to 126 bitmap blocks, and no more than these have bits.
 pub record IsStated (control : List ℕ) (blocks : ℕ) : Type 0 where
   pub some_bitmap : 0 < bitmap_count control
   pub few_bitmap : bitmap_count control ≤ 126
   pub size : blocks ≡ stated_size control
+  pub covered : blocks ≤ 4096 * bitmap_count control
 
 -- The first block of the storage bitmap file states so many blocks, by the files that an index file has.
 pub record States (index : Index) (blocks : ℕ) (old new : Disk) : Type 0 where

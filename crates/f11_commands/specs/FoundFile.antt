@@ -18,6 +18,10 @@ device_with found = found.device
 abbrev pub has_faults : {D : Type 0} {G : Ghosts D} → FoundFile D G → Bool
 has_faults found = found.faulty
 
+-- whether its slot is in use
+abbrev pub is_used : {D : Type 0} {G : Ghosts D} → FoundFile D G → Bool
+is_used found = found.in_use
+
 -- its volume's index file, the file as it is read, and its end
 abbrev pub index_with : {D : Type 0} {G : Ghosts D} → FoundFile D G → Index
 index_with found = index_kept found.index
@@ -32,6 +36,7 @@ end_found found = found.end
 pub record EndsAtLast {D : Type 0} {G : Ghosts D} (disk : D → Disk) (found later : FoundFile D G) : Type 0 where
   pub index : index_with later ≡ index_with found
   pub file : reader_of later ≡ reader_of found
+  pub in_use : is_used later ≡ is_used found
   pub faulty : has_faults later ≡ has_faults found
   pub end_is : IsTrue (disk (device_with found)).honest →
       end_found later ≡ 512 * length (blocks_to_come (table (index_with found) (disk (device_with found))) (reader_of found))

@@ -1,5 +1,6 @@
 -- What `get` takes out of a volume, faulty or not (profile).
-use Rattle.std.specs.Prelude.{◌≡◌, ℕ, ◌+◌, Bool, IsTrue, List, [], ◌∷◌, ◌++◌, codes, length, take, Option, Result, Ok, Err, if◌then◌else◌}
+use Rattle.std.specs.Prelude.{◌≡◌, ℕ, ◌+◌, Bool, IsTrue, List, [], ◌∷◌, ◌++◌, codes, length, take, Option, Some, None, Result, Ok, Err}
+use Rattle.std.specs.Prelude.{if◌then◌else◌}
 use Rattle.std.specs.Fmt.{decimal}
 use Rattle.std.specs.List.{concat}
 use Rattle.std.specs.Option.{ok_or, option_or}
@@ -92,12 +93,12 @@ pub record IsToRead (index : Index) (file : FileReader) (disk : Disk) : Type 0 w
 -- The file of a directory was found on a volume that can be read, and has this number; its slot is in use, or isn't. What is to come is
 -- all of it: its bytes, up to the end that it states; its blocks, which lie there; and, as another file, what its attributes and its blocks
 -- say.
-pub record FindsSought (directory name bytes : List ℕ) (end : ℕ) (lbns : List ℕ) (come : File) (old new : Disk) : Type 0 where
+pub record FindsSought (directory name : List ℕ) (in_use : Bool) (bytes : List ℕ) (end : ℕ) (lbns : List ℕ) (come : File) (old new : Disk) :
+    Type 0 where
   pub home : HomeFields
   pub readable : IsTrue old.honest → IsReadable old.image home
   pub found : File
   pub is : IsTrue old.honest → volume_file old.image home directory name ≡ Ok found
-  pub in_use : Bool
   pub number : ℕ
   pub found_is : IsTrue old.honest → found ≡ file_of old.image (table_in old.image (index_read in_use old.image home)) number
   pub places : IsTrue old.honest → lbns ≡ blocks_reached (table_in old.image (index_read in_use old.image home)) number
@@ -147,11 +148,11 @@ told_text (Copied count) = codes "copied " ++ (decimal count ++ codes " bytes")
 told_text (Lines count) = codes "copied " ++ (decimal count ++ codes " bytes")
 told_text BadRecords = codes "no " ++ flx_refusal_name BadRecord
 
--- how many bytes of its blocks were written, as far as that is told: of lines it isn't
-abbrev pub bytes_told : Told → ℕ
-bytes_told (Copied count) = count
-bytes_told (Lines count) = 0
-bytes_told BadRecords = 0
+-- how many bytes of its blocks were written, where that is told: of lines it isn't
+abbrev pub bytes_told : Told → Option ℕ
+bytes_told (Copied count) = Some count
+bytes_told (Lines count) = None
+bytes_told BadRecords = None
 
 -- The line was written that tells this of a file, and which of its blocks before an end is the first that isn't there.
 pub record Tells {W : Type 0} (index : Index) (file : FileReader) (end : ℕ) (told : Told) (old new : Disk) (contents : W → Option (List ℕ))

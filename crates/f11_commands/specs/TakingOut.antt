@@ -24,12 +24,14 @@ pub record BeginsWith (part whole : List ℕ) : Type 0 where
 abbrev pub blocks_before_end : ℕ → ℕ
 blocks_before_end end = div_ceil end 512
 
--- zeros were written for a block that isn't there where the bytes that were written reach into it; else the file breaks off there
-abbrev pub missing_words : ℕ → ℕ → List ℕ
-missing_words written vbn = if nat_le vbn (blocks_before_end written) then codes "zeros from" else codes "broke off at"
+-- zeros were written for a block that isn't there where the bytes that were written reach into it; else the file breaks off there; of
+-- lines it isn't told which
+abbrev pub missing_words : Option ℕ → ℕ → List ℕ
+missing_words (Some written) vbn = if nat_le vbn (blocks_before_end written) then codes "zeros from" else codes "broke off at"
+missing_words None vbn = codes "without"
 
--- the first block that isn't there, of a file of which so many bytes were written
-abbrev pub missing_text : ℕ → Option ℕ → List ℕ
+-- the first block that isn't there, of a file of which so many bytes were written, if that is known
+abbrev pub missing_text : Option ℕ → Option ℕ → List ℕ
 missing_text written (Some vbn) = codes " " ++ (missing_words written vbn ++ (codes " VBN " ++ decimal vbn))
 missing_text written None = []
 

@@ -50,7 +50,7 @@ fn stated<D: Device>(device: &mut D, index: &IndexFile) -> Option<u32>
     }
 }
 
-/// The size that a control block states, where it tells of 1 to 126 bitmap blocks.
+/// The size that a control block states, where it tells of 1 to 126 bitmap blocks, and these have bits for so many.
 fn size_in(block: &Block) -> Option<u32>
     ensures { IfSome result (λ blocks. IsStated block.now blocks) }
 {
@@ -58,5 +58,9 @@ fn size_in(block: &Block) -> Option<u32>
     if count == 0 || count > 126 {
         return None;
     }
-    Some(read_long(block, 4 + 4 * count))
+    let size = read_long(block, 4 + 4 * count);
+    if size > 4096 * count as u32 {
+        return None;
+    }
+    Some(size)
 }

@@ -9,7 +9,7 @@ use f11_dev::{CannotOpen, FileImage};
 use f11_store::FileId;
 use f11_store::f11_rad50::Name;
 use std::fs::{self, File};
-use std::io::Write;
+use std::io::{self, Write};
 
 /// Takes all files out of a volume, into a folder that is made: those of a directory into the folder in it that is called as the directory
 /// is, `[ggg,mmm]` of a user in three octal digits each, `[NAME]` else, under their names, and those of no directory into the folder
@@ -36,7 +36,12 @@ pub fn get_all<'a, W: Write>(
     let new = fs::create_dir(rt, folder).map_err(CannotOpen::from);
     opened(new, folder, remark)?;
     let taken = take_all(rt, &mut all, folder, writer);
-    let (_device, served) = all.end(writer);
+    // where it stopped the last line would count what was never tried as done
+    let (_device, served) = if taken.is_ok() {
+        all.end(writer)
+    } else {
+        all.end(&mut io::sink())
+    };
     let answer = judged(rt, image, served?, remark);
     if taken? {
         Ok(answer)
@@ -45,7 +50,8 @@ pub fn get_all<'a, W: Write>(
     }
 }
 
-/// Takes out the files that are still to come: whether a file of the host could be made for each.
+/// Takes out the files that are still to come: whether a file of the host could be made for each. Where one takes no more it ends there, and
+/// that one has a line, too.
 fn take_all<W: Write>(
     rt: &HostRuntime,
     all: &mut TakingAll<FileImage<File>>,
@@ -62,7 +68,11 @@ fn take_all<W: Write>(
             _ => match host_of(rt, folder, &found.place)? {
                 Host::File(mut made) => {
                     let written = all.write(&found, made.beside, &mut made.file, writer);
-                    or_broken(rt, made.path.as_str(), written)?;
+                    if let Err(failure) = written {
+                        let _ = writeln!(writer, "{} not written to its end", found.place);
+                        let _ = eprintln!(rt; "{}: not written to its end", made.path);
+                        return Err(Failure::from(failure));
+                    }
                 }
                 Host::Again => all.leave_out(&found.place, &LeftOut::Again, writer)?,
                 Host::None => {
@@ -73,21 +83,6 @@ fn take_all<W: Write>(
         }
     }
     Ok(complete)
-}
-
-/// Tells on standard error that a file of the host may hold a part, where writing failed.
-fn or_broken(
-    rt: &HostRuntime,
-    path: &str,
-    written: Result<(), f11_commands::Failure>,
-) -> Result<(), Failure> {
-    match written {
-        Ok(()) => Ok(()),
-        Err(failure) => {
-            let _ = eprintln!(rt; "{path}: not written to its end");
-            Err(Failure::from(failure))
-        }
-    }
 }
 
 /// What the host has for a file of the volume.

@@ -45,6 +45,9 @@ pub fn get<'a, W: Write>(
     let device = opened(FileImage::open_to_read(rt, file.image), file.image, remark)?;
     let served = match seek_file(rt.alloc(), device, writer, &file.directory, &name) {
         Ok(Ok(found)) => {
+            if !found.is_in_use() {
+                remarks::tell_unused(rt, file.image);
+            }
             let found = as_far_as(found, taking.all_blocks)?;
             take_out(rt, found, taking.mode, host, writer, remark)?
         }

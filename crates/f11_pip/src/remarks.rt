@@ -57,13 +57,16 @@ pub enum Why {
     #[error("the volume has faults, which vfy tells")]
     Faulty,
     /// The image of the volume in it ends early: how many blocks it should have, and how many bytes these are.
-    #[error("the volume has faults, which vfy tells: its image ends early, it should have {0} blocks, as truncate -s {1} makes it")]
+    #[error("the volume has faults, which vfy tells: its image ends early and should have {0} blocks; take out its files first: truncate -s {1} puts zeros for what is missing")]
     CutShort(u32, u64),
+    /// The bit of the slot of the file in it that is taken out is lost.
+    #[error("the file's slot is out of use: if the volume was written since, its blocks may be another file's")]
+    Unused,
     /// The RT-11 volume in it has faults.
     #[error("the volume has faults, which rt-vfy tells")]
     RtFaulty,
     /// The RT-11 volume in it ends within its last empty area: how many blocks it should have, and how many bytes these are.
-    #[error("nothing is lost, but it ends within its last empty area: it should have {0} blocks, as truncate -s {1} makes it")]
+    #[error("it ends within its last empty area, so that no file is cut: it should have {0} blocks, as truncate -s {1} makes it")]
     Short(u32, u64),
     /// Its file has so many bytes behind the last whole block.
     #[error("length not a multiple of 512 bytes, the rest of {0} is left out")]
@@ -137,6 +140,15 @@ pub fn of_volume<'a>(rt: &HostRuntime, word: &'a str, is_faulty: bool) -> Option
     } else {
         of_image(rt, word, false)
     }
+}
+
+/// Tells of the file of a volume that is taken out that its slot is out of use.
+pub fn tell_unused(rt: &HostRuntime, word: &str) {
+    let remark = Remark {
+        word: Which::Text(word),
+        why: Why::Unused,
+    };
+    let _ = eprintln!(rt; "{remark}");
 }
 
 /// What there is to say of a volume that has faults: where its image ends early, how long it should be.

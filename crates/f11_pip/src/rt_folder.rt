@@ -40,7 +40,8 @@ pub fn get_all<'a, W: Write>(
     }
 }
 
-/// Takes out the files that are still to come: whether a file of the host could be made for each.
+/// Takes out the files that are still to come: whether a file of the host could be made for each. Where one takes no more it ends there, and
+/// that one has a line, too.
 fn take_all<W: Write>(
     rt: &HostRuntime,
     all: &mut TakingAllRt<FileImage<File>>,
@@ -53,7 +54,14 @@ fn take_all<W: Write>(
             RtFate::NoFile => {}
             RtFate::NotCopied(_) => all.refuse(&found, writer)?,
             RtFate::Copied => match file_at(rt, folder, &found.place)? {
-                Some(mut file) => all.write(&found, &mut file, writer)?,
+                Some(mut file) => {
+                    if let Err(failure) = all.write(&found, &mut file, writer) {
+                        let place = found.place;
+                        let _ = writeln!(writer, "{place} not written to its end");
+                        let _ = eprintln!(rt; "{folder}/{place}: not written to its end");
+                        return Err(Failure::from(failure));
+                    }
+                }
                 None => {
                     complete = false;
                     all.refuse(&found, writer)?;

@@ -23,6 +23,7 @@ pub fn to_last_block<D: Device>(found: FoundFile<D>) -> Result<FoundFile<D>, D>
         index,
         file,
         end: _,
+        in_use,
         faulty,
     } = found;
     let mut device = device;
@@ -32,6 +33,7 @@ pub fn to_last_block<D: Device>(found: FoundFile<D>) -> Result<FoundFile<D>, D>
             index,
             file,
             end: 512 * u64::from(blocks),
+            in_use,
             faulty,
         }),
         Err(DeviceFault) => Err(device),

@@ -18,10 +18,22 @@ pub struct FoundFile<D: Device> {
     pub(crate) file: FileReader,
     /// Where it ends, in bytes, if it has blocks for so many.
     pub(crate) end: u64,
+    /// Whether the bit of its slot says that it is in use.
+    pub(crate) in_use: bool,
     /// Whether the volume has faults.
     pub(crate) faulty: bool,
     /// The index file lies on the device.
     pub ghost within: { IndexLiesWithin (index_kept index) (length (D.disk device).image) },
     /// The header in hand is one of the device's.
     pub ghost reading: { IsReading (index_kept index) file (D.disk device) },
+}
+
+impl<D: Device> FoundFile<D> {
+    /// Whether the bit of its slot says that it is in use. Where it doesn't its blocks may have become another file's, if the volume was
+    /// written since.
+    pub fn is_in_use(&self) -> bool
+        ensures { result ≡ self.now.in_use }
+    {
+        self.in_use
+    }
 }

@@ -7,8 +7,8 @@ use std::fmt;
 #[derive(Clone, Copy)]
 pub(crate) struct ShownMissing {
     pub(crate) vbn: Option<u64>,
-    /// How many bytes of the file's blocks were written: zeros stand for that block where they reach into it.
-    pub(crate) written: u64,
+    /// How many bytes of the file's blocks were written, where that is known: zeros stand for that block where they reach into it.
+    pub(crate) written: Option<u64>,
 }
 
 impl fmt::Display for ShownMissing {
@@ -20,10 +20,10 @@ impl fmt::Display for ShownMissing {
         let Some(vbn) = self.vbn else {
             return Ok(());
         };
-        let what = if vbn <= self.written.div_ceil(512) {
-            "zeros from"
-        } else {
-            "broke off at"
+        let what = match self.written {
+            Some(written) if vbn <= written.div_ceil(512) => "zeros from",
+            Some(_) => "broke off at",
+            None => "without",
         };
         write!(f, " {what} VBN {vbn}")
     }

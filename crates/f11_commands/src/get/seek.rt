@@ -6,7 +6,7 @@ ghost use Rattle.f11_index.specs.Kept.{index_kept, IndexLiesWithin};
 ghost use Rattle.f11_reader.specs.Reading.{header_in_hand};
 ghost use Rattle.f11_store.specs.File.{stated_end};
 ghost use Rattle.f11_commands.specs.AnyVolume.{IsVerified};
-ghost use Rattle.f11_commands.specs.FoundFile.{device_with, end_found, has_faults, index_with, reader_of};
+ghost use Rattle.f11_commands.specs.FoundFile.{device_with, end_found, has_faults, index_with, is_used, reader_of};
 ghost use Rattle.f11_commands.specs.GetCommand.{FailsToSeek, FindsSought, IsToRead, LacksSought, OpensSought, TellsWhyNot};
 ghost use Rattle.f11_commands.specs.GetCommand.{file_entered, file_identified, file_sought};
 ghost use Rattle.f11_commands.specs.TakingOut.{bytes_to_come, lbns_to_come};
@@ -50,7 +50,7 @@ pub fn seek_file<D: Device, W: Write>(
 ) -> Result<Result<FoundFile<D>, (D, Served)>, (D, Failure)>
     ensures found { IfOk result (λ answer. IfOk answer (λ found. (writer.new ≡ writer.old)
         × IsVerified (has_faults found) (D.disk device)
-        × FindsSought directory.now name.now
+        × FindsSought directory.now name.now (is_used found)
         (bytes_to_come (index_with found) (D.disk (device_with found))
         (reader_of found) (end_found found)) (end_found found)
         (lbns_to_come (index_with found) (D.disk (device_with found)) (reader_of found))
@@ -84,7 +84,7 @@ fn seek<D: Device, W: Write>(
 ) -> Result<Result<FoundFile<D>, (D, Served)>, (D, Failure)>
     ensures found { IfOk result (λ answer. IfOk answer (λ found. (writer.new ≡ writer.old)
         × (has_faults found ≡ faulty)
-        × FindsSought directory.now name.now
+        × FindsSought directory.now name.now (is_used found)
         (bytes_to_come (index_with found) (D.disk (device_with found))
         (reader_of found) (end_found found)) (end_found found)
         (lbns_to_come (index_with found) (D.disk (device_with found)) (reader_of found))
@@ -98,11 +98,12 @@ fn seek<D: Device, W: Write>(
 {
     let mut device = device;
     match seek_on_volume(alloc, &mut device, writer, directory, name) {
-        Ok(Ok((index, file, end))) => Ok(Ok(FoundFile {
+        Ok(Ok((index, found))) => Ok(Ok(FoundFile {
             device,
             index,
-            file,
-            end,
+            file: found.file,
+            end: found.end,
+            in_use: found.in_use,
             faulty,
         })),
         Ok(Err(answer)) => Ok(Err((device, Served { answer, faulty }))),
@@ -117,13 +118,13 @@ fn seek_on_volume<D: Device, W: Write>(
     writer: &mut W,
     directory: &Name,
     name: &Name,
-) -> Result<Result<(IndexFile, FileReader, u64), Answer>, Failure>
+) -> Result<Result<(IndexFile, Sought), Answer>, Failure>
     ensures found { IfOk result (λ answer. IfOk answer (λ found. (writer.new ≡ writer.old)
-        × IsToRead (index_kept found.0) found.1 (D.disk device.new)
-        × FindsSought directory.now name.now
-        (bytes_to_come (index_kept found.0) (D.disk device.new) found.1 found.2) found.2
-        (lbns_to_come (index_kept found.0) (D.disk device.new) found.1)
-        (file_to_come (index_kept found.0) (D.disk device.new) found.1)
+        × IsToRead (index_kept found.0) found.1.file (D.disk device.new)
+        × FindsSought directory.now name.now found.1.in_use
+        (bytes_to_come (index_kept found.0) (D.disk device.new) found.1.file found.1.end)
+        found.1.end (lbns_to_come (index_kept found.0) (D.disk device.new) found.1.file)
+        (file_to_come (index_kept found.0) (D.disk device.new) found.1.file)
         (D.disk device.old) (D.disk device.new))) }
     ensures none { IfOk result (λ answer. IfErr answer (λ told. TellsWhyNot directory.now name.now told
         (D.disk device.old) (D.disk device.new) W.contents writer.old writer.new)) }
@@ -133,9 +134,7 @@ fn seek_on_volume<D: Device, W: Write>(
     match read_index(alloc, device) {
         Ok(Ok((_, index))) => match index.with_all_in_use(alloc) {
             Ok(wide) => match seek_in_index(device, &index, &wide, directory, name) {
-                Ok(Ok(Sought { file, end, in_use })) => {
-                    Ok(Ok((if in_use { index } else { wide }, file, end)))
-                }
+                Ok(Ok(found)) => Ok(Ok((if found.in_use { index } else { wide }, found))),
                 Ok(Err(refusal)) => match writeln!(writer, "no {refusal}") {
                     Ok(()) => Ok(Err(Answer::Fault)),
                     Err(_) => Err(Failure::CannotWrite),

@@ -18,13 +18,13 @@ pub(crate) enum Told {
 impl Told {
     ghost use Rattle.f11_commands.specs.GetCommand.{bytes_told};
 
-    /// How many bytes of the file's blocks were given, as far as that is told.
-    pub(crate) fn bytes(&self) -> u64
+    /// How many bytes of the file's blocks were given, where that is told.
+    pub(crate) fn bytes(&self) -> Option<u64>
         ensures { result ≡ bytes_told self.now }
     {
         match self {
-            Told::Copied(count) => *count,
-            Told::Lines(_) | Told::BadRecords => 0,
+            Told::Copied(count) => Some(*count),
+            Told::Lines(_) | Told::BadRecords => None,
         }
     }
 }

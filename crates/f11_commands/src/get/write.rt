@@ -56,6 +56,7 @@ pub fn write_file<D: Device, H: Write, W: Write>(
         file,
         end,
         faulty,
+        ..
     } = found;
     let mut device = device;
     match write_as(mode, &mut device, &index, file, end, host, writer) {

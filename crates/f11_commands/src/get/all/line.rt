@@ -31,15 +31,16 @@ impl fmt::Display for Beside {
 }
 
 /// Writes the line of a file that was taken out: its place, how many bytes were written, whether these are all its blocks since it wasn't
-/// closed, and which block is the first that isn't there.
+/// closed, whether its slot is in use, and which block is the first that isn't there.
 pub(crate) fn write_line<W: Write>(
     writer: &mut W,
     place: &Place,
+    in_use: bool,
     beside: Option<FileId>,
     taken: &Taken,
 ) -> io::Result<()>
     ensures { OnOk result (WriterTakes W.contents writer.old writer.new
-        (taken_at_line place.now beside taken.now)) }
+        (taken_at_line place.now in_use beside taken.now)) }
 {
     let beside = Beside(beside);
     let Taken {
@@ -50,12 +51,13 @@ pub(crate) fn write_line<W: Write>(
     } = *taken;
     let missing = ShownMissing {
         vbn: missing,
-        written: bytes,
+        written: Some(bytes),
     };
     let open = if all_blocks { " open, all blocks" } else { "" };
+    let unused = if in_use { "" } else { " out of use" };
     writeln!(
         writer,
-        "{place}{beside} copied {bytes} bytes{open}{missing}"
+        "{place}{beside} copied {bytes} bytes{open}{unused}{missing}"
     )
 }
 

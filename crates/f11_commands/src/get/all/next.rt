@@ -48,9 +48,9 @@ impl<D: Device> TakingAll<D> {
     /// Writes the bytes of a file up to its end to the host, or all where its blocks end before, and then its line: `[g,m] NAME.TYP;V
     /// copied N bytes` or `lost N,S NAME.TYP;V copied N bytes`. Behind the name stands ` (N,S)` where `beside` has an identification: the file
     /// stands beside another of its name. Behind the bytes stands ` open, all blocks` where the file wasn't closed and states the end 0, so
-    /// that all its blocks are taken, and ` broke off at VBN V` where block V is the first before the end that isn't there: it lies past the
-    /// device's end, and zeros stand for it, or the file has no more; or where a transfer failed at that block, which [`TakingAll::end`]
-    /// answers then. Where there is no file it writes the line that says so, as [`TakingAll::leave_out`].
+    /// that all its blocks are taken; ` out of use` where the bit of its slot is 0; and where block V is the first before the end that isn't
+    /// there ` zeros from VBN V`, if it lies past the device's end, or ` broke off at VBN V`, if the file has no more; or if a transfer
+    /// failed at that block, which [`TakingAll::end`] answers then. Where there is no file it writes the line that says so, as [`TakingAll::leave_out`].
     ///
     /// # Errors
     ///
@@ -106,7 +106,7 @@ impl<D: Device> TakingAll<D> {
             D.disk self.old self.new H.contents host.old host.new writer.old writer.new) }
     {
         match self.take(place, file, in_use, host) {
-            Ok(taken) => match write_line(writer, place, beside, &taken) {
+            Ok(taken) => match write_line(writer, place, in_use, beside, &taken) {
                 Ok(()) => Ok(()),
                 Err(_) => Err(Failure::CannotWrite),
             },

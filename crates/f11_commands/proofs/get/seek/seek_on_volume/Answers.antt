@@ -5,17 +5,17 @@ use Rattle.f11_index.specs.Kept.{index_kept}
 use Rattle.f11_commands.proofs.GetLemmas.{volume-gives, volume-lacks}
 use Rattle.f11_commands.specs.GetCommand.{cannot_be_read, lacks_file, tells_none}
 use Rattle.f11_commands.proofs.get.seek.seek_on_volume.Goals as goal
-use Rattle.f11_commands.proofs.get.seek.seek_on_volume.Goals.{then-in_use, else-in_use}
+use Rattle.f11_commands.proofs.get.seek.seek_on_volume.Goals.{then-found, else-found}
 
 pub returns-in-Ok-Ok-seek_in_index-clause-found : goal.returns-in-Ok-Ok-seek_in_index-clause-found
 returns-in-Ok-Ok-seek_in_index-clause-found g c =
     let volume = rw c.in-Ok-Ok.field-0-is at c.in-Ok-Ok.ensures.found in
-    let found = c.in-Ok-Ok-seek_in_index.field-0-0 in
+    let found = c.in-Ok-Ok-seek_in_index.found in
     let finds = rw c.in-Ok-Ok-seek_in_index.field-0-is at c.in-Ok-Ok-seek_in_index.ensures.found in
     let either : Bool → Index = λ b. if b then index_kept c.in-Ok-Ok.index else index_kept c.in-Ok.wide in
-    let chosen : index_kept c.if-in_use.result ≡ either found.in_use = elim c.if-in_use.branch [
-      | then-in_use w ↦ ap index_kept w.result-is ∙ sym (ap either w.if-in_use.true)
-      | else-in_use w ↦ ap index_kept w.result-is ∙ sym (ap either w.if-in_use.false)
+    let chosen : index_kept c.if-found.result ≡ either found.in_use = elim c.if-found.branch [
+      | then-found w ↦ ap index_kept w.result-is ∙ sym (ap either w.if-found.true)
+      | else-found w ↦ ap index_kept w.result-is ∙ sym (ap either w.if-found.false)
     ] in
     let gives = volume-gives _ _ _ _ _ volume c.in-Ok.ensures _ _ _ _ found.in_use chosen found.file found.end finds in
     (refl, gives.0, gives.1)
