@@ -166,10 +166,10 @@ class Files:
     def places(self, n, of=None):
         return [lbn for h in self.chain(n, of) for lbn in h.blocks()]
 
-    def records(self, n):
-        """The records of a directory, each its eight words."""
-        places = self.places(n)
-        for i in range(min(self.files[n].end(), BLOCK * len(places)) // 16):
+    def records(self, n, of=None):
+        """The records of a directory, by the headers of slots in use, or by these, each its eight words."""
+        places = self.places(n, of)
+        for i in range(min((self.live if of is None else of)[n].end(), BLOCK * len(places)) // 16):
             r = self.block(places[i // 32])[16 * (i % 32):][:16]
             yield i, *(word(r, 2 * k) for k in range(3)), [word(r, 6 + 2 * k) for k in range(5)]
 
@@ -181,23 +181,43 @@ class Files:
         header = self.valid.get(number)
         return header is not None and header.segment == 0 and header.sequence == sequence and volume == 0
 
-    def wanted(self):
-        """How many blocks the volume should have, by its control block, where the image has fewer; or None."""
+    def by(self, *found):
+        """The headers by which the file with an identification is read: those of slots in use where it is one of these, else all valid ones;
+        None where there is no such file."""
+        return self.live if self.has(*found) else self.valid if self.is_there(*found) else None
+
+    def stated(self):
+        """How many blocks the volume has, by its control block; None where that doesn't say so."""
         places = self.places(2) if self.has(2, 2, 0) else []
         control = self.block(places[0]) if places else bytes(BLOCK)
-        size = long(control, 4 + 4 * control[3]) if 1 <= control[3] <= 126 else 0
-        return size if self.blocks < size <= 4096 * control[3] else None
+        size = long(control, 4 + 4 * control[3]) if 1 <= control[3] <= 126 else None
+        return size if size is not None and size <= 4096 * control[3] else None
 
-    def listed(self, number, sequence, volume):
-        """The lines of a directory."""
-        if not self.has(number, sequence, volume):
+    def wanted(self):
+        """How many blocks the volume should have where the image has fewer; or None."""
+        size = self.stated()
+        return size if size is not None and size > self.blocks else None
+
+    def volume_end(self):
+        """Where the volume ends: not before its image, and where its size isn't stated behind the most blocks that it may have."""
+        size = self.stated()
+        return max(126 * 4096 if size is None else size, self.blocks)
+
+    def directory(self, *found):
+        """The headers by which a directory is read."""
+        of = self.by(*found)
+        if of is None:
             raise Refused("NoSuchFile")
-        if not self.files[number].is_directory():
+        if not of[found[0]].is_directory():
             raise Refused("NotDirectory")
-        for _, *found, name in self.records(number):
+        return of
+
+    def listed(self, *directory):
+        """The lines of a directory."""
+        for _, *found, name in self.records(directory[0], self.directory(*directory)):
             what = f"{shown(name)} {identified(*found)}"
             if found[0] and self.is_there(*found):
-                of = self.live if self.has(*found) else self.valid
+                of = self.by(*found)
                 h, blocks = of[found[0]], len(self.places(found[0], of))
                 facts = f"blocks {blocks} bytes {min(h.end(), BLOCK * blocks)} owner {h.uic()} prot {word(h.b, 10):o}"
                 yield f"file {what} {facts}{h.marks()}" + ("" if self.has(*found) else " out of use")
@@ -206,13 +226,16 @@ class Files:
 
     def directories(self):
         """What each directory is called that the master file directory names, the folder that its files are taken to, and its identification."""
-        for _, *found, name in self.records(4):
-            if found[0] and is_name(name) and self.has(*found) and self.files[found[0]].is_directory():
+        for _, *found, name in self.records(4, self.directory(4, 4, 0)):
+            if found[0] and is_name(name) and self.is_there(*found) and self.by(*found)[found[0]].is_directory():
                 yield *called(shown(name)), found
 
     def all_directories(self):
         """The same of all directories that `get --all` goes over: behind those the others that have a name, by their numbers."""
-        named = [*self.directories()] if self.has(4, 4, 0) and self.files[4].is_directory() else []
+        try:
+            named = [*self.directories()]
+        except Refused:
+            named = []
         yield from named
         for n in sorted(self.files.keys() - {found[0] for _, _, found in named}):
             name = word_name(self.files[n])
@@ -221,21 +244,13 @@ class Files:
 
     def all_listed(self):
         """The lines of all directories."""
-        if not self.has(4, 4, 0):
-            raise Refused("NoSuchFile")
-        if not self.files[4].is_directory():
-            raise Refused("NotDirectory")
         for text, _, found in self.directories():
             yield text
             yield from self.listed(*found)
 
     def found(self, directory, name):
         """What the first record of a directory with a name has: number, sequence number and volume."""
-        if not self.has(*directory):
-            raise Refused("NoSuchFile")
-        if not self.files[directory[0]].is_directory():
-            raise Refused("NotDirectory")
-        for _, *found, words in self.records(directory[0]):
+        for _, *found, words in self.records(directory[0], self.directory(*directory)):
             if found[0] and shown(words) == name:
                 return found
         raise Refused("NoSuchEntry")
@@ -249,27 +264,32 @@ class Files:
         found = self.found(self.found((4, 4, 0), directory), name)
         if not self.is_there(*found):
             raise Refused("NoSuchFile")
-        return found[0], self.live if self.has(*found) else self.valid
+        return found[0], self.by(*found)
 
     def up_to(self, end, places):
-        """The bytes of blocks up to an end, the VBN of the first block before the end that isn't there, or None, and what is said of it."""
-        content = b"".join(map(self.block, places))[:end]
-        missing = next((i + 1 for i in range((end + BLOCK - 1) // BLOCK) if i == len(places) or places[i] >= self.blocks), None)
-        if missing is None:
-            return content, None, ""
-        return content, missing, f" {'zeros from' if missing <= len(places) else 'broke off at'} VBN {missing}"
+        """The bytes of blocks up to an end, or before the first block that lies past the volume's end, or that isn't named; whether a block
+        isn't there; and what is said of it: the first for which zeros came, and the first that didn't."""
+        wanted = range((end + BLOCK - 1) // BLOCK)
+        broke = next((i for i in wanted if i == len(places) or places[i] >= self.volume_end()), None)
+        given = places[:len(wanted) if broke is None else broke]
+        zeros = next((i for i, lbn in enumerate(given) if lbn >= self.blocks), None)
+        said = "".join(f" {what} VBN {i + 1}" for what, i in (("zeros from", zeros), ("broke off at", broke)) if i is not None)
+        return b"".join(map(self.block, given))[:end], said != "", said
+
+    def last_end(self, n, of):
+        """The end in bytes behind the last block of a file, or past it where its headers break off there."""
+        return BLOCK * len(self.places(n, of)) + (self.chain(n, of)[-1].link != 0)
 
     def taken(self, n, of, all_blocks=False):
         """A file's bytes up to its end, or all, by these headers, and what the line says that tells of them."""
-        places = self.places(n, of)
-        content, _, said = self.up_to(BLOCK * len(places) if all_blocks else of[n].end(), places)
+        content, _, said = self.up_to(self.last_end(n, of) if all_blocks else of[n].end(), self.places(n, of))
         return content, f"copied {len(content)} bytes{said}"
 
     def whole(self, n, of):
         """As taken, of a file by these headers: all its blocks where it wasn't closed and states the end 0."""
         header, places = of[n], self.places(n, of)
         all_blocks = header.end() == 0 and header.b[12] >> 6 & 1
-        content, missing, said = self.up_to(BLOCK * len(places) if all_blocks else header.end(), places)
+        content, missing, said = self.up_to(self.last_end(n, of) if all_blocks else header.end(), places)
         open_text = " open, all blocks" * bool(all_blocks and places)
         return content, f"copied {len(content)} bytes{open_text}{' out of use' * (of is self.valid)}{said}", missing
 
@@ -277,7 +297,7 @@ class Files:
         """What `get --all` goes over: where each stands, as its line says, the folder and the name of the host, and its identification."""
         known = set()
         for text, folder, directory in self.all_directories():
-            for _, *found, words in self.records(directory[0]):
+            for _, *found, words in self.records(directory[0], self.by(*directory)):
                 if found[0]:
                     if self.has(*found):
                         known.add(found[0])
@@ -330,11 +350,11 @@ def everything(image):
         if path in made:
             lines.append(f"{what} not copied again")
             continue
-        content, said, missing = files.whole(found[0], files.live if files.has(*found) else files.valid)
+        content, said, missing = files.whole(found[0], files.by(*found))
         lines.append(f"{what}{beside} {said}")
         made[path] = content
         copied += 1
-        cut += missing is not None
+        cut += missing
         lost += what.startswith("lost ")
     lines.append(f"all {copied} copied, {cut} cut, {left_out} not copied, {lost} in lost")
     return lines, made

@@ -1,5 +1,5 @@
 -- What stands under an identification.
-use Rattle.std.proofs.Common.{◌≡◌, ◌⊎◌, ℕ, ◌<◌, ◌≤◌, true, IsTrue, List, Some, refl, sym, ap, subst, ◌∙◌, inl, inr, arith}
+use Rattle.std.proofs.Common.{◌≡◌, ◌⊎◌, ℕ, ◌<◌, ◌≤◌, true, IsTrue, List, Some, refl, subst, ◌∙◌, inl, inr, arith}
 use Rattle.std.specs.List.{slice_get}
 use Rattle.f11_chain.proofs.StepLemmas.{table-header}
 use Rattle.f11_chain.specs.Calls.{table}
@@ -13,13 +13,12 @@ use Rattle.f11_reader.specs.Reading.{FindsNone, OpensFile}
 use Rattle.f11_reader.specs.declared.file.FileReader.{FileReader}
 use Rattle.f11_store.specs.declared.files.FileId.{FileId}
 use Rattle.f11_volume.specs.Notes.{IsIdOf}
-use Rattle.f11_catalog.specs.Contents.{HasNoFile, Holds, HoldsElse, IsMissingAs, OpensBehind, TellsAbsence}
-use Rattle.f11_catalog.specs.Records.{Reads}
+use Rattle.f11_catalog.specs.Contents.{Holds, HoldsElse, IsMissingAs, TellsAbsence}
 use Rattle.f11_catalog.specs.declared.walk.content.Absence.{Absence}
 use Rattle.f11_catalog.specs.declared.walk.content.Absence.TheVariants.{BadHeader, NoFile}
 use Rattle.f11_catalog.specs.declared.walk.content.Content.{Content}
 use Rattle.f11_catalog.specs.declared.walk.content.Content.TheVariants.{File, Missing, OutOfUse}
-use Rattle.f11_catalog.proofs.ListingLemmas.{reads-none, reads-then, said-later}
+use Rattle.f11_catalog.proofs.ListingLemmas.{reads-none, reads-then}
 
 -- as many slots are to come as the index file has
 pub slots-are : (index : Index) (disk : Disk) → (table index disk).slots ≡ slots index

@@ -19,8 +19,8 @@ use Rattle.f11_store.specs.declared.refusals.Refusal.TheVariants.{NotDirectory}
 use Rattle.f11_catalog.specs.DirectoryNames.{directory_called, directory_text}
 use Rattle.f11_catalog.specs.Lines.{directory_lines, lines_by, lines_in, lines_under, name_found, names_directory, record_lines}
 use Rattle.f11_catalog.specs.Listing.{Writes, WritesRest}
-use Rattle.f11_catalog.specs.Records.{FindsNoDirectory, OpensDirectory, directory_refusal, file_named, records_of}
-use Rattle.f11_catalog.specs.declared.directory.DirectoryReader.{DirectoryReader}
+use Rattle.f11_catalog.specs.Records.{FindsDirectory, LacksDirectory, directory_refusal, file_found, index_by, records_found}
+use Rattle.f11_catalog.specs.declared.found.FoundDirectory.{FoundDirectory}
 use Rattle.f11_catalog.specs.declared.directory_name.DirectoryName.{DirectoryName}
 use Rattle.f11_catalog.proofs.LineLemmas.{found-is, id-is, some-number, some-record}
 use Rattle.f11_catalog.proofs.ListingLemmas.{lists-all, reads-none, writes-none, writes-one, writes-then}
@@ -47,39 +47,40 @@ module _ {W : Type 0} (index wide : Index) (contents : W → Option (List ℕ)) 
   text image t = lines_in wide image t id name
 
   -- a record names no directory
-  pub no-directory : (refusal : Refusal) (writer : W) → FindsNoDirectory index id refusal old mid
+  pub no-directory : (refusal : Refusal) (writer : W) → LacksDirectory index wide id refusal old mid
       → Writes text index old mid contents writer writer
   no-directory refusal writer none =
       writes-none text index old mid contents writer
       (λ honest.
       ap (λ (b : Bool). cond b (lines_under wide old.image (table index old) name id) [])
-      (refused-none (file_named old.image (table index old) id) refusal (none.refused honest)))
+      (refused-none (file_found wide old.image (table index old) id) refusal (none.refused honest)))
       (_, none.looked)
 
   -- or one, whose lines were written under what it is called
-  pub directory-listed : (directory : DirectoryReader) (new : Disk) (before heading after : W) → OpensDirectory index id directory old mid
+  pub directory-listed : (by : Index) (found : FoundDirectory) (new : Disk) (before heading after : W)
+      → FindsDirectory index wide id found old mid → by ≡ index_by found.in_use index wide
       → Appends (contents before) (contents heading) (directory_text name ++ 10 ∷ [])
-      → WritesRest (record_lines wide) index directory mid new contents heading after
+      → WritesRest (record_lines wide) index by found.directory mid new contents heading after
       → Writes text index old new contents before after
-  directory-listed directory new before heading after opens head rest = record {
+  directory-listed by found new before heading after finds is head rest = record {
     written = both.written;
     is = λ honest.
         both.is honest
         ∙ append_assoc (directory_text name) (10 ∷ [])
-        (record_lines wide old.image (table index old) (records_of old.image (table index old) id))
+        (record_lines wide old.image (table index old) (records_found wide old.image (table index old) id))
         ∙ sym (ap (λ (b : Bool). cond b (lines_under wide old.image (table index old) name id) [])
-        (readable-names (file_named old.image (table index old) id) (opens.readable honest)));
+        (readable-names (file_found wide old.image (table index old) id) (finds.readable honest)));
     takes = both.takes;
     reads = both.reads;
   }
     where
-      all : Writes (λ image t. record_lines wide image t (records_of image t id)) index old new contents heading after
-      all = lists-all (record_lines wide) index id contents opens rest
+      all : Writes (λ image t. record_lines wide image t (records_found wide image t id)) index old new contents heading after
+      all = lists-all (record_lines wide) index wide by id contents finds is rest
 
-      both : Writes (λ image t. (directory_text name ++ 10 ∷ []) ++ record_lines wide image t (records_of image t id)) index old new
+      both : Writes (λ image t. (directory_text name ++ 10 ∷ []) ++ record_lines wide image t (records_found wide image t id)) index old new
           contents
           before after
-      both = writes-then (λ _ _. directory_text name ++ 10 ∷ []) (λ image t. record_lines wide image t (records_of image t id)) index
+      both = writes-then (λ _ _. directory_text name ++ 10 ∷ []) (λ image t. record_lines wide image t (records_found wide image t id)) index
           contents
           (writes-one (λ _ _. directory_text name ++ 10 ∷ []) index old old contents before heading (directory_text name ++ 10 ∷ [])
           (λ _. refl) head (reads-none old)) all

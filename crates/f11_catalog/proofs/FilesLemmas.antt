@@ -74,40 +74,40 @@ module _ (index wide : Index) (files later : AllFiles) (found : FileAt) (old new
     next = λ honest.
         let t : Table = table index old in
         turn-first (stands_in t) (λ f. others_to_come t f files.others) (is_met files.others) (is_met later.others) found.place
-        (entered_to_come index old files.entered) (entered_to_come index old later.entered) (enters.next honest)
+        (entered_to_come index wide old files.entered) (entered_to_come index wide old later.entered) (enters.next honest)
         (λ n. met n ∙ ap (λ (b : Bool). is_met files.others n || (b && ((id_of found.place).number == n)))
         (at-is index wide found old new enters.holds honest))
-        ∙ ap (λ (k : ℕ). found.place ∷ (entered_to_come index old later.entered
-        ++ lost_files t (is_known index old later) k (t.slots + 1 - k))) (sym next);
+        ∙ ap (λ (k : ℕ). found.place ∷ (entered_to_come index wide old later.entered
+        ++ lost_files t (is_known index wide old later) k (t.slots + 1 - k))) (sym next);
     fewer = omega (arith, enters.fewer, next);
     holds = enters.holds;
   }
 
 -- No more are.
-module _ (index : Index) (files : AllFiles) (left : EnteredFiles) (old mid new : Disk)
-    (ended : EntersNoMore index files.entered left old mid) where
-  first-others : IsTrue old.honest → files_to_come index old files ≡ others_to_come (table index old) (is_met files.others) files.others
+module _ (index wide : Index) (files : AllFiles) (left : EnteredFiles) (old mid new : Disk)
+    (ended : EntersNoMore index wide files.entered left old mid) where
+  first-others : IsTrue old.honest → files_to_come index wide old files ≡ others_to_come (table index old) (is_met files.others) files.others
   unfolding files_to_come
   first-others honest =
       turn-behind (stands_in (table index old)) (λ f. others_to_come (table index old) f files.others) (is_met files.others)
-      (entered_to_come index old files.entered) (ended.none honest)
+      (entered_to_come index wide old files.entered) (ended.none honest)
 
-  later-others : (others : Unmet) → IsTrue old.honest → files_to_come index old (record { entered = left; others = others })
+  later-others : (others : Unmet) → IsTrue old.honest → files_to_come index wide old (record { entered = left; others = others })
       ≡ others_to_come (table index old) (is_met others) others
   unfolding files_to_come
   later-others others honest =
       turn-behind (stands_in (table index old)) (λ f. others_to_come (table index old) f others) (is_met others)
-      (entered_to_come index old left) (ended.ended honest)
+      (entered_to_come index wide old left) (ended.ended honest)
 
   same : table index mid ≡ table index old
   same = ap (λ (i : Image). table_in i index) ended.reads.1.image
 
   -- the next file is another
-  pub gives-other : (wide : Index) (others : Unmet) (found : FileAt)
+  pub gives-other : (others : Unmet) (found : FileAt)
       → FindsOther (is_met files.others) index files.others others found mid new → is_met others ≡ is_met files.others
       → GivesFile index wide files (record { entered = left; others = others }) found old new
   unfolding files_left
-  gives-other wide others found finds met = record {
+  gives-other others found finds met = record {
     next = λ honest.
         let known : ℕ → Bool = is_met files.others in
         first-others honest
@@ -122,7 +122,7 @@ module _ (index : Index) (files : AllFiles) (left : EnteredFiles) (old mid new :
 
   -- or none is left
   pub no-file : (others : Unmet) → FindsNoOther (is_met files.others) index files.others others mid new
-      → is_met others ≡ is_met files.others → HasNoFile index files (record { entered = left; others = others }) old new
+      → is_met others ≡ is_met files.others → HasNoFile index wide files (record { entered = left; others = others }) old new
   no-file others none met = record {
     none = λ honest.
         first-others honest
@@ -137,41 +137,41 @@ module _ (index : Index) (files : AllFiles) (left : EnteredFiles) (old mid new :
   }
 
 -- the same files are to come where the image is the same
-pub files-later : (index : Index) (files : AllFiles) (old now : Disk) → now.image ≡ old.image
-    → files_to_come index now files ≡ files_to_come index old files
+pub files-later : (index wide : Index) (files : AllFiles) (old now : Disk) → now.image ≡ old.image
+    → files_to_come index wide now files ≡ files_to_come index wide old files
 unfolding files_to_come
-files-later index files old now image =
+files-later index wide files old now image =
     ap (λ ps. ps ++ others_to_come (table index now) (λ n. is_met files.others n || is_among (table index now) ps n) files.others)
-    (entered-later index old now image files.entered)
-    ∙ ap (λ (i : Image). entered_to_come index old files.entered ++ others_to_come (table_in i index)
-    (λ n. is_met files.others n || is_among (table_in i index) (entered_to_come index old files.entered) n) files.others)
+    (entered-later index wide old now image files.entered)
+    ∙ ap (λ (i : Image). entered_to_come index wide old files.entered ++ others_to_come (table_in i index)
+    (λ n. is_met files.others n || is_among (table_in i index) (entered_to_come index wide old files.entered) n) files.others)
     image
 
 -- what was read for the next file, found or not
 pub next-reads : (index wide : Index) (files later : AllFiles) (old new : Disk) (result : Result (Option FileAt) DeviceFault)
     → IfOk result (λ answer. IfSome answer (λ found. GivesFile index wide files later found old new))
-    → IfOk result (λ answer. IfNone answer (HasNoFile index files later old new)) → OnErr result (Reads old new 1)
+    → IfOk result (λ answer. IfNone answer (HasNoFile index wide files later old new)) → OnErr result (Reads old new 1)
     → (faults : ℕ) × Reads old new faults
 next-reads index wide files later old new (Ok (Some found)) gives none fails = (0, at-reads index wide found old new gives.holds)
 next-reads index wide files later old new (Ok None) gives none fails = (0, none.reads)
 next-reads index wide files later old new (Err fault) gives none fails = (1, fails)
 
 -- a walk begins
-pub begins-walk : (index : Index) (id : FileId) (files : AllFiles) (old new : Disk)
-    → OpensMaster index id files.entered.directories.master old new → files.entered.hand ≡ None → IsNew files.entered.directories.others
-    → IsNew files.others → BeginsWalk index id files old new
+pub begins-walk : (index wide : Index) (id : FileId) (files : AllFiles) (old new : Disk)
+    → OpensMaster index wide id files.entered.directories.master old new → files.entered.hand ≡ None → IsNew files.entered.directories.others
+    → IsNew files.others → BeginsWalk index wide id files old new
 unfolding files_to_come
-begins-walk index id files old new opens empty directories others = record {
+begins-walk index wide id files old new opens empty directories others = record {
   walking = (rw empty tt, opens.reading);
   all = λ honest.
       let t : Table = table index old in
-      let all : List Place = entered_files old.image t id in
-      let entered : entered_to_come index old files.entered ≡ all =
-      ap (λ (h : Option OpenDirectory). hand_to_come index old h
-      ++ flat_map (places_in old.image t) (directories_to_come index old files.entered.directories)) empty
-      ∙ ap (flat_map (places_in old.image t)) (all-to-come index id files.entered.directories old new opens directories honest) in
+      let all : List Place = entered_files wide old.image t id in
+      let entered : entered_to_come index wide old files.entered ≡ all =
+      ap (λ (h : Option OpenDirectory). hand_to_come index wide old h
+      ++ flat_map (places_in wide old.image t) (directories_to_come index wide old files.entered.directories)) empty
+      ∙ ap (flat_map (places_in wide old.image t)) (all-to-come index wide id files.entered.directories old new opens directories honest) in
       let count : t.slots + 1 - 1 ≡ t.slots = omega arith in
-      turn-begin (stands_in t) (λ f. others_to_come t f files.others) (is_met files.others) (entered_to_come index old files.entered) all
+      turn-begin (stands_in t) (λ f. others_to_come t f files.others) (is_met files.others) (entered_to_come index wide old files.entered) all
       entered others.none
       ∙ ap (λ (k : ℕ). all ++ lost_files t (is_among t all) k (t.slots + 1 - k)) others.first
       ∙ ap (λ (c : ℕ). all ++ lost_files t (is_among t all) 1 c) count;
@@ -179,11 +179,11 @@ begins-walk index id files old new opens empty directories others = record {
 }
 
 -- no file is left out
-pub none-left-out : (image : Image) (index : Index) (master : FileId) (n : ℕ) → is_first (table_in image index) n ≡ true
-    → is_among (table_in image index) (all_files image (table_in image index) master) n ≡ true
-none-left-out image index master n is =
+pub none-left-out : (wide : Index) (image : Image) (index : Index) (master : FileId) (n : ℕ) → is_first (table_in image index) n ≡ true
+    → is_among (table_in image index) (all_files wide image (table_in image index) master) n ≡ true
+none-left-out wide image index master n is =
     let t : Table = table_in image index in
-    let entered : List Place = entered_files image t master in
+    let entered : List Place = entered_files wide image t master in
     list_any-append (λ p. is_id_of_file t (id_of p) && ((id_of p).number == n)) entered (lost_files t (is_among t entered) 1 t.slots)
     ∙ elim (cases_Bool (is_among t entered n)) [
       | inl met ↦ ap (λ b. b || is_among t (lost_files t (is_among t entered) 1 t.slots) n) met

@@ -13,6 +13,7 @@ use Rattle.f11_index.specs.Table.{IsFile, Table, table_in}
 use Rattle.f11_rad50.specs.Name.{IsName}
 use Rattle.f11_reader.specs.Reading.{OpensSlot, header_in_hand, id_in_hand}
 use Rattle.f11_reader.specs.declared.file.FileReader.{FileReader}
+use Rattle.f11_store.specs.File.{File}
 use Rattle.f11_store.specs.declared.files.FileId.{FileId}
 use Rattle.f11_store.specs.declared.refusals.Refusal.TheVariants.{NotDirectory}
 use Rattle.f11_catalog.specs.AllDirectories.{DirectoryAt, all_directories, directories_under, directory_by, directory_in, directory_under}
@@ -23,9 +24,10 @@ use Rattle.f11_catalog.specs.GoingOver.{ComesToDirectory, FindsNamed, FindsNoNam
 use Rattle.f11_catalog.specs.GoingOver.{HasNoDirectory, IsUnderItsName, OpensMaster, OpensNamed, TakesInHand, at_hand, directories_left}
 use Rattle.f11_catalog.specs.GoingOver.{directories_to_come, is_gone_over, named_to_come, unnamed_to_come}
 use Rattle.f11_catalog.specs.Lines.{names_directory}
-use Rattle.f11_catalog.specs.Records.{OpensDirectory, Reads, ReadsRecord, file_named, records_of, records_to_come}
+use Rattle.f11_catalog.specs.Records.{FindsDirectory, Reads, ReadsRecord, file_found, file_named, found_to_come, index_by, records_found}
 use Rattle.f11_catalog.specs.Steps.{EntersNone, IsNew, is_met}
 use Rattle.f11_catalog.specs.declared.directory.DirectoryReader.{DirectoryReader}
+use Rattle.f11_catalog.specs.declared.found.FoundDirectory.{FoundDirectory}
 use Rattle.f11_catalog.specs.declared.directory_name.DirectoryName.{DirectoryName}
 use Rattle.f11_catalog.specs.declared.walk.state.Directories.{Directories}
 use Rattle.f11_catalog.specs.declared.walk.state.OpenDirectory.{OpenDirectory}
@@ -33,10 +35,10 @@ use Rattle.f11_catalog.specs.declared.walk.state.Unmet.{Unmet}
 use Rattle.f11_catalog.proofs.ComingLemmas.{named-none as no-file-named}
 use Rattle.f11_catalog.proofs.DirectoryLemmas.{by-name, readable-names, refused-none}
 use Rattle.f11_catalog.proofs.ListingLemmas.{coming-later, reads-none, reads-then}
-use Rattle.f11_catalog.proofs.OpenLemmas.{begins, no-directory}
+use Rattle.f11_catalog.proofs.OpenLemmas.{OpensDirectory, begins, finds-in-use, is-refused}
 use Rattle.f11_catalog.proofs.ScanLemmas.{SeesNone, none-first, none-here, sees-front}
 use Rattle.f11_catalog.proofs.TurnLemmas.{turn-begin, turn-behind, turn-first}
-use Rattle.f11_catalog.proofs.WalkLemmas.{Passed, before-mid, passed-to}
+use Rattle.f11_catalog.proofs.WalkLemmas.{Passed, before-mid, passed-on, passed-to}
 
 -- the directory that is called so and has this identification
 abbrev pub called : DirectoryName → FileId → DirectoryAt
@@ -47,72 +49,83 @@ abbrev has_number : DirectoryAt → ℕ → Bool
 has_number directory n = directory.id.number == n
 
 -- The same directories are to come where the image is the same.
-module _ (index : Index) (old now : Disk) where
-  pub named-later : now.image ≡ old.image → (master : Option DirectoryReader)
-      → named_to_come index now master ≡ named_to_come index old master
+module _ (index wide : Index) (old now : Disk) where
+  pub named-later : now.image ≡ old.image → (master : Option FoundDirectory)
+      → named_to_come index wide now master ≡ named_to_come index wide old master
   named-later image None = refl
   named-later image (Some master) =
-      ap (λ (i : Image). directories_under i (table_in i index) (records_to_come index now master)) image
-      ∙ ap (directories_under old.image (table index old)) (coming-later index old now master image)
+      ap (λ (i : Image). directories_under wide i (table_in i index) (found_to_come index wide now master)) image
+      ∙ ap (directories_under wide old.image (table index old))
+      (coming-later (index_by master.in_use index wide) old now master.directory image)
 
   pub directories-later : now.image ≡ old.image → (directories : Directories)
-      → directories_to_come index now directories ≡ directories_to_come index old directories
+      → directories_to_come index wide now directories ≡ directories_to_come index wide old directories
   unfolding directories_to_come
   directories-later image directories =
       ap (λ (ds : List DirectoryAt). ds
       ++ unnamed_to_come now.image (table index now) (λ n. is_met directories.others n || is_named ds n) directories.others)
       (named-later image directories.master)
-      ∙ ap (λ (i : Image). named_to_come index old directories.master
-      ++ unnamed_to_come i (table_in i index) (is_gone_over index old directories) directories.others) image
+      ∙ ap (λ (i : Image). named_to_come index wide old directories.master
+      ++ unnamed_to_come i (table_in i index) (is_gone_over index wide old directories) directories.others) image
 
   -- behind what was read a directory is taken in hand
-  pub takes-behind : Reads old now 0 → (hand : OpenDirectory) (new : Disk) → TakesInHand index hand now new
-      → TakesInHand index hand old new
+  pub takes-behind : Reads old now 0 → (hand : OpenDirectory) (new : Disk) → TakesInHand index wide hand now new
+      → TakesInHand index wide hand old new
   takes-behind reads hand new takes = record {
     reading = takes.reading;
     records = λ honest.
-        sym (coming-later index old now hand.directory reads.1.image)
+        sym (coming-later (index_by hand.found.in_use index wide) old now hand.found.directory reads.1.image)
         ∙ takes.records (reads.1.honest ∙ honest)
-        ∙ ap (λ (i : Image). records_of i (table_in i index) hand.id) reads.1.image;
+        ∙ ap (λ (i : Image). records_found wide i (table_in i index) hand.id) reads.1.image;
     reads = reads-then reads takes.reads;
   }
 
 -- A record of the master file directory that has a name.
-module _ (bytes : List ℕ) (r : Record) (is : r ≡ record_of_bytes bytes) (index : Index) (name : List ℕ)
+module _ (bytes : List ℕ) (r : Record) (is : r ≡ record_of_bytes bytes) (index wide : Index) (name : List ℕ)
     (named : SomeIff (Some name) ((r.id.number ≢ 0) × IsName r.words) r.words) (old new : Disk) where
-  gives : (image : Image) (t : Table) → directory_under image t bytes ≡ directory_in image t r.id (directory_called name)
-  gives image t = by-name bytes r is [] (directory_by image t) name named
+  gives : (image : Image) (t : Table)
+      → directory_under wide image t bytes ≡ directory_in (file_found wide image t r.id) r.id (directory_called name)
+  gives image t = by-name bytes r is [] (λ id. directory_by (file_found wide image t id) id) name named
 
   -- it names no directory
-  pub named-none : EntersNone (λ image t. directory_in image t r.id (directory_called name)) index old new
-      → EntersNone (λ image t. directory_under image t bytes) index old new
+  pub named-none : EntersNone (λ image t. directory_in (file_found wide image t r.id) r.id (directory_called name)) index old new
+      → EntersNone (λ image t. directory_under wide image t bytes) index old new
   named-none none = record { none = λ honest. gives old.image (table index old) ∙ none.none honest; reads = none.reads }
 
   -- or one
-  pub named-opens : (hand : OpenDirectory) → OpensNamed (λ image t. directory_in image t r.id (directory_called name)) index hand old new
-      → OpensNamed (λ image t. directory_under image t bytes) index hand old new
+  pub named-opens : (hand : OpenDirectory)
+      → OpensNamed (λ image t. directory_in (file_found wide image t r.id) r.id (directory_called name)) index wide hand old new
+      → OpensNamed (λ image t. directory_under wide image t bytes) index wide hand old new
   named-opens hand opens =
       record { one = λ honest. gives old.image (table index old) ∙ opens.one honest; takes = opens.takes }
 
 -- The next directory was opened behind records that name none.
-pub directory-comes : (index : Index) (first here : DirectoryReader) (old now : Disk)
-    → Passed (λ image t. directory_under image t) index first here old now
-    → (later : DirectoryReader) (r : Record) (mid : Disk) (read : ReadsRecord index here later r now mid) (next : Disk)
-    (hand : OpenDirectory)
-    → OpensNamed (λ image t. directory_under image t read.bytes) index hand mid next → ComesToDirectory index first later hand old next
-directory-comes index first here old now passed later r mid read next hand opens = record {
-  comes = passed-to (λ image t. directory_under image t) index first here old now passed later r mid read next (at_hand hand ∷ [])
-      opens.one opens.takes.reads;
-  takes = takes-behind index old mid (before-mid (λ image t. directory_under image t) index first here old now passed later r mid read)
-      hand next opens.takes;
-}
+module _ (by index wide : Index) (first here : DirectoryReader) (old now : Disk)
+    (passed : Passed (λ image _. directory_under wide image (table_in image index)) by first here old now) (later : DirectoryReader) (r : Record)
+    (mid : Disk) (read : ReadsRecord by here later r now mid) where
+  abbrev under : Image → Table → List ℕ → List DirectoryAt
+  under image t = directory_under wide image (table_in image index)
+
+  pub directory-comes : (next : Disk) (hand : OpenDirectory)
+      → OpensNamed (λ image t. directory_under wide image t read.bytes) index wide hand mid next
+      → ComesToDirectory by index wide first later hand old next
+  directory-comes next hand opens = record {
+    comes = passed-to under by first here old now passed later r mid read next (at_hand hand ∷ []) opens.one opens.takes.reads;
+    takes = takes-behind index wide old mid (before-mid under by first here old now passed later r mid read) hand next opens.takes;
+  }
+
+  -- or behind more of them
+  pub directory-passed : (next : Disk) → EntersNone (λ image t. directory_under wide image t read.bytes) index mid next
+      → Passed under by first later old next
+  directory-passed next none =
+      passed-on under by first here old now passed later r mid read next (record { none = none.none; reads = none.reads })
 
 -- The master file directory names no more.
-pub no-master : (index : Index) (master : Option DirectoryReader) (disk : Disk) → master ≡ None
-    → FindsNoNamed index master master disk disk
-no-master index master disk is = record {
-  none = λ _. ap (named_to_come index disk) is;
-  ended = λ _. ap (named_to_come index disk) is;
+pub no-master : (index wide : Index) (master : Option FoundDirectory) (disk : Disk) → master ≡ None
+    → FindsNoNamed index wide master master disk disk
+no-master index wide master disk is = record {
+  none = λ _. ap (named_to_come index wide disk) is;
+  ended = λ _. ap (named_to_come index wide disk) is;
   no_more = omega arith;
   reads = reads-none disk;
 }
@@ -120,14 +133,15 @@ no-master index master disk is = record {
 -- A slot was looked at.
 module _ (index : Index) (n : ℕ) (old new : Disk) where
   -- by an identification that names no directory there is none
-  by-other : (image : Image) (t : Table) (id : FileId) → names_directory (file_named image t id) ≡ false
-      → (name : Option (List ℕ)) → directory_by image t id name ≡ []
-  by-other image t id is None = refl
-  by-other image t id is (Some words) = ap (λ (b : Bool). cond b (called (directory_called words) id ∷ []) []) is
+  by-other : (found : Option File) (id : FileId) → names_directory found ≡ false → (name : Option (List ℕ))
+      → directory_by found id name ≡ []
+  by-other found id is None = refl
+  by-other found id is (Some words) = ap (λ (b : Bool). cond b (called (directory_called words) id ∷ []) []) is
 
   -- the directory that the file has there, known or not
   abbrev own : List DirectoryAt
-  own = directory_by old.image (table index old) (id_at (table index old) n) (name_in (ident_area ((table index old).header n)))
+  own = directory_by (file_named old.image (table index old) (id_at (table index old) n)) (id_at (table index old) n)
+      (name_in (ident_area ((table index old).header n)))
 
   none-anyway : (known : ℕ → Bool) → own ≡ [] → own_directory old.image (table index old) known n ≡ []
   none-anyway known none = elim (cases_Bool (known n)) [
@@ -140,7 +154,7 @@ module _ (index : Index) (n : ℕ) (old new : Disk) where
   slot-none known none = record {
     none = λ honest.
         let t : Table = table index old in
-        none-anyway known (by-other old.image t (id_at t n)
+        none-anyway known (by-other (file_named old.image t (id_at t n)) (id_at t n)
         (ap names_directory (no-file-named old.image t (id_at t n)
         (λ m is. none.no_file honest (subst (λ (k : ℕ). IsFile t k) (sym is.number) is.file))))
         (name_in (ident_area (t.header n))));
@@ -150,7 +164,8 @@ module _ (index : Index) (n : ℕ) (old new : Disk) where
   -- or a file's is
   module _ (file : FileReader) (opens : OpensSlot index n file old new) where
     own-is : IsTrue old.honest
-        → own ≡ directory_by old.image (table index old) (id_in_hand file) (name_in (ident_area (header_in_hand file)))
+        → own ≡ directory_by (file_named old.image (table index old) (id_in_hand file)) (id_in_hand file)
+        (name_in (ident_area (header_in_hand file)))
     own-is honest =
         let t : Table = table index old in
         let header : t.header n ≡ header_in_hand file = ap t.header (sym opens.number) ∙ sym (opens.opens.header_is honest) in
@@ -158,8 +173,8 @@ module _ (index : Index) (n : ℕ) (old new : Disk) where
         ap (id_at t) (sym opens.number)
         ∙ ap (λ (h : List ℕ). record { number = file.number; sequence = file_sequence h; volume = 0 })
         (sym (opens.opens.header_is honest)) in
-        ap (λ (i : FileId). directory_by old.image t i (name_in (ident_area (t.header n)))) id
-        ∙ ap (λ (h : List ℕ). directory_by old.image t (id_in_hand file) (name_in (ident_area h))) header
+        ap (λ (i : FileId). directory_by (file_named old.image t i) i (name_in (ident_area (t.header n)))) id
+        ∙ ap (λ (h : List ℕ). directory_by (file_named old.image t (id_in_hand file)) (id_in_hand file) (name_in (ident_area h))) header
 
     -- which has no name, or is no directory
     pub own-none : (known : ℕ → Bool)
@@ -169,38 +184,41 @@ module _ (index : Index) (n : ℕ) (old new : Disk) where
       none = λ honest.
           let t : Table = table index old in
           none-anyway known (own-is honest ∙ elim other [
-            | inl nameless ↦ ap (directory_by old.image t (id_in_hand file)) nameless
+            | inl nameless ↦ ap (directory_by (file_named old.image t (id_in_hand file)) (id_in_hand file)) nameless
             | inr fails ↦
-                by-other old.image t (id_in_hand file)
+                by-other (file_named old.image t (id_in_hand file)) (id_in_hand file)
                 (refused-none (file_named old.image t (id_in_hand file)) NotDirectory
-                ((no-directory index (id_in_hand file) old new file opens.opens fails).refused honest))
+                (is-refused index (id_in_hand file) file old new opens.opens fails honest))
                 (name_in (ident_area (header_in_hand file)))
           ]);
       reads = (_, opens.opens.looked);
     }
 
     -- or is one under its own name
-    pub own-opens : (known : ℕ → Bool) → known n ≡ false → (hand : OpenDirectory) → IsUnderItsName file hand
-        → OpensNamed (λ image t. own_directory image t known n) index hand old new
-    own-opens known unmet hand under = record {
+    pub own-opens : (known : ℕ → Bool) → known n ≡ false → (hand : OpenDirectory) → IsUnderItsName file hand → (wide : Index)
+        → OpensNamed (λ image t. own_directory image t known n) index wide hand old new
+    own-opens known unmet hand under wide = record {
       one = λ honest.
           let t : Table = table index old in
           ap (λ (b : Bool). cond b [] own) unmet
           ∙ own-is honest
-          ∙ ap (directory_by old.image t (id_in_hand file)) under.named
+          ∙ ap (directory_by (file_named old.image t (id_in_hand file)) (id_in_hand file)) under.named
           ∙ ap (λ (b : Bool). cond b (called (directory_called under.words) (id_in_hand file) ∷ []) [])
           (readable-names (file_named old.image t (id_in_hand file)) (all.readable honest))
           ∙ ap (λ (name : DirectoryName). called name (id_in_hand file) ∷ []) (sym under.name)
           ∙ ap (λ (id : FileId). called hand.name id ∷ []) (sym under.id);
       takes = record {
-        reading = all.reading;
-        records = λ honest. all.records honest ∙ ap (records_of old.image (table index old)) (sym under.id);
-        reads = (_, all.looked);
+        reading = found.reading;
+        records = λ honest. found.records honest ∙ ap (records_found wide old.image (table index old)) (sym under.id);
+        reads = (_, found.looked);
       };
     }
       where
-        all : OpensDirectory index (id_in_hand file) hand.directory old new
-        all = begins index (id_in_hand file) old new file opens.opens hand.directory under.begins
+        all : OpensDirectory index (id_in_hand file) hand.found.directory old new
+        all = begins index (id_in_hand file) file old new opens.opens hand.found.directory under.begins
+
+        found : FindsDirectory index wide (id_in_hand file) hand.found old new
+        found = finds-in-use index wide (id_in_hand file) file old new opens.opens hand.found (under.in_use, under.begins)
 
 -- So many slots were looked at, and none gives a directory.
 module _ (known : ℕ → Bool) (index : Index) (first here : Unmet) (old now : Disk)
@@ -216,58 +234,59 @@ module _ (known : ℕ → Bool) (index : Index) (first here : Unmet) (old now : 
 
   -- or the next one does
   pub finds-unnamed : (later : Unmet) → here.next ≤ slots index → later.next ≡ here.next + 1 → (met : ℕ → Bool) (n : ℕ) → met ≡ known
-      → n ≡ here.next → (hand : OpenDirectory) (new : Disk) → OpensNamed (λ image t. own_directory image t met n) index hand now new
-      → FindsUnnamed known index first later hand old new
-  finds-unnamed later inside on met n same-met same-n hand new opens = record {
+      → n ≡ here.next → (hand : OpenDirectory) (new : Disk) (wide : Index)
+      → OpensNamed (λ image t. own_directory image t met n) index wide hand now new
+      → FindsUnnamed known index wide first later hand old new
+  finds-unnamed later inside on met n same-met same-n hand new wide opens = record {
     next = λ honest.
         sees-front (λ known image t. own_directory image t known) known index first here old now seen later inside on met n same-met same-n
         (at_hand hand ∷ []) opens.one honest;
     forward = omega (arith, seen.forward, on);
-    takes = takes-behind index old now seen.reads hand new opens.takes;
+    takes = takes-behind index wide old now seen.reads hand new opens.takes;
   }
 
 -- The next directory is one that the master file directory names.
-module _ (index : Index) (directories later : Directories) (hand : OpenDirectory) (old new : Disk) where
-  pub gives-named : FindsNamed index directories.master later.master hand old new
+module _ (index wide : Index) (directories later : Directories) (hand : OpenDirectory) (old new : Disk) where
+  pub gives-named : FindsNamed index wide directories.master later.master hand old new
       → ((n : ℕ) → is_met later.others n ≡ (is_met directories.others n || (hand.id.number == n)))
-      → later.others.next ≡ directories.others.next → GivesDirectory index directories later hand old new
+      → later.others.next ≡ directories.others.next → GivesDirectory index wide directories later hand old new
   unfolding directories_to_come directories_left
   gives-named finds met next = record {
     next = λ honest.
         let t : Table = table index old in
         turn-first has_number (λ f. unnamed_to_come old.image t f directories.others) (is_met directories.others) (is_met later.others)
-        (at_hand hand) (named_to_come index old directories.master) (named_to_come index old later.master) (finds.next honest) met
-        ∙ ap (λ (k : ℕ). at_hand hand ∷ (named_to_come index old later.master
-        ++ own_directories old.image t (is_gone_over index old later) k (t.slots + 1 - k))) (sym next);
+        (at_hand hand) (named_to_come index wide old directories.master) (named_to_come index wide old later.master) (finds.next honest) met
+        ∙ ap (λ (k : ℕ). at_hand hand ∷ (named_to_come index wide old later.master
+        ++ own_directories old.image t (is_gone_over index wide old later) k (t.slots + 1 - k))) (sym next);
     fewer = omega (arith, finds.fewer, next);
     takes = finds.takes;
   }
 
 -- It names no more.
-module _ (index : Index) (directories : Directories) (left : Option DirectoryReader) (old mid : Disk)
-    (ended : FindsNoNamed index directories.master left old mid) where
+module _ (index wide : Index) (directories : Directories) (left : Option FoundDirectory) (old mid : Disk)
+    (ended : FindsNoNamed index wide directories.master left old mid) where
   others-later : (f : ℕ → Bool) (others : Unmet)
       → unnamed_to_come mid.image (table index mid) f others ≡ unnamed_to_come old.image (table index old) f others
   others-later f others = ap (λ (i : Image). unnamed_to_come i (table_in i index) f others) ended.reads.1.image
 
-  first-unnamed : IsTrue old.honest → directories_to_come index old directories
+  first-unnamed : IsTrue old.honest → directories_to_come index wide old directories
       ≡ unnamed_to_come old.image (table index old) (is_met directories.others) directories.others
   unfolding directories_to_come
   first-unnamed honest =
       turn-behind has_number (λ f. unnamed_to_come old.image (table index old) f directories.others) (is_met directories.others)
-      (named_to_come index old directories.master) (ended.none honest)
+      (named_to_come index wide old directories.master) (ended.none honest)
 
-  later-unnamed : (others : Unmet) → IsTrue old.honest → directories_to_come index old (record { master = left; others = others })
+  later-unnamed : (others : Unmet) → IsTrue old.honest → directories_to_come index wide old (record { master = left; others = others })
       ≡ unnamed_to_come old.image (table index old) (is_met others) others
   unfolding directories_to_come
   later-unnamed others honest =
-      turn-behind has_number (λ f. unnamed_to_come old.image (table index old) f others) (is_met others) (named_to_come index old left)
+      turn-behind has_number (λ f. unnamed_to_come old.image (table index old) f others) (is_met others) (named_to_come index wide old left)
       (ended.ended honest)
 
   -- the next directory is another
   pub gives-unnamed : (others : Unmet) (hand : OpenDirectory) (new : Disk)
-      → FindsUnnamed (is_met directories.others) index directories.others others hand mid new → is_met others ≡ is_met directories.others
-      → GivesDirectory index directories (record { master = left; others = others }) hand old new
+      → FindsUnnamed (is_met directories.others) index wide directories.others others hand mid new → is_met others ≡ is_met directories.others
+      → GivesDirectory index wide directories (record { master = left; others = others }) hand old new
   unfolding directories_left
   gives-unnamed others hand new finds met = record {
     next = λ honest.
@@ -279,13 +298,13 @@ module _ (index : Index) (directories : Directories) (left : Option DirectoryRea
         ∙ ap (λ (f : ℕ → Bool). at_hand hand ∷ unnamed_to_come old.image (table index old) f others) (sym met)
         ∙ ap (λ ds. at_hand hand ∷ ds) (sym (later-unnamed others honest));
     fewer = omega (arith, ended.no_more, finds.forward, others.few);
-    takes = takes-behind index old mid ended.reads hand new finds.takes;
+    takes = takes-behind index wide old mid ended.reads hand new finds.takes;
   }
 
   -- or none is left
   pub no-directory-left : (others : Unmet) (new : Disk)
       → FindsNoUnnamed (is_met directories.others) index directories.others others mid new → is_met others ≡ is_met directories.others
-      → HasNoDirectory index directories (record { master = left; others = others }) old new
+      → HasNoDirectory index wide directories (record { master = left; others = others }) old new
   unfolding directories_left
   no-directory-left others new none met = record {
     none = λ honest.
@@ -302,15 +321,15 @@ module _ (index : Index) (directories : Directories) (left : Option DirectoryRea
   }
 
 -- At first all directories are to come.
-pub all-to-come : (index : Index) (id : FileId) (directories : Directories) (old new : Disk)
-    → OpensMaster index id directories.master old new → IsNew directories.others → IsTrue old.honest
-    → directories_to_come index old directories ≡ all_directories old.image (table index old) id
+pub all-to-come : (index wide : Index) (id : FileId) (directories : Directories) (old new : Disk)
+    → OpensMaster index wide id directories.master old new → IsNew directories.others → IsTrue old.honest
+    → directories_to_come index wide old directories ≡ all_directories wide old.image (table index old) id
 unfolding directories_to_come
-all-to-come index id directories old new opens begins honest =
+all-to-come index wide id directories old new opens begins honest =
     let t : Table = table index old in
-    let named : List DirectoryAt = named_directories old.image t id in
+    let named : List DirectoryAt = named_directories wide old.image t id in
     let count : t.slots + 1 - 1 ≡ t.slots = omega arith in
     turn-begin has_number (λ f. unnamed_to_come old.image t f directories.others) (is_met directories.others)
-    (named_to_come index old directories.master) named (opens.come honest) begins.none
+    (named_to_come index wide old directories.master) named (opens.come honest) begins.none
     ∙ ap (λ (k : ℕ). named ++ own_directories old.image t (is_named named) k (t.slots + 1 - k)) begins.first
     ∙ ap (λ (c : ℕ). named ++ own_directories old.image t (is_named named) 1 c) count

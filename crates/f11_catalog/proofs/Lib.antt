@@ -2,6 +2,7 @@ pub mod RecordLemmas
 pub mod FactsLemmas
 pub mod ComingLemmas
 pub mod OpenLemmas
+mod PlacesLemmas
 pub mod ListingLemmas
 pub mod SearchLemmas
 pub mod LineLemmas

@@ -14,8 +14,9 @@ use Rattle.f11_index.specs.IndexFile.{Index}
 use Rattle.f11_index.specs.Table.{Table, table_in}
 use Rattle.f11_store.specs.declared.files.FileId.{FileId}
 use Rattle.f11_catalog.specs.Listing.{Writes, WritesRest}
-use Rattle.f11_catalog.specs.Records.{OpensDirectory, Reads, records_of, records_to_come}
+use Rattle.f11_catalog.specs.Records.{FindsDirectory, Reads, index_by, records_found, records_to_come}
 use Rattle.f11_catalog.specs.declared.directory.DirectoryReader.{DirectoryReader}
+use Rattle.f11_catalog.specs.declared.found.FoundDirectory.{FoundDirectory}
 
 pub reads-none : (disk : Disk) → Reads disk disk 0
 reads-none disk = (0, looked_none disk)
@@ -87,74 +88,76 @@ unfolding records_to_come
 coming-later index old now directory image = ap (λ (i : Image). records_to_come index (record old { image = i }) directory) image
 
 -- The lines of a directory's first records were written, and those from here on are still to come.
-pub record WritesFirst {W : Type 0} (line : Image → Table → List ℕ → List ℕ) (index : Index) (first here : DirectoryReader) (old now : Disk)
+pub record WritesFirst {W : Type 0} (line : Image → Table → List ℕ → List ℕ) (index by : Index) (first here : DirectoryReader) (old now : Disk)
     (contents : W → Option (List ℕ)) (before after : W) : Type 0 where
   pub written : List ℕ
   pub takes : Appends (contents before) (contents after) written
   pub lines :
       IsTrue old.honest →
-      flat_map (line old.image (table index old)) (records_to_come index old first)
-      ≡ written ++ flat_map (line old.image (table index old)) (records_to_come index old here)
+      flat_map (line old.image (table index old)) (records_to_come by old first)
+      ≡ written ++ flat_map (line old.image (table index old)) (records_to_come by old here)
   pub reads : Reads old now 0
 
-module _ {W : Type 0} (line : Image → Table → List ℕ → List ℕ) (index : Index) (contents : W → Option (List ℕ)) where
+module _ {W : Type 0} (line : Image → Table → List ℕ → List ℕ) (index by : Index) (contents : W → Option (List ℕ)) where
   pub first-none : (first : DirectoryReader) (disk : Disk) (writer : W)
-      → WritesFirst line index first first disk disk contents writer writer
+      → WritesFirst line index by first first disk disk contents writer writer
   first-none first disk writer =
       record { written = []; takes = appends-none (contents writer); lines = λ _. refl; reads = reads-none disk }
 
   -- of which one is read
   pub first-read : {first here later : DirectoryReader} {old now next : Disk} {before after : W} (bytes : List ℕ)
-      → WritesFirst line index first here old now contents before after
-      → (IsTrue now.honest → records_to_come index now here ≡ bytes ∷ records_to_come index now later) → Reads now next 0
+      → WritesFirst line index by first here old now contents before after
+      → (IsTrue now.honest → records_to_come by now here ≡ bytes ∷ records_to_come by now later) → Reads now next 0
       → (end : Disk) (last : W)
       → Writes (λ i t. line i t bytes) index next end contents after last
-      → WritesFirst line index first later old end contents before last
+      → WritesFirst line index by first later old end contents before last
   first-read {first} {here} {later} {old} {now} {next} {before} {after} bytes so read looked end last one = record {
     written = so.written ++ one.written;
     takes = appends-then (contents before) (contents after) (contents last) so.written one.written so.takes one.takes;
     lines = λ honest.
         let image : now.image ≡ old.image = so.reads.1.image in
         let honest' : IsTrue now.honest = so.reads.1.honest ∙ honest in
-        let was : records_to_come index old here ≡ bytes ∷ records_to_come index old later =
-        sym (coming-later index old now here image) ∙ read honest' ∙ ap (λ rs. bytes ∷ rs) (coming-later index old now later image) in
+        let was : records_to_come by old here ≡ bytes ∷ records_to_come by old later =
+        sym (coming-later by old now here image) ∙ read honest' ∙ ap (λ rs. bytes ∷ rs) (coming-later by old now later image) in
         let text = one.is (looked.1.honest ∙ honest')
         ∙ ap (λ (i : Image). line i (table_in i index) bytes) (looked.1.image ∙ image) in
         so.lines honest
         ∙ ap (λ rs. so.written ++ flat_map (line old.image (table index old)) rs) was
-        ∙ ap (λ xs. so.written ++ xs) (flat_map-cons (line old.image (table index old)) bytes (records_to_come index old later))
-        ∙ ap (λ xs. so.written ++ (xs ++ flat_map (line old.image (table index old)) (records_to_come index old later))) (sym text)
-        ∙ sym (append_assoc so.written one.written (flat_map (line old.image (table index old)) (records_to_come index old later)));
+        ∙ ap (λ xs. so.written ++ xs) (flat_map-cons (line old.image (table index old)) bytes (records_to_come by old later))
+        ∙ ap (λ xs. so.written ++ (xs ++ flat_map (line old.image (table index old)) (records_to_come by old later))) (sym text)
+        ∙ sym (append_assoc so.written one.written (flat_map (line old.image (table index old)) (records_to_come by old later)));
     reads = reads-then so.reads (reads-then looked one.reads);
   }
 
   -- and none is left
   pub first-all : {first here : DirectoryReader} {old now : Disk} {before after : W}
-      → WritesFirst line index first here old now contents before after
-      → (IsTrue now.honest → records_to_come index now here ≡ []) → (new : Disk) → Reads now new 0
-      → Writes (λ i t. flat_map (line i t) (records_to_come index old first)) index old new contents before after
+      → WritesFirst line index by first here old now contents before after
+      → (IsTrue now.honest → records_to_come by now here ≡ []) → (new : Disk) → Reads now new 0
+      → Writes (λ i t. flat_map (line i t) (records_to_come by old first)) index old new contents before after
   first-all {first} {here} {old} {now} so none new looked = record {
     written = so.written;
     is = λ honest.
         let image : now.image ≡ old.image = so.reads.1.image in
-        let left : records_to_come index old here ≡ [] = sym (coming-later index old now here image) ∙ none (so.reads.1.honest ∙ honest) in
+        let left : records_to_come by old here ≡ [] = sym (coming-later by old now here image) ∙ none (so.reads.1.honest ∙ honest) in
         sym (so.lines honest ∙ ap (λ rs. so.written ++ flat_map (line old.image (table index old)) rs) left ∙ append-nil so.written);
     takes = so.takes;
     reads = reads-then so.reads looked;
   }
 
--- a directory was opened, and the text of its records written
-pub lists-all : {W : Type 0} (text : Image → Table → List (List ℕ) → List ℕ) (index : Index) (id : FileId) (contents : W → Option (List ℕ))
-    {directory : DirectoryReader} {old mid new : Disk} {before after : W} → OpensDirectory index id directory old mid
-    → WritesRest text index directory mid new contents before after
-    → Writes (λ image t. text image t (records_of image t id)) index old new contents before after
-lists-all text index id contents {directory} {old} {mid} opens rest = record {
+-- a directory was found, and the text of its records written
+pub lists-all : {W : Type 0} (text : Image → Table → List (List ℕ) → List ℕ) (index wide by : Index) (id : FileId)
+    (contents : W → Option (List ℕ)) {found : FoundDirectory} {old mid new : Disk} {before after : W}
+    → FindsDirectory index wide id found old mid → by ≡ index_by found.in_use index wide
+    → WritesRest text index by found.directory mid new contents before after
+    → Writes (λ image t. text image t (records_found wide image t id)) index old new contents before after
+lists-all text index wide by id contents {found} {old} {mid} finds is rest = record {
   written = rest.written;
   is = λ honest.
       let t = table index old in
-      rest.is (opens.looked.honest ∙ honest)
-      ∙ said-later (λ image t. text image t (records_to_come index mid directory)) index opens.looked
-      ∙ ap (text old.image t) (coming-later index old mid directory opens.looked.image ∙ opens.records honest);
+      rest.is (finds.looked.honest ∙ honest)
+      ∙ said-later (λ image t. text image t (records_to_come by mid found.directory)) index finds.looked
+      ∙ ap (text old.image t) (coming-later by old mid found.directory finds.looked.image
+      ∙ ap (λ (i : Index). records_to_come i old found.directory) is ∙ finds.records honest);
   takes = rest.takes;
-  reads = reads-then (_, opens.looked) rest.reads;
+  reads = reads-then (_, finds.looked) rest.reads;
 }

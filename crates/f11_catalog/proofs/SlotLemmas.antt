@@ -42,13 +42,13 @@ slot-of image index n is =
     (omega (arith, some), omega (arith, few))
 
 -- no directory is left out
-pub no-directory-left-out : (image : Image) (index : Index) (master : FileId) (n : ℕ) (name : List ℕ)
+pub no-directory-left-out : (wide : Index) (image : Image) (index : Index) (master : FileId) (n : ℕ) (name : List ℕ)
     → is_first (table_in image index) n ≡ true → is_directory (file_of image (table_in image index) n) ≡ true
     → name_in (ident_area ((table_in image index).header n)) ≡ Some name
-    → is_named (all_directories image (table_in image index) master) n ≡ true
-no-directory-left-out image index master n name is directory has =
+    → is_named (all_directories wide image (table_in image index) master) n ≡ true
+no-directory-left-out wide image index master n name is directory has =
     let t : Table = table_in image index in
-    let named : List DirectoryAt = named_directories image t master in
+    let named : List DirectoryAt = named_directories wide image t master in
     let slot = slot-of image index n is in
     let names : names_directory (file_named image t (id_at t n)) ≡ true =
     ap names_directory (named-some image t (id_at t n) n (its-own t n is)) ∙ directory in
@@ -57,8 +57,8 @@ no-directory-left-out image index master n name is directory has =
       | inl met ↦ ap (λ b. b || is_named (own_directories image t (is_named named) 1 t.slots) n) met
       | inr unmet ↦
           let own : own_directory image t (is_named named) n ≡ called (directory_called name) (id_at t n) ∷ [] =
-          ap (λ (b : Bool). cond b [] (directory_by image t (id_at t n) (name_in (ident_area (t.header n))))) unmet
-          ∙ ap (directory_by image t (id_at t n)) has
+          ap (λ (b : Bool). cond b [] (directory_by (file_named image t (id_at t n)) (id_at t n) (name_in (ident_area (t.header n))))) unmet
+          ∙ ap (directory_by (file_named image t (id_at t n)) (id_at t n)) has
           ∙ ap (λ (b : Bool). cond b (called (directory_called name) (id_at t n) ∷ []) []) names in
           ap (λ b. is_named named n || b)
           (among-numbers (λ d. d.id.number == n) (own_directory image t (is_named named)) n

@@ -2,7 +2,7 @@
 use Rattle.std.proofs.Common.{◌≡◌, ℕ, ◌==◌, ◌&&◌, Bool, true, false, List, [], Option, Some, None, cond, nat_le, option_map, unwrap_or}
 use Rattle.std.proofs.Common.{refl, sym, ap, ◌∙◌}
 use Rattle.std.proofs.lemmas.Bool.{eq-eqb, eqb-true}
-use Rattle.std.specs.Option.{option_and_then}
+use Rattle.std.specs.Option.{option_and_then, option_or}
 use Rattle.f11_dev.specs.Image.{Image}
 use Rattle.f11_volume.specs.home.Home.{HomeFields}
 use Rattle.f11_image_store.specs.StoreOf.{as_seen, file_at, is_first, store_of}
@@ -15,7 +15,7 @@ use Rattle.f11_store.specs.declared.files.FileId.{FileId}
 use Rattle.f11_volume.specs.Contents.{file_of}
 use Rattle.f11_catalog.specs.Lines.{name_shown, named_line, record_line}
 use Rattle.f11_catalog.specs.Laws.{file_stored, with_own_blocks}
-use Rattle.f11_catalog.specs.Records.{file_named, is_id_of_file, records_of}
+use Rattle.f11_catalog.specs.Records.{file_found, file_named, is_id_of_file, records_of}
 
 -- a file as requests see it has its sequence number, and from file 4 on is what it is
 seen-sequence : (n : ℕ) (f : File) → (as_seen n f).sequence ≡ f.sequence
@@ -97,6 +97,11 @@ pub listed-entries : (image : Image) (home : HomeFields) (id : FileId) → id.vo
     → records_of image (table_of image home) id ≡ entries_of (store.file_named (store_of image home) id)
 listed-entries image home id here high =
     ap (λ (o : Option File). entries_of (unwrap_or o no_file)) (sym (stored-alike image home id here high))
+
+pub found-stored : (wide : Index) (image : Image) (home : HomeFields) (id : FileId) (f : File) → id.volume ≡ 0 → nat_le id.number 3 ≡ false
+    → store.file_of (store_of image home) id ≡ Some f → file_found wide image (table_of image home) id ≡ Some f
+found-stored wide image home id f here high is =
+    ap (λ (o : Option File). option_or o (file_named image (table_in image wide) id)) (sym (stored-alike image home id here high) ∙ is)
 
 pub shown-file : (wide : Index) (image : Image) (home : HomeFields) (r : List ℕ) → is_empty r ≡ false → (record_id r).volume ≡ 0
     → nat_le (record_id r).number 3 ≡ false

@@ -21,7 +21,7 @@ use Rattle.f11_catalog.specs.AllFiles.{id_of, place_entered}
 use Rattle.f11_catalog.specs.Contents.{Holds}
 use Rattle.f11_catalog.specs.Lines.{name_found}
 use Rattle.f11_catalog.specs.Records.{HasNoRecord, Reads, ReadsRecord}
-use Rattle.f11_catalog.specs.Records.{is_id_of_file, records_to_come}
+use Rattle.f11_catalog.specs.Records.{file_found, is_id_of_file, records_to_come}
 use Rattle.f11_catalog.specs.Steps.{ComesTo, EntersNone, HasNoneLeft}
 use Rattle.f11_catalog.specs.Walking.{EntersOne, HoldsAt, OpensAt}
 use Rattle.f11_catalog.specs.declared.directory.DirectoryReader.{DirectoryReader}
@@ -81,10 +81,11 @@ module _ (bytes : List ℕ) (r : Record) (is : r ≡ record_of_bytes bytes) (nam
       number none = let no : true ≡ false = sym (decides.1 none) ∙ some in absurd cc
 
 -- A record of the master file directory that has no name.
-pub no-name-directory : (bytes : List ℕ) (r : Record) → r ≡ record_of_bytes bytes → (index : Index) (disk : Disk)
-    → SomeIff None ((r.id.number ≢ 0) × IsName r.words) r.words → EntersNone (λ image t. directory_under image t bytes) index disk disk
-no-name-directory bytes r is index disk named = record {
-  none = λ honest. by-no-name bytes r is [] (directory_by disk.image (table index disk)) named (λ id. refl);
+pub no-name-directory : (bytes : List ℕ) (r : Record) → r ≡ record_of_bytes bytes → (index wide : Index) (disk : Disk)
+    → SomeIff None ((r.id.number ≢ 0) × IsName r.words) r.words → EntersNone (λ image t. directory_under wide image t bytes) index disk disk
+no-name-directory bytes r is index wide disk named = record {
+  none = λ honest.
+      by-no-name bytes r is [] (λ id. directory_by (file_found wide disk.image (table index disk) id) id) named (λ id. refl);
   reads = reads-none disk;
 }
 

@@ -6,12 +6,14 @@ use Rattle.std.specs.List.{flat_map, list_any, range_with_len}
 use Rattle.f11_bytes.specs.Words.{word}
 use Rattle.f11_dev.specs.Image.{Image}
 use Rattle.f11_header.specs.Fields.{ident_area}
+use Rattle.f11_index.specs.IndexFile.{Index}
 use Rattle.f11_index.specs.Table.{Table, last_sequence}
 use Rattle.f11_store.specs.Directory.{is_empty, record_id, record_name}
+use Rattle.f11_store.specs.File.{File}
 use Rattle.f11_store.specs.declared.files.FileId.{FileId}
 use Rattle.f11_catalog.specs.DirectoryNames.{directory_called}
 use Rattle.f11_catalog.specs.Lines.{name_found, names_directory}
-use Rattle.f11_catalog.specs.Records.{file_named, records_of}
+use Rattle.f11_catalog.specs.Records.{file_found, file_named, records_found}
 use Rattle.f11_catalog.specs.declared.directory_name.DirectoryName.{DirectoryName}
 
 -- a directory: what it is called, and its identification
@@ -31,41 +33,43 @@ words_in ident = word ident 0 ∷ word ident 2 ∷ word ident 4 ∷ word ident 6
 abbrev pub name_in : List ℕ → Option (List ℕ)
 name_in ident = name_found (words_in ident)
 
--- the directory with an identification, called so, if it is one
-abbrev pub directory_in : Image → Table → FileId → DirectoryName → List DirectoryAt
-directory_in image t id name = if names_directory (file_named image t id) then record { name = name; id = id } ∷ [] else []
+-- the file that was found under an identification as a directory, called so, if it is one
+abbrev pub directory_in : Option File → FileId → DirectoryName → List DirectoryAt
+directory_in found id name = if names_directory found then record { name = name; id = id } ∷ [] else []
 
--- the one that has this name, if that is one
-abbrev pub directory_by : Image → Table → FileId → Option (List ℕ) → List DirectoryAt
-directory_by image t id (Some words) = directory_in image t id (directory_called words)
-directory_by image t id None = []
+-- under this name, if that is one
+abbrev pub directory_by : Option File → FileId → Option (List ℕ) → List DirectoryAt
+directory_by found id (Some words) = directory_in found id (directory_called words)
+directory_by found id None = []
 
--- the directory that a record names, if it names one
-abbrev pub directory_under : Image → Table → List ℕ → List DirectoryAt
-directory_under image t r = if is_empty r then [] else directory_by image t (record_id r) (name_found (record_name r))
+-- the directory that a record names, if it names one, whether or not its slot is in use
+abbrev pub directory_under : Index → Image → Table → List ℕ → List DirectoryAt
+directory_under wide image t r =
+    if is_empty r then [] else directory_by (file_found wide image t (record_id r)) (record_id r) (name_found (record_name r))
 
 -- those that records name, in their order
-abbrev pub directories_under : Image → Table → List (List ℕ) → List DirectoryAt
-directories_under image t records = flat_map (directory_under image t) records
+abbrev pub directories_under : Index → Image → Table → List (List ℕ) → List DirectoryAt
+directories_under wide image t records = flat_map (directory_under wide image t) records
 
 -- those that the master file directory names, where it can be read
-abbrev pub named_directories : Image → Table → FileId → List DirectoryAt
-named_directories image t master =
-    if names_directory (file_named image t master) then directories_under image t (records_of image t master) else []
+abbrev pub named_directories : Index → Image → Table → FileId → List DirectoryAt
+named_directories wide image t master = if names_directory (file_found wide image t master)
+    then directories_under wide image t (records_found wide image t master) else []
 
 -- file n is one of these
 abbrev pub is_named : List DirectoryAt → ℕ → Bool
 is_named directories n = list_any (λ d. d.id.number == n) directories
 
--- the directory that file n is, under its own name, if it is one, has one, and isn't known from elsewhere
+-- the directory that file n is, whose slot is in use, under its own name, if it is one, has one, and isn't known from elsewhere
 abbrev pub own_directory : Image → Table → (ℕ → Bool) → ℕ → List DirectoryAt
-own_directory image t known n = if known n then [] else directory_by image t (id_at t n) (name_in (ident_area (t.header n)))
+own_directory image t known n =
+    if known n then [] else directory_by (file_named image t (id_at t n)) (id_at t n) (name_in (ident_area (t.header n)))
 
 -- those of so many files from a number on, in the order of their numbers
 abbrev pub own_directories : Image → Table → (ℕ → Bool) → ℕ → ℕ → List DirectoryAt
 own_directories image t known first count = flat_map (own_directory image t known) (range_with_len first count)
 
 -- all directories: what the master file directory names, one that it names twice in both places, and then those that it doesn't name
-abbrev pub all_directories : Image → Table → FileId → List DirectoryAt
-all_directories image t master =
-    named_directories image t master ++ own_directories image t (is_named (named_directories image t master)) 1 t.slots
+abbrev pub all_directories : Index → Image → Table → FileId → List DirectoryAt
+all_directories wide image t master =
+    named_directories wide image t master ++ own_directories image t (is_named (named_directories wide image t master)) 1 t.slots

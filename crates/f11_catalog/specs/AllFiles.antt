@@ -5,12 +5,13 @@ use Rattle.std.specs.List.{flat_map, list_any, range_with_len}
 use Rattle.f11_dev.specs.Image.{Image}
 use Rattle.f11_header.specs.Fields.{ident_area}
 use Rattle.f11_image_store.specs.StoreOf.{is_first}
+use Rattle.f11_index.specs.IndexFile.{Index}
 use Rattle.f11_index.specs.Table.{Table}
 use Rattle.f11_store.specs.Directory.{is_empty, record_id, record_name}
 use Rattle.f11_store.specs.declared.files.FileId.{FileId}
 use Rattle.f11_catalog.specs.AllDirectories.{DirectoryAt, all_directories, id_at, name_in}
 use Rattle.f11_catalog.specs.Lines.{name_found}
-use Rattle.f11_catalog.specs.Records.{is_id_of_file, records_of}
+use Rattle.f11_catalog.specs.Records.{is_id_of_file, records_found}
 use Rattle.f11_catalog.specs.declared.directory_name.DirectoryName.{DirectoryName}
 use Rattle.f11_catalog.specs.declared.walk.place.Place.{Place}
 use Rattle.f11_catalog.specs.declared.walk.place.Place.TheVariants.{Entered, Lost}
@@ -29,12 +30,12 @@ abbrev pub places_entered : DirectoryName → List (List ℕ) → List Place
 places_entered directory records = flat_map (place_entered directory) records
 
 -- the places in a directory
-abbrev pub places_in : Image → Table → DirectoryAt → List Place
-places_in image t directory = places_entered directory.name (records_of image t directory.id)
+abbrev pub places_in : Index → Image → Table → DirectoryAt → List Place
+places_in wide image t directory = places_entered directory.name (records_found wide image t directory.id)
 
 -- the places in all directories
-abbrev pub entered_files : Image → Table → FileId → List Place
-entered_files image t master = flat_map (places_in image t) (all_directories image t master)
+abbrev pub entered_files : Index → Image → Table → FileId → List Place
+entered_files wide image t master = flat_map (places_in wide image t) (all_directories wide image t master)
 
 -- file n stands in one of these places
 abbrev pub is_among : Table → List Place → ℕ → Bool
@@ -49,6 +50,6 @@ abbrev pub lost_files : Table → (ℕ → Bool) → ℕ → ℕ → List Place
 lost_files t known first count = flat_map (place_lost t known) (range_with_len first count)
 
 -- all files: what directories name, a file that is entered twice in both places, and then the files that none names
-abbrev pub all_files : Image → Table → FileId → List Place
-all_files image t master =
-    entered_files image t master ++ lost_files t (is_among t (entered_files image t master)) 1 t.slots
+abbrev pub all_files : Index → Image → Table → FileId → List Place
+all_files wide image t master =
+    entered_files wide image t master ++ lost_files t (is_among t (entered_files wide image t master)) 1 t.slots

@@ -1,5 +1,5 @@
 -- What the steps from one directory to the next tell, and which directories are still to come (profile).
-use Rattle.std.specs.Prelude.{◌≡◌, ℕ, ◌+◌, ◌-◌, ◌<◌, ◌≤◌, ◌||◌, Bool, IsTrue, List, [], ◌∷◌, ◌++◌}
+use Rattle.std.specs.Prelude.{◌≡◌, ℕ, ◌+◌, ◌-◌, ◌<◌, ◌≤◌, ◌||◌, Bool, true, IsTrue, List, [], ◌∷◌, ◌++◌}
 use Rattle.std.specs.Prelude.{Option, Some, None, IfSome}
 use Rattle.f11_chain.specs.Calls.{table}
 use Rattle.f11_dev.specs.Disk.{Disk}
@@ -7,47 +7,49 @@ use Rattle.f11_dev.specs.Image.{Image}
 use Rattle.f11_dev.specs.Looked.{Looked}
 use Rattle.f11_header.specs.Fields.{ident_area}
 use Rattle.f11_index.specs.IndexFile.{Index}
-use Rattle.f11_index.specs.Table.{Table}
+use Rattle.f11_index.specs.Table.{Table, table_in}
 use Rattle.f11_reader.specs.Reading.{header_in_hand, id_in_hand}
 use Rattle.f11_reader.specs.declared.file.FileReader.{FileReader}
 use Rattle.f11_store.specs.declared.files.FileId.{FileId}
 use Rattle.f11_catalog.specs.AllDirectories.{DirectoryAt, directories_under, directory_under, is_named, name_in, named_directories}
 use Rattle.f11_catalog.specs.AllDirectories.{own_directories}
 use Rattle.f11_catalog.specs.DirectoryNames.{directory_called}
-use Rattle.f11_catalog.specs.Records.{BeginsDirectory, IsReadingRecords, Reads, records_of, records_to_come}
+use Rattle.f11_catalog.specs.Records.{BeginsDirectory, IsReadingFound, Reads, found_to_come, records_found}
 use Rattle.f11_catalog.specs.Steps.{ComesTo, is_met}
 use Rattle.f11_catalog.specs.declared.directory.DirectoryReader.{DirectoryReader}
+use Rattle.f11_catalog.specs.declared.found.FoundDirectory.{FoundDirectory}
 use Rattle.f11_catalog.specs.declared.walk.state.Directories.{Directories}
 use Rattle.f11_catalog.specs.declared.walk.state.OpenDirectory.{OpenDirectory}
 use Rattle.f11_catalog.specs.declared.walk.state.Unmet.{Unmet}
 
 -- the directories that the rest of the master file directory names
-abbrev pub named_to_come : Index → Disk → Option DirectoryReader → List DirectoryAt
-named_to_come index disk None = []
-named_to_come index disk (Some master) = directories_under disk.image (table index disk) (records_to_come index disk master)
+abbrev pub named_to_come : Index → Index → Disk → Option FoundDirectory → List DirectoryAt
+named_to_come index wide disk None = []
+named_to_come index wide disk (Some master) =
+    directories_under wide disk.image (table index disk) (found_to_come index wide disk master)
 
 -- those of other numbers that are still to come, where these are known
 abbrev pub unnamed_to_come : Image → Table → (ℕ → Bool) → Unmet → List DirectoryAt
 unnamed_to_come image t known others = own_directories image t known others.next (t.slots + 1 - others.next)
 
 -- file n is a directory that was gone over, as the master file directory names it, or will be
-abbrev pub is_gone_over : Index → Disk → Directories → ℕ → Bool
-is_gone_over index disk directories n = is_met directories.others n || is_named (named_to_come index disk directories.master) n
+abbrev pub is_gone_over : Index → Index → Disk → Directories → ℕ → Bool
+is_gone_over index wide disk directories n = is_met directories.others n || is_named (named_to_come index wide disk directories.master) n
 
 -- all directories that are still to come
-unfoldable pub directories_to_come : Index → Disk → Directories → List DirectoryAt
-directories_to_come index disk directories =
-    named_to_come index disk directories.master
-    ++ unnamed_to_come disk.image (table index disk) (is_gone_over index disk directories) directories.others
+unfoldable pub directories_to_come : Index → Index → Disk → Directories → List DirectoryAt
+directories_to_come index wide disk directories =
+    named_to_come index wide disk directories.master
+    ++ unnamed_to_come disk.image (table index disk) (is_gone_over index wide disk directories) directories.others
 
 -- the master file directory of this disk is read, where it can be
-abbrev pub IsReadingMaster : Index → Option DirectoryReader → Disk → Type 0
-IsReadingMaster index master disk = IfSome master (λ directory. IsReadingRecords index directory disk)
+abbrev pub IsReadingMaster : Index → Index → Option FoundDirectory → Disk → Type 0
+IsReadingMaster index wide master disk = IfSome master (λ found. IsReadingFound index wide found disk)
 
 -- how many more directories may come at most
-abbrev pub master_left : Option DirectoryReader → ℕ
+abbrev pub master_left : Option FoundDirectory → ℕ
 master_left None = 0
-master_left (Some master) = master.left
+master_left (Some master) = master.directory.left
 
 unfoldable pub directories_left : Directories → ℕ
 directories_left directories = master_left directories.master + (65536 - directories.others.next)
@@ -57,14 +59,14 @@ abbrev pub at_hand : OpenDirectory → DirectoryAt
 at_hand hand = record { name = hand.name; id = hand.id }
 
 -- all its records are to come
-abbrev pub HasAllRecords : Index → OpenDirectory → Disk → Type 0
-HasAllRecords index hand disk =
-    IsTrue disk.honest → records_to_come index disk hand.directory ≡ records_of disk.image (table index disk) hand.id
+abbrev pub HasAllRecords : Index → Index → OpenDirectory → Disk → Type 0
+HasAllRecords index wide hand disk =
+    IsTrue disk.honest → found_to_come index wide disk hand.found ≡ records_found wide disk.image (table index disk) hand.id
 
 -- A directory was taken in hand.
-pub record TakesInHand (index : Index) (hand : OpenDirectory) (old new : Disk) : Type 0 where
-  pub reading : IsReadingRecords index hand.directory new
-  pub records : HasAllRecords index hand old
+pub record TakesInHand (index wide : Index) (hand : OpenDirectory) (old new : Disk) : Type 0 where
+  pub reading : IsReadingFound index wide hand.found new
+  pub records : HasAllRecords index wide hand old
   pub reads : Reads old new 0
 
 -- A directory is in hand under the name that its own header has, which is in hand, too.
@@ -73,37 +75,38 @@ pub record IsUnderItsName (file : FileReader) (hand : OpenDirectory) : Type 0 wh
   pub named : name_in (ident_area (header_in_hand file)) ≡ Some words
   pub name : hand.name ≡ directory_called words
   pub id : hand.id ≡ id_in_hand file
-  pub begins : BeginsDirectory file hand.directory
+  pub in_use : hand.found.in_use ≡ true
+  pub begins : BeginsDirectory file hand.found.directory
 
 -- A directory was found, by its identification or in its slot.
-pub record OpensNamed (given : Image → Table → List DirectoryAt) (index : Index) (hand : OpenDirectory) (old new : Disk) : Type 0 where
+pub record OpensNamed (given : Image → Table → List DirectoryAt) (index wide : Index) (hand : OpenDirectory) (old new : Disk) : Type 0 where
   pub one : IsTrue old.honest → given old.image (table index old) ≡ at_hand hand ∷ []
-  pub takes : TakesInHand index hand old new
+  pub takes : TakesInHand index wide hand old new
 
--- The next directory was found that the master file directory names.
-pub record ComesToDirectory (index : Index) (master later : DirectoryReader) (hand : OpenDirectory) (old new : Disk) : Type 0 where
-  pub comes : ComesTo (λ image t. directory_under image t) index (at_hand hand ∷ []) master later old new
-  pub takes : TakesInHand index hand old new
+-- The next directory was found that the master file directory names, which is read by this index file.
+pub record ComesToDirectory (by index wide : Index) (master later : DirectoryReader) (hand : OpenDirectory) (old new : Disk) : Type 0 where
+  pub comes : ComesTo (λ image _. directory_under wide image (table_in image index)) by (at_hand hand ∷ []) master later old new
+  pub takes : TakesInHand index wide hand old new
 
 -- So it was, where the master file directory can be read.
-pub record FindsNamed (index : Index) (master later : Option DirectoryReader) (hand : OpenDirectory) (old new : Disk) : Type 0 where
-  pub next : IsTrue old.honest → named_to_come index old master ≡ at_hand hand ∷ named_to_come index old later
+pub record FindsNamed (index wide : Index) (master later : Option FoundDirectory) (hand : OpenDirectory) (old new : Disk) : Type 0 where
+  pub next : IsTrue old.honest → named_to_come index wide old master ≡ at_hand hand ∷ named_to_come index wide old later
   pub fewer : master_left later < master_left master
-  pub takes : TakesInHand index hand old new
+  pub takes : TakesInHand index wide hand old new
 
 -- It names no more.
-pub record FindsNoNamed (index : Index) (master later : Option DirectoryReader) (old new : Disk) : Type 0 where
-  pub none : IsTrue old.honest → named_to_come index old master ≡ []
-  pub ended : IsTrue old.honest → named_to_come index old later ≡ []
+pub record FindsNoNamed (index wide : Index) (master later : Option FoundDirectory) (old new : Disk) : Type 0 where
+  pub none : IsTrue old.honest → named_to_come index wide old master ≡ []
+  pub ended : IsTrue old.honest → named_to_come index wide old later ≡ []
   pub no_more : master_left later ≤ master_left master
   pub reads : Reads old new 0
 
 -- The next directory was found that isn't known.
-pub record FindsUnnamed (known : ℕ → Bool) (index : Index) (others later : Unmet) (hand : OpenDirectory) (old new : Disk) : Type 0 where
+pub record FindsUnnamed (known : ℕ → Bool) (index wide : Index) (others later : Unmet) (hand : OpenDirectory) (old new : Disk) : Type 0 where
   pub next : IsTrue old.honest → unnamed_to_come old.image (table index old) known others
       ≡ at_hand hand ∷ unnamed_to_come old.image (table index old) known later
   pub forward : others.next < later.next
-  pub takes : TakesInHand index hand old new
+  pub takes : TakesInHand index wide hand old new
 
 -- There is none.
 pub record FindsNoUnnamed (known : ℕ → Bool) (index : Index) (others later : Unmet) (old new : Disk) : Type 0 where
@@ -113,20 +116,20 @@ pub record FindsNoUnnamed (known : ℕ → Bool) (index : Index) (others later :
   pub reads : Reads old new 0
 
 -- The next of all directories was found.
-pub record GivesDirectory (index : Index) (directories later : Directories) (hand : OpenDirectory) (old new : Disk) : Type 0 where
-  pub next : IsTrue old.honest → directories_to_come index old directories ≡ at_hand hand ∷ directories_to_come index old later
+pub record GivesDirectory (index wide : Index) (directories later : Directories) (hand : OpenDirectory) (old new : Disk) : Type 0 where
+  pub next : IsTrue old.honest → directories_to_come index wide old directories ≡ at_hand hand ∷ directories_to_come index wide old later
   pub fewer : directories_left later < directories_left directories
-  pub takes : TakesInHand index hand old new
+  pub takes : TakesInHand index wide hand old new
 
 -- None is left.
-pub record HasNoDirectory (index : Index) (directories later : Directories) (old new : Disk) : Type 0 where
-  pub none : IsTrue old.honest → directories_to_come index old directories ≡ []
-  pub ended : IsTrue old.honest → directories_to_come index old later ≡ []
+pub record HasNoDirectory (index wide : Index) (directories later : Directories) (old new : Disk) : Type 0 where
+  pub none : IsTrue old.honest → directories_to_come index wide old directories ≡ []
+  pub ended : IsTrue old.honest → directories_to_come index wide old later ≡ []
   pub no_more : directories_left later ≤ directories_left directories
   pub reads : Reads old new 0
 
 -- The master file directory is to be read, where it is a directory.
-pub record OpensMaster (index : Index) (id : FileId) (master : Option DirectoryReader) (old new : Disk) : Type 0 where
-  pub reading : IsReadingMaster index master new
-  pub come : IsTrue old.honest → named_to_come index old master ≡ named_directories old.image (table index old) id
-  pub looked : Looked old new 1 0
+pub record OpensMaster (index wide : Index) (id : FileId) (master : Option FoundDirectory) (old new : Disk) : Type 0 where
+  pub reading : IsReadingMaster index wide master new
+  pub come : IsTrue old.honest → named_to_come index wide old master ≡ named_directories wide old.image (table index old) id
+  pub looked : Looked old new 2 0

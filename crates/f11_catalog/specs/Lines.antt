@@ -13,7 +13,7 @@ use Rattle.f11_store.specs.File.{File, end_of, length_of}
 use Rattle.f11_store.specs.Text.{id_text, octal_digits, uic_text}
 use Rattle.f11_store.specs.declared.files.FileId.{FileId}
 use Rattle.f11_catalog.specs.DirectoryNames.{directory_called, directory_text}
-use Rattle.f11_catalog.specs.Records.{file_named, records_of}
+use Rattle.f11_catalog.specs.Records.{file_found, file_named, records_found}
 use Rattle.f11_catalog.specs.declared.directory_name.DirectoryName.{DirectoryName}
 use Rattle.f11_catalog.specs.declared.facts.FileFacts.{FileFacts}
 use Rattle.f11_catalog.specs.declared.walk.place.Place.{Place}
@@ -95,7 +95,7 @@ record_lines wide image t records = flat_map (record_line wide image t) records
 
 -- the lines of a directory under its heading, what it is called
 abbrev pub lines_under : Index → Image → Table → DirectoryName → FileId → List ℕ
-lines_under wide image t name id = directory_text name ++ (10 ∷ record_lines wide image t (records_of image t id))
+lines_under wide image t name id = directory_text name ++ (10 ∷ record_lines wide image t (records_found wide image t id))
 
 -- the file that a record names is a directory
 abbrev pub names_directory : Option File → Bool
@@ -104,7 +104,7 @@ names_directory None = false
 
 -- the lines of the directory with an identification, if it is one
 abbrev pub lines_in : Index → Image → Table → FileId → DirectoryName → List ℕ
-lines_in wide image t id name = if names_directory (file_named image t id) then lines_under wide image t name id else []
+lines_in wide image t id name = if names_directory (file_found wide image t id) then lines_under wide image t name id else []
 
 -- those of the directory that has this name, if that is one
 abbrev pub lines_by : Index → Image → Table → FileId → Option (List ℕ) → List ℕ

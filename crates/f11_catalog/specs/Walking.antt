@@ -13,7 +13,7 @@ use Rattle.f11_store.specs.declared.files.FileId.{FileId}
 use Rattle.f11_catalog.specs.AllFiles.{all_files, id_of, is_among, lost_files, place_entered, places_entered, places_in}
 use Rattle.f11_catalog.specs.Contents.{Holds, OpensBehind}
 use Rattle.f11_catalog.specs.GoingOver.{IsReadingMaster, directories_left, directories_to_come}
-use Rattle.f11_catalog.specs.Records.{IsReadingRecords, Reads, records_to_come}
+use Rattle.f11_catalog.specs.Records.{IsReadingFound, Reads, found_to_come}
 use Rattle.f11_catalog.specs.Steps.{ComesTo, is_met}
 use Rattle.f11_catalog.specs.declared.directory.DirectoryReader.{DirectoryReader}
 use Rattle.f11_catalog.specs.declared.directory_name.DirectoryName.{DirectoryName}
@@ -28,41 +28,42 @@ use Rattle.f11_catalog.specs.declared.walk.state.OpenDirectory.{OpenDirectory}
 use Rattle.f11_catalog.specs.declared.walk.state.Unmet.{Unmet}
 
 -- what the rest of a directory names
-abbrev pub hand_to_come : Index → Disk → Option OpenDirectory → List Place
-hand_to_come index disk None = []
-hand_to_come index disk (Some hand) = places_entered hand.name (records_to_come index disk hand.directory)
+abbrev pub hand_to_come : Index → Index → Disk → Option OpenDirectory → List Place
+hand_to_come index wide disk None = []
+hand_to_come index wide disk (Some hand) = places_entered hand.name (found_to_come index wide disk hand.found)
 
 -- what directories name that is still to come
-abbrev pub entered_to_come : Index → Disk → EnteredFiles → List Place
-entered_to_come index disk files =
-    hand_to_come index disk files.hand
-    ++ flat_map (places_in disk.image (table index disk)) (directories_to_come index disk files.directories)
+abbrev pub entered_to_come : Index → Index → Disk → EnteredFiles → List Place
+entered_to_come index wide disk files =
+    hand_to_come index wide disk files.hand
+    ++ flat_map (places_in wide disk.image (table index disk)) (directories_to_come index wide disk files.directories)
 
 -- those of other files that are still to come, where these are known
 abbrev pub others_to_come : Table → (ℕ → Bool) → Unmet → List Place
 others_to_come t known others = lost_files t known others.next (t.slots + 1 - others.next)
 
 -- file n was met, or will be
-abbrev pub is_known : Index → Disk → AllFiles → ℕ → Bool
-is_known index disk files n = is_met files.others n || is_among (table index disk) (entered_to_come index disk files.entered) n
+abbrev pub is_known : Index → Index → Disk → AllFiles → ℕ → Bool
+is_known index wide disk files n =
+    is_met files.others n || is_among (table index disk) (entered_to_come index wide disk files.entered) n
 
 -- all files that are still to come
-unfoldable pub files_to_come : Index → Disk → AllFiles → List Place
-files_to_come index disk files =
-    entered_to_come index disk files.entered ++ others_to_come (table index disk) (is_known index disk files) files.others
+unfoldable pub files_to_come : Index → Index → Disk → AllFiles → List Place
+files_to_come index wide disk files =
+    entered_to_come index wide disk files.entered ++ others_to_come (table index disk) (is_known index wide disk files) files.others
 
 -- directories of this disk are read
-abbrev pub IsWalkingDirectories : Index → EnteredFiles → Disk → Type 0
-IsWalkingDirectories index files disk =
-    IfSome files.hand (λ hand. IsReadingRecords index hand.directory disk) × IsReadingMaster index files.directories.master disk
+abbrev pub IsWalkingDirectories : Index → Index → EnteredFiles → Disk → Type 0
+IsWalkingDirectories index wide files disk =
+    IfSome files.hand (λ hand. IsReadingFound index wide hand.found disk) × IsReadingMaster index wide files.directories.master disk
 
-abbrev pub IsWalking : Index → AllFiles → Disk → Type 0
-IsWalking index files disk = IsWalkingDirectories index files.entered disk
+abbrev pub IsWalking : Index → Index → AllFiles → Disk → Type 0
+IsWalking index wide files disk = IsWalkingDirectories index wide files.entered disk
 
 -- how many more files may come at most from what is in hand, and from directories: none has more than 2^38 records
 abbrev pub hand_left : Option OpenDirectory → ℕ
 hand_left None = 0
-hand_left (Some hand) = hand.directory.left
+hand_left (Some hand) = hand.found.directory.left
 
 abbrev pub entered_left : EnteredFiles → ℕ
 entered_left files = directories_left files.directories * 2 ^ 38 + hand_left files.hand
@@ -93,33 +94,33 @@ pub record FindsLost (places : Image → Table → List Place) (index : Index) (
   pub one : IsTrue old.honest → places old.image (table index old) ≡ found.place ∷ []
   pub opens : OpensAt index found old new
 
--- The next record of a directory that isn't empty was read, and what it names was found.
-pub record ComesToFile (index wide : Index) (name : DirectoryName) (directory later : DirectoryReader) (found : FileAt) (old new : Disk)
+-- The next record of a directory that isn't empty was read, by this index file, and what it names was found.
+pub record ComesToFile (by index wide : Index) (name : DirectoryName) (directory later : DirectoryReader) (found : FileAt) (old new : Disk)
     : Type 0 where
-  pub comes : ComesTo (λ image t. place_entered name) index (found.place ∷ []) directory later old new
+  pub comes : ComesTo (λ image t. place_entered name) by (found.place ∷ []) directory later old new
   pub holds : HoldsAt index wide found old new
 
 -- What the next record names was found.
 pub record EntersFile (index wide : Index) (files later : EnteredFiles) (found : FileAt) (old new : Disk) : Type 0 where
-  pub next : IsTrue old.honest → entered_to_come index old files ≡ found.place ∷ entered_to_come index old later
+  pub next : IsTrue old.honest → entered_to_come index wide old files ≡ found.place ∷ entered_to_come index wide old later
   pub fewer : entered_left later < entered_left files
   pub holds : HoldsAt index wide found old new
 
 -- The same files are to come, and no more records are left than were.
-pub record StaysToCome (index : Index) (files later : EnteredFiles) (old new : Disk) : Type 0 where
-  pub same : IsTrue old.honest → entered_to_come index old later ≡ entered_to_come index old files
+pub record StaysToCome (index wide : Index) (files later : EnteredFiles) (old new : Disk) : Type 0 where
+  pub same : IsTrue old.honest → entered_to_come index wide old later ≡ entered_to_come index wide old files
   pub no_more : entered_left later ≤ entered_left files
   pub reads : Reads old new 0
 
 -- The next directory was taken in hand.
-pub record TakesDirectory (index : Index) (files later : EnteredFiles) (old new : Disk) : Type 0 where
-  pub stays : StaysToCome index files later old new
+pub record TakesDirectory (index wide : Index) (files later : EnteredFiles) (old new : Disk) : Type 0 where
+  pub stays : StaysToCome index wide files later old new
   pub fewer : directories_left later.directories < directories_left files.directories
 
 -- Directories name no more.
-pub record EntersNoMore (index : Index) (files later : EnteredFiles) (old new : Disk) : Type 0 where
-  pub none : IsTrue old.honest → entered_to_come index old files ≡ []
-  pub ended : IsTrue old.honest → entered_to_come index old later ≡ []
+pub record EntersNoMore (index wide : Index) (files later : EnteredFiles) (old new : Disk) : Type 0 where
+  pub none : IsTrue old.honest → entered_to_come index wide old files ≡ []
+  pub ended : IsTrue old.honest → entered_to_come index wide old later ≡ []
   pub no_more : entered_left later ≤ entered_left files
   pub reads : Reads old new 0
 
@@ -137,24 +138,24 @@ pub record FindsNoOther (known : ℕ → Bool) (index : Index) (others later : U
   pub reads : Reads old new 0
 
 -- A walk has begun: all files are to come.
-pub record BeginsWalk (index : Index) (master : FileId) (files : AllFiles) (old new : Disk) : Type 0 where
-  pub walking : IsWalking index files new
-  pub all : IsTrue old.honest → files_to_come index old files ≡ all_files old.image (table index old) master
-  pub looked : Looked old new 1 0
+pub record BeginsWalk (index wide : Index) (master : FileId) (files : AllFiles) (old new : Disk) : Type 0 where
+  pub walking : IsWalking index wide files new
+  pub all : IsTrue old.honest → files_to_come index wide old files ≡ all_files wide old.image (table index old) master
+  pub looked : Looked old new 2 0
 
 -- It hasn't: a transfer failed, or there was no memory.
 abbrev pub FailsToBegin : WalkFault → Disk → Disk → Type 0
-FailsToBegin DeviceFault old new = Looked old new 1 1
+FailsToBegin DeviceFault old new = Looked old new 2 1
 FailsToBegin NoMemory old new = new ≡ old
 
 -- What stands in the next place was found.
 pub record GivesFile (index wide : Index) (files later : AllFiles) (found : FileAt) (old new : Disk) : Type 0 where
-  pub next : IsTrue old.honest → files_to_come index old files ≡ found.place ∷ files_to_come index old later
+  pub next : IsTrue old.honest → files_to_come index wide old files ≡ found.place ∷ files_to_come index wide old later
   pub fewer : files_left later < files_left files
   pub holds : HoldsAt index wide found old new
 
 -- No file is left, and none comes any more.
-pub record HasNoFile (index : Index) (files later : AllFiles) (old new : Disk) : Type 0 where
-  pub none : IsTrue old.honest → files_to_come index old files ≡ []
-  pub ended : IsTrue old.honest → files_to_come index old later ≡ []
+pub record HasNoFile (index wide : Index) (files later : AllFiles) (old new : Disk) : Type 0 where
+  pub none : IsTrue old.honest → files_to_come index wide old files ≡ []
+  pub ended : IsTrue old.honest → files_to_come index wide old later ≡ []
   pub reads : Reads old new 0

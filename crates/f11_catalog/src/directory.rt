@@ -7,7 +7,7 @@ use f11_reader::FileReader;
 
 /// A directory of any volume, whose records are read one after another. It has one of its blocks in hand.
 #[derive(Clone, Copy)]
-pub struct DirectoryReader {
+pub(crate) struct DirectoryReader {
     /// Its blocks that are still to come.
     pub(crate) file: FileReader,
     /// The block in hand.

@@ -1,9 +1,10 @@
 //! Laws of directories and files, each the contract of a function that does nothing: layers above cite them.
 ghost use Rattle.f11_catalog.specs.Laws as laws;
 
-/// All files of a volume.
+/// All files of a volume, and all that directories name.
 pub fn all_files()
-    ensures { laws.NoFileIsLeftOut }
+    ensures files { laws.NoFileIsLeftOut }
+    ensures records { laws.NoRecordIsLeftOut }
 {}
 
 /// All directories of a volume.
@@ -16,5 +17,6 @@ pub fn stored_files()
     ensures named { laws.NamesTheStoresFile }
     ensures files { laws.FilesAreTheStores }
     ensures entries { laws.ListsTheStoresEntries }
+    ensures found { laws.FindsTheStoresFile }
     ensures lines { laws.ShowsTheStoresFile }
 {}

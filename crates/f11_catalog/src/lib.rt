@@ -9,6 +9,7 @@ mod directory;
 mod directory_name;
 mod facts;
 mod fault;
+mod found;
 pub mod laws;
 mod list;
 mod own_name;
@@ -19,7 +20,6 @@ mod shown;
 mod users;
 mod walk;
 
-pub use directory::DirectoryReader;
 pub use directory_name::DirectoryName;
 pub use f11_volume::f11_map;
 pub use fault::{ListFault, WalkFault};

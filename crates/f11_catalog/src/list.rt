@@ -7,6 +7,7 @@ ghost use Rattle.f11_catalog.specs.Listing.{BreaksOff, IsRefused, Lists, Writes,
 ghost use Rattle.f11_catalog.specs.Records.{IsReadingRecords};
 
 use crate::directory::DirectoryReader;
+use crate::found::FoundDirectory;
 use crate::directory_name::DirectoryName;
 use crate::fault::ListFault;
 use crate::record_line::write_record;
@@ -17,12 +18,12 @@ use f11_store::{FileId, Refusal};
 use std::io::Write;
 
 /// Writes a line for each record of a directory that isn't empty, in their order: a file's, or that it names none. `wide` is the index file
-/// that takes each slot as in use ([`IndexFile::with_all_in_use`]): by it a file is found whose slot's bit is lost.
+/// that takes each slot as in use ([`IndexFile::with_all_in_use`]): by it a file or the directory itself is found whose slot's bit is lost.
 ///
 /// # Errors
 ///
 /// [`ListFault::DeviceFault`] where a transfer failed, and [`ListFault::CannotWrite`] where the writer takes no more: then it may hold a
-/// part of the lines. Within, where nothing is written: `NoSuchFile` where the volume has no file with the directory's identification, and
+/// part of the lines. Within, where nothing is written: `NoSuchFile` where there is no file with the directory's identification, and
 /// `NotDirectory` where that is no directory.
 pub fn list_directory<D: Device, W: Write>(
     device: &mut D,
@@ -34,41 +35,47 @@ pub fn list_directory<D: Device, W: Write>(
     requires within { IndexLiesWithin (index_kept index.now) (length (D.disk device.old).image) }
     requires wide { IndexLiesWithin (index_kept wide.now) (length (D.disk device.old).image) }
     ensures lists { IfOk result (λ answer. OnOk answer
-        (Lists (record_lines (index_kept wide.now)) (index_kept index.now) directory
+        (Lists (record_lines (index_kept wide.now)) (index_kept index.now) (index_kept wide.now) directory
         (D.disk device.old) (D.disk device.new) W.contents writer.old writer.new)) }
     ensures refused { IfOk result (λ answer. IfErr answer (λ refusal. (writer.new ≡ writer.old)
-        × IsRefused (index_kept index.now) directory refusal (D.disk device.old) (D.disk device.new))) }
+        × IsRefused (index_kept index.now) (index_kept wide.now) directory refusal
+        (D.disk device.old) (D.disk device.new))) }
     ensures failed { IfErr result (λ fault. BreaksOff fault (D.disk device.old) (D.disk device.new)) }
 {
-    let mut directory = match DirectoryReader::open(device, index, directory) {
-        Ok(Ok(directory)) => directory,
+    let found = match FoundDirectory::open(device, index, wide, directory) {
+        Ok(Ok(found)) => found,
         Ok(Err(refusal)) => return Ok(Err(refusal)),
         Err(DeviceFault) => return Err(ListFault::DeviceFault),
     };
-    match write_records(device, index, wide, writer, &mut directory) {
+    let by = found.index_by(index, wide);
+    let mut directory = found.directory;
+    match write_records(device, by, index, wide, writer, &mut directory) {
         Ok(()) => Ok(Ok(())),
         Err(fault) => Err(fault),
     }
 }
 
-/// Writes the lines of the records of a directory that are still to come.
+/// Writes the lines of the records that are still to come, of a directory that is read by an index file.
 fn write_records<D: Device, W: Write>(
     device: &mut D,
+    by: &IndexFile,
     index: &IndexFile,
     wide: &IndexFile,
     writer: &mut W,
     directory: &mut DirectoryReader,
 ) -> Result<(), ListFault>
+    requires by { IndexLiesWithin (index_kept by.now) (length (D.disk device.old).image) }
     requires within { IndexLiesWithin (index_kept index.now) (length (D.disk device.old).image) }
     requires wide { IndexLiesWithin (index_kept wide.now) (length (D.disk device.old).image) }
-    requires reading { IsReadingRecords (index_kept index.now) directory.old (D.disk device.old) }
+    requires reading { IsReadingRecords (index_kept by.now) directory.old (D.disk device.old) }
     ensures writes { OnOk result
-        (WritesRest (λ image t. record_lines (index_kept wide.now) image t) (index_kept index.now) directory.old
+        (WritesRest (record_lines (index_kept wide.now)) (index_kept index.now) (index_kept by.now)
+        directory.old
         (D.disk device.old) (D.disk device.new) W.contents writer.old writer.new) }
     ensures failed { IfErr result (λ fault. BreaksOff fault (D.disk device.old) (D.disk device.new)) }
 {
     loop {
-        match directory.next(device, index) {
+        match directory.next(device, by) {
             Ok(Some(record)) => match write_record(device, index, wide, writer, &record) {
                 Ok(()) => {}
                 Err(fault) => return Err(fault),
@@ -95,41 +102,47 @@ pub fn list_directories<D: Device, W: Write>(
     requires within { IndexLiesWithin (index_kept index.now) (length (D.disk device.old).image) }
     requires wide { IndexLiesWithin (index_kept wide.now) (length (D.disk device.old).image) }
     ensures lists { IfOk result (λ answer. OnOk answer
-        (Lists (all_directory_lines (index_kept wide.now)) (index_kept index.now) directory
+        (Lists (all_directory_lines (index_kept wide.now)) (index_kept index.now) (index_kept wide.now) directory
         (D.disk device.old) (D.disk device.new) W.contents writer.old writer.new)) }
     ensures refused { IfOk result (λ answer. IfErr answer (λ refusal. (writer.new ≡ writer.old)
-        × IsRefused (index_kept index.now) directory refusal (D.disk device.old) (D.disk device.new))) }
+        × IsRefused (index_kept index.now) (index_kept wide.now) directory refusal
+        (D.disk device.old) (D.disk device.new))) }
     ensures failed { IfErr result (λ fault. BreaksOff fault (D.disk device.old) (D.disk device.new)) }
 {
-    let mut directory = match DirectoryReader::open(device, index, directory) {
-        Ok(Ok(directory)) => directory,
+    let found = match FoundDirectory::open(device, index, wide, directory) {
+        Ok(Ok(found)) => found,
         Ok(Err(refusal)) => return Ok(Err(refusal)),
         Err(DeviceFault) => return Err(ListFault::DeviceFault),
     };
-    match write_directories(device, index, wide, writer, &mut directory) {
+    let by = found.index_by(index, wide);
+    let mut directory = found.directory;
+    match write_directories(device, by, index, wide, writer, &mut directory) {
         Ok(()) => Ok(Ok(())),
         Err(fault) => Err(fault),
     }
 }
 
-/// Writes the lines of the directories that the records still to come name.
+/// Writes the lines of the directories that the records still to come name, of the master file directory, read by an index file.
 fn write_directories<D: Device, W: Write>(
     device: &mut D,
+    by: &IndexFile,
     index: &IndexFile,
     wide: &IndexFile,
     writer: &mut W,
     directory: &mut DirectoryReader,
 ) -> Result<(), ListFault>
+    requires by { IndexLiesWithin (index_kept by.now) (length (D.disk device.old).image) }
     requires within { IndexLiesWithin (index_kept index.now) (length (D.disk device.old).image) }
     requires wide { IndexLiesWithin (index_kept wide.now) (length (D.disk device.old).image) }
-    requires reading { IsReadingRecords (index_kept index.now) directory.old (D.disk device.old) }
+    requires reading { IsReadingRecords (index_kept by.now) directory.old (D.disk device.old) }
     ensures writes { OnOk result
-        (WritesRest (λ image t. all_directory_lines (index_kept wide.now) image t) (index_kept index.now) directory.old
+        (WritesRest (all_directory_lines (index_kept wide.now)) (index_kept index.now) (index_kept by.now)
+        directory.old
         (D.disk device.old) (D.disk device.new) W.contents writer.old writer.new) }
     ensures failed { IfErr result (λ fault. BreaksOff fault (D.disk device.old) (D.disk device.new)) }
 {
     loop {
-        match directory.next(device, index) {
+        match directory.next(device, by) {
             Ok(Some(record)) => match write_named(device, index, wide, writer, &record) {
                 Ok(()) => {}
                 Err(fault) => return Err(fault),
@@ -178,8 +191,8 @@ fn write_directory<D: Device, W: Write>(
         (D.disk device.old) (D.disk device.new) W.contents writer.old writer.new) }
     ensures failed { IfErr result (λ fault. BreaksOff fault (D.disk device.old) (D.disk device.new)) }
 {
-    let mut directory = match DirectoryReader::open(device, index, id) {
-        Ok(Ok(directory)) => directory,
+    let found = match FoundDirectory::open(device, index, wide, id) {
+        Ok(Ok(found)) => found,
         Ok(Err(_)) => return Ok(()),
         Err(DeviceFault) => return Err(ListFault::DeviceFault),
     };
@@ -187,7 +200,9 @@ fn write_directory<D: Device, W: Write>(
         Ok(()) => {}
         Err(_) => return Err(ListFault::CannotWrite),
     }
-    match write_records(device, index, wide, writer, &mut directory) {
+    let by = found.index_by(index, wide);
+    let mut directory = found.directory;
+    match write_records(device, by, index, wide, writer, &mut directory) {
         Ok(()) => Ok(()),
         Err(fault) => Err(fault),
     }

@@ -1,13 +1,13 @@
-//! Directories opened, and their records read.
-ghost use Rattle.std.specs.Prelude.{◌≡◌, ◌<◌, ◌^◌, length, IfOk, IfSome, IfNone, IfErr, IsTrue, OnErr, true, false};
-ghost use Rattle.f11_dev.specs.Looked.{Looked};
+//! The records of directories, read.
+ghost use Rattle.std.specs.Prelude.{◌≡◌, ◌<◌, ◌^◌, length, IfOk, IfSome, IfNone, IsTrue, OnErr, true, false};
 ghost use Rattle.f11_header.specs.Fields.{attributes as attributes_of};
 ghost use Rattle.f11_header.specs.Header.{holds_header};
 ghost use Rattle.f11_catalog.specs.Facts.{is_directory_header};
+ghost use Rattle.f11_catalog.specs.Records.{BeginsDirectory};
+ghost use Rattle.f11_reader.specs.Reading.{header_in_hand};
 ghost use Rattle.f11_volume.specs.map.HeaderBlock.{segment_number};
 ghost use Rattle.f11_index.specs.Kept.{index_kept, IndexLiesWithin};
 ghost use Rattle.f11_store.specs.File.{stated_end as end_stated};
-ghost use Rattle.f11_store.specs.declared.refusals.Refusal.TheVariants as refusals;
 
 use crate::directory::DirectoryReader;
 use f11_bytes::{BLOCK_SIZE, Block, read_long, read_word};
@@ -17,7 +17,6 @@ use f11_entries::is_directory;
 use f11_header::Header;
 use f11_index::IndexFile;
 use f11_reader::FileReader;
-use f11_store::{FileId, Refusal};
 
 /// The end in bytes that a file's attributes state (Files-11 On-Disk Structure Level 1, "File Attributes"), below 2^42.
 #[tactic(auto, unfolding(f11_store::specs::File::stated_end))]
@@ -45,9 +44,7 @@ fn is_of_directory(block: &Block) -> bool
 }
 
 impl DirectoryReader {
-    ghost use Rattle.f11_catalog.specs.Records.{OpensDirectory, FindsNoDirectory, Reads, IsReadingRecords, ReadsRecord, HasBlockInHand, HasNoRecord};
-    ghost use Rattle.f11_catalog.specs.Records.{BeginsDirectory};
-    ghost use Rattle.f11_reader.specs.Reading.{header_in_hand};
+    ghost use Rattle.f11_catalog.specs.Records.{Reads, IsReadingRecords, ReadsRecord, HasBlockInHand, HasNoRecord};
 
     /// The directory whose first header is in hand, if it is one: all its records are to come.
     pub(crate) fn of(file: FileReader) -> Option<DirectoryReader>
@@ -62,39 +59,12 @@ impl DirectoryReader {
         Some(DirectoryReader::begin(file, left))
     }
 
-    /// Begins to read the directory with an identification. Its header is read once.
-    ///
-    /// # Errors
-    ///
-    /// `DeviceFault` where the transfer failed. Within: `NoSuchFile` where the volume has no file with that identification, and
-    /// `NotDirectory` where that is no directory.
-    pub fn open<D: Device>(
-        device: &mut D,
-        index: &IndexFile,
-        id: FileId,
-    ) -> Result<Result<DirectoryReader, Refusal>, DeviceFault>
-        requires within { IndexLiesWithin (index_kept index.now) (length (D.disk device.old).image) }
-        ensures opens { IfOk result (λ answer. IfOk answer (λ directory.
-            OpensDirectory (index_kept index.now) id directory (D.disk device.old) (D.disk device.new))) }
-        ensures refused { IfOk result (λ answer. IfErr answer (λ refusal.
-            FindsNoDirectory (index_kept index.now) id refusal (D.disk device.old) (D.disk device.new))) }
-        ensures failed { OnErr result (Looked (D.disk device.old) (D.disk device.new) 1 1) }
-    {
-        let Some(file) = FileReader::open(device, index, id)? else {
-            return Ok(Err(Refusal::NoSuchFile));
-        };
-        match DirectoryReader::of(file) {
-            Some(directory) => Ok(Ok(directory)),
-            None => Ok(Err(Refusal::NotDirectory)),
-        }
-    }
-
     /// Reads the next record, empty ones too; `None` behind the last. A block of the directory is read once.
     ///
     /// # Errors
     ///
     /// `DeviceFault` where a transfer failed.
-    pub fn next<D: Device>(
+    pub(crate) fn next<D: Device>(
         &mut self,
         device: &mut D,
         index: &IndexFile,

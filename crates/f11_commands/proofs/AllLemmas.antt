@@ -1,12 +1,14 @@
 -- What each step of taking out all files tells.
-use Rattle.std.proofs.Common.{◌≡◌, ℕ, List, Option, length, refl, sym, ap, subst, ◌∙◌}
-use Rattle.f11_catalog.proofs.ListingLemmas.{reads-then}
+use Rattle.std.proofs.Common.{◌≡◌, ℕ, IsTrue, List, Option, length, refl, sym, ap, subst, ◌∙◌}
+use Rattle.f11_catalog.proofs.ListingLemmas.{reads-then, said-later}
 use Rattle.f11_catalog.proofs.EnteredLemmas.{hand-on, master-on}
 use Rattle.f11_catalog.proofs.FilesLemmas.{files-later}
 use Rattle.f11_catalog.specs.AllFiles.{all_files, id_of}
 use Rattle.f11_catalog.specs.Contents.{Holds}
 use Rattle.f11_catalog.specs.Records.{Reads}
-use Rattle.f11_catalog.specs.Walking.{BeginsWalk, HoldsAt, IsWalking}
+use Rattle.f11_catalog.specs.Walking.{FailsToBegin, HoldsAt, IsWalking}
+use Rattle.f11_catalog.specs.declared.fault.WalkFault.{WalkFault}
+use Rattle.f11_catalog.specs.declared.fault.WalkFault.TheVariants as walk
 use Rattle.f11_catalog.specs.declared.walk.content.Absence.{Absence}
 use Rattle.f11_catalog.specs.declared.walk.content.Content.{Content}
 use Rattle.f11_catalog.specs.declared.walk.content.Content.TheVariants.{File, Missing, OutOfUse}
@@ -24,10 +26,11 @@ use Rattle.f11_index.specs.Kept.{IndexLiesWithin}
 use Rattle.f11_reader.specs.declared.file.FileReader.{FileReader}
 use Rattle.f11_store.specs.declared.files.FileId.{FileId}
 use Rattle.f11_commands.specs.AllCommand.{LeavesOut, TakesNext}
-use Rattle.f11_commands.specs.AllCommand.{BeginsAll, CanBeRead, FailsToBeginAll, TakesAtEnd, TakesFile, nothing, part, to_end, unsure}
+use Rattle.f11_commands.specs.AllCommand.{BeginsAll, BeginsWithEnd, CanBeRead, FailsToBeginAll, FailsWithEnd, TakesAtEnd, TakesFile, nothing, part, to_end, unsure}
 use Rattle.f11_commands.specs.AllCommand.{whole}
 use Rattle.f11_commands.specs.AnyVolume.{FindsVolume, IsReadable}
 use Rattle.f11_commands.specs.Copying.{master_directory}
+use Rattle.f11_commands.specs.Size.{volume_end}
 use Rattle.f11_commands.specs.declared.outcome.Failure.{Failure}
 use Rattle.f11_commands.specs.declared.outcome.Failure.TheVariants.{DeviceFault, NoMemory, CannotWrite}
 use Rattle.f11_commands.proofs.AnyVolumeLemmas.{hindered-behind, index-of-volume, said-of-volume}
@@ -36,21 +39,21 @@ use Rattle.f11_commands.specs.declared.get.all.state.TakingAll.{TakingAll}
 use Rattle.f11_commands.specs.declared.get.all.taking.Taken.{Taken}
 
 -- what was read for a file, taken out or not
-pub takes-reads : {H : Type 0} (index : Index) (file : FileReader) (end : ℕ) (taken : Taken) (old new : Disk)
-    (held : H → Option (List ℕ)) (before after : H) → TakesFile index file end taken old new held before after
+pub takes-reads : {H : Type 0} (index : Index) (file : FileReader) (end : ℕ) (broke : Option ℕ) (taken : Taken) (old new : Disk)
+    (held : H → Option (List ℕ)) (before after : H) → TakesFile index file end broke taken old new held before after
     → (faults : ℕ) × Reads old new faults
-takes-reads index file end taken old new held before after (whole so) =
+takes-reads index file end broke taken old new held before after (whole so) =
     (0, reads-then (_, so.writes.reads.looked) (_, so.finds.looked))
-takes-reads index file end taken old new held before after (unsure so) =
+takes-reads index file end broke taken old new held before after (unsure so) =
     (1, reads-then (_, so.writes.reads.looked) (_, so.looked))
-takes-reads index file end taken old new held before after (part so) = (1, (_, so.stops.reads.looked))
+takes-reads index file end broke taken old new held before after (part so) = (1, (_, so.stops.reads.looked))
 
-pub taken-reads : {H : Type 0} (index : Index) (file : FileReader) (taken : Taken) (old new : Disk) (held : H → Option (List ℕ))
-    (before after : H) → TakesAtEnd index file taken old new held before after → (faults : ℕ) × Reads old new faults
-taken-reads index file taken old new held before after (to_end so) =
-    let rest = takes-reads index file so.end taken so.mid new held before after so.takes in
-    (rest.0, reads-then (_, so.finds.looked) rest.1)
-taken-reads index file taken old new held before after (nothing so) = (1, so.reads)
+pub taken-reads : {H : Type 0} (index : Index) (size : ℕ) (file : FileReader) (taken : Taken) (old new : Disk) (held : H → Option (List ℕ))
+    (before after : H) → TakesAtEnd index size file taken old new held before after → (faults : ℕ) × Reads old new faults
+taken-reads index size file taken old new held before after (to_end so) =
+    let rest = takes-reads index file so.end so.broke taken so.there new held before after so.takes in
+    (rest.0, reads-then (_, so.finds.looked) (reads-then (_, so.breaks.looked) rest.1))
+taken-reads index size file taken old new held before after (nothing so) = (1, so.reads)
 
 -- what stands in a place that was found can be read
 pub found-reading : (index wide : Index) (found : FileAt) (old new : Disk) → HoldsAt index wide found old new
@@ -73,11 +76,11 @@ module _ {D : Type 0} {G : Ghosts D} {H W : Type 0} where
       (refl, subst (λ (i : FileId). LeavesOut place (left.Missing i absence) all later contents before after) same leaves)
 
 -- behind some reads the same directories are read, and the index file lies on the device
-pub walking-on : (index : Index) (files : AllFiles) (old new : Disk) (faults : ℕ) → Reads old new faults → IsWalking index files old
-    → IsWalking index files new
-walking-on index files old new faults reads walking = (
-  hand-on index files.entered.hand old new faults reads walking.0,
-  master-on index files.entered.directories.master old new faults reads walking.1,
+pub walking-on : (index wide : Index) (files : AllFiles) (old new : Disk) (faults : ℕ) → Reads old new faults
+    → IsWalking index wide files old → IsWalking index wide files new
+walking-on index wide files old new faults reads walking = (
+  hand-on index wide files.entered.hand old new faults reads walking.0,
+  master-on index wide files.entered.directories.master old new faults reads walking.1,
 )
 
 pub within-on : (index : Index) (old new : Disk) (faults : ℕ) → Reads old new faults → IndexLiesWithin index (length old.image)
@@ -85,39 +88,54 @@ pub within-on : (index : Index) (old new : Disk) (faults : ℕ) → Reads old ne
 within-on index old new faults reads within = subst (λ (i : Image). IndexLiesWithin index (length i)) (sym reads.1.image) within
 
 -- The index file was read, and all its files begun with.
-module _ (home : HomeFields) (index : Index) (old mid : Disk) (found : FindsVolume home index old mid) (files : AllFiles) (new : Disk)
-    (begins : BeginsWalk index master_directory files mid new) (wide : Index) (all-used : wide ≡ all_in_use index) where
-  pub begins-all : BeginsAll index wide files old new
+module _ (home : HomeFields) (index wide : Index) (old mid : Disk) (found : FindsVolume home index old mid) (size : ℕ) (files : AllFiles)
+    (new : Disk) (begun : BeginsWithEnd index wide size files mid new) (all-used : wide ≡ all_in_use index) where
+  begun-reads : Reads mid new 0
+  begun-reads = reads-then begun.ends.reads (_, begun.begins.looked)
+
+  pub begins-all : BeginsAll index wide size files old new
   begins-all = record {
     home = home;
     readable = found.readable;
     all = λ honest.
-        files-later index files mid new begins.looked.image
-        ∙ begins.all (found.looked.honest ∙ honest)
-        ∙ said-of-volume home index old mid found (λ image t. all_files image t master_directory) honest;
+        let honest' : IsTrue mid.honest = found.looked.honest ∙ honest in
+        files-later index wide files begun.mid new begun.begins.looked.image
+        ∙ begun.begins.all (begun.ends.reads.1.honest ∙ honest')
+        ∙ said-later (λ image t. all_files wide image t master_directory) index begun.ends.reads.1
+        ∙ said-of-volume home index old mid found (λ image t. all_files wide image t master_directory) honest;
     index_is = index-of-volume home index old mid found;
     wide_is = all-used;
-    reads = reads-then (_, found.looked) (_, begins.looked);
+    size_is = λ honest.
+        begun.ends.end_is (found.looked.honest ∙ honest) ∙ said-of-volume home index old mid found volume_end honest;
+    reads = reads-then (_, found.looked) begun-reads;
   }
 
   pub lies-within : IndexLiesWithin index (length new.image)
-  lies-within = within-on index mid new 0 (_, begins.looked) found.is_for.within
+  lies-within = within-on index mid new 0 begun-reads found.is_for.within
 
   pub wide-within : IndexLiesWithin wide (length new.image)
   wide-within =
       subst (λ (i : Index). IndexLiesWithin i (length new.image)) (sym all-used) (all-lies-within index (length new.image) lies-within)
 
+-- or they couldn't be begun with
+pub begin-fails : (fault : WalkFault) (old mid new : Disk) → Reads old mid 0 → FailsToBegin fault mid new → FailsWithEnd fault old new
+begin-fails walk.DeviceFault old mid new reads fails = reads-then reads (_, fails)
+begin-fails walk.NoMemory old mid new reads same = subst (λ (d : Disk). Reads old d 0) (sym same) reads
+
 -- the volume was verified before
 module _ (old mid new : Disk) (reads : Reads old mid 0) where
-  pub all-behind : (index wide : Index) (files : AllFiles) → BeginsAll index wide files mid new → BeginsAll index wide files old new
-  all-behind index wide files begins = record {
+  pub all-behind : (index wide : Index) (size : ℕ) (files : AllFiles) → BeginsAll index wide size files mid new
+      → BeginsAll index wide size files old new
+  all-behind index wide size files begins = record {
     home = begins.home;
     readable = λ honest. subst (λ (i : Image). IsReadable i begins.home) reads.1.image (begins.readable (reads.1.honest ∙ honest));
     all = λ honest.
         begins.all (reads.1.honest ∙ honest)
-        ∙ ap (λ (i : Image). all_files i (table_of i begins.home) master_directory) reads.1.image;
+        ∙ ap (λ (i : Image). all_files wide i (table_of i begins.home) master_directory) reads.1.image;
     index_is = λ honest. begins.index_is (reads.1.honest ∙ honest) ∙ ap (λ (i : Image). index_of i begins.home) reads.1.image;
     wide_is = begins.wide_is;
+    size_is = λ honest.
+        begins.size_is (reads.1.honest ∙ honest) ∙ ap (λ (i : Image). volume_end i (table_of i begins.home)) reads.1.image;
     reads = reads-then reads begins.reads;
   }
 

@@ -28,9 +28,10 @@ use Rattle.f11_store.specs.declared.refusals.Refusal.TheVariants.{NoSuchFile}
 use Rattle.f11_volume.specs.Contents.{blocks_reached, file_of}
 use Rattle.f11_commands.specs.AnyVolume.{FindsVolume, IsReadable, unless_refused}
 use Rattle.f11_commands.specs.Copying.{master_directory}
-use Rattle.f11_commands.specs.GetCommand.{CannotBeFound, FailsToSeek, FindsSought, IsToRead, LacksFile, LacksSought, OpensSought}
+use Rattle.f11_commands.specs.GetCommand.{CannotBeFound, FailsToSeek, FindsSought, IsToRead, LacksFile, LacksSought, OpensSought, OpensWithEnd}
 use Rattle.f11_commands.specs.GetCommand.{TellsWhyNot, cannot_be_read, lacks_file, tells_fault, tells_none}
 use Rattle.f11_commands.specs.GetCommand.{file_entered, file_identified, file_sought, index_read, volume_file}
+use Rattle.f11_commands.specs.Size.{FindsVolumeEnd, volume_end}
 use Rattle.f11_commands.specs.TakingOut.{bytes_to_come, lbns_to_come}
 use Rattle.f11_commands.specs.TakingText.{file_to_come}
 use Rattle.f11_commands.specs.declared.outcome.Answer.{Answer}
@@ -99,6 +100,15 @@ module _ (sought next : Image → Table → Result File Refusal) (index : Index)
     reads = reads-then reads none.reads;
   }
 
+-- it was found behind a look for the volume's end
+pub finds-with-end : (sought : Image → Table → Result File Refusal) (index by : Index) (file : FileReader) (end size : ℕ)
+    (old mid new : Disk) → FindsVolumeEnd index size old mid → OpensSought sought index by file end mid new
+    → OpensWithEnd sought index by file end size old new
+finds-with-end sought index by file end size old mid new ends finds = record {
+  opens = finds-behind sought sought index old mid new ends.reads (λ honest. refl) by file end finds;
+  size_is = ends.end_is;
+}
+
 -- the file with an identification is the one whose slot is in use, else the one whose slot isn't
 module _ (index wide : Index) (id : FileId) where
   abbrev identified : Image → Table → Result File Refusal
@@ -150,11 +160,11 @@ module _ (index wide : Index) (id : FileId) where
 
 -- a directory has the name, or hasn't
 module _ (index wide : Index) (directory : FileId) (name : List ℕ) (old new : Disk) where
-  pub entered-is : (id : FileId) → FindsId index directory name id old new → IsTrue old.honest
+  pub entered-is : (id : FileId) → FindsId index wide directory name id old new → IsTrue old.honest
       → file_entered wide old.image (table index old) name directory ≡ file_identified wide old.image (table index old) id
   entered-is id found honest = ap (unless_refused (file_identified wide old.image (table index old))) (found.found honest)
 
-  pub none-entered : (refusal : Refusal) → FindsNoId index directory name refusal old new
+  pub none-entered : (refusal : Refusal) → FindsNoId index wide directory name refusal old new
       → LacksSought (λ image t. file_entered wide image t name directory) index refusal old new
   none-entered refusal none = record {
     refused = λ honest. ap (unless_refused (file_identified wide old.image (table index old))) (none.refused honest);
@@ -163,7 +173,7 @@ module _ (index wide : Index) (directory : FileId) (name : List ℕ) (old new : 
 
 -- and the master file directory that of the directory
 module _ (index wide : Index) (directory name : List ℕ) (old new : Disk) where
-  pub sought-is : (id : FileId) → FindsId index master_directory directory id old new → IsTrue old.honest
+  pub sought-is : (id : FileId) → FindsId index wide master_directory directory id old new → IsTrue old.honest
       → file_sought wide old.image (table index old) directory name ≡ file_entered wide old.image (table index old) name id
   sought-is id found honest = ap (unless_refused (file_entered wide old.image (table index old) name)) (found.found honest)
 
@@ -196,11 +206,11 @@ module _ (home : HomeFields) (index wide : Index) (old mid : Disk) (found : Find
       said-of-volume home index old mid found (λ image t. file_sought wide image t directory name) honest
       ∙ ap (λ (x : Index). file_sought x old.image (table_of old.image home) directory name) (by-volume false honest)
 
-  volume-has : (in_use : Bool) (file : FileReader) (end : ℕ)
-      → OpensSought (λ image t. file_sought wide image t directory name) index (by in_use) file end mid new
-      → FindsSought directory name in_use (bytes_to_come (by in_use) new file end) end (lbns_to_come (by in_use) new file)
+  volume-has : (in_use : Bool) (file : FileReader) (end size : ℕ)
+      → OpensWithEnd (λ image t. file_sought wide image t directory name) index (by in_use) file end size mid new
+      → FindsSought directory name in_use size (bytes_to_come (by in_use) new file end) end (lbns_to_come (by in_use) new file)
       (file_to_come (by in_use) new file) old new
-  volume-has in_use file end finds = record {
+  volume-has in_use file end size both = let finds = both.opens in record {
     home = home;
     readable = found.readable;
     found = finds.found;
@@ -210,6 +220,7 @@ module _ (home : HomeFields) (index wide : Index) (old mid : Disk) (found : Find
         finds.found_is (found.looked.honest ∙ honest) ∙ of-table (λ image t. file_of image t finds.number) in_use honest;
     places = λ honest.
         finds.places (found.looked.honest ∙ honest) ∙ of-table (λ image t. blocks_reached t finds.number) in_use honest;
+    size_is = λ honest. both.size_is (found.looked.honest ∙ honest) ∙ said-of-volume home index old mid found volume_end honest;
     bytes_are = λ honest. finds.to_come (found.looked.honest ∙ honest);
     end_is = λ honest. finds.end_is (found.looked.honest ∙ honest);
     attr_is = λ honest. finds.attr_is (found.looked.honest ∙ honest);
@@ -226,16 +237,16 @@ module _ (home : HomeFields) (index wide : Index) (old mid : Disk) (found : Find
   }
 
   -- so it is by the one that is kept
-  pub volume-gives : (chosen : Index) (in_use : Bool) → chosen ≡ by in_use → (file : FileReader) (end : ℕ)
-      → OpensSought (λ image t. file_sought wide image t directory name) index (by in_use) file end mid new
+  pub volume-gives : (chosen : Index) (in_use : Bool) → chosen ≡ by in_use → (file : FileReader) (end size : ℕ)
+      → OpensWithEnd (λ image t. file_sought wide image t directory name) index (by in_use) file end size mid new
       → IsToRead chosen file new
-      × FindsSought directory name in_use (bytes_to_come chosen new file end) end (lbns_to_come chosen new file)
+      × FindsSought directory name in_use size (bytes_to_come chosen new file end) end (lbns_to_come chosen new file)
       (file_to_come chosen new file)
       old new
-  volume-gives chosen in_use is file end finds =
+  volume-gives chosen in_use is file end size finds =
       subst (λ (i : Index). IsToRead i file new
-      × FindsSought directory name in_use (bytes_to_come i new file end) end (lbns_to_come i new file) (file_to_come i new file) old new)
-      (sym is) (is-to-read in_use file end finds, volume-has in_use file end finds)
+      × FindsSought directory name in_use size (bytes_to_come i new file end) end (lbns_to_come i new file) (file_to_come i new file) old new)
+      (sym is) (is-to-read in_use file end finds.opens, volume-has in_use file end size finds)
 
   pub volume-lacks : (refusal : Refusal) → LacksSought (λ image t. file_sought wide image t directory name) index refusal mid new
       → LacksFile directory name refusal old new
@@ -248,9 +259,10 @@ module _ (home : HomeFields) (index wide : Index) (old mid : Disk) (found : Find
 
 -- the volume was verified before
 module _ (directory name : List ℕ) (old mid new : Disk) (reads : Reads old mid 0) where
-  pub sought-behind : (in_use : Bool) (bytes : List ℕ) (end : ℕ) (lbns : List ℕ) (come : File)
-      → FindsSought directory name in_use bytes end lbns come mid new → FindsSought directory name in_use bytes end lbns come old new
-  sought-behind in_use bytes end lbns come finds = record {
+  pub sought-behind : (in_use : Bool) (size : ℕ) (bytes : List ℕ) (end : ℕ) (lbns : List ℕ) (come : File)
+      → FindsSought directory name in_use size bytes end lbns come mid new
+      → FindsSought directory name in_use size bytes end lbns come old new
+  sought-behind in_use size bytes end lbns come finds = record {
     home = finds.home;
     readable = λ honest. subst (λ (i : Image). IsReadable i finds.home) reads.1.image (finds.readable (reads.1.honest ∙ honest));
     found = finds.found;
@@ -263,6 +275,8 @@ module _ (directory name : List ℕ) (old mid new : Disk) (reads : Reads old mid
     places = λ honest.
         finds.places (reads.1.honest ∙ honest)
         ∙ ap (λ (i : Image). blocks_reached (table_in i (index_read in_use i finds.home)) finds.number) reads.1.image;
+    size_is = λ honest.
+        finds.size_is (reads.1.honest ∙ honest) ∙ ap (λ (i : Image). volume_end i (table_of i finds.home)) reads.1.image;
     bytes_are = λ honest. finds.bytes_are (reads.1.honest ∙ honest);
     end_is = λ honest. finds.end_is (reads.1.honest ∙ honest);
     attr_is = λ honest. finds.attr_is (reads.1.honest ∙ honest);

@@ -2,7 +2,7 @@ pub mod LineLemmas
 pub mod VolumeLemmas
 mod AllLemmas
 mod AnyVolumeLemmas
-mod CutShortLemmas
+mod SizeLemmas
 mod LsLemmas
 mod GetLemmas
 mod RunLemmas

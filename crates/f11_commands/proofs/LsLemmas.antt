@@ -5,7 +5,7 @@ use Rattle.std.proofs.Common.{not}
 use Rattle.f11_catalog.proofs.ListingLemmas.{reads-then, said-later}
 use Rattle.f11_catalog.specs.Lines.{record_lines}
 use Rattle.f11_catalog.specs.Listing.{FindsId, IsRefused, Lists}
-use Rattle.f11_catalog.specs.Records.{Reads, records_of}
+use Rattle.f11_catalog.specs.Records.{Reads, records_found}
 use Rattle.f11_catalog.specs.chain.Calls.{table}
 use Rattle.f11_dev.specs.Disk.{Disk}
 use Rattle.f11_dev.specs.Image.{Image}
@@ -30,7 +30,7 @@ use Rattle.f11_commands.specs.declared.outcome.Failure.TheVariants.{DeviceFault,
 
 module _ {W : Type 0} (index wide : Index) (contents : W → Option (List ℕ)) where
   module _ (directory : List ℕ) (old mid : Disk) where
-    module _ (id : FileId) (found : FindsId index master_directory directory id old mid) where
+    module _ (id : FileId) (found : FindsId index wide master_directory directory id old mid) where
       is-listed : IsTrue old.honest
           → one_listed wide old.image (table index old) directory ≡ directory_listed wide old.image (table index old) id
       is-listed honest =
@@ -40,27 +40,27 @@ module _ {W : Type 0} (index wide : Index) (contents : W → Option (List ℕ)) 
       later text = said-later text index found.reads.1
 
       -- one that is
-      pub one-lists : (new : Disk) (before after : W) → Lists (record_lines wide) index id mid new contents before after
+      pub one-lists : (new : Disk) (before after : W) → Lists (record_lines wide) index wide id mid new contents before after
           → WritesListing (λ image t. one_listed wide image t directory) index old new contents before after
       one-lists new before after all = record {
         lines = all.writes.written;
         lines_are = λ honest.
             let honest' : IsTrue mid.honest = found.reads.1.honest ∙ honest in
             is-listed honest ∙ sym (later (λ image t. directory_listed wide image t id))
-            ∙ ap (λ r. lines_or r (record_lines wide mid.image (table index mid) (records_of mid.image (table index mid) id)))
+            ∙ ap (λ r. lines_or r (record_lines wide mid.image (table index mid) (records_found wide mid.image (table index mid) id)))
             (all.readable honest')
             ∙ ap Ok (sym (all.writes.is honest'));
         takes = all.writes.takes;
         reads = reads-then found.reads all.writes.reads;
       }
 
-      pub one-refused : (new : Disk) (refusal : Refusal) → IsRefused index id refusal mid new
+      pub one-refused : (new : Disk) (refusal : Refusal) → IsRefused index wide id refusal mid new
           → IsNotListed (λ image t. one_listed wide image t directory) index refusal old new
       one-refused new refusal none = record {
         refused = λ honest.
             let honest' : IsTrue mid.honest = found.reads.1.honest ∙ honest in
             is-listed honest ∙ sym (later (λ image t. directory_listed wide image t id))
-            ∙ ap (λ r. lines_or r (record_lines wide mid.image (table index mid) (records_of mid.image (table index mid) id)))
+            ∙ ap (λ r. lines_or r (record_lines wide mid.image (table index mid) (records_found wide mid.image (table index mid) id)))
             (none.refused honest');
         reads = reads-then found.reads none.reads;
       }

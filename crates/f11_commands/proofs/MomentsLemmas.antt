@@ -16,11 +16,11 @@ use Rattle.f11_flx.proofs.TriedLemmas.{Tries, only-filling, open-tries, tries-gr
 use Rattle.f11_flx.proofs.VolumeLemmas.{unused, volume-seen}
 use Rattle.f11_flx.specs.Asking.{Asking, Denies, Granted, Grants, Tried, asks, counts, plain, reads, told, writes}
 use Rattle.f11_flx.specs.CopyFromRt.{Making, creation, filling, opening}
-use Rattle.f11_flx.specs.Copying.{AsksForFile, AsksOfCreated, IsMakingOf, creation as created-alone, making as made-one, nothing}
+use Rattle.f11_flx.specs.Copying.{AsksForFile, creation as created-alone, making as made-one, nothing}
 use Rattle.f11_flx.specs.Copying.{of_volume}
 use Rattle.f11_flx.specs.Making.{filling_of}
 use Rattle.f11_flx.specs.Refusal.{is_lethal}
-use Rattle.f11_flx.specs.Stating.{AsksFinishing, AsksInOrder, IsFilling, creating as created-only, finishing, unasked, unfinished}
+use Rattle.f11_flx.specs.Stating.{AsksInOrder, IsFilling, creating as created-only, finishing, unasked, unfinished}
 use Rattle.f11_flx.specs.declared.refusal.FlxRefusal.TheVariants.{Files}
 use Rattle.f11_home.specs.Home.{HomeFields}
 use Rattle.f11_runs.specs.Each.{call_with}
@@ -40,11 +40,11 @@ use Rattle.f11_store.specs.declared.requests.Reply.TheVariants as reply
 use Rattle.f11_store.specs.declared.requests.Request.{Request}
 use Rattle.f11_store.specs.declared.requests.Request.TheVariants as request
 use Rattle.f11_commands.proofs.AskedLemmas.{denied-home, granted-home, tried-home}
-use Rattle.f11_commands.proofs.OthersLemmas.{all-behind, no-slot-0, others-stay}
+use Rattle.f11_commands.proofs.OthersLemmas.{no-slot-0, others-stay}
 use Rattle.f11_commands.proofs.StoppingLemmas.{Stops, after-stopped, alive-of, dead-behind, honest-of, later, one-stopped}
 use Rattle.f11_commands.proofs.WholeLemmas.{creation-ends, filling-ends, finishing-ends}
 use Rattle.f11_commands.specs.Copying.{operator}
-use Rattle.f11_commands.specs.Stopping.{EndsWhole, IsStopped, IsUnheld, StopsAt, StopsFile, Stood, WhereUnheld, after_creation, creating}
+use Rattle.f11_commands.specs.Stopping.{EndsWhole, IsStopped, IsUnheld, StopsAt, StopsFile, Stood, creating}
 use Rattle.f11_commands.specs.Stopping.{in_part, not_begun}
 
 newest-append : (later earlier : List Image) (image : Image) → newest (later ++ earlier) image ≡ newest later (newest earlier image)

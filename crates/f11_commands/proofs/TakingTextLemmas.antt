@@ -6,7 +6,8 @@ use Rattle.std.specs.List.{concat}
 use Rattle.std.proofs.KnownBytes.{Appends-nil}
 use Rattle.std.proofs.Math.Seq.{drop-length, take-nil}
 use Rattle.std.proofs.lemmas.Bool.{cases_lt}
-use Rattle.std.proofs.lemmas.List.{append-nil, drop-drop, get_or_past, length-map, length-take-le, take-take}
+use Rattle.std.proofs.lemmas.List.{append-nil, drop-drop, get_or_past, length-map, length-take, length-take-le, take-append-drop, take-append-le, take-map, take-take}
+use Rattle.std.proofs.lemmas.List.Folds.{concat-append}
 use Rattle.std.proofs.lemmas.Option.{slice_get-get_or}
 use Rattle.f11_bytes.specs.Block.{zero_block}
 use Rattle.f11_dev.proofs.LookedLemmas.{looked_more, looked_within}
@@ -36,7 +37,7 @@ use Rattle.f11_volume.specs.Contents.{block_or_zeros}
 use Rattle.f11_commands.specs.TakingOut.{ReadsBefore}
 use Rattle.f11_commands.specs.TakingText.{BeginsText, BreaksOffText, FailsToPour, FailsToWriteText, GivesGoodText, GivesText}
 use Rattle.f11_commands.specs.TakingText.{IsGoodTextOf, IsTextBeforeBad, IsWholeText, PoursText, ReadsRecords, WritesGoodText}
-use Rattle.f11_commands.specs.TakingText.{WritesText, all_to_come, file_to_come, good_lines}
+use Rattle.f11_commands.specs.TakingText.{CountsBefore, WritesText, all_to_come, blocks_until, file_until, good_lines}
 use Rattle.f11_commands.specs.declared.outcome.Failure.{Failure}
 use Rattle.f11_commands.specs.declared.outcome.Failure.TheVariants.{DeviceFault, NoMemory, CannotWrite}
 use Rattle.f11_commands.proofs.TakingOutLemmas.{Taken, contents-stay, taken-more}
@@ -292,30 +293,80 @@ blocks-size image (lbn ∷ lbns) is =
       length-append {A = ℕ} (block_or_zeros image lbn) (concat (map (block_or_zeros image) lbns)),
     )
 
+-- so has each of those before the one by which it breaks off
+until-size : (image : Image) (lbns : List ℕ) (broke : Option ℕ) → IsImage image
+    → length (concat (blocks_until broke (map (block_or_zeros image) lbns))) ≡ 512 * length (blocks_until broke (map (block_or_zeros image) lbns))
+until-size image lbns None is =
+    let count = length-map lbns (block_or_zeros image) in omega (arith, blocks-size image lbns is, count)
+until-size image lbns (Some vbn) is =
+    let same = take-map (block_or_zeros image) (vbn - 1) lbns in
+    let count = length-map (take (vbn - 1) lbns) (block_or_zeros image) in
+    ap (λ (bs : List (List ℕ)). length (concat bs)) same
+    ∙ blocks-size image (take (vbn - 1) lbns) is
+    ∙ ap (λ (n : ℕ). 512 * n) (sym (ap length same ∙ count))
+
+-- these are a beginning of all
+concat-begins : (broke : Option ℕ) (blocks : List (List ℕ)) → (more : List ℕ) × (concat blocks ≡ concat (blocks_until broke blocks) ++ more)
+concat-begins None blocks = ([], sym (append-nil (concat blocks)))
+concat-begins (Some vbn) blocks = (
+  concat (drop (vbn - 1) blocks),
+  ap concat (sym (take-append-drop (vbn - 1) blocks)) ∙ concat-append (take (vbn - 1) blocks) (drop (vbn - 1) blocks),
+)
+
+concat-until : (broke : Option ℕ) (blocks : List (List ℕ)) → length (concat (blocks_until broke blocks)) ≤ length (concat blocks)
+concat-until broke blocks =
+    let begins = concat-begins broke blocks in
+    omega (arith, ap length begins.1, length-append {A = ℕ} (concat (blocks_until broke blocks)) begins.0)
+
+-- a text that ends within them is the same of all
+text-until : (which : Which) (t : ToText) (broke : Option ℕ) (blocks : List (List ℕ))
+    → rest_of t ≤ length (concat (blocks_until broke blocks))
+    → text_by which t (concat blocks) ≡ text_by which t (concat (blocks_until broke blocks))
+text-until which t broke blocks within =
+    let begins = concat-begins broke blocks in
+    ap (λ (bs : List ℕ). text_from t.ends which t.layout t.place bs)
+    (ap (take (rest_of t)) begins.1 ∙ take-append-le (rest_of t) (concat (blocks_until broke blocks)) begins.0 within)
+
 -- no text of all records: they can't be read
 none-of : (records : Option (List (List ℕ))) → option_map (text_with Lf) records ≡ None → records ≡ None
 none-of None is = refl
 none-of (Some records) is = absurd (cc)
 
+-- the blocks before the one by which a file breaks off were counted
+module _ (index : Index) (file : FileReader) (blocks : ℕ) (old new : Disk) (counts : CountsBlocks index file blocks old new) where
+  counted : IsTrue old.honest → blocks ≡ length (contents_to_come index old file)
+  counted honest =
+      counts.count honest ∙ sym (length-map (blocks_to_come (table_in old.image index) file) (block_or_zeros old.image))
+
+  pub counts-all : CountsBefore index file None blocks old new
+  counts-all = record { count = counted; few = counts.few; looked = counts.looked }
+
+  pub counts-until : (vbn few : ℕ) → few ≡ min (vbn - 1) blocks → CountsBefore index file (Some vbn) few old new
+  counts-until vbn few is = record {
+    count = λ honest.
+        is ∙ ap (min (vbn - 1)) (counted honest) ∙ sym (length-take (vbn - 1) (contents_to_come index old file));
+    few = omega (arith, is, counts.few);
+    looked = counts.looked;
+  }
+
 -- the file's blocks were counted, and its conversion begun
-module _ (index : Index) (file : FileReader) (blocks : ℕ) (attr : List ℕ) (old mid : Disk) (image : IsImage old.image)
-    (counts : CountsBlocks index file blocks old mid) (attr-is : attr ≡ attributes (header_in_hand file)) where
+module _ (index : Index) (file : FileReader) (broke : Option ℕ) (blocks : ℕ) (attr : List ℕ) (old mid : Disk) (image : IsImage old.image)
+    (counts : CountsBefore index file broke blocks old mid) (attr-is : attr ≡ attributes (header_in_hand file)) where
   abbrev come : File
-  come = file_to_come index old file
+  come = file_until index old file broke
 
   same : contents_to_come index mid file ≡ contents_to_come index old file
   same = contents-stay index file old mid _ _ counts.looked
 
   as-many : IsTrue old.honest → length_of come ≡ blocks
-  as-many honest =
-      length-map (blocks_to_come (table_in old.image index) file) (block_or_zeros old.image) ∙ sym (counts.count honest)
+  as-many honest = sym (counts.count honest)
 
   -- its attributes don't say how records lie
   module _ (none : layout_of attr ≡ None) where
     no-layout : layout_of come.attr ≡ None
     no-layout = ap layout_of (sym attr-is) ∙ none
 
-    pub no-records : IsGoodTextOf index file old []
+    pub no-records : IsGoodTextOf index file broke old []
     no-records = record {
       bad = λ honest.
           ap (λ (l : Option Layout). option_and_then (λ layout. records_in layout (take (end_of come) (concat come.blocks))) l) no-layout;
@@ -337,17 +388,24 @@ module _ (index : Index) (file : FileReader) (blocks : ℕ) (attr : List ℕ) (o
       (starts : (which : Which) (f : File) → f.attr ≡ attr → length_of f ≡ blocks → text_by which t (concat f.blocks) ≡ converted_by Lf
       which f)
       (rest : rest_of t ≡ min (stated_end attr) (512 * blocks)) where
+    -- it ends within those
+    few : IsTrue old.honest → rest_of t ≤ length (concat come.blocks)
+    few honest =
+        let sized = until-size old.image (blocks_to_come (table_in old.image index) file) broke image in
+        omega (arith, rest, sized, counts.count honest)
+
     started : IsTrue old.honest → (which : Which) → converted_by Lf which come ≡ text_by which t (all_to_come index mid file)
     started honest which =
         sym (starts which come (sym attr-is) (as-many honest))
+        ∙ sym (text-until which t broke (contents_to_come index old file) (few honest))
         ∙ ap (λ (bs : List (List ℕ)). text_by which t (concat bs)) (sym same)
 
     long : IsTrue old.honest → rest_of t ≤ length (all_to_come index mid file)
     long honest =
-        let whole = blocks-size old.image (blocks_to_come (table_in old.image index) file) image in
+        let part = concat-until broke (contents_to_come index old file) in
         let now : length (all_to_come index mid file) ≡ length (concat (contents_to_come index old file)) =
         ap (λ (bs : List (List ℕ)). length (concat bs)) same in
-        omega (arith, rest, whole, now, counts.count honest)
+        omega (arith, few honest, part, now)
 
     reads-of : (faults : ℕ) (new : Disk) → ReadsBefore index file (rest_of t) mid new faults → ReadsRecords index file old new faults
     reads-of faults new reads =
@@ -363,7 +421,7 @@ module _ (index : Index) (file : FileReader) (blocks : ℕ) (attr : List ℕ) (o
 
     module _ {W : Type 0} (new : Disk) (contents : W → Option (List ℕ)) (before after : W) where
       pub writes-text : (count : ℕ) → PoursText (IsWholeText index file t count mid) index file t mid new 0 contents before after
-          → WritesText index file count old new contents before after
+          → WritesText index file broke count old new contents before after
       writes-text count pours = record {
         takes = record {
           text = pours.takes.text;
@@ -377,7 +435,7 @@ module _ (index : Index) (file : FileReader) (blocks : ℕ) (attr : List ℕ) (o
       }
 
       pub writes-good-text : PoursText (IsTextBeforeBad index file t mid) index file t mid new 0 contents before after
-          → WritesGoodText index file old new contents before after
+          → WritesGoodText index file broke old new contents before after
       writes-good-text pours =
           let text = pours.takes.text in
           let before-bad : IsTrue old.honest → (which : Which)
@@ -396,7 +454,7 @@ module _ (index : Index) (file : FileReader) (blocks : ℕ) (attr : List ℕ) (o
           }
 
       pub fails-to-write : (failure : Failure) → FailsToPour failure index file t mid new contents before after
-          → FailsToWriteText failure index file old new contents before after
+          → FailsToWriteText failure index file broke old new contents before after
       fails-to-write DeviceFault pours = record {
         takes = record {
           text = pours.takes.text;
@@ -413,12 +471,12 @@ module _ (index : Index) (file : FileReader) (blocks : ℕ) (attr : List ℕ) (o
       fails-to-write CannotWrite reads = reads-of 0 new reads
 
 -- they couldn't be counted: nothing was written
-pub uncounted : {W : Type 0} (index : Index) (file : FileReader) (old new : Disk) (contents : W → Option (List ℕ)) (w : W)
-    → Looked old new (headers_left file) 1 → BreaksOffText index file old new contents w w
-uncounted index file old new contents w looked = record {
+pub uncounted : {W : Type 0} (index : Index) (file : FileReader) (broke : Option ℕ) (old new : Disk) (contents : W → Option (List ℕ))
+    (w : W) → Looked old new (headers_left file) 1 → BreaksOffText index file broke old new contents w w
+uncounted index file broke old new contents w looked = record {
   takes = record {
     text = [];
-    is = record { begins = λ honest. record { rest = good_lines (file_to_come index old file); is = refl } };
+    is = record { begins = λ honest. record { rest = good_lines (file_until index old file broke); is = refl } };
     takes = Appends-nil _;
   };
   reads = record {

@@ -16,11 +16,10 @@ use Rattle.f11_flx.proofs.VolumeLemmas.{unused, volume-seen}
 use Rattle.f11_flx.specs.Asking.{Asking, Denies, Granted, Grants, Tried, asks, counts, plain, reads, told, writes}
 use Rattle.f11_flx.specs.CopyFromRt.{Making, creation, filling, new_id, opening}
 use Rattle.f11_flx.specs.Copying.{IsMakingOf, of_volume}
-use Rattle.f11_flx.specs.Stating.{AsksFilling, AsksFinishing, AsksInOrder, FillsBy, FinishesBy, IsFilling, IsFinishing}
+use Rattle.f11_flx.specs.Stating.{AsksFinishing, AsksInOrder, FillsBy, FinishesBy, IsFilling, IsFinishing}
 use Rattle.f11_flx.specs.Stating.{creating, finishing, unasked, unfinished}
 use Rattle.f11_runs.proofs.AccessLemmas.{true-false}
 use Rattle.f11_store.proofs.StepLags.{step_lags}
-use Rattle.f11_store.specs.Accesses.{FreeIsEmpty}
 use Rattle.f11_store.specs.Causes.{first_refusal}
 use Rattle.f11_store.specs.Changes.{is_due, with_access, with_replacement, with_slots_first}
 use Rattle.f11_store.specs.Directory.{entry_count, index_of_empty, needs_block, record_bytes}

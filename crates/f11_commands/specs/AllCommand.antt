@@ -9,7 +9,9 @@ use Rattle.std.specs.List.{concat}
 use Rattle.f11_catalog.specs.AllFiles.{all_files, id_of}
 use Rattle.f11_catalog.specs.Lines.{place_text}
 use Rattle.f11_catalog.specs.Records.{Reads}
-use Rattle.f11_catalog.specs.Walking.{GivesFile, HasNoFile, files_left as walk_left, files_to_come}
+use Rattle.f11_catalog.specs.Walking.{BeginsWalk, GivesFile, HasNoFile, files_left as walk_left, files_to_come}
+use Rattle.f11_catalog.specs.declared.fault.WalkFault.{WalkFault}
+use Rattle.f11_catalog.specs.declared.fault.WalkFault.TheVariants as walk
 use Rattle.f11_catalog.specs.chain.Calls.{table}
 use Rattle.f11_catalog.specs.declared.walk.content.Absence.TheVariants.{BadHeader, NoFile}
 use Rattle.f11_catalog.specs.declared.walk.content.Content.{Content}
@@ -25,7 +27,7 @@ use Rattle.f11_header.specs.Fields.{attributes, characteristics}
 use Rattle.f11_home.specs.Home.{HomeFields}
 use Rattle.f11_index.specs.IndexFile.{Index, all_in_use, index_of as index_of_image}
 use Rattle.f11_index.specs.Kept.{index_kept}
-use Rattle.f11_index.specs.Table.{table_of}
+use Rattle.f11_index.specs.Table.{Table, table_of}
 use Rattle.f11_reader.specs.Missing.{FindsMissing}
 use Rattle.f11_reader.specs.Reading.{IsReading, blocks_to_come, header_in_hand, headers_left}
 use Rattle.f11_reader.specs.declared.file.FileReader.{FileReader}
@@ -35,7 +37,9 @@ use Rattle.f11_store.specs.declared.files.FileId.{FileId}
 use Rattle.f11_commands.specs.AnyVolume.{CannotBeRead, IsReadable}
 use Rattle.f11_commands.specs.Copying.{master_directory}
 use Rattle.f11_commands.specs.Output.{WriterTakes}
-use Rattle.f11_commands.specs.TakingOut.{ReadsBefore, StopsBehind, WritesContent, blocks_before_end, missing_text}
+use Rattle.f11_commands.specs.FoundFile.{last_end}
+use Rattle.f11_commands.specs.Size.{FindsVolumeEnd, volume_end}
+use Rattle.f11_commands.specs.TakingOut.{StopsBehind, WritesContent, blocks_before_end, end_before, missing_text}
 use Rattle.f11_commands.specs.declared.get.all.counts.Counts.{Counts}
 use Rattle.f11_commands.specs.declared.get.all.left_out.LeftOut.{LeftOut}
 use Rattle.f11_commands.specs.declared.get.all.left_out.LeftOut.TheVariants.{Again, Host, Missing}
@@ -62,7 +66,7 @@ with_copied is_cut is_lost c =
 abbrev pub with_left_out : Bool → Counts → Counts
 with_left_out is_wanting c = record c { left_out = more_if is_wanting c.left_out }
 
--- its device, its index file, that with each slot in use, the files that are still to come, whether the volume has faults, whether a
+-- its device, its index file, that with each slot in use, where the volume ends, the files that are still to come, whether it has faults, whether a
 -- transfer failed, and the counts
 abbrev pub device_of : {D : Type 0} {G : Ghosts D} → TakingAll D G → D
 device_of all = all.device
@@ -72,6 +76,9 @@ index_of all = index_kept all.index
 
 abbrev pub wide_of : {D : Type 0} {G : Ghosts D} → TakingAll D G → Index
 wide_of all = index_kept all.wide
+
+abbrev pub size_of : {D : Type 0} {G : Ghosts D} → TakingAll D G → ℕ
+size_of all = all.size
 
 abbrev pub files_of : {D : Type 0} {G : Ghosts D} → TakingAll D G → AllFiles
 files_of all = all.files
@@ -103,13 +110,13 @@ abbrev pub has_open_end : FileReader → Bool
 has_open_end file =
     let header = header_in_hand file in (stated_end (attributes header) == 0) && (bit_at (characteristics header) 6 == 1)
 
--- where a file of so many blocks ends in bytes as it is taken out: then behind its last block, else where it states
-abbrev pub end_taken : FileReader → ℕ → ℕ
-end_taken file blocks = if has_open_end file then 512 * blocks else stated_end (attributes (header_in_hand file))
+-- where a file ends in bytes as it is taken out: then behind the last block that is reached, else where it states
+abbrev pub end_taken : Table → FileReader → ℕ
+end_taken t file = if has_open_end file then last_end t file else stated_end (attributes (header_in_hand file))
 
 -- so all its blocks are taken out, if it has some
-abbrev pub takes_all : FileReader → ℕ → Bool
-takes_all file blocks = has_open_end file && not (blocks == 0)
+abbrev pub takes_all : Table → FileReader → Bool
+takes_all t file = has_open_end file && not (length (blocks_to_come t file) == 0)
 
 -- the identification of a file that stands beside another of its name
 abbrev pub beside_text : Option FileId → List ℕ
@@ -124,11 +131,11 @@ open_text all_blocks = if all_blocks then codes " open, all blocks" else []
 abbrev pub use_text : Bool → List ℕ
 use_text in_use = if in_use then [] else codes " out of use"
 
--- the line of a file that was taken out: where it stands, how many bytes were written, whether its slot is in use, and which block isn't
--- there
+-- the line of a file that was taken out: where it stands, how many bytes were written, whether its slot is in use, for which block zeros
+-- were the first, and by which it broke off
 abbrev pub taken_at_line : Place → Bool → Option FileId → Taken → List ℕ
 taken_at_line place in_use beside taken = concat (place_text place ∷ beside_text beside ∷ codes " copied " ∷ decimal taken.bytes
-    ∷ codes " bytes" ∷ open_text taken.all_blocks ∷ use_text in_use ∷ missing_text (Some taken.bytes) taken.missing ∷ (10 ∷ []) ∷ [])
+    ∷ codes " bytes" ∷ open_text taken.all_blocks ∷ use_text in_use ∷ missing_text taken.zeros taken.broke ∷ (10 ∷ []) ∷ [])
 
 -- why a file isn't taken out
 abbrev pub left_out_text : LeftOut → List ℕ
@@ -160,13 +167,25 @@ all_answer c = if (c.cut == 0) && (c.left_out == 0) then Done else Fault
 abbrev pub all_answered : {D : Type 0} {G : Ghosts D} → TakingAll D G → Result Served Failure
 all_answered all = if all.failed then Err DeviceFault else Ok (record { answer = all_answer all.counts; faulty = all.faulty })
 
+-- All files were begun with, of those that an index file has, and it was found where the volume ends.
+pub record BeginsWithEnd (index wide : Index) (size : ℕ) (files : AllFiles) (old new : Disk) : Type 0 where
+  pub mid : Disk
+  pub ends : FindsVolumeEnd index size old mid
+  pub begins : BeginsWalk index wide master_directory files mid new
+
+-- They weren't.
+abbrev pub FailsWithEnd : WalkFault → Disk → Disk → Type 0
+FailsWithEnd walk.DeviceFault old new = Reads old new 1
+FailsWithEnd walk.NoMemory old new = Reads old new 0
+
 -- All files of a volume that can be read are to come.
-pub record BeginsAll (index wide : Index) (files : AllFiles) (old new : Disk) : Type 0 where
+pub record BeginsAll (index wide : Index) (size : ℕ) (files : AllFiles) (old new : Disk) : Type 0 where
   pub home : HomeFields
   pub readable : IsTrue old.honest → IsReadable old.image home
-  pub all : IsTrue old.honest → files_to_come index new files ≡ all_files old.image (table_of old.image home) master_directory
+  pub all : IsTrue old.honest → files_to_come index wide new files ≡ all_files wide old.image (table_of old.image home) master_directory
   pub index_is : IsTrue old.honest → index ≡ index_of_image old.image home
   pub wide_is : wide ≡ all_in_use index
+  pub size_is : IsTrue old.honest → size ≡ volume_end old.image (table_of old.image home)
   pub reads : Reads old new 0
 
 -- The files couldn't be begun with: a transfer failed, or there was no memory, and nothing was written; or the volume can't be read, and
@@ -187,6 +206,7 @@ module _ {D : Type 0} {G : Ghosts D} where
   pub record StaysInHand (all later : TakingAll D G) : Type 0 where
     pub index : index_of later ≡ index_of all
     pub wide : wide_of later ≡ wide_of all
+    pub size : size_of later ≡ size_of all
     pub faulty : has_faults later ≡ has_faults all
 
   -- What stands in the next place was found.
@@ -199,71 +219,87 @@ module _ {D : Type 0} {G : Ghosts D} where
   -- Nothing was: no place is left, or a transfer failed.
   pub data HasNoNext (disk : D → Disk) (all later : TakingAll D G) : Type 0 where
     has_none : StaysInHand all later → has_failed later ≡ has_failed all → counts_of later ≡ counts_of all
-        → HasNoFile (index_of all) (files_of all) (files_of later) (disk (device_of all)) (disk (device_of later))
+        → HasNoFile (index_of all) (wide_of all) (files_of all) (files_of later) (disk (device_of all)) (disk (device_of later))
         → HasNoNext disk all later
     fails : StaysInHand all later → has_failed later ≡ true → counts_of later ≡ counts_of all
         → Reads (disk (device_of all)) (disk (device_of later)) 1
         → HasNoNext disk all later
 
--- A file's content was written to its end, and it was found which of the blocks before that is the first that isn't there.
-pub record TakesWhole {H : Type 0} (index : Index) (file : FileReader) (end : ℕ) (taken : Taken) (old new : Disk)
+-- A file's content was written to its end, or before the block by which it breaks off, and it was found for which of the blocks before
+-- that zeros were the first.
+pub record TakesWhole {H : Type 0} (index : Index) (file : FileReader) (end : ℕ) (broke : Option ℕ) (taken : Taken) (old new : Disk)
     (held : H → Option (List ℕ)) (before after : H) : Type 0 where
   pub mid : Disk
   pub well : taken.failed ≡ false
-  pub writes : WritesContent index file end taken.bytes old mid held before after
-  pub finds : FindsMissing index file (blocks_before_end end) taken.missing mid new
+  pub broke_is : taken.broke ≡ broke
+  pub writes : WritesContent index file (end_before end broke) taken.bytes old mid held before after
+  pub finds : FindsMissing index file (length old.image) (blocks_before_end (end_before end broke)) taken.zeros mid new
 
 -- It was written, and a transfer failed before that block was found.
-pub record TakesUnsure {H : Type 0} (index : Index) (file : FileReader) (end : ℕ) (taken : Taken) (old new : Disk)
+pub record TakesUnsure {H : Type 0} (index : Index) (file : FileReader) (end : ℕ) (broke : Option ℕ) (taken : Taken) (old new : Disk)
     (held : H → Option (List ℕ)) (before after : H) : Type 0 where
   pub mid : Disk
   pub failed : taken.failed ≡ true
-  pub writes : WritesContent index file end taken.bytes old mid held before after
-  pub missing : taken.missing ≡ None
+  pub broke_is : taken.broke ≡ broke
+  pub writes : WritesContent index file (end_before end broke) taken.bytes old mid held before after
+  pub zeros : taken.zeros ≡ None
   pub looked : Looked mid new (headers_left file + 1) 1
 
 -- A transfer failed at the block that has the next byte: a beginning was written.
-pub record TakesPart {H : Type 0} (index : Index) (file : FileReader) (end : ℕ) (taken : Taken) (old new : Disk)
+pub record TakesPart {H : Type 0} (index : Index) (file : FileReader) (end : ℕ) (broke : Option ℕ) (taken : Taken) (old new : Disk)
     (held : H → Option (List ℕ)) (before after : H) : Type 0 where
   pub failed : taken.failed ≡ true
-  pub stops : StopsBehind index file end taken.bytes old new held before after
-  pub missing : taken.missing ≡ Some (taken.bytes / 512 + 1)
+  pub stops : StopsBehind index file (end_before end broke) taken.bytes old new held before after
+  pub zeros : taken.zeros ≡ None
+  pub broke_is : taken.broke ≡ Some (taken.bytes / 512 + 1)
 
 -- What was taken out of a file.
-pub data TakesFile {H : Type 0} (index : Index) (file : FileReader) (end : ℕ) (taken : Taken) (old new : Disk)
+pub data TakesFile {H : Type 0} (index : Index) (file : FileReader) (end : ℕ) (broke : Option ℕ) (taken : Taken) (old new : Disk)
     (held : H → Option (List ℕ)) (before after : H) : Type 0 where
-  whole : TakesWhole index file end taken old new held before after → TakesFile index file end taken old new held before after
-  unsure : TakesUnsure index file end taken old new held before after → TakesFile index file end taken old new held before after
-  part : TakesPart index file end taken old new held before after → TakesFile index file end taken old new held before after
+  whole : TakesWhole index file end broke taken old new held before after → TakesFile index file end broke taken old new held before after
+  unsure : TakesUnsure index file end broke taken old new held before after → TakesFile index file end broke taken old new held before after
+  part : TakesPart index file end broke taken old new held before after → TakesFile index file end broke taken old new held before after
 
 -- It was found where a file ends as it is taken out; headers alone were read.
 pub record FindsEndTaken (index : Index) (file : FileReader) (end : ℕ) (all_blocks : Bool) (old new : Disk) : Type 0 where
-  pub end_is : IsTrue old.honest → end ≡ end_taken file (length (blocks_to_come (table index old) file))
-  pub all_is : IsTrue old.honest → all_blocks ≡ takes_all file (length (blocks_to_come (table index old) file))
-  pub looked : Looked old new (headers_left file) 0
+  pub end_is : IsTrue old.honest → end ≡ end_taken (table index old) file
+  pub all_is : IsTrue old.honest → all_blocks ≡ takes_all (table index old) file
+  pub looked : Looked old new (2 * headers_left file) 0
 
--- The file was taken out up to that end.
-pub record TakesToEnd {H : Type 0} (index : Index) (file : FileReader) (taken : Taken) (old new : Disk) (held : H → Option (List ℕ))
-    (before after : H) : Type 0 where
+-- The file was taken out up to that end, or before the first block of it that lies past the volume's end, or that no header names.
+pub record TakesToEnd {H : Type 0} (index : Index) (size : ℕ) (file : FileReader) (taken : Taken) (old new : Disk)
+    (held : H → Option (List ℕ)) (before after : H) : Type 0 where
   pub mid : Disk
+  pub there : Disk
   pub end : ℕ
+  pub broke : Option ℕ
   pub finds : FindsEndTaken index file end taken.all_blocks old mid
-  pub takes : TakesFile index file end taken mid new held before after
+  pub breaks : FindsMissing index file size (blocks_before_end end) broke mid there
+  pub takes : TakesFile index file end broke taken there new held before after
 
--- A transfer failed before that was found: nothing was written.
-pub record TakesNothing {H : Type 0} (taken : Taken) (old new : Disk) (before after : H) : Type 0 where
+-- It breaks off by its first block, since a transfer failed.
+pub record TakesNone (file : FileReader) (taken : Taken) : Type 0 where
   pub failed : taken.failed ≡ true
   pub none : taken.bytes ≡ 0
-  pub missing : taken.missing ≡ Some 1
-  pub all_blocks : taken.all_blocks ≡ true
+  pub zeros : taken.zeros ≡ None
+  pub broke_is : taken.broke ≡ Some 1
+  pub all_blocks : taken.all_blocks ≡ has_open_end file
+
+-- A transfer failed before that was found: nothing was written.
+pub record TakesNothing {H : Type 0} (file : FileReader) (taken : Taken) (old new : Disk) (before after : H) : Type 0 where
+  pub none : TakesNone file taken
   pub untouched : after ≡ before
   pub reads : Reads old new 1
 
 -- What was taken out of a file, as far as it could be read.
-pub data TakesAtEnd {H : Type 0} (index : Index) (file : FileReader) (taken : Taken) (old new : Disk) (held : H → Option (List ℕ))
-    (before after : H) : Type 0 where
-  to_end : TakesToEnd index file taken old new held before after → TakesAtEnd index file taken old new held before after
-  nothing : TakesNothing taken old new before after → TakesAtEnd index file taken old new held before after
+pub data TakesAtEnd {H : Type 0} (index : Index) (size : ℕ) (file : FileReader) (taken : Taken) (old new : Disk)
+    (held : H → Option (List ℕ)) (before after : H) : Type 0 where
+  to_end : TakesToEnd index size file taken old new held before after → TakesAtEnd index size file taken old new held before after
+  nothing : TakesNothing file taken old new before after → TakesAtEnd index size file taken old new held before after
+
+-- a block isn't there
+abbrev pub is_cut : Taken → Bool
+is_cut taken = is_some taken.zeros || is_some taken.broke
 
 module _ {D : Type 0} {G : Ghosts D} where
   -- A file was taken out to the host, and counted. The same files are still to come, and it is known if a transfer failed.
@@ -271,9 +307,9 @@ module _ {D : Type 0} {G : Ghosts D} where
       (all later : TakingAll D G) (held : H → Option (List ℕ)) (host host' : H) : Type 0 where
     pub stays : StaysInHand all later
     pub files : files_of later ≡ files_of all
-    pub takes : TakesAtEnd (index_by in_use all) file taken (disk (device_of all)) (disk (device_of later)) held host host'
+    pub takes : TakesAtEnd (index_by in_use all) (size_of all) file taken (disk (device_of all)) (disk (device_of later)) held host host'
     pub failed : has_failed later ≡ (has_failed all || taken.failed)
-    pub counts : counts_of later ≡ with_copied (is_some taken.missing) (place_is_lost place) (counts_of all)
+    pub counts : counts_of later ≡ with_copied (is_cut taken) (place_is_lost place) (counts_of all)
 
   -- It was, and its line says how far.
   pub record TakesFileNext {H W : Type 0} (place : Place) (file : FileReader) (in_use : Bool) (beside : Option FileId) (disk : D → Disk)

@@ -32,8 +32,8 @@ unless_refused next (Ok given) = next given
 unless_refused next (Err refusal) = Err refusal
 
 -- the identification that the master file directory has under a directory's name, or why it has none
-abbrev pub directory_named : Image → Table → List ℕ → Result FileId Refusal
-directory_named image t directory = id_entered image t master_directory directory
+abbrev pub directory_named : Index → Image → Table → List ℕ → Result FileId Refusal
+directory_named wide image t directory = id_entered wide image t master_directory directory
 
 -- The volume was verified: it has faults, or has none.
 pub record IsVerified (faulty : Bool) (disk : Disk) : Type 0 where

@@ -1,11 +1,11 @@
 -- What `get` takes out of a volume, faulty or not (profile).
-use Rattle.std.specs.Prelude.{◌≡◌, ℕ, ◌+◌, Bool, IsTrue, List, [], ◌∷◌, ◌++◌, codes, length, take, Option, Some, None, Result, Ok, Err}
+use Rattle.std.specs.Prelude.{◌≡◌, ℕ, ◌+◌, Bool, IsTrue, List, [], ◌∷◌, ◌++◌, codes, length, take, Option, None, Result, Ok, Err}
 use Rattle.std.specs.Prelude.{if◌then◌else◌}
 use Rattle.std.specs.Fmt.{decimal}
 use Rattle.std.specs.List.{concat}
-use Rattle.std.specs.Option.{ok_or, option_or}
+use Rattle.std.specs.Option.{ok_or}
 use Rattle.f11_catalog.specs.Listing.{id_entered}
-use Rattle.f11_catalog.specs.Records.{Reads, file_named}
+use Rattle.f11_catalog.specs.Records.{Reads, file_found}
 use Rattle.f11_catalog.specs.chain.Calls.{table}
 use Rattle.f11_dev.specs.Disk.{Disk}
 use Rattle.f11_dev.specs.Image.{Image}
@@ -29,10 +29,12 @@ use Rattle.f11_volume.specs.Contents.{blocks_reached, file_of}
 use Rattle.f11_commands.specs.AnyVolume.{CannotBeRead, IsReadable, TellsFault, directory_named, unless_refused}
 use Rattle.f11_commands.specs.CopyCommand.{refused_line}
 use Rattle.f11_commands.specs.Output.{WriterTakes}
-use Rattle.f11_commands.specs.TakingOut.{FailsToWriteContent, WritesContent, blocks_before_end, bytes_to_come, lbns_to_come, missing_text}
+use Rattle.f11_commands.specs.Size.{volume_end}
+use Rattle.f11_commands.specs.TakingOut.{FailsToWriteContent, WritesContent, blocks_before_end, bytes_to_come, end_before, lbns_to_come}
+use Rattle.f11_commands.specs.TakingOut.{missing_text}
 use Rattle.f11_commands.specs.TakingText.{FailsToWriteText, WritesGoodText, WritesText, file_to_come}
 use Rattle.f11_commands.specs.declared.get.told.Told.{Told}
-use Rattle.f11_commands.specs.declared.get.told.Told.TheVariants.{BadRecords, Copied, Lines}
+use Rattle.f11_commands.specs.declared.get.told.Told.TheVariants.{BadRecords, Copied}
 use Rattle.f11_commands.specs.declared.outcome.Answer.{Answer}
 use Rattle.f11_commands.specs.declared.outcome.Answer.TheVariants.{Done, Fault}
 use Rattle.f11_commands.specs.declared.outcome.Failure.{Failure}
@@ -45,16 +47,16 @@ bytes_of f = take (stated_end f.attr) (concat f.blocks)
 
 -- the file with an identification: one whose slot is in use, else the one that the index file has which takes each slot as in use
 abbrev pub file_identified : Index → Image → Table → FileId → Result File Refusal
-file_identified wide image t id = ok_or (option_or (file_named image t id) (file_named image (table_in image wide) id)) NoSuchFile
+file_identified wide image t id = ok_or (file_found wide image t id) NoSuchFile
 
 -- the file that a directory has under a name, or why there is none
 abbrev pub file_entered : Index → Image → Table → List ℕ → FileId → Result File Refusal
 file_entered wide image t name directory =
-    unless_refused (file_identified wide image t) (id_entered image t directory name)
+    unless_refused (file_identified wide image t) (id_entered wide image t directory name)
 
 -- the file that the directory with a name has under a name, or why there is none
 abbrev pub file_sought : Index → Image → Table → List ℕ → List ℕ → Result File Refusal
-file_sought wide image t directory name = unless_refused (file_entered wide image t name) (directory_named image t directory)
+file_sought wide image t directory name = unless_refused (file_entered wide image t name) (directory_named wide image t directory)
 
 -- so on a volume
 abbrev pub volume_file : Image → HomeFields → List ℕ → List ℕ → Result File Refusal
@@ -80,6 +82,12 @@ pub record OpensSought (sought : Image → Table → Result File Refusal) (index
   pub reading : IsReading by file new
   pub reads : Reads old new 0
 
+-- So it was, and where the volume ends.
+pub record OpensWithEnd (sought : Image → Table → Result File Refusal) (index by : Index) (file : FileReader) (end size : ℕ) (old new : Disk)
+    : Type 0 where
+  pub opens : OpensSought sought index by file end old new
+  pub size_is : IsTrue old.honest → size ≡ volume_end old.image (table index old)
+
 -- It wasn't.
 pub record LacksSought (sought : Image → Table → Result File Refusal) (index : Index) (refusal : Refusal) (old new : Disk) : Type 0 where
   pub refused : IsTrue old.honest → sought old.image (table index old) ≡ Err refusal
@@ -90,11 +98,11 @@ pub record IsToRead (index : Index) (file : FileReader) (disk : Disk) : Type 0 w
   pub within : IndexLiesWithin index (length disk.image)
   pub reading : IsReading index file disk
 
--- The file of a directory was found on a volume that can be read, and has this number; its slot is in use, or isn't. What is to come is
--- all of it: its bytes, up to the end that it states; its blocks, which lie there; and, as another file, what its attributes and its blocks
+-- The file of a directory was found on a volume that can be read and ends here, and has this number; its slot is in use, or isn't. What is
+-- to come is all of it: its bytes, up to the end that it states; its blocks, which lie there; and, as another file, what its attributes and its blocks
 -- say.
-pub record FindsSought (directory name : List ℕ) (in_use : Bool) (bytes : List ℕ) (end : ℕ) (lbns : List ℕ) (come : File) (old new : Disk) :
-    Type 0 where
+pub record FindsSought (directory name : List ℕ) (in_use : Bool) (size : ℕ) (bytes : List ℕ) (end : ℕ) (lbns : List ℕ) (come : File)
+    (old new : Disk) : Type 0 where
   pub home : HomeFields
   pub readable : IsTrue old.honest → IsReadable old.image home
   pub found : File
@@ -102,6 +110,7 @@ pub record FindsSought (directory name : List ℕ) (in_use : Bool) (bytes : List
   pub number : ℕ
   pub found_is : IsTrue old.honest → found ≡ file_of old.image (table_in old.image (index_read in_use old.image home)) number
   pub places : IsTrue old.honest → lbns ≡ blocks_reached (table_in old.image (index_read in_use old.image home)) number
+  pub size_is : IsTrue old.honest → size ≡ volume_end old.image (table_of old.image home)
   pub bytes_are : IsTrue old.honest → bytes ≡ bytes_of found
   pub end_is : IsTrue old.honest → end ≡ stated_end found.attr
   pub attr_is : IsTrue old.honest → come.attr ≡ found.attr
@@ -145,104 +154,116 @@ FailsToSeek CannotWrite directory name old new before after = CannotBeFound dire
 -- what a line says of a file that was taken out: how many bytes were given, or that its records can't all be read
 abbrev pub told_text : Told → List ℕ
 told_text (Copied count) = codes "copied " ++ (decimal count ++ codes " bytes")
-told_text (Lines count) = codes "copied " ++ (decimal count ++ codes " bytes")
 told_text BadRecords = codes "no " ++ flx_refusal_name BadRecord
 
--- how many bytes of its blocks were written, where that is told: of lines it isn't
-abbrev pub bytes_told : Told → Option ℕ
-bytes_told (Copied count) = Some count
-bytes_told (Lines count) = None
-bytes_told BadRecords = None
+-- its line: for which block zeros were the first, and by which the file broke off
+abbrev pub taken_line : Told → Option ℕ → Option ℕ → List ℕ
+taken_line told zeros broke = told_text told ++ (missing_text zeros broke ++ 10 ∷ [])
 
--- The line was written that tells this of a file, and which of its blocks before an end is the first that isn't there.
-pub record Tells {W : Type 0} (index : Index) (file : FileReader) (end : ℕ) (told : Told) (old new : Disk) (contents : W → Option (List ℕ))
-    (before after : W) : Type 0 where
-  pub missing : Option ℕ
-  pub finds : FindsMissing index file (blocks_before_end end) missing old new
-  pub takes : WriterTakes contents before after (told_text told ++ (missing_text (bytes_told told) missing ++ 10 ∷ []))
+-- the line of a file that was taken out as text
+abbrev pub text_line : Told → Option ℕ → List ℕ
+text_line told broke = taken_line told None broke
+
+-- behind how many blocks a file breaks off: as it is at the volume's end, as text at the device's
+abbrev pub limit_in : CopyMode → ℕ → ℕ → ℕ
+limit_in mode.Image size blocks = size
+limit_in mode.Text size blocks = blocks
+
+-- The line was written of a file of which so many bytes were given, before an end: it tells for which block zeros were the first, if for
+-- any.
+pub record TellsZeros {W : Type 0} (index : Index) (file : FileReader) (end count : ℕ) (broke : Option ℕ) (old new : Disk)
+    (contents : W → Option (List ℕ)) (before after : W) : Type 0 where
+  pub zeros : Option ℕ
+  pub finds : FindsMissing index file (length old.image) (blocks_before_end end) zeros old new
+  pub takes : WriterTakes contents before after (taken_line (Copied count) zeros broke)
 
 -- It wasn't: a transfer failed before that block was found, and nothing is told; or it was found, and the writer takes no more.
-abbrev pub FailsToTell : {W : Type 0} → Failure → Index → FileReader → ℕ → Disk → Disk → W → W → Type 0
-FailsToTell DeviceFault index file end old new before after = Looked old new (headers_left file + 1) 1 × (after ≡ before)
-FailsToTell NoMemory index file end old new before after = ⊥
-FailsToTell CannotWrite index file end old new before after =
-    (missing : Option ℕ) × FindsMissing index file (blocks_before_end end) missing old new
+abbrev pub FailsToZero : {W : Type 0} → Failure → Index → FileReader → ℕ → Disk → Disk → W → W → Type 0
+FailsToZero DeviceFault index file end old new before after = Looked old new (headers_left file + 1) 1 × (after ≡ before)
+FailsToZero NoMemory index file end old new before after = ⊥
+FailsToZero CannotWrite index file end old new before after =
+    (zeros : Option ℕ) × FindsMissing index file (length old.image) (blocks_before_end end) zeros old new
 
--- What `Gives` says was given to the host: so many bytes; and then the line was written that tells so.
-pub record TakesOut {W : Type 0} (told : ℕ → Told) (Gives : ℕ → Disk → Disk → Type 0) (index : Index) (file : FileReader) (end : ℕ)
-    (old new : Disk)
-    (contents : W → Option (List ℕ)) (before after : W) : Type 0 where
+-- The file was written to the host, as it is: so many bytes, up to the end or before the block by which it breaks off; and then its line.
+pub record TakesOutImage {H W : Type 0} (index : Index) (file : FileReader) (end : ℕ) (broke : Option ℕ) (old new : Disk)
+    (held : H → Option (List ℕ)) (host_before host_after : H) (contents : W → Option (List ℕ)) (before after : W) : Type 0 where
   pub count : ℕ
   pub mid : Disk
-  pub gives : Gives count old mid
-  pub tells : Tells index file end (told count) mid new contents before after
+  pub writes : WritesContent index file (end_before end broke) count old mid held host_before host_after
+  pub tells : TellsZeros index file (end_before end broke) count broke mid new contents before after
 
--- It couldn't all be given, as `Stops` says, and nothing is told; or it was, and its line couldn't be written.
-pub data FailsToTakeOut {W : Type 0} (Gives : ℕ → Disk → Disk → Type 0) (Stops : Failure → Disk → Disk → Type 0) (failure : Failure)
-    (index : Index) (file : FileReader) (end : ℕ) (old new : Disk) (before after : W) : Type 0 where
-  stops : Stops failure old new → after ≡ before → FailsToTakeOut Gives Stops failure index file end old new before after
-  untold : (count : ℕ) (mid : Disk) → Gives count old mid → FailsToTell failure index file end mid new before after
-      → FailsToTakeOut Gives Stops failure index file end old new before after
+-- It couldn't be: a transfer failed, and then the host was given a beginning of it, or the host takes no more; or its line couldn't be
+-- written. It takes no memory.
+pub data FailsToTakeOutImage {H W : Type 0} (failure : Failure) (index : Index) (file : FileReader) (end : ℕ) (broke : Option ℕ)
+    (old new : Disk) (held : H → Option (List ℕ)) (host_before host_after : H) (before after : W) : Type 0 where
+  stops : FailsToWriteContent failure index file (end_before end broke) old new held host_before host_after → after ≡ before
+      → FailsToTakeOutImage failure index file end broke old new held host_before host_after before after
+  untold : (count : ℕ) (mid : Disk) → WritesContent index file (end_before end broke) count old mid held host_before host_after
+      → FailsToZero failure index file (end_before end broke) mid new before after
+      → FailsToTakeOutImage failure index file end broke old new held host_before host_after before after
 
--- The file was written to the host, as it is.
-abbrev pub TakesOutImage : {H W : Type 0} → Index → FileReader → ℕ → Disk → Disk → (H → Option (List ℕ)) → H → H
-    → (W → Option (List ℕ)) → W → W → Type 0
-TakesOutImage index file end old new held host_before host_after contents before after =
-    TakesOut Copied (λ count a b. WritesContent index file end count a b held host_before host_after) index file end old new contents before
-    after
-
--- It couldn't be: a transfer failed, and then the host was given a beginning of it; or the host or the writer takes no more. It takes no
--- memory.
-abbrev pub FailsToTakeOutImage : {H W : Type 0} → Failure → Index → FileReader → ℕ → Disk → Disk → (H → Option (List ℕ)) → H → H → W → W
-    → Type 0
-FailsToTakeOutImage failure index file end old new held host_before host_after before after =
-    FailsToTakeOut (λ count a b. WritesContent index file end count a b held host_before host_after)
-    (λ f a b. FailsToWriteContent f index file end a b held host_before host_after) failure index file end old new before after
-
--- The text of its records was written to the host.
-abbrev pub TakesOutText : {H W : Type 0} → Index → FileReader → ℕ → Disk → Disk → (H → Option (List ℕ)) → H → H
-    → (W → Option (List ℕ)) → W → W → Type 0
-TakesOutText index file end old new held host_before host_after contents before after =
-    TakesOut Lines (λ count a b. WritesText index file count a b held host_before host_after) index file end old new contents before after
+-- The text of its records was written to the host, and its line.
+pub record TakesOutText {H W : Type 0} (index : Index) (file : FileReader) (broke : Option ℕ) (old new : Disk) (held : H → Option (List ℕ))
+    (host_before host_after : H) (contents : W → Option (List ℕ)) (before after : W) : Type 0 where
+  pub count : ℕ
+  pub writes : WritesText index file broke count old new held host_before host_after
+  pub line : WriterTakes contents before after (text_line (Copied count) broke)
 
 -- Its records can't all be read: the text of those before the first that can't was written to the host, and the line that says so.
-pub record TellsBadRecord {H W : Type 0} (index : Index) (file : FileReader) (end : ℕ) (old new : Disk) (held : H → Option (List ℕ))
-    (host_before host_after : H) (contents : W → Option (List ℕ)) (before after : W) : Type 0 where
-  pub mid : Disk
-  pub writes : WritesGoodText index file old mid held host_before host_after
-  pub tells : Tells index file end BadRecords mid new contents before after
+pub record TellsBadRecord {H W : Type 0} (index : Index) (file : FileReader) (broke : Option ℕ) (old new : Disk)
+    (held : H → Option (List ℕ)) (host_before host_after : H) (contents : W → Option (List ℕ)) (before after : W) : Type 0 where
+  pub writes : WritesGoodText index file broke old new held host_before host_after
+  pub line : WriterTakes contents before after (text_line BadRecords broke)
 
 -- what was told of a text, with each answer
-abbrev pub TakesOutTextAs : {H W : Type 0} → Answer → Index → FileReader → ℕ → Disk → Disk → (H → Option (List ℕ)) → H → H
+abbrev pub TakesOutTextAs : {H W : Type 0} → Answer → Index → FileReader → Option ℕ → Disk → Disk → (H → Option (List ℕ)) → H → H
     → (W → Option (List ℕ)) → W → W → Type 0
-TakesOutTextAs Done index file end old new held host_before host_after contents before after =
-    TakesOutText index file end old new held host_before host_after contents before after
-TakesOutTextAs Fault index file end old new held host_before host_after contents before after =
-    TellsBadRecord index file end old new held host_before host_after contents before after
+TakesOutTextAs Done index file broke old new held host_before host_after contents before after =
+    TakesOutText index file broke old new held host_before host_after contents before after
+TakesOutTextAs Fault index file broke old new held host_before host_after contents before after =
+    TellsBadRecord index file broke old new held host_before host_after contents before after
 
--- what was taken out in each mode
-abbrev pub TakesOutAs : {H W : Type 0} → CopyMode → Answer → Index → FileReader → ℕ → Disk → Disk → (H → Option (List ℕ)) → H → H
-    → (W → Option (List ℕ)) → W → W → Type 0
-TakesOutAs mode.Image Done index file end old new held host_before host_after contents before after =
-    TakesOutImage index file end old new held host_before host_after contents before after
-TakesOutAs mode.Image Fault index file end old new held host_before host_after contents before after = ⊥
-TakesOutAs mode.Text answer index file end old new held host_before host_after contents before after =
-    TakesOutTextAs answer index file end old new held host_before host_after contents before after
-
--- It couldn't be as text, likewise; or its records can't all be read, and the line couldn't be written that says so.
-pub data FailsToTakeOutText {H W : Type 0} (failure : Failure) (index : Index) (file : FileReader) (end : ℕ) (old new : Disk)
+-- It couldn't be as text, likewise: or the writer takes no more of the line.
+pub data FailsToTakeOutText {H W : Type 0} (failure : Failure) (index : Index) (file : FileReader) (broke : Option ℕ) (old new : Disk)
     (held : H → Option (List ℕ)) (host_before host_after : H) (before after : W) : Type 0 where
-  as_told : FailsToTakeOut (λ count a b. WritesText index file count a b held host_before host_after)
-      (λ f a b. FailsToWriteText f index file a b held host_before host_after) failure index file end old new before after
-      → FailsToTakeOutText failure index file end old new held host_before host_after before after
-  bad_untold : (mid : Disk) → WritesGoodText index file old mid held host_before host_after
-      → FailsToTell failure index file end mid new before after
-      → FailsToTakeOutText failure index file end old new held host_before host_after before after
+  stops_text : FailsToWriteText failure index file broke old new held host_before host_after → after ≡ before
+      → FailsToTakeOutText failure index file broke old new held host_before host_after before after
+  untold_text : failure ≡ CannotWrite → (count : ℕ) → WritesText index file broke count old new held host_before host_after
+      → FailsToTakeOutText failure index file broke old new held host_before host_after before after
+  untold_bad : failure ≡ CannotWrite → WritesGoodText index file broke old new held host_before host_after
+      → FailsToTakeOutText failure index file broke old new held host_before host_after before after
+
+-- what was taken out in each mode, before the block by which the file breaks off
+abbrev pub TakesOutAs : {H W : Type 0} → CopyMode → Answer → Index → FileReader → ℕ → Option ℕ → Disk → Disk → (H → Option (List ℕ))
+    → H → H → (W → Option (List ℕ)) → W → W → Type 0
+TakesOutAs mode.Image Done index file end broke old new held host_before host_after contents before after =
+    TakesOutImage index file end broke old new held host_before host_after contents before after
+TakesOutAs mode.Image Fault index file end broke old new held host_before host_after contents before after = ⊥
+TakesOutAs mode.Text answer index file end broke old new held host_before host_after contents before after =
+    TakesOutTextAs answer index file broke old new held host_before host_after contents before after
 
 -- nor in a mode
-abbrev pub FailsToTakeOutAs : {H W : Type 0} → CopyMode → Failure → Index → FileReader → ℕ → Disk → Disk → (H → Option (List ℕ)) → H → H
-    → W → W → Type 0
-FailsToTakeOutAs mode.Image failure index file end old new held host_before host_after before after =
-    FailsToTakeOutImage failure index file end old new held host_before host_after before after
-FailsToTakeOutAs mode.Text failure index file end old new held host_before host_after before after =
-    FailsToTakeOutText failure index file end old new held host_before host_after before after
+abbrev pub FailsToTakeOutAs : {H W : Type 0} → CopyMode → Failure → Index → FileReader → ℕ → Option ℕ → Disk → Disk
+    → (H → Option (List ℕ)) → H → H → W → W → Type 0
+FailsToTakeOutAs mode.Image failure index file end broke old new held host_before host_after before after =
+    FailsToTakeOutImage failure index file end broke old new held host_before host_after before after
+FailsToTakeOutAs mode.Text failure index file end broke old new held host_before host_after before after =
+    FailsToTakeOutText failure index file broke old new held host_before host_after before after
+
+-- It was found by which block before its end the file breaks off, if by any, and it was taken out so.
+pub record TakesOut {H W : Type 0} (mode : CopyMode) (answer : Answer) (index : Index) (file : FileReader) (size end : ℕ) (old new : Disk)
+    (held : H → Option (List ℕ)) (host_before host_after : H) (contents : W → Option (List ℕ)) (before after : W) : Type 0 where
+  pub broke : Option ℕ
+  pub mid : Disk
+  pub finds : FindsMissing index file (limit_in mode size (length old.image)) (blocks_before_end end) broke old mid
+  pub takes : TakesOutAs mode answer index file end broke mid new held host_before host_after contents before after
+
+-- A transfer failed before that was found, and nothing was written; or it was, and it couldn't be taken out.
+pub data FailsToTakeOut {H W : Type 0} (mode : CopyMode) (failure : Failure) (index : Index) (file : FileReader) (size end : ℕ)
+    (old new : Disk) (held : H → Option (List ℕ)) (host_before host_after : H) (before after : W) : Type 0 where
+  unfound : failure ≡ DeviceFault → Looked old new (headers_left file + 1) 1 → host_after ≡ host_before → after ≡ before
+      → FailsToTakeOut mode failure index file size end old new held host_before host_after before after
+  untaken : (broke : Option ℕ) (mid : Disk)
+      → FindsMissing index file (limit_in mode size (length old.image)) (blocks_before_end end) broke old mid
+      → FailsToTakeOutAs mode failure index file end broke mid new held host_before host_after before after
+      → FailsToTakeOut mode failure index file size end old new held host_before host_after before after

@@ -1,6 +1,6 @@
 pub mod CopyCommand
 pub mod Copying
-pub mod CutShort
+pub mod Size
 pub mod Dump
 pub mod DumpCommand
 pub mod FileAnswers

@@ -1,7 +1,7 @@
 -- What `ls` lists of a volume, faulty or not (profile).
 use Rattle.std.specs.Prelude.{◌≡◌, ℕ, IsTrue, List, Option, Some, None, Result, Ok, Err}
 use Rattle.f11_catalog.specs.Lines.{all_directory_lines, record_lines}
-use Rattle.f11_catalog.specs.Records.{Reads, directory_refusal, file_named, records_of}
+use Rattle.f11_catalog.specs.Records.{Reads, directory_refusal, file_found, records_found}
 use Rattle.f11_catalog.specs.chain.Calls.{table}
 use Rattle.f11_dev.specs.Disk.{Disk}
 use Rattle.f11_dev.specs.Image.{Image}
@@ -29,16 +29,16 @@ lines_or (Some refusal) lines = Err refusal
 -- of a directory with an identification: a line for each record
 abbrev pub directory_listed : Index → Image → Table → FileId → Result (List ℕ) Refusal
 directory_listed wide image t id =
-    lines_or (directory_refusal (file_named image t id)) (record_lines wide image t (records_of image t id))
+    lines_or (directory_refusal (file_found wide image t id)) (record_lines wide image t (records_found wide image t id))
 
 -- of the master file directory: the lines of each directory that it names
 abbrev pub directories_listed : Index → Image → Table → Result (List ℕ) Refusal
-directories_listed wide image t = lines_or (directory_refusal (file_named image t master_directory))
-    (all_directory_lines wide image t (records_of image t master_directory))
+directories_listed wide image t = lines_or (directory_refusal (file_found wide image t master_directory))
+    (all_directory_lines wide image t (records_found wide image t master_directory))
 
 -- of the directory with a name
 abbrev pub one_listed : Index → Image → Table → List ℕ → Result (List ℕ) Refusal
-one_listed wide image t directory = unless_refused (directory_listed wide image t) (directory_named image t directory)
+one_listed wide image t directory = unless_refused (directory_listed wide image t) (directory_named wide image t directory)
 
 -- of what is asked for: the directory with a name, or all
 abbrev pub listed : Index → Image → Table → Option (List ℕ) → Result (List ℕ) Refusal

@@ -1,5 +1,5 @@
 -- What taking out the blocks of an area of an RT-11 volume tells, faulty or not (profile).
-use Rattle.std.specs.Prelude.{◌≡◌, ℕ, ◌+◌, ◌-◌, ◌<◌, IsTrue, All, if◌then◌else◌, nat_le, List, [], ◌∷◌, ◌++◌, codes, length, Option, Some}
+use Rattle.std.specs.Prelude.{◌≡◌, ℕ, ◌+◌, ◌-◌, ◌<◌, IsTrue, All, if◌then◌else◌, nat_le, List, [], ◌++◌, codes, length, Option, Some}
 use Rattle.std.specs.Prelude.{None}
 use Rattle.std.specs.Fmt.{decimal}
 use Rattle.std.specs.List.{concat}

@@ -1,5 +1,5 @@
 -- What taking out a file's content tells (profile).
-use Rattle.std.specs.Prelude.{◌≡◌, ℕ, ◌+◌, ◌/◌, ◌≤◌, IsTrue, List, [], ◌++◌, codes, length, nat_le, take, Option, Some, None, if◌then◌else◌}
+use Rattle.std.specs.Prelude.{◌≡◌, ℕ, ◌+◌, ◌-◌, ◌*◌, ◌/◌, ◌≤◌, min, IsTrue, List, [], ◌++◌, codes, length, take, Option, Some, None}
 use Rattle.std.specs.Fmt.{decimal}
 use Rattle.std.specs.Int.{div_ceil}
 use Rattle.std.specs.List.{concat}
@@ -24,16 +24,23 @@ pub record BeginsWith (part whole : List ℕ) : Type 0 where
 abbrev pub blocks_before_end : ℕ → ℕ
 blocks_before_end end = div_ceil end 512
 
--- zeros were written for a block that isn't there where the bytes that were written reach into it; else the file breaks off there; of
--- lines it isn't told which
-abbrev pub missing_words : Option ℕ → ℕ → List ℕ
-missing_words (Some written) vbn = if nat_le vbn (blocks_before_end written) then codes "zeros from" else codes "broke off at"
-missing_words None vbn = codes "without"
+-- where a file ends that is taken out up to an end, or before the block by which it breaks off: a block that lies past the volume's end, or
+-- that no header names
+abbrev pub end_before : ℕ → Option ℕ → ℕ
+end_before end None = end
+end_before end (Some vbn) = min end (512 * (vbn - 1))
 
--- the first block that isn't there, of a file of which so many bytes were written, if that is known
+-- the first block for which zeros were given, and the first that wasn't given
+abbrev pub zeros_text : Option ℕ → List ℕ
+zeros_text (Some vbn) = codes " zeros from VBN " ++ decimal vbn
+zeros_text None = []
+
+abbrev pub broke_text : Option ℕ → List ℕ
+broke_text (Some vbn) = codes " broke off at VBN " ++ decimal vbn
+broke_text None = []
+
 abbrev pub missing_text : Option ℕ → Option ℕ → List ℕ
-missing_text written (Some vbn) = codes " " ++ (missing_words written vbn ++ (codes " VBN " ++ decimal vbn))
-missing_text written None = []
+missing_text zeros broke = zeros_text zeros ++ broke_text broke
 
 -- where the blocks of a file lie that are still to come
 abbrev pub lbns_to_come : Index → Disk → FileReader → List ℕ

@@ -1,5 +1,5 @@
 -- What taking out the text of a file's records tells (RSX-11M Utilities manual, FLX; profile: a line ends with LF, as a host's).
-use Rattle.std.specs.Prelude.{◌≡◌, ℕ, ◌+◌, ◌*◌, ◌/◌, ◌≤◌, false, IsTrue, List, ◌++◌, length, Option, Some, None, option_map}
+use Rattle.std.specs.Prelude.{◌≡◌, ℕ, ◌+◌, ◌-◌, ◌*◌, ◌/◌, ◌≤◌, false, IsTrue, List, ◌++◌, length, take, Option, Some, None, option_map}
 use Rattle.std.specs.List.{concat}
 use Rattle.f11_dev.specs.Disk.{Disk}
 use Rattle.f11_dev.specs.Looked.{Looked}
@@ -23,6 +23,22 @@ use Rattle.f11_commands.specs.declared.outcome.Failure.TheVariants.{DeviceFault,
 abbrev pub file_to_come : Index → Disk → FileReader → File
 file_to_come index disk file = record no_file { attr = attributes (header_in_hand file); blocks = contents_to_come index disk file }
 
+-- all blocks of a file, or those before the one by which it breaks off
+abbrev pub blocks_until : Option ℕ → List (List ℕ) → List (List ℕ)
+blocks_until None blocks = blocks
+blocks_until (Some vbn) blocks = take (vbn - 1) blocks
+
+-- the file with these alone
+abbrev pub file_until : Index → Disk → FileReader → Option ℕ → File
+file_until index disk file broke =
+    record no_file { attr = attributes (header_in_hand file); blocks = blocks_until broke (contents_to_come index disk file) }
+
+-- They were counted; headers alone were read.
+pub record CountsBefore (index : Index) (file : FileReader) (broke : Option ℕ) (blocks : ℕ) (old new : Disk) : Type 0 where
+  pub count : IsTrue old.honest → blocks ≡ length (blocks_until broke (contents_to_come index old file))
+  pub few : blocks ≤ 8323072
+  pub looked : Looked old new (headers_left file) 0
+
 -- the lines of a file's records; none where they can't be read
 abbrev pub lines_of_records : File → Option (List ℕ)
 lines_of_records file = converted_by Lf all file
@@ -40,42 +56,42 @@ pub record ReadsRecords (index : Index) (file : FileReader) (old new : Disk) (fa
   pub looked : Looked old new (2 * headers_left file + blocks + faults) faults
 
 -- a text of so many bytes is that of the file's records
-pub record IsTextOf (index : Index) (file : FileReader) (count : ℕ) (disk : Disk) (text : List ℕ) : Type 0 where
+pub record IsTextOf (index : Index) (file : FileReader) (broke : Option ℕ) (count : ℕ) (disk : Disk) (text : List ℕ) : Type 0 where
   pub counted : length text ≡ count
-  pub is : IsTrue disk.honest → lines_of_records (file_to_come index disk file) ≡ Some text
+  pub is : IsTrue disk.honest → lines_of_records (file_until index disk file broke) ≡ Some text
 
 -- or that of its good records, since not all are
-pub record IsGoodTextOf (index : Index) (file : FileReader) (disk : Disk) (text : List ℕ) : Type 0 where
-  pub bad : IsTrue disk.honest → records_of (file_to_come index disk file) ≡ None
-  pub is : IsTrue disk.honest → text ≡ good_lines (file_to_come index disk file)
+pub record IsGoodTextOf (index : Index) (file : FileReader) (broke : Option ℕ) (disk : Disk) (text : List ℕ) : Type 0 where
+  pub bad : IsTrue disk.honest → records_of (file_until index disk file broke) ≡ None
+  pub is : IsTrue disk.honest → text ≡ good_lines (file_until index disk file broke)
 
 -- or a beginning of the latter
-pub record IsTextBeginning (index : Index) (file : FileReader) (disk : Disk) (text : List ℕ) : Type 0 where
-  pub begins : IsTrue disk.honest → BeginsWith text (good_lines (file_to_come index disk file))
+pub record IsTextBeginning (index : Index) (file : FileReader) (broke : Option ℕ) (disk : Disk) (text : List ℕ) : Type 0 where
+  pub begins : IsTrue disk.honest → BeginsWith text (good_lines (file_until index disk file broke))
 
 -- The text of the file's records was written: so many bytes.
-pub record WritesText {W : Type 0} (index : Index) (file : FileReader) (count : ℕ) (old new : Disk)
+pub record WritesText {W : Type 0} (index : Index) (file : FileReader) (broke : Option ℕ) (count : ℕ) (old new : Disk)
     (contents : W → Option (List ℕ)) (before after : W) : Type 0 where
-  pub takes : TakesText contents (IsTextOf index file count old) before after
+  pub takes : TakesText contents (IsTextOf index file broke count old) before after
   pub reads : ReadsRecords index file old new 0
 
 -- A record goes past the end, or the attributes don't say how records lie: the text of those before it was written.
-pub record WritesGoodText {W : Type 0} (index : Index) (file : FileReader) (old new : Disk)
+pub record WritesGoodText {W : Type 0} (index : Index) (file : FileReader) (broke : Option ℕ) (old new : Disk)
     (contents : W → Option (List ℕ)) (before after : W) : Type 0 where
-  pub takes : TakesText contents (IsGoodTextOf index file old) before after
+  pub takes : TakesText contents (IsGoodTextOf index file broke old) before after
   pub reads : ReadsRecords index file old new 0
 
 -- A transfer failed: a beginning of it was written.
-pub record BreaksOffText {W : Type 0} (index : Index) (file : FileReader) (old new : Disk)
+pub record BreaksOffText {W : Type 0} (index : Index) (file : FileReader) (broke : Option ℕ) (old new : Disk)
     (contents : W → Option (List ℕ)) (before after : W) : Type 0 where
-  pub takes : TakesText contents (IsTextBeginning index file old) before after
+  pub takes : TakesText contents (IsTextBeginning index file broke old) before after
   pub reads : ReadsRecords index file old new 1
 
 -- what is left where the text couldn't be written: it takes no memory
-abbrev pub FailsToWriteText : {W : Type 0} → Failure → Index → FileReader → Disk → Disk → (W → Option (List ℕ)) → W → W → Type 0
-FailsToWriteText DeviceFault index file old new contents before after = BreaksOffText index file old new contents before after
-FailsToWriteText NoMemory index file old new contents before after = ⊥
-FailsToWriteText CannotWrite index file old new contents before after = ReadsRecords index file old new 0
+abbrev pub FailsToWriteText : {W : Type 0} → Failure → Index → FileReader → Option ℕ → Disk → Disk → (W → Option (List ℕ)) → W → W → Type 0
+FailsToWriteText DeviceFault index file broke old new contents before after = BreaksOffText index file broke old new contents before after
+FailsToWriteText NoMemory index file broke old new contents before after = ⊥
+FailsToWriteText CannotWrite index file broke old new contents before after = ReadsRecords index file old new 0
 
 -- Bytes of a file were converted, and this text was given for them: whatever follows, it is what stood to come before what still does.
 pub record GivesText (old new : ToText) (bytes text : List ℕ) : Type 0 where

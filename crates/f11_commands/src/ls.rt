@@ -183,7 +183,7 @@ fn list_one<D: Device, W: Write>(
         (D.disk device.old) (D.disk device.new))) }
     ensures failed { IfErr result (λ fault. BreaksOff fault (D.disk device.old) (D.disk device.new)) }
 {
-    match find(device, index, MASTER_DIRECTORY, name) {
+    match find(device, index, wide, MASTER_DIRECTORY, name) {
         Ok(Ok(id)) => match list_directory(device, index, wide, writer, id) {
             Ok(Ok(())) => Ok(Ok(())),
             Ok(Err(refusal)) => Ok(Err(refusal)),

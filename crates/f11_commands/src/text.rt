@@ -1,12 +1,13 @@
 //! The text of a file's records, taken out.
 ghost use Rattle.std.specs.Prelude.{◌≡◌, ◌≤◌, false, length, IfErr, IfOk, OnErr};
 ghost use Rattle.f11_commands.specs.Output.{TakesText};
-ghost use Rattle.f11_commands.specs.TakingText.{FailsToPour, FailsToWriteText, GivesBytes, GivesGoodText, IsTextBeforeBad, IsWholeText};
+ghost use Rattle.f11_commands.specs.TakingText.{CountsBefore, FailsToPour, FailsToWriteText, GivesBytes, GivesGoodText, IsTextBeforeBad, IsWholeText};
 ghost use Rattle.f11_commands.specs.TakingText.{PoursText, WritesGoodText, WritesText};
 ghost use Rattle.f11_commands.specs.declared.outcome.Failure.TheVariants as failures;
 ghost use Rattle.f11_flx.specs.ToText.{ends_record, rest_of};
 ghost use Rattle.f11_index.specs.Kept.{index_kept, IndexLiesWithin};
-ghost use Rattle.f11_reader.specs.Reading.{IsReading};
+ghost use Rattle.f11_dev.specs.Looked.{Looked};
+ghost use Rattle.f11_reader.specs.Reading.{IsReading, headers_left};
 
 use crate::outcome::Failure;
 use f11_bytes::BLOCK_SIZE;
@@ -17,7 +18,8 @@ use f11_index::IndexFile;
 use f11_reader::FileReader;
 use std::io::Write;
 
-/// Writes the text of the records of a file, all of whose blocks are still to come: each record and LF, up to the file's end. It says how
+/// Writes the text of the records of a file, all of whose blocks are still to come: each record and LF, up to the file's end, or before the
+/// block by which it breaks off, if it does. It says how
 /// many bytes were written; or that a record goes past the end, or the attributes don't say how records lie, and then the text of the
 /// records before that was written. Behind the last byte the writer is flushed. It makes at most so many transfers: two for each header
 /// that the file may still have, one for each block before the end, and one that fails. No memory is taken.
@@ -30,19 +32,20 @@ pub(crate) fn write_text<D: Device, W: Write>(
     device: &mut D,
     index: &IndexFile,
     file: FileReader,
+    broke: Option<u64>,
     writer: &mut W,
 ) -> Result<Result<u64, BadRecord>, Failure>
     requires within { IndexLiesWithin (index_kept index.now) (length (D.disk device.old).image) }
     requires reading { IsReading (index_kept index.now) file (D.disk device.old) }
     ensures writes { IfOk result (λ answer. IfOk answer (λ count.
-        WritesText (index_kept index.now) file count
+        WritesText (index_kept index.now) file broke count
         (D.disk device.old) (D.disk device.new) W.contents writer.old writer.new)) }
-    ensures bad { IfOk result (λ answer. OnErr answer (WritesGoodText (index_kept index.now) file
+    ensures bad { IfOk result (λ answer. OnErr answer (WritesGoodText (index_kept index.now) file broke
         (D.disk device.old) (D.disk device.new) W.contents writer.old writer.new)) }
-    ensures failed { IfErr result (λ failure. FailsToWriteText failure (index_kept index.now) file
+    ensures failed { IfErr result (λ failure. FailsToWriteText failure (index_kept index.now) file broke
         (D.disk device.old) (D.disk device.new) W.contents writer.old writer.new) }
 {
-    match put_records(device, index, file, writer) {
+    match put_records(device, index, file, broke, writer) {
         Ok(Ok(count)) => match writer.flush() {
             Ok(()) => Ok(Ok(count)),
             Err(_) => Err(Failure::CannotWrite),
@@ -55,25 +58,50 @@ pub(crate) fn write_text<D: Device, W: Write>(
     }
 }
 
-/// Writes the text of the records of a file, up to its end or before a record that goes past it.
+/// How many blocks a file still has, before the one by which it breaks off, if it does.
+fn blocks_before<D: Device>(
+    device: &mut D,
+    index: &IndexFile,
+    file: FileReader,
+    broke: Option<u64>,
+) -> Result<u32, DeviceFault>
+    requires within { IndexLiesWithin (index_kept index.now) (length (D.disk device.old).image) }
+    requires reading { IsReading (index_kept index.now) file (D.disk device.old) }
+    ensures counts { IfOk result (λ blocks. CountsBefore (index_kept index.now) file broke blocks
+        (D.disk device.old) (D.disk device.new)) }
+    ensures failed { OnErr result
+        (Looked (D.disk device.old) (D.disk device.new) (headers_left file) 1) }
+{
+    match file.count(device, index) {
+        Ok(blocks) => match broke {
+            Some(vbn) => Ok(vbn.saturating_sub(1).min(u64::from(blocks)) as u32),
+            None => Ok(blocks),
+        },
+        Err(DeviceFault) => Err(DeviceFault),
+    }
+}
+
+/// Writes the text of the records of a file, up to its end, or before the block by which it breaks off, or before a record that goes past
+/// that.
 fn put_records<D: Device, W: Write>(
     device: &mut D,
     index: &IndexFile,
     file: FileReader,
+    broke: Option<u64>,
     writer: &mut W,
 ) -> Result<Result<u64, BadRecord>, Failure>
     requires within { IndexLiesWithin (index_kept index.now) (length (D.disk device.old).image) }
     requires reading { IsReading (index_kept index.now) file (D.disk device.old) }
     ensures writes { IfOk result (λ answer. IfOk answer (λ count.
-        WritesText (index_kept index.now) file count
+        WritesText (index_kept index.now) file broke count
         (D.disk device.old) (D.disk device.new) W.contents writer.old writer.new)) }
-    ensures bad { IfOk result (λ answer. OnErr answer (WritesGoodText (index_kept index.now) file
+    ensures bad { IfOk result (λ answer. OnErr answer (WritesGoodText (index_kept index.now) file broke
         (D.disk device.old) (D.disk device.new) W.contents writer.old writer.new)) }
-    ensures failed { IfErr result (λ failure. FailsToWriteText failure (index_kept index.now) file
+    ensures failed { IfErr result (λ failure. FailsToWriteText failure (index_kept index.now) file broke
         (D.disk device.old) (D.disk device.new) W.contents writer.old writer.new) }
 {
     let attr = Header::new(file.header()).attributes();
-    match file.count(device, index) {
+    match blocks_before(device, index, file, broke) {
         Ok(blocks) => match ToText::ending(&attr, blocks, LineEnd::Lf) {
             Ok(text) => match write_lines(device, index, file, text, writer) {
                 Ok(Ok(count)) => Ok(Ok(count)),

@@ -157,8 +157,8 @@ fn of_faults(rt: &HostRuntime, word: &str) -> Why {
         return Why::Faulty;
     };
     match blocks_wanted(rt.alloc(), &mut device) {
-        Some(blocks) => Why::CutShort(blocks, 512 * u64::from(blocks)),
-        None => Why::Faulty,
+        Ok(Some(blocks)) => Why::CutShort(blocks, 512 * u64::from(blocks)),
+        Ok(None) | Err(_) => Why::Faulty,
     }
 }
 

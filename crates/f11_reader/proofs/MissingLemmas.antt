@@ -1,7 +1,8 @@
 -- Which block of a file isn't there, found header by header.
-use Rattle.std.proofs.Common.{◌≡◌, ℕ, suc, ◌+◌, ◌-◌, ◌<◌, ◌≤◌, Bool, IsTrue, List, ◌∷◌, length, Some, None, cond, sym, ap, ◌∙◌, arith}
+use Rattle.std.proofs.Common.{◌≡◌, ℕ, suc, ◌+◌, ◌-◌, ◌<◌, ◌≤◌, Bool, IsTrue, List, ◌∷◌, Some, None, cond, refl, sym, ap, subst, ◌∙◌, arith}
 use Rattle.std.proofs.lemmas.Bool.{lt-ltb, le-ltb}
 use Rattle.std.specs.Prelude.{nat_lt}
+use Rattle.f11_chain.proofs.AlongLemmas.{honest-stays, table-stays}
 use Rattle.f11_chain.specs.Calls.{table}
 use Rattle.f11_dev.specs.Disk.{Disk}
 use Rattle.f11_dev.specs.Image.{Image}
@@ -10,11 +11,12 @@ use Rattle.f11_dev.proofs.LookedLemmas.{looked_none, looked_more, looked_within}
 use Rattle.f11_index.specs.IndexFile.{Index}
 use Rattle.f11_index.specs.Table.{Table, table_in}
 use Rattle.f11_map.specs.HeaderBlock.{segment_number}
-use Rattle.f11_reader.specs.Missing.{FindsMissing, LacksBlock, PassesBlock, blocks_there, missing_of}
+use Rattle.f11_reader.specs.Missing.{FindsMissing, LacksBlock, PassesBlock, TellsWhole, blocks_there, last_of, last_to_come, links_to_none}
+use Rattle.f11_reader.specs.Missing.{missing_of}
 use Rattle.f11_reader.specs.Reading.{FailsToReadOn, HasEnded, IsReading, blocks_to_come, headers_left}
-use Rattle.f11_reader.specs.Steps.{ComesTo}
+use Rattle.f11_reader.specs.Steps.{ComesTo, StepsNowhere, StepsOn}
 use Rattle.f11_reader.specs.declared.file.FileReader.{FileReader}
-use Rattle.f11_reader.proofs.ReadLemmas.{comes-first, comes-next}
+use Rattle.f11_reader.proofs.ReadLemmas.{Gone, comes-first, comes-next, gone-more, gone-none, headers-step, looked-to-end, none-follows}
 
 there-more : (size lbn : ℕ) (lbns : List ℕ) → lbn < size → blocks_there size (lbn ∷ lbns) ≡ suc (blocks_there size lbns)
 there-more size lbn lbns inside = ap (λ (b : Bool). cond b (suc (blocks_there size lbns)) 0) (lt-ltb lbn size inside)
@@ -33,21 +35,18 @@ missing-none size blocks lbns all =
     sym (ap (λ (b : Bool). cond b (Some (blocks_there size lbns + 1)) None) (le-ltb (blocks_there size lbns) blocks all))
 
 -- The next block of a file is named.
-module _ (index : Index) (file mid : FileReader) (lbn : ℕ) (old new : Disk) (comes : ComesTo index file mid lbn old new) where
+module _ (index : Index) (file mid : FileReader) (lbn size : ℕ) (old new : Disk) (comes : ComesTo index file mid lbn old new) where
   abbrev t : Table
   t = table index old
 
-  size : length new.image ≡ length old.image
-  size = ap length comes.looked.image
-
   -- and is there
   pub passes : (later : FileReader) → later.header ≡ mid.header → later.number ≡ mid.number → later.place ≡ mid.place + 1
-      → lbn < length new.image → PassesBlock index file later old new
+      → lbn < size → PassesBlock index file later size old new
   passes later header number place inside = record {
     there = λ honest.
-        ap (blocks_there (length old.image))
+        ap (blocks_there size)
         (sym (comes.same honest) ∙ comes-next t mid later lbn comes.named header number place)
-        ∙ there-more (length old.image) lbn (blocks_to_come t later) (omega (arith, inside, size))
+        ∙ there-more size lbn (blocks_to_come t later) inside
         ∙ omega arith;
     forward = omega (arith, comes.forward, segment);
     few = omega (arith, comes.few, segment);
@@ -57,32 +56,33 @@ module _ (index : Index) (file mid : FileReader) (lbn : ℕ) (old new : Disk) (c
       segment : segment_number later.header ≡ segment_number mid.header
       segment = ap segment_number header
 
-  -- or it lies past the device's end
-  pub lacks-past : length new.image ≤ lbn → LacksBlock index file old new
+  -- or it isn't
+  pub lacks-past : size ≤ lbn → LacksBlock index file size old new
   lacks-past past = record {
     none = λ honest.
-        ap (blocks_there (length old.image)) (sym (comes.same honest) ∙ comes-first t mid lbn comes.named)
-        ∙ there-none (length old.image) lbn _ (omega (arith, past, size));
+        ap (blocks_there size) (sym (comes.same honest) ∙ comes-first t mid lbn comes.named)
+        ∙ there-none size lbn _ past;
     looked = looked_within comes.looked (omega (arith, comes.forward, comes.few));
   }
 
 -- none is named
-pub lacks-ended : (index : Index) (file later : FileReader) (old new : Disk) → HasEnded index file later old new
-    → LacksBlock index file old new
-lacks-ended index file later old new ends =
-    record { none = λ honest. ap (blocks_there (length old.image)) (ends.none honest); looked = ends.looked }
+pub lacks-ended : (index : Index) (file later : FileReader) (size : ℕ) (old new : Disk) → HasEnded index file later old new
+    → LacksBlock index file size old new
+lacks-ended index file later size old new ends =
+    record { none = λ honest. ap (blocks_there size) (ends.none honest); looked = ends.looked }
 
 -- So many blocks of a file are there, and were passed.
-pub record Passed (index : Index) (file later : FileReader) (there : ℕ) (old now : Disk) : Type 0 where
+pub record Passed (index : Index) (file later : FileReader) (size there : ℕ) (old now : Disk) : Type 0 where
   pub reading : IsReading index later now
-  pub rest : IsTrue old.honest → blocks_there (length old.image) (blocks_to_come (table index old) file)
-      ≡ there + blocks_there (length old.image) (blocks_to_come (table index old) later)
+  pub rest : IsTrue old.honest → blocks_there size (blocks_to_come (table index old) file)
+      ≡ there + blocks_there size (blocks_to_come (table index old) later)
   pub forward : segment_number file.header ≤ segment_number later.header
   pub near : segment_number later.header ≤ segment_number file.header + headers_left file
   pub looked : Looked old now (segment_number later.header - segment_number file.header) 0
 
-pub passed-none : (index : Index) (file : FileReader) (old : Disk) → IsReading index file old → Passed index file file 0 old old
-passed-none index file old reading = record {
+pub passed-none : (index : Index) (file : FileReader) (size : ℕ) (old : Disk) → IsReading index file old
+    → Passed index file file size 0 old old
+passed-none index file size old reading = record {
   reading = reading;
   rest = λ honest. omega arith;
   forward = omega arith;
@@ -90,15 +90,15 @@ passed-none index file old reading = record {
   looked = looked_within (looked_none old) (omega arith);
 }
 
-module _ (index : Index) (file here : FileReader) (there : ℕ) (old now : Disk) (passed : Passed index file here there old now) where
+module _ (index : Index) (file here : FileReader) (size there : ℕ) (old now : Disk) (passed : Passed index file here size there old now) where
   -- what is to come of a file is the same as at first
-  there-are : (f : FileReader) → blocks_there (length now.image) (blocks_to_come (table index now) f)
-      ≡ blocks_there (length old.image) (blocks_to_come (table index old) f)
-  there-are f = ap (λ (i : Image). blocks_there (length i) (blocks_to_come (table_in i index) f)) passed.looked.image
+  there-are : (f : FileReader) → blocks_there size (blocks_to_come (table index now) f)
+      ≡ blocks_there size (blocks_to_come (table index old) f)
+  there-are f = ap (λ (i : Image). blocks_there size (blocks_to_come (table_in i index) f)) passed.looked.image
 
   -- one more was passed
-  pub passed-more : (later : FileReader) (new : Disk) → PassesBlock index here later now new → IsReading index later new
-      → Passed index file later (there + 1) old new
+  pub passed-more : (later : FileReader) (new : Disk) → PassesBlock index here later size now new → IsReading index later new
+      → Passed index file later size (there + 1) old new
   passed-more later new more reading = record {
     reading = reading;
     rest = λ honest.
@@ -112,20 +112,20 @@ module _ (index : Index) (file here : FileReader) (there : ℕ) (old now : Disk)
   }
 
   -- the next one isn't there
-  pub missing-next : (new : Disk) (blocks : ℕ) → LacksBlock index here now new → there < blocks
-      → FindsMissing index file blocks (Some (there + 1)) old new
+  pub missing-next : (new : Disk) (blocks : ℕ) → LacksBlock index here size now new → there < blocks
+      → FindsMissing index file size blocks (Some (there + 1)) old new
   missing-next new blocks lacks few = record {
     missing_is = λ honest.
         let none = lacks.none (passed.looked.honest ∙ honest) in
         let before = there-are here in
-        missing-at (length old.image) blocks there _ (omega (arith, none, before, passed.rest honest)) few;
+        missing-at size blocks there _ (omega (arith, none, before, passed.rest honest)) few;
     looked = looked_within (looked_more passed.looked lacks.looked) (omega (arith, passed.forward, passed.near));
   }
 
   -- all that were asked for are there
-  pub missing-no : (blocks : ℕ) → blocks ≤ there → FindsMissing index file blocks None old now
+  pub missing-no : (blocks : ℕ) → blocks ≤ there → FindsMissing index file size blocks None old now
   missing-no blocks all = record {
-    missing_is = λ honest. missing-none (length old.image) blocks _ (let rest = passed.rest honest in omega (arith, rest, all));
+    missing_is = λ honest. missing-none size blocks _ (let rest = passed.rest honest in omega (arith, rest, all));
     looked = looked_within passed.looked (omega (arith, passed.near));
   }
 
@@ -133,3 +133,38 @@ module _ (index : Index) (file here : FileReader) (there : ℕ) (old now : Disk)
   pub missing-fails : (after : FileReader) (new : Disk) → FailsToReadOn index here after now new → Looked old new (headers_left file + 1) 1
   missing-fails after new fails =
       looked_within (looked_more passed.looked fails.looked) (omega (arith, passed.forward, passed.near))
+
+-- So many headers were read, and the last one that is reached is the same.
+pub record Ending (index : Index) (file later : FileReader) (k : ℕ) (old now : Disk) : Type 0 where
+  pub gone : Gone index file later k old now
+  pub same : IsTrue old.honest → last_to_come (table index old) file ≡ last_to_come (table index old) later
+
+pub ending-none : (index : Index) (file : FileReader) (old : Disk) → IsReading index file old → Ending index file file 0 old old
+ending-none index file old reading = record { gone = gone-none index file old reading; same = λ honest. refl }
+
+module _ (index : Index) (file here : FileReader) (k : ℕ) (old now : Disk) (so : Ending index file here k old now) where
+  -- one more was read
+  pub ending-more : (later : FileReader) (new : Disk) → StepsOn index here later now new → IsReading index later new
+      → Ending index file later (k + 1) old new
+  ending-more later new steps reading = record {
+    gone = gone-more index file here k old now so.gone later new steps reading;
+    same = λ honest.
+        so.same honest
+        ∙ subst (λ (t : Table). last_to_come t here ≡ last_to_come t later) (table-stays index old now k so.gone.looked)
+        (ap (last_of here.number) (headers-step index here later now new steps (honest-stays index old now k so.gone.looked honest)));
+  }
+
+  -- none follows
+  pub ending-all : (after : FileReader) (new : Disk) → StepsNowhere index here after now new → (whole : Bool)
+      → whole ≡ links_to_none after.header → TellsWhole index file whole old new
+  ending-all after new none whole is = record {
+    whole_is = λ honest.
+        let t : Table = table index old in
+        is
+        ∙ ap (λ (f : FileReader). links_to_none f.header) none.stays
+        ∙ ap links_to_none (so.gone.reading.block_is honest)
+        ∙ ap (λ (hs : List ℕ). links_to_none (t.header (last_of here.number hs)))
+        (sym (none-follows index file here k old now so.gone after new none honest))
+        ∙ ap (λ (n : ℕ). links_to_none (t.header n)) (sym (so.same honest));
+    looked = looked-to-end index file here k old now so.gone after new none;
+  }

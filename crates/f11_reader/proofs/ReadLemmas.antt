@@ -130,18 +130,23 @@ module _ (index : Index) (file : FileReader) (old : Disk) (reading : IsReading i
       steps-to later new first (subst (λ (h : List ℕ). ReadsNext index later.number file.header h old new) (sym is)
       (subst (λ (k : ℕ). ReadsNext index k file.header header old new) (sym number) reads))
 
+-- the next one, and those that follow it
+pub headers-step : (index : Index) (file later : FileReader) (old new : Disk) → StepsOn index file later old new → IsTrue old.honest
+    → headers_to_come (table index old) file ≡ later.number ∷ headers_to_come (table index old) later
+headers-step index file later old new steps honest =
+    let t : Table = table index old in
+    let left : headers_left file ≡ suc (headers_left later) = omega (arith, steps.segment, steps.not_last) in
+    ap (λ (k : ℕ). following k t (next_of t file.number)) left
+    ∙ ap (following (suc (headers_left later)) t) (steps.next honest)
+    ∙ following-some (headers_left later) t later.number
+
 -- the blocks that follow those of a header are those of the next one, and those that follow these
 pub blocks-step : (index : Index) (file later : FileReader) (old new : Disk) → StepsOn index file later old new → IsTrue old.honest
     → blocks_by (table index old) (headers_to_come (table index old) file) ≡ blocks_to_come (table index old) later
 unfolding blocks_to_come
 blocks-step index file later old new steps honest =
     let t : Table = table index old in
-    let left : headers_left file ≡ suc (headers_left later) = omega (arith, steps.segment, steps.not_last) in
-    let headers : headers_to_come t file ≡ later.number ∷ headers_to_come t later =
-    ap (λ (k : ℕ). following k t (next_of t file.number)) left
-    ∙ ap (following (suc (headers_left later)) t) (steps.next honest)
-    ∙ following-some (headers_left later) t later.number in
-    ap (blocks_by t) headers
+    ap (blocks_by t) (headers-step index file later old new steps honest)
     ∙ ap (λ (b : List ℕ). blocks_named b ++ blocks_by t (headers_to_come t later)) (sym (steps.header_is honest))
     ∙ ap (λ (k : ℕ). drop k (blocks_named later.header) ++ blocks_by t (headers_to_come t later)) (sym steps.first_block)
 
@@ -228,11 +233,11 @@ module _ (index : Index) (file later : FileReader) (k : ℕ) (old now : Disk) (g
 
   -- none follows
   module _ (after : FileReader) (new : Disk) (steps : StepsNowhere index later after now new) where
-    none-follows : IsTrue old.honest → headers_to_come table-old later ≡ []
+    pub none-follows : IsTrue old.honest → headers_to_come table-old later ≡ []
     none-follows honest = subst (λ (t : Table). headers_to_come t later ≡ [])
         (table-stays index old now k gone.looked) (steps.none (honest-stays index old now k gone.looked honest))
 
-    looked-to-end : Looked old new (headers_left file) 0
+    pub looked-to-end : Looked old new (headers_left file) 0
     looked-to-end = looked_within (looked_more gone.looked steps.looked) (omega (arith, gone.segment, gone.few))
 
     pub ends : HasToCome index file later old → length (blocks_named later.header) ≤ later.place → HasEnded index file after old new

@@ -187,7 +187,7 @@ impl FileReader {
     }
 
     /// Takes the next header in hand, and says whether there is one. One transfer at most.
-    fn next_header<D: Device>(
+    pub(crate) fn next_header<D: Device>(
         &mut self,
         device: &mut D,
         index: &IndexFile,

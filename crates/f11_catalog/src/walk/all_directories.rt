@@ -3,6 +3,7 @@ ghost use Rattle.std.specs.Prelude.{◌≡◌, IfOk, IfSome, IfNone, OnErr, leng
 ghost use Rattle.f11_index.specs.Kept.{index_kept, IndexLiesWithin};
 ghost use Rattle.f11_catalog.specs.Records.{Reads};
 
+use crate::found::FoundDirectory;
 use crate::walk::entered::next_directory;
 use crate::walk::state::{Directories, OpenDirectory};
 use f11_dev::{Device, DeviceFault};
@@ -20,19 +21,21 @@ impl Directories {
         &mut self,
         device: &mut D,
         index: &IndexFile,
+        wide: &IndexFile,
     ) -> Result<Option<OpenDirectory>, DeviceFault>
         requires within { IndexLiesWithin (index_kept index.now) (length (D.disk device.old).image) }
-        requires reading { IsReadingMaster (index_kept index.now) self.old.master (D.disk device.old) }
-        ensures reading { IsReadingMaster (index_kept index.now) self.new.master (D.disk device.new) }
+        requires wide { IndexLiesWithin (index_kept wide.now) (length (D.disk device.old).image) }
+        requires reading { IsReadingMaster (index_kept index.now) (index_kept wide.now) self.old.master (D.disk device.old) }
+        ensures reading { IsReadingMaster (index_kept index.now) (index_kept wide.now) self.new.master (D.disk device.new) }
         ensures gives { IfOk result (λ answer. IfSome answer (λ hand.
-            GivesDirectory (index_kept index.now) self.old self.new hand
+            GivesDirectory (index_kept index.now) (index_kept wide.now) self.old self.new hand
             (D.disk device.old) (D.disk device.new))) }
         ensures ended { IfOk result (λ answer. IfNone answer (
-            HasNoDirectory (index_kept index.now) self.old self.new
+            HasNoDirectory (index_kept index.now) (index_kept wide.now) self.old self.new
             (D.disk device.old) (D.disk device.new))) }
         ensures failed { OnErr result (Reads (D.disk device.old) (D.disk device.new) 1) }
     {
-        match self.next_named(device, index) {
+        match self.next_named(device, index, wide) {
             Ok(Some(hand)) => {
                 self.others.meet(hand.id.number, true);
                 Ok(Some(hand))
@@ -55,15 +58,17 @@ impl Directories {
         &mut self,
         device: &mut D,
         index: &IndexFile,
+        wide: &IndexFile,
     ) -> Result<Option<OpenDirectory>, DeviceFault>
         requires within { IndexLiesWithin (index_kept index.now) (length (D.disk device.old).image) }
-        requires reading { IsReadingMaster (index_kept index.now) self.old.master (D.disk device.old) }
-        ensures reading { IsReadingMaster (index_kept index.now) self.new.master (D.disk device.new) }
+        requires wide { IndexLiesWithin (index_kept wide.now) (length (D.disk device.old).image) }
+        requires reading { IsReadingMaster (index_kept index.now) (index_kept wide.now) self.old.master (D.disk device.old) }
+        ensures reading { IsReadingMaster (index_kept index.now) (index_kept wide.now) self.new.master (D.disk device.new) }
         ensures finds { IfOk result (λ answer. IfSome answer (λ hand.
-            FindsNamed (index_kept index.now) self.old.master self.new.master hand
+            FindsNamed (index_kept index.now) (index_kept wide.now) self.old.master self.new.master hand
             (D.disk device.old) (D.disk device.new))) }
         ensures none { IfOk result (λ answer. IfNone answer (
-            FindsNoNamed (index_kept index.now) self.old.master self.new.master
+            FindsNoNamed (index_kept index.now) (index_kept wide.now) self.old.master self.new.master
             (D.disk device.old) (D.disk device.new))) }
         ensures others { self.new.others ≡ self.old.others }
         ensures failed { OnErr result (Reads (D.disk device.old) (D.disk device.new) 1) }
@@ -71,10 +76,14 @@ impl Directories {
         let Some(master) = self.master else {
             return Ok(None);
         };
-        let mut master = master;
-        match next_directory(device, index, &mut master) {
+        let by = master.index_by(index, wide);
+        let mut directory = master.directory;
+        match next_directory(device, by, index, wide, &mut directory) {
             Ok(Some(hand)) => {
-                self.master = Some(master);
+                self.master = Some(FoundDirectory {
+                    directory,
+                    in_use: master.in_use,
+                });
                 Ok(Some(hand))
             }
             Ok(None) => {

@@ -4,7 +4,7 @@ ghost use Rattle.f11_dev.specs.Looked.{Looked};
 ghost use Rattle.f11_index.specs.Kept.{index_kept, IndexLiesWithin};
 ghost use Rattle.f11_catalog.specs.GoingOver.{OpensMaster};
 
-use crate::directory::DirectoryReader;
+use crate::found::FoundDirectory;
 use crate::fault::WalkFault;
 use crate::walk::state::{AllFiles, Directories, EnteredFiles, Unmet};
 use f11_dev::{Device, DeviceFault};
@@ -12,23 +12,26 @@ use f11_index::IndexFile;
 use f11_store::FileId;
 use std::alloc::Global;
 
-/// The master file directory, whose records are all to come, if it is a directory. One transfer at most.
+/// The master file directory, whose records are all to come, if it is a directory. Two transfers at most.
 ///
 /// # Errors
 ///
-/// `DeviceFault` where the transfer failed.
+/// `DeviceFault` where a transfer failed.
 fn open_master<D: Device>(
     device: &mut D,
     index: &IndexFile,
+    wide: &IndexFile,
     master: FileId,
-) -> Result<Option<DirectoryReader>, DeviceFault>
+) -> Result<Option<FoundDirectory>, DeviceFault>
     requires within { IndexLiesWithin (index_kept index.now) (length (D.disk device.old).image) }
+    requires wide { IndexLiesWithin (index_kept wide.now) (length (D.disk device.old).image) }
     ensures opens { IfOk result (λ answer.
-        OpensMaster (index_kept index.now) master answer (D.disk device.old) (D.disk device.new)) }
-    ensures failed { OnErr result (Looked (D.disk device.old) (D.disk device.new) 1 1) }
+        OpensMaster (index_kept index.now) (index_kept wide.now) master answer
+        (D.disk device.old) (D.disk device.new)) }
+    ensures failed { OnErr result (Looked (D.disk device.old) (D.disk device.new) 2 1) }
 {
-    match DirectoryReader::open(device, index, master) {
-        Ok(Ok(directory)) => Ok(Some(directory)),
+    match FoundDirectory::open(device, index, wide, master) {
+        Ok(Ok(found)) => Ok(Some(found)),
         Ok(Err(_)) => Ok(None),
         Err(DeviceFault) => Err(DeviceFault),
     }
@@ -37,22 +40,25 @@ fn open_master<D: Device>(
 impl AllFiles {
     ghost use Rattle.f11_catalog.specs.Walking.{BeginsWalk, FailsToBegin};
 
-    /// Begins with all files of a volume whose master file directory has this identification. One transfer at most. It takes 128 KiB of
-    /// memory, which is all that a walk takes.
+    /// Begins with all files of a volume whose master file directory has this identification, and is found by `wide`, which
+    /// takes each slot as in use, where its slot's bit is lost. Two transfers at most. It takes 128 KiB of memory, which is all that a walk
+    /// takes.
     ///
     /// # Errors
     ///
-    /// [`WalkFault::NoMemory`] where there is no memory for it, and then nothing was read; [`WalkFault::DeviceFault`] where the transfer
+    /// [`WalkFault::NoMemory`] where there is no memory for it, and then nothing was read; [`WalkFault::DeviceFault`] where a transfer
     /// failed.
     pub fn begin<D: Device>(
         alloc: Global,
         device: &mut D,
         index: &IndexFile,
+        wide: &IndexFile,
         master: FileId,
     ) -> Result<AllFiles, WalkFault>
         requires within { IndexLiesWithin (index_kept index.now) (length (D.disk device.old).image) }
+        requires wide { IndexLiesWithin (index_kept wide.now) (length (D.disk device.old).image) }
         ensures begins { IfOk result (λ files.
-            BeginsWalk (index_kept index.now) master files
+            BeginsWalk (index_kept index.now) (index_kept wide.now) master files
             (D.disk device.old) (D.disk device.new)) }
         ensures failed { IfErr result (λ fault. FailsToBegin fault
             (D.disk device.old) (D.disk device.new)) }
@@ -63,7 +69,7 @@ impl AllFiles {
         let Some(files) = Unmet::begin(alloc) else {
             return Err(WalkFault::NoMemory);
         };
-        match open_master(device, index, master) {
+        match open_master(device, index, wide, master) {
             Ok(master) => Ok(AllFiles {
                 entered: EnteredFiles {
                     hand: None,

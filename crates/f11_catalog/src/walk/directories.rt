@@ -3,6 +3,7 @@ ghost use Rattle.std.specs.Prelude.{◌≡◌, IfOk, IfSome, IfNone, OnErr, Ok, 
 ghost use Rattle.f11_index.specs.Kept.{index_kept, IndexLiesWithin};
 ghost use Rattle.f11_catalog.specs.Records.{Reads};
 
+use crate::found::FoundDirectory;
 use crate::walk::entered::next_record;
 use crate::walk::place::FileAt;
 use crate::walk::state::{EnteredFiles, OpenDirectory};
@@ -25,13 +26,13 @@ impl EnteredFiles {
     ) -> Result<Option<FileAt>, DeviceFault>
         requires within { IndexLiesWithin (index_kept index.now) (length (D.disk device.old).image) }
         requires wide { IndexLiesWithin (index_kept wide.now) (length (D.disk device.old).image) }
-        requires walking { IsWalkingDirectories (index_kept index.now) self.old (D.disk device.old) }
-        ensures walking { IsWalkingDirectories (index_kept index.now) self.new (D.disk device.new) }
+        requires walking { IsWalkingDirectories (index_kept index.now) (index_kept wide.now) self.old (D.disk device.old) }
+        ensures walking { IsWalkingDirectories (index_kept index.now) (index_kept wide.now) self.new (D.disk device.new) }
         ensures enters { IfOk result (λ answer. IfSome answer (λ found.
             EntersFile (index_kept index.now) (index_kept wide.now) self.old self.new found
             (D.disk device.old) (D.disk device.new))) }
         ensures ended { IfOk result (λ answer. IfNone answer (
-            EntersNoMore (index_kept index.now) self.old self.new
+            EntersNoMore (index_kept index.now) (index_kept wide.now) self.old self.new
             (D.disk device.old) (D.disk device.new))) }
         ensures failed { OnErr result (Reads (D.disk device.old) (D.disk device.new) 1) }
     {
@@ -41,7 +42,7 @@ impl EnteredFiles {
                 Ok(None) => {}
                 Err(DeviceFault) => return Err(DeviceFault),
             }
-            match self.take_directory(device, index) {
+            match self.take_directory(device, index, wide) {
                 Ok(true) => {}
                 Ok(false) => return Ok(None),
                 Err(DeviceFault) => return Err(DeviceFault),
@@ -62,13 +63,13 @@ impl EnteredFiles {
     ) -> Result<Option<FileAt>, DeviceFault>
         requires within { IndexLiesWithin (index_kept index.now) (length (D.disk device.old).image) }
         requires wide { IndexLiesWithin (index_kept wide.now) (length (D.disk device.old).image) }
-        requires walking { IsWalkingDirectories (index_kept index.now) self.old (D.disk device.old) }
-        ensures walking { IsWalkingDirectories (index_kept index.now) self.new (D.disk device.new) }
+        requires walking { IsWalkingDirectories (index_kept index.now) (index_kept wide.now) self.old (D.disk device.old) }
+        ensures walking { IsWalkingDirectories (index_kept index.now) (index_kept wide.now) self.new (D.disk device.new) }
         ensures enters { IfOk result (λ answer. IfSome answer (λ found.
             EntersFile (index_kept index.now) (index_kept wide.now) self.old self.new found
             (D.disk device.old) (D.disk device.new))) }
         ensures ended { IfOk result (λ answer. IfNone answer (
-            StaysToCome (index_kept index.now) self.old self.new
+            StaysToCome (index_kept index.now) (index_kept wide.now) self.old self.new
             (D.disk device.old) (D.disk device.new)
             × (self.new.hand ≡ None))) }
         ensures failed { OnErr result (Reads (D.disk device.old) (D.disk device.new) 1) }
@@ -77,21 +78,25 @@ impl EnteredFiles {
             OpenDirectory {
                 name,
                 id,
-                directory,
+                found,
             },
         ) = self.hand
         else {
             return Ok(None);
         };
-        let mut directory = directory;
-        match next_record(device, index, wide, &name, &mut directory) {
-            Ok(Some(found)) => {
+        let by = found.index_by(index, wide);
+        let mut directory = found.directory;
+        match next_record(device, by, index, wide, &name, &mut directory) {
+            Ok(Some(file)) => {
                 self.hand = Some(OpenDirectory {
                     name: name.copy(),
                     id,
-                    directory,
+                    found: FoundDirectory {
+                        directory,
+                        in_use: found.in_use,
+                    },
                 });
-                Ok(Some(found))
+                Ok(Some(file))
             }
             Ok(None) => {
                 self.hand = None;
@@ -113,18 +118,21 @@ impl EnteredFiles {
         &mut self,
         device: &mut D,
         index: &IndexFile,
+        wide: &IndexFile,
     ) -> Result<bool, DeviceFault>
         requires within { IndexLiesWithin (index_kept index.now) (length (D.disk device.old).image) }
-        requires walking { IsWalkingDirectories (index_kept index.now) self.old (D.disk device.old) }
+        requires wide { IndexLiesWithin (index_kept wide.now) (length (D.disk device.old).image) }
+        requires walking { IsWalkingDirectories (index_kept index.now) (index_kept wide.now) self.old (D.disk device.old) }
         requires no_hand { self.old.hand ≡ None }
-        ensures walking { IsWalkingDirectories (index_kept index.now) self.new (D.disk device.new) }
-        ensures takes { result ≡ Ok true → TakesDirectory (index_kept index.now) self.old self.new
+        ensures walking { IsWalkingDirectories (index_kept index.now) (index_kept wide.now) self.new (D.disk device.new) }
+        ensures takes { result ≡ Ok true → TakesDirectory (index_kept index.now) (index_kept wide.now)
+            self.old self.new
             (D.disk device.old) (D.disk device.new) }
-        ensures ended { result ≡ Ok false → EntersNoMore (index_kept index.now)
+        ensures ended { result ≡ Ok false → EntersNoMore (index_kept index.now) (index_kept wide.now)
             self.old self.new (D.disk device.old) (D.disk device.new) }
         ensures failed { OnErr result (Reads (D.disk device.old) (D.disk device.new) 1) }
     {
-        match self.directories.next(device, index) {
+        match self.directories.next(device, index, wide) {
             Ok(Some(hand)) => {
                 self.hand = Some(hand);
                 Ok(true)

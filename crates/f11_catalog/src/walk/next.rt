@@ -24,13 +24,13 @@ impl AllFiles {
     ) -> Result<Option<FileAt>, DeviceFault>
         requires within { IndexLiesWithin (index_kept index.now) (length (D.disk device.old).image) }
         requires wide { IndexLiesWithin (index_kept wide.now) (length (D.disk device.old).image) }
-        requires walking { IsWalking (index_kept index.now) self.old (D.disk device.old) }
-        ensures walking { IsWalking (index_kept index.now) self.new (D.disk device.new) }
+        requires walking { IsWalking (index_kept index.now) (index_kept wide.now) self.old (D.disk device.old) }
+        ensures walking { IsWalking (index_kept index.now) (index_kept wide.now) self.new (D.disk device.new) }
         ensures gives { IfOk result (λ answer. IfSome answer (λ found.
             GivesFile (index_kept index.now) (index_kept wide.now) self.old self.new found
             (D.disk device.old) (D.disk device.new))) }
         ensures ended { IfOk result (λ answer. IfNone answer (
-            HasNoFile (index_kept index.now) self.old self.new
+            HasNoFile (index_kept index.now) (index_kept wide.now) self.old self.new
             (D.disk device.old) (D.disk device.new))) }
         ensures failed { OnErr result (Reads (D.disk device.old) (D.disk device.new) 1) }
     {

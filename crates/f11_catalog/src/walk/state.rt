@@ -1,7 +1,7 @@
 //! How far a walk over all files has come.
 ghost use Rattle.std.specs.Prelude.{◌≡◌, ◌≤◌, vec_len};
 
-use crate::directory::DirectoryReader;
+use crate::found::FoundDirectory;
 use crate::directory_name::DirectoryName;
 use f11_store::FileId;
 
@@ -10,7 +10,7 @@ use f11_store::FileId;
 pub(crate) struct OpenDirectory {
     pub(crate) name: DirectoryName,
     pub(crate) id: FileId,
-    pub(crate) directory: DirectoryReader,
+    pub(crate) found: FoundDirectory,
 }
 
 /// The file numbers that weren't met, one after another.
@@ -30,7 +30,7 @@ pub(crate) struct Unmet {
 #[derive(Drop)]
 pub(crate) struct Directories {
     /// The master file directory, of whose records those of further directories are still to come, if it can be read.
-    pub(crate) master: Option<DirectoryReader>,
+    pub(crate) master: Option<FoundDirectory>,
     /// The numbers that weren't met there as those of a directory.
     pub(crate) others: Unmet,
 }

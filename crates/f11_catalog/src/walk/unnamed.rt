@@ -5,11 +5,13 @@ ghost use Rattle.f11_catalog.specs.Facts.{is_directory_header};
 ghost use Rattle.f11_catalog.specs.GoingOver.{IsUnderItsName};
 ghost use Rattle.f11_catalog.specs.Records.{Reads};
 ghost use Rattle.f11_header.specs.Fields.{ident_area};
+ghost use Rattle.f11_index.specs.IndexFile.{Index};
 ghost use Rattle.f11_index.specs.Kept.{index_kept, IndexLiesWithin};
 ghost use Rattle.f11_reader.specs.Reading.{header_in_hand};
 ghost use Rattle.f11_volume.specs.map.HeaderBlock.{segment_number};
 
 use crate::directory::DirectoryReader;
+use crate::found::FoundDirectory;
 use crate::directory_name::DirectoryName;
 use crate::own_name::own_name;
 use crate::walk::state::{OpenDirectory, Unmet};
@@ -32,7 +34,10 @@ fn under_its_name(file: &FileReader) -> Option<OpenDirectory>
         Some(directory) => Some(OpenDirectory {
             name: DirectoryName::of(&name),
             id: file.id(),
-            directory,
+            found: FoundDirectory {
+                directory,
+                in_use: true,
+            },
         }),
         None => None,
     }
@@ -54,9 +59,9 @@ impl Unmet {
         number: u16,
     ) -> Result<Option<OpenDirectory>, DeviceFault>
         requires within { IndexLiesWithin (index_kept index.now) (length (D.disk device.old).image) }
-        ensures opens { IfOk result (λ answer. IfSome answer (λ hand.
+        ensures opens { IfOk result (λ answer. IfSome answer (λ hand. (wide : Index) →
             OpensNamed (λ image t. directory_of_own image t (is_met self.now) number)
-            (index_kept index.now) hand (D.disk device.old) (D.disk device.new))) }
+            (index_kept index.now) wide hand (D.disk device.old) (D.disk device.new))) }
         ensures none { IfOk result (λ answer. IfNone answer (
             EntersNone (λ image t. directory_of_own image t (is_met self.now) number)
             (index_kept index.now) (D.disk device.old) (D.disk device.new))) }
@@ -86,8 +91,8 @@ impl Unmet {
         index: &IndexFile,
     ) -> Result<Option<OpenDirectory>, DeviceFault>
         requires within { IndexLiesWithin (index_kept index.now) (length (D.disk device.old).image) }
-        ensures finds { IfOk result (λ answer. IfSome answer (λ hand.
-            FindsUnnamed (is_met self.old) (index_kept index.now) self.old self.new hand
+        ensures finds { IfOk result (λ answer. IfSome answer (λ hand. (wide : Index) →
+            FindsUnnamed (is_met self.old) (index_kept index.now) wide self.old self.new hand
             (D.disk device.old) (D.disk device.new))) }
         ensures none { IfOk result (λ answer. IfNone answer (
             FindsNoUnnamed (is_met self.old) (index_kept index.now) self.old self.new

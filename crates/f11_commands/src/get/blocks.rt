@@ -1,14 +1,18 @@
-//! A file that was found is taken up to its last block.
-ghost use Rattle.std.specs.Prelude.{IfErr, IfOk};
-ghost use Rattle.f11_commands.specs.FoundFile.{EndsAtLast, device_with, reader_of};
+//! A file is taken up to its last block.
+ghost use Rattle.std.specs.Prelude.{◌*◌, ◌+◌, IfErr, IfOk, OnErr, length};
+ghost use Rattle.f11_commands.specs.FoundFile.{EndsAtLast, FindsLastEnd, device_with, reader_of};
 ghost use Rattle.f11_dev.specs.Looked.{Looked};
-ghost use Rattle.f11_reader.specs.Reading.{headers_left};
+ghost use Rattle.f11_index.specs.Kept.{index_kept, IndexLiesWithin};
+ghost use Rattle.f11_reader.specs.Reading.{IsReading, headers_left};
 
 use crate::get::found::FoundFile;
 use f11_dev::{Device, DeviceFault};
+use f11_index::IndexFile;
+use f11_reader::FileReader;
 
 /// The same file, whose end is behind its last block, whatever end it states: so all that its blocks have is taken out, also what stands
-/// behind the end, or the whole file where none is stated. It reads the headers that follow the first, each once.
+/// behind the end, or the whole file where none is stated. Where its headers break off, so that it may have more blocks, its end is past
+/// that one. It reads the headers that follow the first, each twice.
 ///
 /// # Errors
 ///
@@ -16,26 +20,52 @@ use f11_dev::{Device, DeviceFault};
 pub fn to_last_block<D: Device>(found: FoundFile<D>) -> Result<FoundFile<D>, D>
     ensures ends { IfOk result (λ later. EndsAtLast D.disk found later) }
     ensures failed { IfErr result (λ device. Looked (D.disk (device_with found)) (D.disk device)
-        (headers_left (reader_of found)) 1) }
+        (2 * headers_left (reader_of found)) 1) }
 {
     let FoundFile {
         device,
         index,
         file,
         end: _,
+        size,
         in_use,
         faulty,
     } = found;
     let mut device = device;
-    match file.count(&mut device, &index) {
-        Ok(blocks) => Ok(FoundFile {
+    match last_end(&mut device, &index, &file) {
+        Ok((end, _)) => Ok(FoundFile {
             device,
             index,
             file,
-            end: 512 * u64::from(blocks),
+            end,
+            size,
             in_use,
             faulty,
         }),
         Err(DeviceFault) => Err(device),
+    }
+}
+
+/// The end in bytes behind the last block of a file that is reached, and how many blocks these are: past it where its headers break off
+/// there.
+pub(crate) fn last_end<D: Device>(
+    device: &mut D,
+    index: &IndexFile,
+    file: &FileReader,
+) -> Result<(u64, u32), DeviceFault>
+    requires within { IndexLiesWithin (index_kept index.now) (length (D.disk device.old).image) }
+    requires reading { IsReading (index_kept index.now) file.now (D.disk device.old) }
+    ensures finds { IfOk result (λ end. FindsLastEnd (index_kept index.now) file.now end.0 end.1
+        (D.disk device.old) (D.disk device.new)) }
+    ensures failed { OnErr result
+        (Looked (D.disk device.old) (D.disk device.new) (2 * headers_left file.now) 1) }
+{
+    match file.count(device, index) {
+        Ok(blocks) => match file.is_whole(device, index) {
+            Ok(true) => Ok((512 * u64::from(blocks), blocks)),
+            Ok(false) => Ok((512 * u64::from(blocks) + 1, blocks)),
+            Err(DeviceFault) => Err(DeviceFault),
+        },
+        Err(DeviceFault) => Err(DeviceFault),
     }
 }

@@ -18,6 +18,8 @@ pub struct FoundFile<D: Device> {
     pub(crate) file: FileReader,
     /// Where it ends, in bytes, if it has blocks for so many.
     pub(crate) end: u64,
+    /// Where the volume ends, in blocks.
+    pub(crate) size: u32,
     /// Whether the bit of its slot says that it is in use.
     pub(crate) in_use: bool,
     /// Whether the volume has faults.

@@ -6,8 +6,9 @@ ghost use Rattle.f11_index.specs.Kept.{index_kept, IndexLiesWithin};
 ghost use Rattle.f11_reader.specs.Reading.{header_in_hand};
 ghost use Rattle.f11_store.specs.File.{stated_end};
 ghost use Rattle.f11_commands.specs.AnyVolume.{IsVerified};
-ghost use Rattle.f11_commands.specs.FoundFile.{device_with, end_found, has_faults, index_with, is_used, reader_of};
-ghost use Rattle.f11_commands.specs.GetCommand.{FailsToSeek, FindsSought, IsToRead, LacksSought, OpensSought, TellsWhyNot};
+ghost use Rattle.f11_commands.specs.FoundFile.{device_with, end_found, has_faults, index_with, is_used, reader_of, size_with};
+ghost use Rattle.f11_commands.specs.GetCommand.{FailsToSeek, FindsSought, IsToRead, LacksSought, OpensSought, OpensWithEnd};
+ghost use Rattle.f11_commands.specs.GetCommand.{TellsWhyNot};
 ghost use Rattle.f11_commands.specs.GetCommand.{file_entered, file_identified, file_sought};
 ghost use Rattle.f11_commands.specs.TakingOut.{bytes_to_come, lbns_to_come};
 ghost use Rattle.f11_commands.specs.TakingText.{file_to_come};
@@ -16,6 +17,7 @@ use crate::copy::finding::MASTER_DIRECTORY;
 use crate::get::found::FoundFile;
 use crate::ls::Served;
 use crate::outcome::{Answer, Failure};
+use crate::size::volume_end;
 use crate::volume::read_index;
 use f11_bytes::NoMemory;
 use f11_catalog::{find, stated_end};
@@ -30,8 +32,8 @@ use std::alloc::Global;
 use std::io::Write;
 
 /// Finds the file that a directory has under a name, by the first record with that name; the directory is the one that the master file
-/// directory has under its name. A file whose slot's bit is 0 is found all the same, where its header is valid and has the number and the
-/// sequence number of the record.
+/// directory has under its name. A file or a directory whose slot's bit is 0 is found all the same, where its header is valid and has the number
+/// and the sequence number of the record.
 /// It serves any volume whose home block and index file can be read, faulty or not, and writes nothing to it.
 ///
 /// Where there is none it writes the line `no NoSuchFile`, `no NotDirectory` or `no NoSuchEntry`, and where the volume can't be read that of
@@ -50,7 +52,7 @@ pub fn seek_file<D: Device, W: Write>(
 ) -> Result<Result<FoundFile<D>, (D, Served)>, (D, Failure)>
     ensures found { IfOk result (λ answer. IfOk answer (λ found. (writer.new ≡ writer.old)
         × IsVerified (has_faults found) (D.disk device)
-        × FindsSought directory.now name.now (is_used found)
+        × FindsSought directory.now name.now (is_used found) (size_with found)
         (bytes_to_come (index_with found) (D.disk (device_with found))
         (reader_of found) (end_found found)) (end_found found)
         (lbns_to_come (index_with found) (D.disk (device_with found)) (reader_of found))
@@ -84,7 +86,7 @@ fn seek<D: Device, W: Write>(
 ) -> Result<Result<FoundFile<D>, (D, Served)>, (D, Failure)>
     ensures found { IfOk result (λ answer. IfOk answer (λ found. (writer.new ≡ writer.old)
         × (has_faults found ≡ faulty)
-        × FindsSought directory.now name.now (is_used found)
+        × FindsSought directory.now name.now (is_used found) (size_with found)
         (bytes_to_come (index_with found) (D.disk (device_with found))
         (reader_of found) (end_found found)) (end_found found)
         (lbns_to_come (index_with found) (D.disk (device_with found)) (reader_of found))
@@ -98,11 +100,12 @@ fn seek<D: Device, W: Write>(
 {
     let mut device = device;
     match seek_on_volume(alloc, &mut device, writer, directory, name) {
-        Ok(Ok((index, found))) => Ok(Ok(FoundFile {
+        Ok(Ok((index, found, size))) => Ok(Ok(FoundFile {
             device,
             index,
             file: found.file,
             end: found.end,
+            size,
             in_use: found.in_use,
             faulty,
         })),
@@ -118,10 +121,10 @@ fn seek_on_volume<D: Device, W: Write>(
     writer: &mut W,
     directory: &Name,
     name: &Name,
-) -> Result<Result<(IndexFile, Sought), Answer>, Failure>
+) -> Result<Result<(IndexFile, Sought, u32), Answer>, Failure>
     ensures found { IfOk result (λ answer. IfOk answer (λ found. (writer.new ≡ writer.old)
         × IsToRead (index_kept found.0) found.1.file (D.disk device.new)
-        × FindsSought directory.now name.now found.1.in_use
+        × FindsSought directory.now name.now found.1.in_use found.2
         (bytes_to_come (index_kept found.0) (D.disk device.new) found.1.file found.1.end)
         found.1.end (lbns_to_come (index_kept found.0) (D.disk device.new) found.1.file)
         (file_to_come (index_kept found.0) (D.disk device.new) found.1.file)
@@ -133,8 +136,10 @@ fn seek_on_volume<D: Device, W: Write>(
 {
     match read_index(alloc, device) {
         Ok(Ok((_, index))) => match index.with_all_in_use(alloc) {
-            Ok(wide) => match seek_in_index(device, &index, &wide, directory, name) {
-                Ok(Ok(found)) => Ok(Ok((if found.in_use { index } else { wide }, found))),
+            Ok(wide) => match seek_to_end(device, &index, &wide, directory, name) {
+                Ok(Ok((found, size))) => {
+                    Ok(Ok((if found.in_use { index } else { wide }, found, size)))
+                }
                 Ok(Err(refusal)) => match writeln!(writer, "no {refusal}") {
                     Ok(()) => Ok(Err(Answer::Fault)),
                     Err(_) => Err(Failure::CannotWrite),
@@ -162,6 +167,35 @@ struct Sought {
     in_use: bool,
 }
 
+/// Finds the file as [`seek_in_index`] does, and where the volume ends.
+fn seek_to_end<D: Device>(
+    device: &mut D,
+    index: &IndexFile,
+    wide: &IndexFile,
+    directory: &Name,
+    name: &Name,
+) -> Result<Result<(Sought, u32), Refusal>, DeviceFault>
+    requires within { IndexLiesWithin (index_kept index.now) (length (D.disk device.old).image) }
+    requires wide { IndexLiesWithin (index_kept wide.now) (length (D.disk device.old).image) }
+    ensures found { IfOk result (λ answer. IfOk answer (λ found. OpensWithEnd
+        (λ image t. file_sought (index_kept wide.now) image t directory.now name.now)
+        (index_kept index.now) (if found.0.in_use then index_kept index.now else index_kept wide.now)
+        found.0.file found.0.end found.1 (D.disk device.old) (D.disk device.new))) }
+    ensures none { IfOk result (λ answer. IfErr answer (λ refusal. LacksSought
+        (λ image t. file_sought (index_kept wide.now) image t directory.now name.now)
+        (index_kept index.now) refusal (D.disk device.old) (D.disk device.new))) }
+    ensures failed { OnErr result (Reads (D.disk device.old) (D.disk device.new) 1) }
+{
+    match volume_end(device, index) {
+        Ok(size) => match seek_in_index(device, index, wide, directory, name) {
+            Ok(Ok(found)) => Ok(Ok((found, size))),
+            Ok(Err(refusal)) => Ok(Err(refusal)),
+            Err(DeviceFault) => Err(DeviceFault),
+        },
+        Err(DeviceFault) => Err(DeviceFault),
+    }
+}
+
 /// Finds the file that the directory with a name has under a name, among those that an index file has, and where there is none among
 /// those that `wide` has, which takes each slot as in use.
 fn seek_in_index<D: Device>(
@@ -182,7 +216,7 @@ fn seek_in_index<D: Device>(
         (index_kept index.now) refusal (D.disk device.old) (D.disk device.new))) }
     ensures failed { OnErr result (Reads (D.disk device.old) (D.disk device.new) 1) }
 {
-    match find(device, index, MASTER_DIRECTORY, directory) {
+    match find(device, index, wide, MASTER_DIRECTORY, directory) {
         Ok(Ok(id)) => match open_entered(device, index, wide, id, name) {
             Ok(Ok(found)) => Ok(Ok(found)),
             Ok(Err(refusal)) => Ok(Err(refusal)),
@@ -212,7 +246,7 @@ fn open_entered<D: Device>(
         (index_kept index.now) refusal (D.disk device.old) (D.disk device.new))) }
     ensures failed { OnErr result (Reads (D.disk device.old) (D.disk device.new) 1) }
 {
-    match find(device, index, directory, name) {
+    match find(device, index, wide, directory, name) {
         Ok(Ok(id)) => match open_file(device, index, wide, id) {
             Ok(Ok(found)) => Ok(Ok(found)),
             Ok(Err(refusal)) => Ok(Err(refusal)),

@@ -1,32 +1,16 @@
 //! What the line of a file says that was taken out.
-ghost use Rattle.std.specs.Prelude.{◌≡◌, Some};
+ghost use Rattle.std.specs.Prelude.{Some};
 
 use f11_flx::FlxRefusal;
 use std::fmt;
 
-/// What a line says of a file that was taken out, before it tells where the file broke off.
+/// What a line says of a file that was taken out, before it tells which blocks aren't there.
 #[derive(Clone, Copy)]
 pub(crate) enum Told {
-    /// How many bytes of its blocks the host was given.
+    /// How many bytes the host was given.
     Copied(u64),
-    /// How many bytes of lines.
-    Lines(u64),
     /// Its records can't all be read.
     BadRecords,
-}
-
-impl Told {
-    ghost use Rattle.f11_commands.specs.GetCommand.{bytes_told};
-
-    /// How many bytes of the file's blocks were given, where that is told.
-    pub(crate) fn bytes(&self) -> Option<u64>
-        ensures { result ≡ bytes_told self.now }
-    {
-        match self {
-            Told::Copied(count) => Some(*count),
-            Told::Lines(_) | Told::BadRecords => None,
-        }
-    }
 }
 
 impl fmt::Display for Told {
@@ -37,7 +21,6 @@ impl fmt::Display for Told {
     fn fmt<W: fmt::Write>(&self, f: &mut fmt::Formatter<W>) -> fmt::Result {
         match self {
             Told::Copied(count) => write!(f, "copied {count} bytes"),
-            Told::Lines(count) => write!(f, "copied {count} bytes"),
             Told::BadRecords => {
                 let refusal = FlxRefusal::BadRecord;
                 write!(f, "no {refusal}")

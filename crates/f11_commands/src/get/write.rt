@@ -1,14 +1,15 @@
 //! The second step of `get`: the file is written to the host.
 ghost use Rattle.std.specs.Prelude.{◌≡◌, IfErr, IfOk, OnOk, length};
-ghost use Rattle.f11_commands.specs.FoundFile.{device_with, end_found, has_faults, index_with, reader_of};
-ghost use Rattle.f11_commands.specs.GetCommand.{FailsToTakeOutAs, FailsToTakeOutImage, FailsToTakeOutText, FailsToTell, TakesOutAs};
-ghost use Rattle.f11_commands.specs.GetCommand.{TakesOutImage, TakesOutTextAs, Tells};
+ghost use Rattle.f11_commands.specs.FoundFile.{device_with, end_found, has_faults, index_with, reader_of, size_with};
+ghost use Rattle.f11_commands.specs.GetCommand.{FailsToTakeOut, FailsToTakeOutAs, FailsToTakeOutImage, FailsToTakeOutText, FailsToZero};
+ghost use Rattle.f11_commands.specs.GetCommand.{TakesOut, TakesOutAs, TakesOutImage, TakesOutTextAs, TellsZeros, limit_in, text_line};
+ghost use Rattle.f11_commands.specs.Output.{WriterTakes};
 ghost use Rattle.f11_index.specs.Kept.{index_kept, IndexLiesWithin};
 ghost use Rattle.f11_reader.specs.Reading.{IsReading};
 
 use crate::contents::write_contents;
 use crate::get::found::FoundFile;
-use crate::get::missing::ShownMissing;
+use crate::get::missing::{ShownMissing, end_before};
 use crate::get::told::Told;
 use crate::ls::Served;
 use crate::outcome::{Answer, Failure};
@@ -17,18 +18,20 @@ use f11_dev::{Device, DeviceFault};
 use f11_flx::CopyMode;
 use f11_index::IndexFile;
 use f11_reader::FileReader;
-use std::io::Write;
+use std::io::{self, Write};
 
 /// Writes a file that was found to the host, and then the line `copied N bytes`, which tells how many bytes the host was given. Where a block
-/// before the end isn't there, V being the first, ` zeros from VBN V` stands at its end where that lies past the device's end, and came as
-/// zeros; else the file ends there, which is ` broke off at VBN V`, as it always is of lines.
+/// before the end lies past the volume's end, or no header names it, the file ends before it, and ` broke off at VBN V` stands at the line's
+/// end.
 ///
-/// As it is: its bytes up to its end, or all where its blocks end before. It makes at most so many transfers: one for each block before
-/// the end and two for each header that a file may still have, and one that fails.
+/// As it is: its bytes up to its end. Where a block of these lies past the device's end, V being the first, zeros come for it, and
+/// ` zeros from VBN V` stands behind the bytes. It makes at most so many transfers: one for each block before the end and three for each
+/// header that a file may still have, and one that fails.
 ///
-/// As text: each of its records and LF, up to its end. Where a record goes past the end, or the attributes don't say how records lie, the
-/// host is given the text of the records before that, none of it in the latter case, and the line begins with `no BadRecord`. It makes at most so
-/// many transfers: three for each header, one for each block before the end, and one that fails.
+/// As text: each of its records and LF, up to its end; it ends before the first block past the device's end, too. Where a record goes past
+/// the end, or the attributes don't say how records lie, the host is given the text of the records before that, none of it in the latter
+/// case, and the line begins with `no BadRecord`. It makes at most so many transfers: three for each header, one for each block before the
+/// end, and one that fails.
 ///
 /// # Errors
 ///
@@ -40,82 +43,98 @@ pub fn write_file<D: Device, H: Write, W: Write>(
     host: &mut H,
     writer: &mut W,
 ) -> (D, Result<Served, Failure>)
-    ensures writes { IfOk result.1 (λ served. TakesOutAs mode served.answer
-        (index_with found) (reader_of found) (end_found found)
-        (D.disk (device_with found)) (D.disk result.0) H.contents host.old host.new
-        W.contents writer.old writer.new) }
+    ensures writes { IfOk result.1 (λ served. TakesOut mode served.answer (index_with found)
+        (reader_of found) (size_with found) (end_found found) (D.disk (device_with found))
+        (D.disk result.0) H.contents host.old host.new W.contents writer.old writer.new) }
     ensures verified { IfOk result.1 (λ served. served.faulty ≡ has_faults found) }
-    ensures failed { IfErr result.1 (λ failure. FailsToTakeOutAs mode failure
-        (index_with found) (reader_of found) (end_found found)
-        (D.disk (device_with found)) (D.disk result.0) H.contents host.old host.new
-        writer.old writer.new) }
+    ensures failed { IfErr result.1 (λ failure. FailsToTakeOut mode failure (index_with found)
+        (reader_of found) (size_with found) (end_found found) (D.disk (device_with found))
+        (D.disk result.0) H.contents host.old host.new writer.old writer.new) }
 {
     let FoundFile {
         device,
         index,
         file,
         end,
+        size,
         faulty,
         ..
     } = found;
     let mut device = device;
-    match write_as(mode, &mut device, &index, file, end, host, writer) {
-        Ok(answer) => (device, Ok(Served { answer, faulty })),
-        Err(failure) => (device, Err(failure)),
+    let limit = limit(mode, size, device.blocks());
+    match file.first_missing(&mut device, &index, end.div_ceil(512), limit) {
+        Ok(broke) => match write_as(mode, &mut device, &index, file, end, broke, host, writer) {
+            Ok(answer) => (device, Ok(Served { answer, faulty })),
+            Err(failure) => (device, Err(failure)),
+        },
+        Err(DeviceFault) => (device, Err(Failure::DeviceFault)),
     }
 }
 
-/// Writes a file in a mode to the host, and the line that tells of it.
+/// Behind how many blocks a file breaks off: as it is at the volume's end, as text at the device's.
+fn limit(mode: CopyMode, size: u32, blocks: u32) -> u32
+    ensures { result ≡ limit_in mode size blocks }
+{
+    match mode {
+        CopyMode::Image => size,
+        CopyMode::Text => blocks,
+    }
+}
+
+/// Writes a file in a mode to the host, up to an end or before the block by which it breaks off, and the line that tells of it.
 fn write_as<D: Device, H: Write, W: Write>(
     mode: CopyMode,
     device: &mut D,
     index: &IndexFile,
     file: FileReader,
     end: u64,
+    broke: Option<u64>,
     host: &mut H,
     writer: &mut W,
 ) -> Result<Answer, Failure>
     requires within { IndexLiesWithin (index_kept index.now) (length (D.disk device.old).image) }
     requires reading { IsReading (index_kept index.now) file (D.disk device.old) }
     ensures writes { IfOk result (λ answer. TakesOutAs mode answer (index_kept index.now) file end
-        (D.disk device.old) (D.disk device.new) H.contents host.old host.new
+        broke (D.disk device.old) (D.disk device.new) H.contents host.old host.new
         W.contents writer.old writer.new) }
     ensures failed { IfErr result (λ failure. FailsToTakeOutAs mode failure (index_kept index.now)
-        file end (D.disk device.old) (D.disk device.new) H.contents host.old host.new
+        file end broke (D.disk device.old) (D.disk device.new) H.contents host.old host.new
         writer.old writer.new) }
 {
     match mode {
-        CopyMode::Image => match write_image(device, index, file, end, host, writer) {
+        CopyMode::Image => match write_image(device, index, file, end, broke, host, writer) {
             Ok(()) => Ok(Answer::Done),
             Err(failure) => Err(failure),
         },
-        CopyMode::Text => match write_records(device, index, file, end, host, writer) {
+        CopyMode::Text => match write_records(device, index, file, broke, host, writer) {
             Ok(answer) => Ok(answer),
             Err(failure) => Err(failure),
         },
     }
 }
 
-/// Writes a file's bytes before an end to the host, and the line that tells of them.
+/// Writes a file's bytes before an end, or the block by which it breaks off, to the host, and the line that tells of them.
 fn write_image<D: Device, H: Write, W: Write>(
     device: &mut D,
     index: &IndexFile,
     file: FileReader,
     end: u64,
+    broke: Option<u64>,
     host: &mut H,
     writer: &mut W,
 ) -> Result<(), Failure>
     requires within { IndexLiesWithin (index_kept index.now) (length (D.disk device.old).image) }
     requires reading { IsReading (index_kept index.now) file (D.disk device.old) }
-    ensures writes { OnOk result (TakesOutImage (index_kept index.now) file end
+    ensures writes { OnOk result (TakesOutImage (index_kept index.now) file end broke
         (D.disk device.old) (D.disk device.new) H.contents host.old host.new
         W.contents writer.old writer.new) }
     ensures failed { IfErr result (λ failure. FailsToTakeOutImage failure (index_kept index.now)
-        file end (D.disk device.old) (D.disk device.new) H.contents host.old host.new
+        file end broke (D.disk device.old) (D.disk device.new) H.contents host.old host.new
         writer.old writer.new) }
 {
-    match write_contents(device, index, file, end, host) {
-        Ok(count) => match tell(device, index, file, end, Told::Copied(count), writer) {
+    let cut = end_before(end, broke);
+    match write_contents(device, index, file, cut, host) {
+        Ok(count) => match tell_zeros(device, index, file, cut, count, broke, writer) {
             Ok(()) => Ok(()),
             Err(failure) => Err(failure),
         },
@@ -123,59 +142,29 @@ fn write_image<D: Device, H: Write, W: Write>(
     }
 }
 
-/// Writes the text of a file's records to the host, and the line that tells of it, or that they can't be read.
-fn write_records<D: Device, H: Write, W: Write>(
+/// Writes the line of a file of which so many bytes were given: it tells for which block before an end zeros were the first, if for any, and
+/// by which the file broke off.
+fn tell_zeros<D: Device, W: Write>(
     device: &mut D,
     index: &IndexFile,
     file: FileReader,
-    end: u64,
-    host: &mut H,
-    writer: &mut W,
-) -> Result<Answer, Failure>
-    requires within { IndexLiesWithin (index_kept index.now) (length (D.disk device.old).image) }
-    requires reading { IsReading (index_kept index.now) file (D.disk device.old) }
-    ensures writes { IfOk result (λ answer. TakesOutTextAs answer (index_kept index.now) file end
-        (D.disk device.old) (D.disk device.new) H.contents host.old host.new
-        W.contents writer.old writer.new) }
-    ensures failed { IfErr result (λ failure. FailsToTakeOutText failure (index_kept index.now)
-        file end (D.disk device.old) (D.disk device.new) H.contents host.old host.new
-        writer.old writer.new) }
-{
-    match write_text(device, index, file, host) {
-        Ok(Ok(count)) => match tell(device, index, file, end, Told::Lines(count), writer) {
-            Ok(()) => Ok(Answer::Done),
-            Err(failure) => Err(failure),
-        },
-        Ok(Err(_)) => match tell(device, index, file, end, Told::BadRecords, writer) {
-            Ok(()) => Ok(Answer::Fault),
-            Err(failure) => Err(failure),
-        },
-        Err(failure) => Err(failure),
-    }
-}
-
-/// Writes the line that tells this of a file, and which of its blocks before an end is the first that isn't there.
-fn tell<D: Device, W: Write>(
-    device: &mut D,
-    index: &IndexFile,
-    file: FileReader,
-    end: u64,
-    told: Told,
+    cut: u64,
+    count: u64,
+    broke: Option<u64>,
     writer: &mut W,
 ) -> Result<(), Failure>
     requires within { IndexLiesWithin (index_kept index.now) (length (D.disk device.old).image) }
     requires reading { IsReading (index_kept index.now) file (D.disk device.old) }
-    ensures tells { OnOk result (Tells (index_kept index.now) file end told
+    ensures tells { OnOk result (TellsZeros (index_kept index.now) file cut count broke
         (D.disk device.old) (D.disk device.new) W.contents writer.old writer.new) }
-    ensures failed { IfErr result (λ failure. FailsToTell failure (index_kept index.now) file end
+    ensures failed { IfErr result (λ failure. FailsToZero failure (index_kept index.now) file cut
         (D.disk device.old) (D.disk device.new) writer.old writer.new) }
 {
-    match file.first_missing(device, index, end.div_ceil(512)) {
-        Ok(missing) => {
-            let missing = ShownMissing {
-                vbn: missing,
-                written: told.bytes(),
-            };
+    let blocks = device.blocks();
+    match file.first_missing(device, index, cut.div_ceil(512), blocks) {
+        Ok(zeros) => {
+            let told = Told::Copied(count);
+            let missing = ShownMissing { zeros, broke };
             match writeln!(writer, "{told}{missing}") {
                 Ok(()) => Ok(()),
                 Err(_) => Err(Failure::CannotWrite),
@@ -183,4 +172,44 @@ fn tell<D: Device, W: Write>(
         }
         Err(DeviceFault) => Err(Failure::DeviceFault),
     }
+}
+
+/// Writes the text of a file's records to the host, before the block by which it breaks off, and the line that tells of it, or that they
+/// can't be read.
+fn write_records<D: Device, H: Write, W: Write>(
+    device: &mut D,
+    index: &IndexFile,
+    file: FileReader,
+    broke: Option<u64>,
+    host: &mut H,
+    writer: &mut W,
+) -> Result<Answer, Failure>
+    requires within { IndexLiesWithin (index_kept index.now) (length (D.disk device.old).image) }
+    requires reading { IsReading (index_kept index.now) file (D.disk device.old) }
+    ensures writes { IfOk result (λ answer. TakesOutTextAs answer (index_kept index.now) file broke
+        (D.disk device.old) (D.disk device.new) H.contents host.old host.new
+        W.contents writer.old writer.new) }
+    ensures failed { IfErr result (λ failure. FailsToTakeOutText failure (index_kept index.now) file
+        broke (D.disk device.old) (D.disk device.new) H.contents host.old host.new
+        writer.old writer.new) }
+{
+    match write_text(device, index, file, broke, host) {
+        Ok(Ok(count)) => match tell(writer, Told::Copied(count), broke) {
+            Ok(()) => Ok(Answer::Done),
+            Err(_) => Err(Failure::CannotWrite),
+        },
+        Ok(Err(_)) => match tell(writer, Told::BadRecords, broke) {
+            Ok(()) => Ok(Answer::Fault),
+            Err(_) => Err(Failure::CannotWrite),
+        },
+        Err(failure) => Err(failure),
+    }
+}
+
+/// Writes the line of a file that was taken out as text: it tells this, and by which block the file broke off.
+fn tell<W: Write>(writer: &mut W, told: Told, broke: Option<u64>) -> io::Result<()>
+    ensures { OnOk result (WriterTakes W.contents writer.old writer.new (text_line told broke)) }
+{
+    let missing = ShownMissing { zeros: None, broke };
+    writeln!(writer, "{told}{missing}")
 }

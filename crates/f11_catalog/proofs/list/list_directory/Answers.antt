@@ -7,7 +7,10 @@ use Rattle.f11_catalog.proofs.list.list_directory.Goals as goal
 pub returns-in-Ok-clause-lists : goal.returns-in-Ok-clause-lists
 returns-in-Ok-clause-lists g c =
     let opens = rw c.in-Ok-Ok.field-0-is at c.in-Ok-Ok.ensures.opens in
-    record { readable = opens.readable; writes = lists-all (record_lines (index_kept c.args.wide.now)) _ _ _ opens c.in-Ok.ensures.writes }
+    record {
+      readable = opens.readable;
+      writes = lists-all (record_lines (index_kept c.args.wide.now)) _ _ _ _ _ opens c.index_by-by.ensures c.in-Ok.ensures.writes;
+    }
 
 pub returns-in-Err-write_records-clause-failed : goal.returns-in-Err-write_records-clause-failed
 returns-in-Err-write_records-clause-failed g c =

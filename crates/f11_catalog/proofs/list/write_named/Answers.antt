@@ -1,9 +1,4 @@
-use Rattle.std.proofs.Common.{subst}
 use Rattle.std.proofs.lemmas.Result.{on_ok_weaker}
-use Rattle.f11_index.specs.Kept.{index_kept}
-use Rattle.f11_catalog.specs.Lines.{lines_in}
-use Rattle.f11_catalog.specs.Listing.{Writes}
-use Rattle.f11_catalog.specs.declared.directory_name.DirectoryName.{DirectoryName}
 use Rattle.f11_catalog.proofs.DirectoryLemmas.{named-lines, no-name}
 use Rattle.f11_catalog.proofs.list.write_named.Goals as goal
 

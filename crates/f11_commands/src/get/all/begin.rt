@@ -2,7 +2,7 @@
 ghost use Rattle.std.specs.Prelude.{◌≡◌, false, length, IfErr, IfOk};
 ghost use Rattle.f11_catalog.specs.Walking.{IsWalking};
 ghost use Rattle.f11_index.specs.Kept.{index_kept, IndexLiesWithin};
-ghost use Rattle.f11_commands.specs.AllCommand.{BeginsAll, FailsToBeginAll, counts_of, device_of, files_of, has_failed, has_faults, index_of, no_counts, wide_of};
+ghost use Rattle.f11_commands.specs.AllCommand.{BeginsAll, BeginsWithEnd, FailsToBeginAll, FailsWithEnd, counts_of, device_of, files_of, has_failed, has_faults, index_of, no_counts, size_of, wide_of};
 ghost use Rattle.f11_commands.specs.AnyVolume.{IsVerified, TellsFault};
 
 use crate::copy::finding::MASTER_DIRECTORY;
@@ -10,10 +10,11 @@ use crate::get::all::counts::Counts;
 use crate::get::all::state::TakingAll;
 use crate::ls::Served;
 use crate::outcome::{Answer, Failure};
+use crate::size::volume_end;
 use crate::volume::read_index;
 use f11_bytes::NoMemory;
 use f11_catalog::{AllFiles, WalkFault};
-use f11_dev::Device;
+use f11_dev::{Device, DeviceFault};
 use f11_index::IndexFile;
 use f11_serving::f11_vfy::{Report, VfyError, verify};
 use std::alloc::Global;
@@ -39,7 +40,7 @@ pub fn begin_all<D: Device, W: Write>(
         × IsVerified (has_faults all) (D.disk device)
         × (has_failed all ≡ false)
         × (counts_of all ≡ no_counts)
-        × BeginsAll (index_of all) (wide_of all) (files_of all)
+        × BeginsAll (index_of all) (wide_of all) (size_of all) (files_of all)
         (D.disk device) (D.disk (device_of all))) }
     ensures told { IfErr result (λ told. IfOk told.1 (λ served.
         IsVerified served.faulty (D.disk device)
@@ -67,7 +68,7 @@ fn begin<D: Device, W: Write>(
         × (has_faults all ≡ faulty)
         × (has_failed all ≡ false)
         × (counts_of all ≡ no_counts)
-        × BeginsAll (index_of all) (wide_of all) (files_of all)
+        × BeginsAll (index_of all) (wide_of all) (size_of all) (files_of all)
         (D.disk device) (D.disk (device_of all))) }
     ensures told { IfErr result (λ told. IfOk told.1 (λ served. (served.faulty ≡ faulty)
         × TellsFault served.answer
@@ -77,11 +78,12 @@ fn begin<D: Device, W: Write>(
 {
     let mut device = device;
     match begin_on_volume(alloc, &mut device, writer) {
-        Ok(Ok((index, wide, files))) => Ok(TakingAll {
+        Ok(Ok((index, wide, size, files))) => Ok(TakingAll {
             device,
             index,
             wide,
             files,
+            size,
             faulty,
             failed: false,
             counts: Counts::none(),
@@ -96,12 +98,12 @@ fn begin_on_volume<D: Device, W: Write>(
     alloc: Global,
     device: &mut D,
     writer: &mut W,
-) -> Result<Result<(IndexFile, IndexFile, AllFiles), Answer>, Failure>
+) -> Result<Result<(IndexFile, IndexFile, u32, AllFiles), Answer>, Failure>
     ensures begins { IfOk result (λ answer. IfOk answer (λ found. (writer.new ≡ writer.old)
         × IndexLiesWithin (index_kept found.0) (length (D.disk device.new).image)
         × IndexLiesWithin (index_kept found.1) (length (D.disk device.new).image)
-        × IsWalking (index_kept found.0) found.2 (D.disk device.new)
-        × BeginsAll (index_kept found.0) (index_kept found.1) found.2
+        × IsWalking (index_kept found.0) (index_kept found.1) found.3 (D.disk device.new)
+        × BeginsAll (index_kept found.0) (index_kept found.1) found.2 found.3
         (D.disk device.old) (D.disk device.new))) }
     ensures told { IfOk result (λ answer. IfErr answer (λ told.
         TellsFault told (D.disk device.old) (D.disk device.new) W.contents writer.old writer.new)) }
@@ -110,8 +112,8 @@ fn begin_on_volume<D: Device, W: Write>(
 {
     match read_index(alloc, device) {
         Ok(Ok((_, index))) => match index.with_all_in_use(alloc) {
-            Ok(wide) => match AllFiles::begin(alloc, device, &index, MASTER_DIRECTORY) {
-                Ok(files) => Ok(Ok((index, wide, files))),
+            Ok(wide) => match begin_in_index(alloc, device, &index, &wide) {
+                Ok((size, files)) => Ok(Ok((index, wide, size, files))),
                 Err(WalkFault::DeviceFault) => Err(Failure::DeviceFault),
                 Err(WalkFault::NoMemory) => Err(Failure::NoMemory),
             },
@@ -122,5 +124,27 @@ fn begin_on_volume<D: Device, W: Write>(
             Err(_) => Err(Failure::CannotWrite),
         },
         Err(failure) => Err(failure),
+    }
+}
+
+/// Finds where the volume ends, and begins with all files.
+fn begin_in_index<D: Device>(
+    alloc: Global,
+    device: &mut D,
+    index: &IndexFile,
+    wide: &IndexFile,
+) -> Result<(u32, AllFiles), WalkFault>
+    requires within { IndexLiesWithin (index_kept index.now) (length (D.disk device.old).image) }
+    requires wide { IndexLiesWithin (index_kept wide.now) (length (D.disk device.old).image) }
+    ensures begins { IfOk result (λ begun. BeginsWithEnd (index_kept index.now) (index_kept wide.now)
+        begun.0 begun.1 (D.disk device.old) (D.disk device.new)) }
+    ensures failed { IfErr result (λ fault. FailsWithEnd fault (D.disk device.old) (D.disk device.new)) }
+{
+    match volume_end(device, index) {
+        Ok(size) => match AllFiles::begin(alloc, device, index, wide, MASTER_DIRECTORY) {
+            Ok(files) => Ok((size, files)),
+            Err(fault) => Err(fault),
+        },
+        Err(DeviceFault) => Err(WalkFault::DeviceFault),
     }
 }

@@ -31,7 +31,7 @@ impl fmt::Display for Beside {
 }
 
 /// Writes the line of a file that was taken out: its place, how many bytes were written, whether these are all its blocks since it wasn't
-/// closed, whether its slot is in use, and which block is the first that isn't there.
+/// closed, whether its slot is in use, for which block zeros were the first, and by which it broke off.
 pub(crate) fn write_line<W: Write>(
     writer: &mut W,
     place: &Place,
@@ -45,14 +45,12 @@ pub(crate) fn write_line<W: Write>(
     let beside = Beside(beside);
     let Taken {
         bytes,
-        missing,
+        zeros,
+        broke,
         all_blocks,
         ..
     } = *taken;
-    let missing = ShownMissing {
-        vbn: missing,
-        written: Some(bytes),
-    };
+    let missing = ShownMissing { zeros, broke };
     let open = if all_blocks { " open, all blocks" } else { "" };
     let unused = if in_use { "" } else { " out of use" };
     writeln!(

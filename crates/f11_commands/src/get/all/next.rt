@@ -45,12 +45,12 @@ impl<D: Device> TakingAll<D> {
         }
     }
 
-    /// Writes the bytes of a file up to its end to the host, or all where its blocks end before, and then its line: `[g,m] NAME.TYP;V
+    /// Writes the bytes of a file up to its end to the host, or before the block by which it breaks off, and then its line: `[g,m] NAME.TYP;V
     /// copied N bytes` or `lost N,S NAME.TYP;V copied N bytes`. Behind the name stands ` (N,S)` where `beside` has an identification: the file
     /// stands beside another of its name. Behind the bytes stands ` open, all blocks` where the file wasn't closed and states the end 0, so
-    /// that all its blocks are taken; ` out of use` where the bit of its slot is 0; and where block V is the first before the end that isn't
-    /// there ` zeros from VBN V`, if it lies past the device's end, or ` broke off at VBN V`, if the file has no more; or if a transfer
-    /// failed at that block, which [`TakingAll::end`] answers then. Where there is no file it writes the line that says so, as [`TakingAll::leave_out`].
+    /// that all its blocks are taken; ` out of use` where the bit of its slot is 0; ` zeros from VBN V` where block V is the first before the
+    /// end that lies past the device's end, so that zeros came for it; and ` broke off at VBN V` where block V is the first before the end
+    /// that lies past the volume's end, or that no header names, or at which a transfer failed, which [`TakingAll::end`] answers then. Where there is no file it writes the line that says so, as [`TakingAll::leave_out`].
     ///
     /// # Errors
     ///
@@ -133,13 +133,14 @@ impl<D: Device> TakingAll<D> {
             &self.index,
             &self.wide,
             in_use,
+            self.size,
             file,
             host,
         ) {
             Ok(taken) => {
                 self.failed = self.failed || taken.failed;
                 self.counts
-                    .add_copied(taken.missing.is_some(), is_lost(place));
+                    .add_copied(taken.is_cut(), is_lost(place));
                 Ok(taken)
             }
             Err(HostFull) => Err(HostFull),

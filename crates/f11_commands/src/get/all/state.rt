@@ -20,6 +20,8 @@ pub struct TakingAll<D: Device> {
     pub(crate) wide: IndexFile,
     /// The files that are still to come.
     pub(crate) files: AllFiles,
+    /// Where the volume ends, in blocks.
+    pub(crate) size: u32,
     /// Whether the volume has faults.
     pub(crate) faulty: bool,
     /// Whether a transfer failed.
@@ -31,5 +33,5 @@ pub struct TakingAll<D: Device> {
     /// So does the other one.
     pub ghost wide_within: { IndexLiesWithin (index_kept wide) (length (D.disk device).image) },
     /// Its directories are read from the device.
-    pub ghost walking: { IsWalking (index_kept index) files (D.disk device) } by { Prim.hlevel props },
+    pub ghost walking: { IsWalking (index_kept index) (index_kept wide) files (D.disk device) } by { Prim.hlevel props },
 }

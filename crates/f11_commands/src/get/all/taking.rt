@@ -1,13 +1,15 @@
 //! A file's content is taken out as far as it can be.
-ghost use Rattle.std.specs.Prelude.{◌≡◌, if◌then◌else◌, length, IfErr, IfOk, OnErr};
+ghost use Rattle.std.specs.Prelude.{◌≡◌, ◌*◌, if◌then◌else◌, length, IfErr, IfOk, OnErr};
 ghost use Rattle.f11_catalog.specs.Records.{Reads};
-ghost use Rattle.f11_commands.specs.AllCommand.{FindsEndTaken, TakesAtEnd, TakesFile, has_open_end};
+ghost use Rattle.f11_commands.specs.AllCommand.{FindsEndTaken, TakesAtEnd, TakesFile, TakesNone, has_open_end};
 ghost use Rattle.f11_dev.specs.Looked.{Looked};
-ghost use Rattle.f11_commands.specs.TakingOut.{ReadsBefore};
+ghost use Rattle.f11_commands.specs.TakingOut.{ReadsBefore, end_before};
 ghost use Rattle.f11_index.specs.Kept.{index_kept, IndexLiesWithin};
 ghost use Rattle.f11_reader.specs.Reading.{IsReading, headers_left};
 
 use crate::contents::put_contents;
+use crate::get::blocks::last_end;
+use crate::get::missing::end_before as end_cut;
 use crate::outcome::Stop;
 use f11_catalog::stated_end;
 use f11_dev::{Device, DeviceFault};
@@ -21,12 +23,26 @@ use std::io::Write;
 pub(crate) struct Taken {
     /// How many bytes were written.
     pub(crate) bytes: u64,
-    /// The first block before the stated end that isn't there, or that couldn't be read.
-    pub(crate) missing: Option<u64>,
+    /// The first block before the end for which zeros were written, since it lies past the device's end.
+    pub(crate) zeros: Option<u64>,
+    /// The first block before the end by which the file broke off: it lies past the volume's end, or no header names it, or it couldn't be
+    /// read.
+    pub(crate) broke: Option<u64>,
     /// Whether a transfer failed.
     pub(crate) failed: bool,
     /// Whether all its blocks were to be taken out, since it wasn't closed and states no end.
     pub(crate) all_blocks: bool,
+}
+
+impl Taken {
+    ghost use Rattle.f11_commands.specs.AllCommand.{is_cut};
+
+    /// Whether a block isn't there.
+    pub(crate) fn is_cut(&self) -> bool
+        ensures { result ≡ is_cut self.now }
+    {
+        self.zeros.is_some() || self.broke.is_some()
+    }
 }
 
 /// The host's file takes no more.
@@ -42,7 +58,7 @@ fn has_open_end(file: &FileReader) -> bool
 }
 
 /// Where a file ends in bytes as it is taken out: where it states, and behind its last block where it wasn't closed and states the end 0,
-/// as a file does that was open when the system stopped; and whether that is so.
+/// as a file does that was open when the system stopped, or past it where its headers break off there; and whether that is so.
 fn end_taken<D: Device>(
     device: &mut D,
     index: &IndexFile,
@@ -53,14 +69,14 @@ fn end_taken<D: Device>(
     ensures finds { IfOk result (λ end. FindsEndTaken (index_kept index.now) file.now end.0 end.1
         (D.disk device.old) (D.disk device.new)) }
     ensures failed { OnErr result
-        (Looked (D.disk device.old) (D.disk device.new) (headers_left file.now) 1) }
+        (Looked (D.disk device.old) (D.disk device.new) (2 * headers_left file.now) 1) }
 {
     if !has_open_end(file) {
         let end = stated_end(&Header::new(file.header()).attributes());
         return Ok((end, false));
     }
-    match file.count(device, index) {
-        Ok(blocks) => Ok((512 * u64::from(blocks), blocks != 0)),
+    match last_end(device, index, file) {
+        Ok((end, blocks)) => Ok((end, blocks != 0)),
         Err(DeviceFault) => Err(DeviceFault),
     }
 }
@@ -75,6 +91,7 @@ pub(crate) fn take_by<D: Device, H: Write>(
     index: &IndexFile,
     wide: &IndexFile,
     in_use: bool,
+    size: u32,
     file: &FileReader,
     host: &mut H,
 ) -> Result<Taken, HostFull>
@@ -83,19 +100,19 @@ pub(crate) fn take_by<D: Device, H: Write>(
     requires reading { IsReading (if in_use then index_kept index.now else index_kept wide.now)
         file.now (D.disk device.old) }
     ensures takes { IfOk result (λ taken. TakesAtEnd
-        (if in_use then index_kept index.now else index_kept wide.now) file.now taken
+        (if in_use then index_kept index.now else index_kept wide.now) size file.now taken
         (D.disk device.old) (D.disk device.new) H.contents host.old host.new) }
     ensures full { OnErr result (Reads (D.disk device.old) (D.disk device.new) 0) }
 {
     if in_use {
-        take_out(device, index, file, host)
+        take_out(device, index, size, file, host)
     } else {
-        take_out(device, wide, file, host)
+        take_out(device, wide, size, file, host)
     }
 }
 
-/// Writes the bytes of a file up to its end to the host, and finds its first block before the end that isn't there. Where a transfer
-/// fails it stops there.
+/// Writes the bytes of a file up to its end to the host, or before the first block that lies past the volume's end, or that no header names,
+/// and finds for which block zeros were the first. Where a transfer fails it stops there.
 ///
 /// # Errors
 ///
@@ -103,64 +120,85 @@ pub(crate) fn take_by<D: Device, H: Write>(
 fn take_out<D: Device, H: Write>(
     device: &mut D,
     index: &IndexFile,
+    size: u32,
     file: &FileReader,
     host: &mut H,
 ) -> Result<Taken, HostFull>
     requires within { IndexLiesWithin (index_kept index.now) (length (D.disk device.old).image) }
     requires reading { IsReading (index_kept index.now) file.now (D.disk device.old) }
-    ensures takes { IfOk result (λ taken. TakesAtEnd (index_kept index.now) file.now taken
+    ensures takes { IfOk result (λ taken. TakesAtEnd (index_kept index.now) size file.now taken
         (D.disk device.old) (D.disk device.new) H.contents host.old host.new) }
     ensures full { OnErr result (Reads (D.disk device.old) (D.disk device.new) 0) }
 {
     match end_taken(device, index, file) {
-        Ok((end, all_blocks)) => match take_to(device, index, *file, end, all_blocks, host) {
-            Ok(taken) => Ok(taken),
-            Err(HostFull) => Err(HostFull),
-        },
-        Err(DeviceFault) => Ok(Taken {
-            bytes: 0,
-            missing: Some(1),
-            failed: true,
-            all_blocks: true,
-        }),
+        Ok((end, all_blocks)) => {
+            match file.first_missing(device, index, end.div_ceil(512), size) {
+                Ok(broke) => match take_to(device, index, *file, end, broke, all_blocks, host) {
+                    Ok(taken) => Ok(taken),
+                    Err(HostFull) => Err(HostFull),
+                },
+                Err(DeviceFault) => Ok(none_taken(file)),
+            }
+        }
+        Err(DeviceFault) => Ok(none_taken(file)),
     }
 }
 
-/// Writes the bytes of a file up to an end to the host, and finds its first block before it that isn't there.
+/// That nothing was taken out of a file, since a transfer failed before its first byte.
+fn none_taken(file: &FileReader) -> Taken
+    ensures { TakesNone file.now result }
+{
+    Taken {
+        bytes: 0,
+        zeros: None,
+        broke: Some(1),
+        failed: true,
+        all_blocks: has_open_end(file),
+    }
+}
+
+/// Writes the bytes of a file up to an end to the host, or before the block by which it breaks off, and finds for which block zeros were the
+/// first.
 fn take_to<D: Device, H: Write>(
     device: &mut D,
     index: &IndexFile,
     file: FileReader,
     end: u64,
+    broke: Option<u64>,
     all_blocks: bool,
     host: &mut H,
 ) -> Result<Taken, HostFull>
     requires within { IndexLiesWithin (index_kept index.now) (length (D.disk device.old).image) }
     requires reading { IsReading (index_kept index.now) file (D.disk device.old) }
     ensures takes { IfOk result (λ taken. (taken.all_blocks ≡ all_blocks)
-        × TakesFile (index_kept index.now) file end taken
+        × TakesFile (index_kept index.now) file end broke taken
         (D.disk device.old) (D.disk device.new) H.contents host.old host.new) }
-    ensures full { OnErr result (ReadsBefore (index_kept index.now) file end
+    ensures full { OnErr result (ReadsBefore (index_kept index.now) file (end_before end broke)
         (D.disk device.old) (D.disk device.new) 0) }
 {
-    match put_contents(device, index, file, end, host) {
-        Ok(bytes) => match file.first_missing(device, index, end.div_ceil(512)) {
-            Ok(missing) => Ok(Taken {
+    let cut = end_cut(end, broke);
+    let blocks = device.blocks();
+    match put_contents(device, index, file, cut, host) {
+        Ok(bytes) => match file.first_missing(device, index, cut.div_ceil(512), blocks) {
+            Ok(zeros) => Ok(Taken {
                 bytes,
-                missing,
+                zeros,
+                broke,
                 failed: false,
                 all_blocks,
             }),
             Err(DeviceFault) => Ok(Taken {
                 bytes,
-                missing: None,
+                zeros: None,
+                broke,
                 failed: true,
                 all_blocks,
             }),
         },
         Err(Stop::DeviceFault(bytes)) => Ok(Taken {
             bytes,
-            missing: Some(bytes / 512 + 1),
+            zeros: None,
+            broke: Some(bytes / 512 + 1),
             failed: true,
             all_blocks,
         }),

@@ -1,4 +1,4 @@
-use Rattle.f11_catalog.proofs.ContentLemmas.{holds-else, holds-file}
+use Rattle.f11_catalog.proofs.ContentLemmas.{holds-else}
 use Rattle.f11_catalog.proofs.ListingLemmas.{reads-then}
 use Rattle.f11_catalog.proofs.walk.content.open_content.Goals as goal
 

@@ -1,5 +1,4 @@
 use Rattle.f11_catalog.proofs.ContentLemmas.{missing-else}
-use Rattle.f11_catalog.proofs.ListingLemmas.{reads-then}
 use Rattle.f11_catalog.proofs.walk.content.open_out_of_use.Goals as goal
 
 pub returns-in-Ok-clause-holds : goal.returns-in-Ok-clause-holds

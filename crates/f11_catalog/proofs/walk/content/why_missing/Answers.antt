@@ -1,4 +1,3 @@
-use Rattle.std.proofs.Common.{false, true, refl, sym, ◌∙◌}
 use Rattle.std.proofs.lemmas.Bool.{both_ways}
 use Rattle.f11_index.proofs.InUseLemmas.{header-within}
 use Rattle.f11_index.specs.Kept.{index_kept}

@@ -1,7 +1,7 @@
 use Rattle.f11_reader.proofs.ReadLemmas.{holds-on}
 use Rattle.f11_catalog.proofs.ListingLemmas.{reads-then}
-use Rattle.f11_catalog.proofs.GoingLemmas.{directory-comes}
-use Rattle.f11_catalog.proofs.WalkLemmas.{before-mid, passed-all, passed-none, passed-on}
+use Rattle.f11_catalog.proofs.GoingLemmas.{directory-comes, directory-passed}
+use Rattle.f11_catalog.proofs.WalkLemmas.{before-mid, passed-all, passed-none}
 use Rattle.f11_catalog.proofs.walk.entered.next_directory.Goals as goal
 
 pub loop-record-init : goal.loop-record-init
@@ -12,7 +12,7 @@ loop-record-preserved g c =
     let read = rw c.in-Ok-Some.field-0-is at c.in-Ok-Some.ensures.reads in
     let none = (rw c.in-Ok-None-open_named.field-0-is at c.in-Ok-None-open_named.ensures.none) read.bytes read.record_is in
     record {
-      passed = passed-on _ _ _ _ _ _ c.loop-record.invariant.passed _ _ _ read _ none;
+      passed = directory-passed _ _ _ _ _ _ _ c.loop-record.invariant.passed _ _ _ read _ none;
       reading = holds-on none.reads.1 c.in-Ok-Some.ensures.reading;
     }
 
@@ -20,7 +20,7 @@ pub returns-in-Ok-Some-open_named-clause-comes : goal.returns-in-Ok-Some-open_na
 returns-in-Ok-Some-open_named-clause-comes g c =
     let read = rw c.in-Ok-Some.field-0-is at c.in-Ok-Some.ensures.reads in
     let opens = (rw c.in-Ok-Some-open_named.field-0-is at c.in-Ok-Some-open_named.ensures.opens) read.bytes read.record_is in
-    directory-comes _ _ _ _ _ c.loop-record.invariant.passed _ _ _ read _ _ opens
+    directory-comes _ _ _ _ _ _ _ c.loop-record.invariant.passed _ _ _ read _ _ opens
 
 pub returns-in-Ok-Some-open_named-clause-reading : goal.returns-in-Ok-Some-open_named-clause-reading
 returns-in-Ok-Some-open_named-clause-reading g c =

@@ -11,7 +11,8 @@ loop-record-preserved g c =
     let read = rw c.in-Ok-Some.field-0-is at c.in-Ok-Some.ensures.reads in
     let none = (rw c.in-Ok-None-open_record.field-0-is at c.in-Ok-None-open_record.ensures.none) read.bytes read.record_is in
     record {
-      passed = passed-on _ _ _ _ _ _ c.loop-record.invariant.passed _ _ _ read _ none;
+      passed = passed-on _ _ _ _ _ _ c.loop-record.invariant.passed _ _ _ read _
+          (record { none = none.none; reads = none.reads });
       reading = holds-on none.reads.1 c.in-Ok-Some.ensures.reading;
     }
 

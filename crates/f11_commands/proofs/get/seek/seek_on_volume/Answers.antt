@@ -7,23 +7,23 @@ use Rattle.f11_commands.specs.GetCommand.{cannot_be_read, lacks_file, tells_none
 use Rattle.f11_commands.proofs.get.seek.seek_on_volume.Goals as goal
 use Rattle.f11_commands.proofs.get.seek.seek_on_volume.Goals.{then-found, else-found}
 
-pub returns-in-Ok-Ok-seek_in_index-clause-found : goal.returns-in-Ok-Ok-seek_in_index-clause-found
-returns-in-Ok-Ok-seek_in_index-clause-found g c =
+pub returns-in-Ok-Ok-seek_to_end-clause-found : goal.returns-in-Ok-Ok-seek_to_end-clause-found
+returns-in-Ok-Ok-seek_to_end-clause-found g c =
     let volume = rw c.in-Ok-Ok.field-0-is at c.in-Ok-Ok.ensures.found in
-    let found = c.in-Ok-Ok-seek_in_index.found in
-    let finds = rw c.in-Ok-Ok-seek_in_index.field-0-is at c.in-Ok-Ok-seek_in_index.ensures.found in
+    let found = c.in-Ok-Ok-seek_to_end.found in
+    let finds = rw c.in-Ok-Ok-seek_to_end.field-0-is at c.in-Ok-Ok-seek_to_end.ensures.found in
     let either : Bool → Index = λ b. if b then index_kept c.in-Ok-Ok.index else index_kept c.in-Ok.wide in
     let chosen : index_kept c.if-found.result ≡ either found.in_use = elim c.if-found.branch [
       | then-found w ↦ ap index_kept w.result-is ∙ sym (ap either w.if-found.true)
       | else-found w ↦ ap index_kept w.result-is ∙ sym (ap either w.if-found.false)
     ] in
-    let gives = volume-gives _ _ _ _ _ volume c.in-Ok.ensures _ _ _ _ found.in_use chosen found.file found.end finds in
+    let gives = volume-gives _ _ _ _ _ volume c.in-Ok.ensures _ _ _ _ found.in_use chosen found.file found.end _ finds in
     (refl, gives.0, gives.1)
 
 pub returns-in-Ok-writeln-clause-none : goal.returns-in-Ok-writeln-clause-none
 returns-in-Ok-writeln-clause-none g c =
     let volume = rw c.in-Ok-Ok.field-0-is at c.in-Ok-Ok.ensures.found in
-    let none = rw c.in-Ok-Err-seek_in_index.field-0-is at c.in-Ok-Err-seek_in_index.ensures.none in
+    let none = rw c.in-Ok-Err-seek_to_end.field-0-is at c.in-Ok-Err-seek_to_end.ensures.none in
     tells_none (record {
       is_fault = refl;
       refusal = _;
@@ -31,16 +31,16 @@ returns-in-Ok-writeln-clause-none g c =
       takes = c.in-Ok-writeln.ensures.bytes;
     })
 
-pub returns-in-Ok-Err-seek_in_index-clause-failed : goal.returns-in-Ok-Err-seek_in_index-clause-failed
-returns-in-Ok-Err-seek_in_index-clause-failed g c =
+pub returns-in-Ok-Err-seek_to_end-clause-failed : goal.returns-in-Ok-Err-seek_to_end-clause-failed
+returns-in-Ok-Err-seek_to_end-clause-failed g c =
     let volume = rw c.in-Ok-Ok.field-0-is at c.in-Ok-Ok.ensures.found in
-    let none = rw c.in-Ok-Err-seek_in_index.field-0-is at c.in-Ok-Err-seek_in_index.ensures.none in
+    let none = rw c.in-Ok-Err-seek_to_end.field-0-is at c.in-Ok-Err-seek_to_end.ensures.none in
     lacks_file _ (volume-lacks _ _ _ _ _ volume c.in-Ok.ensures _ _ _ _ none)
 
 pub returns-in-Ok-clause-failed : goal.returns-in-Ok-clause-failed
 returns-in-Ok-clause-failed g c =
     let volume = rw c.in-Ok-Ok.field-0-is at c.in-Ok-Ok.ensures.found in
-    (reads-then (_, volume.looked) c.in-Err-seek_in_index.ensures.failed, refl)
+    (reads-then (_, volume.looked) c.in-Err-seek_to_end.ensures.failed, refl)
 
 pub returns-in-Ok-Ok-clause-failed : goal.returns-in-Ok-Ok-clause-failed
 returns-in-Ok-Ok-clause-failed g c =

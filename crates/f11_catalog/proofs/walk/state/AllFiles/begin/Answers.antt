@@ -4,4 +4,4 @@ use Rattle.f11_catalog.proofs.walk.state.AllFiles.begin.Goals as goal
 
 pub returns-in-Ok-clause-begins : goal.returns-in-Ok-clause-begins
 returns-in-Ok-clause-begins g c =
-    begins-walk _ _ _ _ _ c.in-Ok.ensures.opens refl c.in-Some.ensures c.in-Some-begin.ensures
+    begins-walk _ _ _ _ _ _ c.in-Ok.ensures.opens refl c.in-Some.ensures c.in-Some-begin.ensures

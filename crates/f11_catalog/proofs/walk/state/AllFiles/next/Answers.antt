@@ -17,13 +17,13 @@ returns-in-Ok-Some-clause-gives g c =
 
 pub returns-in-Ok-Some-next_lost-clause-gives : goal.returns-in-Ok-Some-next_lost-clause-gives
 returns-in-Ok-Some-next_lost-clause-gives g c =
-    gives-other _ _ _ _ _ _ (rw c.in-Ok-None.field-0-is at c.in-Ok-None.ensures.ended) _ _ _
+    gives-other _ _ _ _ _ _ _ (rw c.in-Ok-None.field-0-is at c.in-Ok-None.ensures.ended) _ _
     (rw c.in-Ok-Some-next_lost.field-0-is at c.in-Ok-Some-next_lost.ensures.finds)
     (met-same c.next_lost.new.self c.args.self.now.others c.in-Ok-Some-next_lost.ensures.met)
 
 pub returns-in-Ok-None-next_lost-clause-ended : goal.returns-in-Ok-None-next_lost-clause-ended
 returns-in-Ok-None-next_lost-clause-ended g c =
-    no-file _ _ _ _ _ _ (rw c.in-Ok-None.field-0-is at c.in-Ok-None.ensures.ended) _
+    no-file _ _ _ _ _ _ _ (rw c.in-Ok-None.field-0-is at c.in-Ok-None.ensures.ended) _
     (rw c.in-Ok-None-next_lost.field-0-is at c.in-Ok-None-next_lost.ensures.none)
     (met-same c.next_lost.new.self c.args.self.now.others c.in-Ok-None-next_lost.ensures.met)
 

@@ -1,4 +1,6 @@
 use Rattle.std.proofs.Common.{◌||◌, ◌==◌, ap, ◌∙◌}
+use Rattle.f11_index.specs.Kept.{index_kept}
+use Rattle.f11_catalog.proofs.EnteredLemmas.{master-on}
 use Rattle.f11_catalog.specs.Steps.{is_met}
 use Rattle.f11_catalog.specs.declared.walk.state.Unmet.{Unmet}
 use Rattle.f11_catalog.proofs.GoingLemmas.{gives-named, gives-unnamed, no-directory-left}
@@ -8,21 +10,21 @@ use Rattle.f11_catalog.proofs.walk.state.Directories.next.Goals as goal
 
 pub returns-in-Ok-Some-clause-gives : goal.returns-in-Ok-Some-clause-gives
 returns-in-Ok-Some-clause-gives g c =
-    gives-named _ _ _ _ _ _ (rw c.in-Ok-Some.field-0-is at c.in-Ok-Some.ensures.finds)
+    gives-named _ _ _ _ _ _ _ (rw c.in-Ok-Some.field-0-is at c.in-Ok-Some.ensures.finds)
     (λ n. c.meet.ensures.adds n
     ∙ ap (λ (o : Unmet). is_met o n || (c.in-Ok-Some.hand.id.number == n)) c.in-Ok-Some.ensures.others)
     (c.meet.ensures.next ∙ ap (λ (o : Unmet). o.next) c.in-Ok-Some.ensures.others)
 
 pub returns-in-Ok-Some-next_unnamed-clause-gives : goal.returns-in-Ok-Some-next_unnamed-clause-gives
 returns-in-Ok-Some-next_unnamed-clause-gives g c =
-    gives-unnamed _ _ _ _ _ (rw c.in-Ok-None.field-0-is at c.in-Ok-None.ensures.none) _ _ _
-    (rw c.in-Ok-None.ensures.others at (rw c.in-Ok-Some-next_unnamed.field-0-is at c.in-Ok-Some-next_unnamed.ensures.finds))
+    gives-unnamed _ _ _ _ _ _ (rw c.in-Ok-None.field-0-is at c.in-Ok-None.ensures.none) _ _ _
+    (rw c.in-Ok-None.ensures.others at ((rw c.in-Ok-Some-next_unnamed.field-0-is at c.in-Ok-Some-next_unnamed.ensures.finds) (index_kept c.args.wide.now)))
     (met-same c.next_unnamed.new.self c.args.self.now.others
     (c.in-Ok-Some-next_unnamed.ensures.met ∙ ap (λ (o : Unmet). o.met) c.in-Ok-None.ensures.others))
 
 pub returns-in-Ok-None-next_unnamed-clause-ended : goal.returns-in-Ok-None-next_unnamed-clause-ended
 returns-in-Ok-None-next_unnamed-clause-ended g c =
-    no-directory-left _ _ _ _ _ (rw c.in-Ok-None.field-0-is at c.in-Ok-None.ensures.none) _ _
+    no-directory-left _ _ _ _ _ _ (rw c.in-Ok-None.field-0-is at c.in-Ok-None.ensures.none) _ _
     (rw c.in-Ok-None.ensures.others at (rw c.in-Ok-None-next_unnamed.field-0-is at c.in-Ok-None-next_unnamed.ensures.none))
     (met-same c.next_unnamed.new.self c.args.self.now.others
     (c.in-Ok-None-next_unnamed.ensures.met ∙ ap (λ (o : Unmet). o.met) c.in-Ok-None.ensures.others))
@@ -31,3 +33,8 @@ pub returns-in-Err-next_unnamed-clause-failed : goal.returns-in-Err-next_unnamed
 returns-in-Err-next_unnamed-clause-failed g c =
     let none = rw c.in-Ok-None.field-0-is at c.in-Ok-None.ensures.none in
     reads-then none.reads c.in-Err-next_unnamed.ensures.failed
+
+pub returns-in-Ok-Some-next_unnamed-clause-reading : goal.returns-in-Ok-Some-next_unnamed-clause-reading
+returns-in-Ok-Some-next_unnamed-clause-reading g c =
+    let finds = (rw c.in-Ok-Some-next_unnamed.field-0-is at c.in-Ok-Some-next_unnamed.ensures.finds) (index_kept c.args.wide.now) in
+    master-on _ _ _ _ _ _ finds.takes.reads c.in-Ok-None.ensures.reading

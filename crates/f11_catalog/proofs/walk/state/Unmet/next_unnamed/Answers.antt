@@ -7,12 +7,12 @@ use Rattle.f11_catalog.proofs.UnmetLemmas.{met-same}
 use Rattle.f11_catalog.proofs.walk.state.Unmet.next_unnamed.Goals as goal
 
 pub returns-in-Ok-Some-clause-finds : goal.returns-in-Ok-Some-clause-finds
-returns-in-Ok-Some-clause-finds g c =
+returns-in-Ok-Some-clause-finds g c = λ wide.
     finds-unnamed _ _ _ _ _ _ c.loop-self.invariant.seen _ (omega (arith, c.loop-self-test.true, c.slots.ensures))
     c.take_number-number.ensures.next _ _
     (met-same c.take_number-number.new.self c.args.self.now (c.take_number-number.ensures.met ∙ c.loop-self.invariant.met))
-    c.take_number-number.ensures.number _ _
-    (rw c.in-Ok-Some.field-0-is at c.in-Ok-Some.ensures.opens)
+    c.take_number-number.ensures.number _ _ wide
+    ((rw c.in-Ok-Some.field-0-is at c.in-Ok-Some.ensures.opens) wide)
 
 pub loop-self-preserved : goal.loop-self-preserved
 loop-self-preserved g c = record {

@@ -4,9 +4,9 @@ use Rattle.f11_catalog.proofs.GoingLemmas.{own-none, own-opens, slot-none}
 use Rattle.f11_catalog.proofs.walk.state.Unmet.open_unnamed.Goals as goal
 
 pub returns-in-Some-clause-opens : goal.returns-in-Some-clause-opens
-returns-in-Some-clause-opens g c =
+returns-in-Some-clause-opens g c = λ wide.
     own-opens _ _ _ _ c.in-Ok-Some.file (rw c.in-Ok-Some.field-0-is at c.in-Ok-Some.ensures.opens) (is_met c.args.self.now)
-    (sym c.has_met.ensures ∙ c.if-has_met.false) _ c.in-Some.ensures.under
+    (sym c.has_met.ensures ∙ c.if-has_met.false) _ c.in-Some.ensures.under wide
 
 pub returns-in-None-clause-none : goal.returns-in-None-clause-none
 returns-in-None-clause-none g c =

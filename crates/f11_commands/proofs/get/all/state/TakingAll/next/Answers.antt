@@ -1,6 +1,5 @@
-use Rattle.std.proofs.Common.{Ok, Some, ap, rules}
 use Rattle.f11_catalog.proofs.FilesLemmas.{next-reads}
-use Rattle.f11_commands.proofs.AllLemmas.{found-reading, within-on}
+use Rattle.f11_commands.proofs.AllLemmas.{within-on}
 use Rattle.f11_commands.proofs.get.all.state.TakingAll.next.Goals as goal
 
 pub invariant_of-self : goal.invariant_of-self

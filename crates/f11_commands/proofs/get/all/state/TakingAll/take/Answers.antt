@@ -3,9 +3,9 @@ use Rattle.f11_commands.proofs.get.all.state.TakingAll.take.Goals as goal
 
 pub invariant_of-self : goal.invariant_of-self
 invariant_of-self g c =
-    let reads = taken-reads _ _ _ _ _ _ _ _ c.in-Ok.ensures.takes in
+    let reads = taken-reads _ _ _ _ _ _ _ _ _ c.in-Ok.ensures.takes in
     record {
       within = within-on _ _ _ _ reads.1 c.args.self.now.within;
       wide_within = within-on _ _ _ _ reads.1 c.args.self.now.wide_within;
-      walking = walking-on _ c.args.self.now.files _ _ _ reads.1 c.args.self.now.walking;
+      walking = walking-on _ _ c.args.self.now.files _ _ _ reads.1 c.args.self.now.walking;
     }

@@ -1,15 +1,15 @@
 use Rattle.f11_index.specs.Kept.{index_kept}
 use Rattle.f11_catalog.specs.Records.{IsReadingRecords}
 use Rattle.f11_catalog.proofs.SearchLemmas.{LookedFor}
-use Rattle.f11_catalog.proofs.search.find.Given as goal
+use Rattle.f11_catalog.proofs.search.find_record.Given as goal
 
 -- no record that was read has the name
 abbrev pub invariant-loop-record : goal.invariant-loop-record
 invariant-loop-record g l =
     record {
-      looked : LookedFor l.name (index_kept l.index) l.initial.directory l.directory (g.D.Device.disk l.initial.device)
+      looked : LookedFor l.name (index_kept l.by) l.initial.directory l.directory (g.D.Device.disk l.initial.device)
           (g.D.Device.disk l.device);
-      reading : IsReadingRecords (index_kept l.index) l.directory (g.D.Device.disk l.device);
+      reading : IsReadingRecords (index_kept l.by) l.directory (g.D.Device.disk l.device);
     }
 
 abbrev pub decreases-loop-record : goal.decreases-loop-record
