@@ -282,7 +282,7 @@ class Files:
 
     def taken(self, n, of, all_blocks=False):
         """A file's bytes up to its end, or all, by these headers, and what the line says that tells of them."""
-        content, _, said = self.up_to(self.last_end(n, of) if all_blocks else of[n].end(), self.places(n, of))
+        content, _, said = self.up_to(max(self.last_end(n, of) * all_blocks, of[n].end()), self.places(n, of))
         return content, f"copied {len(content)} bytes{said}"
 
     def whole(self, n, of):

@@ -80,7 +80,8 @@ module _ {W : Type 0} (index wide : Index) (contents : W → Option (List ℕ)) 
       both : Writes (λ image t. (directory_text name ++ 10 ∷ []) ++ record_lines wide image t (records_found wide image t id)) index old new
           contents
           before after
-      both = writes-then (λ _ _. directory_text name ++ 10 ∷ []) (λ image t. record_lines wide image t (records_found wide image t id)) index
+      both =
+          writes-then (λ _ _. directory_text name ++ 10 ∷ []) (λ image t. record_lines wide image t (records_found wide image t id)) index
           contents
           (writes-one (λ _ _. directory_text name ++ 10 ∷ []) index old old contents before heading (directory_text name ++ 10 ∷ [])
           (λ _. refl) head (reads-none old)) all

@@ -57,7 +57,8 @@ module _ (index wide : Index) where
   stays-none files disk = record { same = λ _. refl; no_more = omega arith; reads = reads-none disk }
 
   module _ (first here : EnteredFiles) (old now : Disk) (stays : StaysToCome index wide first here old now) where
-    pub stays-then : (later : EnteredFiles) (new : Disk) → StaysToCome index wide here later now new → StaysToCome index wide first later old new
+    pub stays-then : (later : EnteredFiles) (new : Disk) → StaysToCome index wide here later now new
+        → StaysToCome index wide first later old new
     stays-then later new more = record {
       same = λ honest.
           let image : now.image ≡ old.image = stays.reads.1.image in

@@ -86,7 +86,8 @@ module _ (index wide : Index) (files later : AllFiles) (found : FileAt) (old new
 -- No more are.
 module _ (index wide : Index) (files : AllFiles) (left : EnteredFiles) (old mid new : Disk)
     (ended : EntersNoMore index wide files.entered left old mid) where
-  first-others : IsTrue old.honest → files_to_come index wide old files ≡ others_to_come (table index old) (is_met files.others) files.others
+  first-others : IsTrue old.honest
+      → files_to_come index wide old files ≡ others_to_come (table index old) (is_met files.others) files.others
   unfolding files_to_come
   first-others honest =
       turn-behind (stands_in (table index old)) (λ f. others_to_come (table index old) f files.others) (is_met files.others)
@@ -158,7 +159,8 @@ next-reads index wide files later old new (Err fault) gives none fails = (1, fai
 
 -- a walk begins
 pub begins-walk : (index wide : Index) (id : FileId) (files : AllFiles) (old new : Disk)
-    → OpensMaster index wide id files.entered.directories.master old new → files.entered.hand ≡ None → IsNew files.entered.directories.others
+    → OpensMaster index wide id files.entered.directories.master old new → files.entered.hand ≡ None
+    → IsNew files.entered.directories.others
     → IsNew files.others → BeginsWalk index wide id files old new
 unfolding files_to_come
 begins-walk index wide id files old new opens empty directories others = record {
@@ -171,7 +173,8 @@ begins-walk index wide id files old new opens empty directories others = record 
       ++ flat_map (places_in wide old.image t) (directories_to_come index wide old files.entered.directories)) empty
       ∙ ap (flat_map (places_in wide old.image t)) (all-to-come index wide id files.entered.directories old new opens directories honest) in
       let count : t.slots + 1 - 1 ≡ t.slots = omega arith in
-      turn-begin (stands_in t) (λ f. others_to_come t f files.others) (is_met files.others) (entered_to_come index wide old files.entered) all
+      turn-begin (stands_in t) (λ f. others_to_come t f files.others) (is_met files.others) (entered_to_come index wide old files.entered)
+      all
       entered others.none
       ∙ ap (λ (k : ℕ). all ++ lost_files t (is_among t all) k (t.slots + 1 - k)) others.first
       ∙ ap (λ (c : ℕ). all ++ lost_files t (is_among t all) 1 c) count;

@@ -101,7 +101,8 @@ module _ (bytes : List ℕ) (r : Record) (is : r ≡ record_of_bytes bytes) (ind
 
 -- The next directory was opened behind records that name none.
 module _ (by index wide : Index) (first here : DirectoryReader) (old now : Disk)
-    (passed : Passed (λ image _. directory_under wide image (table_in image index)) by first here old now) (later : DirectoryReader) (r : Record)
+    (passed : Passed (λ image _. directory_under wide image (table_in image index)) by first here old now) (later : DirectoryReader)
+    (r : Record)
     (mid : Disk) (read : ReadsRecord by here later r now mid) where
   abbrev under : Image → Table → List ℕ → List DirectoryAt
   under image t = directory_under wide image (table_in image index)
@@ -285,7 +286,8 @@ module _ (index wide : Index) (directories : Directories) (left : Option FoundDi
 
   -- the next directory is another
   pub gives-unnamed : (others : Unmet) (hand : OpenDirectory) (new : Disk)
-      → FindsUnnamed (is_met directories.others) index wide directories.others others hand mid new → is_met others ≡ is_met directories.others
+      → FindsUnnamed (is_met directories.others) index wide directories.others others hand mid new
+      → is_met others ≡ is_met directories.others
       → GivesDirectory index wide directories (record { master = left; others = others }) hand old new
   unfolding directories_left
   gives-unnamed others hand new finds met = record {

@@ -88,7 +88,8 @@ unfolding records_to_come
 coming-later index old now directory image = ap (λ (i : Image). records_to_come index (record old { image = i }) directory) image
 
 -- The lines of a directory's first records were written, and those from here on are still to come.
-pub record WritesFirst {W : Type 0} (line : Image → Table → List ℕ → List ℕ) (index by : Index) (first here : DirectoryReader) (old now : Disk)
+pub record WritesFirst {W : Type 0} (line : Image → Table → List ℕ → List ℕ) (index by : Index) (first here : DirectoryReader)
+    (old now : Disk)
     (contents : W → Option (List ℕ)) (before after : W) : Type 0 where
   pub written : List ℕ
   pub takes : Appends (contents before) (contents after) written

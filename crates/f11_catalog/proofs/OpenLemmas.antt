@@ -23,7 +23,8 @@ use Rattle.f11_store.specs.declared.refusals.Refusal.TheVariants.{NoSuchFile, No
 use Rattle.f11_volume.specs.Contents.{block_or_zeros, blocks_reached, file_of}
 use Rattle.f11_catalog.specs.Facts.{facts_in, is_directory_header}
 use Rattle.f11_catalog.specs.Lines.{facts_of}
-use Rattle.f11_catalog.specs.Records.{BeginsDirectory, FindsDirectory, HasBlockInHand, HasNoRecord, IsReadingRecords, LacksDirectory, ReadsRecord}
+use Rattle.f11_catalog.specs.Records.{BeginsDirectory, FindsDirectory, HasBlockInHand, HasNoRecord, IsReadingRecords, LacksDirectory}
+use Rattle.f11_catalog.specs.Records.{ReadsRecord}
 use Rattle.f11_catalog.specs.Records.{all_records, directory_refusal, file_found, file_named, index_by, records_of, records_to_come}
 use Rattle.f11_catalog.specs.declared.directory.DirectoryReader.{DirectoryReader}
 use Rattle.f11_catalog.specs.declared.found.FoundDirectory.{FoundDirectory}

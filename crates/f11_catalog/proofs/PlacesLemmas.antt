@@ -1,7 +1,8 @@
 -- The places that records have among all files.
 use Rattle.std.proofs.Common.{◌≡◌, ℕ, Bool, false, List, [], ◌∷◌, cond, sym, ap, subst, inl, inr, arith}
 use Rattle.std.proofs.lemmas.List.Concat.{flat_map-cons}
-use Rattle.std.proofs.lemmas.List.Elements.{Contains-append_cases, Contains-append_left, Contains-append_right, Contains-push, Contains-push_cases}
+use Rattle.std.proofs.lemmas.List.Elements.{Contains-append_cases, Contains-append_left, Contains-append_right, Contains-push}
+use Rattle.std.proofs.lemmas.List.Elements.{Contains-push_cases}
 use Rattle.std.specs.List.{flat_map}
 use Rattle.std.specs.Prelude.{Contains}
 use Rattle.f11_dev.specs.Image.{Image}
@@ -26,7 +27,8 @@ only-element z x has = elim (Contains-push_cases [] z x has) [
 ]
 
 -- what an element of a list gives is among what all give
-contains-given : {X Y : Type 0} (f : X → List Y) (xs : List X) (x : X) (y : Y) → Contains xs x → Contains (f x) y → Contains (flat_map f xs) y
+contains-given : {X Y : Type 0} (f : X → List Y) (xs : List X) (x : X) (y : Y) → Contains xs x → Contains (f x) y
+    → Contains (flat_map f xs) y
 contains-given f [] x y has gives = absurd (no-element x has)
 contains-given f (z ∷ zs) x y has gives =
     subst (λ l. Contains l y) (sym (flat_map-cons f z zs)) (elim (Contains-append_cases (z ∷ []) zs x has) [

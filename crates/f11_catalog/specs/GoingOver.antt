@@ -102,11 +102,12 @@ pub record FindsNoNamed (index wide : Index) (master later : Option FoundDirecto
   pub reads : Reads old new 0
 
 -- The next directory was found that isn't known.
-pub record FindsUnnamed (known : ℕ → Bool) (index wide : Index) (others later : Unmet) (hand : OpenDirectory) (old new : Disk) : Type 0 where
-  pub next : IsTrue old.honest → unnamed_to_come old.image (table index old) known others
-      ≡ at_hand hand ∷ unnamed_to_come old.image (table index old) known later
-  pub forward : others.next < later.next
-  pub takes : TakesInHand index wide hand old new
+pub record FindsUnnamed (known : ℕ → Bool) (index wide : Index) (others later : Unmet) (hand : OpenDirectory) (old new : Disk) : Type 0
+  where
+    pub next : IsTrue old.honest → unnamed_to_come old.image (table index old) known others
+        ≡ at_hand hand ∷ unnamed_to_come old.image (table index old) known later
+    pub forward : others.next < later.next
+    pub takes : TakesInHand index wide hand old new
 
 -- There is none.
 pub record FindsNoUnnamed (known : ℕ → Bool) (index : Index) (others later : Unmet) (old new : Disk) : Type 0 where

@@ -7,9 +7,9 @@ ghost use Rattle.f11_catalog.specs.Listing.{BreaksOff, IsRefused, Lists, Writes,
 ghost use Rattle.f11_catalog.specs.Records.{IsReadingRecords};
 
 use crate::directory::DirectoryReader;
-use crate::found::FoundDirectory;
 use crate::directory_name::DirectoryName;
 use crate::fault::ListFault;
+use crate::found::FoundDirectory;
 use crate::record_line::write_record;
 use f11_dev::{Device, DeviceFault};
 use f11_dir::Record;

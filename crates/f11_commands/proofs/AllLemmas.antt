@@ -26,7 +26,8 @@ use Rattle.f11_index.specs.Kept.{IndexLiesWithin}
 use Rattle.f11_reader.specs.declared.file.FileReader.{FileReader}
 use Rattle.f11_store.specs.declared.files.FileId.{FileId}
 use Rattle.f11_commands.specs.AllCommand.{LeavesOut, TakesNext}
-use Rattle.f11_commands.specs.AllCommand.{BeginsAll, BeginsWithEnd, CanBeRead, FailsToBeginAll, FailsWithEnd, TakesAtEnd, TakesFile, nothing, part, to_end, unsure}
+use Rattle.f11_commands.specs.AllCommand.{BeginsAll, BeginsWithEnd, CanBeRead, FailsToBeginAll, FailsWithEnd, TakesAtEnd, TakesFile}
+use Rattle.f11_commands.specs.AllCommand.{nothing, part, to_end, unsure}
 use Rattle.f11_commands.specs.AllCommand.{whole}
 use Rattle.f11_commands.specs.AnyVolume.{FindsVolume, IsReadable}
 use Rattle.f11_commands.specs.Copying.{master_directory}

@@ -28,7 +28,8 @@ use Rattle.f11_store.specs.declared.refusals.Refusal.TheVariants.{NoSuchFile}
 use Rattle.f11_volume.specs.Contents.{blocks_reached, file_of}
 use Rattle.f11_commands.specs.AnyVolume.{FindsVolume, IsReadable, unless_refused}
 use Rattle.f11_commands.specs.Copying.{master_directory}
-use Rattle.f11_commands.specs.GetCommand.{CannotBeFound, FailsToSeek, FindsSought, IsToRead, LacksFile, LacksSought, OpensSought, OpensWithEnd}
+use Rattle.f11_commands.specs.GetCommand.{CannotBeFound, FailsToSeek, FindsSought, IsToRead, LacksFile, LacksSought, OpensSought}
+use Rattle.f11_commands.specs.GetCommand.{OpensWithEnd}
 use Rattle.f11_commands.specs.GetCommand.{TellsWhyNot, cannot_be_read, lacks_file, tells_fault, tells_none}
 use Rattle.f11_commands.specs.GetCommand.{file_entered, file_identified, file_sought, index_read, volume_file}
 use Rattle.f11_commands.specs.Size.{FindsVolumeEnd, volume_end}
@@ -245,7 +246,8 @@ module _ (home : HomeFields) (index wide : Index) (old mid : Disk) (found : Find
       old new
   volume-gives chosen in_use is file end size finds =
       subst (λ (i : Index). IsToRead i file new
-      × FindsSought directory name in_use size (bytes_to_come i new file end) end (lbns_to_come i new file) (file_to_come i new file) old new)
+      × FindsSought directory name in_use size (bytes_to_come i new file end) end (lbns_to_come i new file) (file_to_come i new file) old
+      new)
       (sym is) (is-to-read in_use file end finds.opens, volume-has in_use file end size finds)
 
   pub volume-lacks : (refusal : Refusal) → LacksSought (λ image t. file_sought wide image t directory name) index refusal mid new

@@ -120,7 +120,8 @@ module _ (control : List ℕ) where
   pub size-many : 126 < bitmap_count control → None ≡ size_in control
   unfolding stated_if
   size-many many =
-      sym (ap (λ (b : Bool). stated_if (nat_lt 0 (bitmap_count control) && (b && nat_le (stated_size control) (4096 * bitmap_count control))))
+      sym (ap (λ (b : Bool). stated_if
+      (nat_lt 0 (bitmap_count control) && (b && nat_le (stated_size control) (4096 * bitmap_count control))))
       (lt-leb (bitmap_count control) 126 many)
       ∙ ap stated_if (and-false (nat_lt 0 (bitmap_count control))))
 

@@ -6,7 +6,8 @@ use Rattle.std.specs.List.{concat}
 use Rattle.std.proofs.KnownBytes.{Appends-nil}
 use Rattle.std.proofs.Math.Seq.{drop-length, take-nil}
 use Rattle.std.proofs.lemmas.Bool.{cases_lt}
-use Rattle.std.proofs.lemmas.List.{append-nil, drop-drop, get_or_past, length-map, length-take, length-take-le, take-append-drop, take-append-le, take-map, take-take}
+use Rattle.std.proofs.lemmas.List.{append-nil, drop-drop, get_or_past, length-map, length-take, length-take-le, take-append-drop}
+use Rattle.std.proofs.lemmas.List.{take-append-le, take-map, take-take}
 use Rattle.std.proofs.lemmas.List.Folds.{concat-append}
 use Rattle.std.proofs.lemmas.Option.{slice_get-get_or}
 use Rattle.f11_bytes.specs.Block.{zero_block}
@@ -295,7 +296,8 @@ blocks-size image (lbn ∷ lbns) is =
 
 -- so has each of those before the one by which it breaks off
 until-size : (image : Image) (lbns : List ℕ) (broke : Option ℕ) → IsImage image
-    → length (concat (blocks_until broke (map (block_or_zeros image) lbns))) ≡ 512 * length (blocks_until broke (map (block_or_zeros image) lbns))
+    → length (concat (blocks_until broke (map (block_or_zeros image) lbns))) ≡ 512 * length
+    (blocks_until broke (map (block_or_zeros image) lbns))
 until-size image lbns None is =
     let count = length-map lbns (block_or_zeros image) in omega (arith, blocks-size image lbns is, count)
 until-size image lbns (Some vbn) is =

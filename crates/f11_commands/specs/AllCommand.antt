@@ -66,8 +66,8 @@ with_copied is_cut is_lost c =
 abbrev pub with_left_out : Bool → Counts → Counts
 with_left_out is_wanting c = record c { left_out = more_if is_wanting c.left_out }
 
--- its device, its index file, that with each slot in use, where the volume ends, the files that are still to come, whether it has faults, whether a
--- transfer failed, and the counts
+-- its device, its index file, that with each slot in use, where the volume ends, the files that are still to come, whether it has faults,
+-- whether a transfer failed, and the counts
 abbrev pub device_of : {D : Type 0} {G : Ghosts D} → TakingAll D G → D
 device_of all = all.device
 

@@ -1,5 +1,5 @@
 -- A file that was found, on its device (profile).
-use Rattle.std.specs.Prelude.{◌≡◌, ℕ, ◌+◌, ◌*◌, Bool, IsTrue, length, if◌then◌else◌}
+use Rattle.std.specs.Prelude.{◌≡◌, ℕ, ◌+◌, ◌*◌, max, Bool, IsTrue, length, if◌then◌else◌}
 use Rattle.f11_catalog.specs.chain.Calls.{table}
 use Rattle.f11_dev.specs.Disk.{Disk}
 use Rattle.f11_dev.specs.Looked.{Looked}
@@ -52,7 +52,7 @@ pub record FindsLastEnd (index : Index) (file : FileReader) (end blocks : ℕ) (
   pub blocks_are : IsTrue old.honest → blocks ≡ length (blocks_to_come (table index old) file)
   pub looked : Looked old new (2 * headers_left file) 0
 
--- The same file is to come up to its last block.
+-- The same file is to come up to its last block, or where it states, if that is past it.
 pub record EndsAtLast {D : Type 0} {G : Ghosts D} (disk : D → Disk) (found later : FoundFile D G) : Type 0 where
   pub index : index_with later ≡ index_with found
   pub file : reader_of later ≡ reader_of found
@@ -60,5 +60,5 @@ pub record EndsAtLast {D : Type 0} {G : Ghosts D} (disk : D → Disk) (found lat
   pub faulty : has_faults later ≡ has_faults found
   pub size : size_with later ≡ size_with found
   pub end_is : IsTrue (disk (device_with found)).honest →
-      end_found later ≡ last_end (table (index_with found) (disk (device_with found))) (reader_of found)
+      end_found later ≡ max (last_end (table (index_with found) (disk (device_with found))) (reader_of found)) (end_found found)
   pub looked : Looked (disk (device_with found)) (disk (device_with later)) (2 * headers_left (reader_of found)) 0

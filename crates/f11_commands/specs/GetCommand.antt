@@ -83,7 +83,8 @@ pub record OpensSought (sought : Image → Table → Result File Refusal) (index
   pub reads : Reads old new 0
 
 -- So it was, and where the volume ends.
-pub record OpensWithEnd (sought : Image → Table → Result File Refusal) (index by : Index) (file : FileReader) (end size : ℕ) (old new : Disk)
+pub record OpensWithEnd (sought : Image → Table → Result File Refusal) (index by : Index) (file : FileReader) (end size : ℕ)
+    (old new : Disk)
     : Type 0 where
   pub opens : OpensSought sought index by file end old new
   pub size_is : IsTrue old.honest → size ≡ volume_end old.image (table index old)
@@ -99,8 +100,8 @@ pub record IsToRead (index : Index) (file : FileReader) (disk : Disk) : Type 0 w
   pub reading : IsReading index file disk
 
 -- The file of a directory was found on a volume that can be read and ends here, and has this number; its slot is in use, or isn't. What is
--- to come is all of it: its bytes, up to the end that it states; its blocks, which lie there; and, as another file, what its attributes and its blocks
--- say.
+-- to come is all of it: its bytes, up to the end that it states; its blocks, which lie there; and, as another file, what its attributes and
+-- its blocks say.
 pub record FindsSought (directory name : List ℕ) (in_use : Bool) (size : ℕ) (bytes : List ℕ) (end : ℕ) (lbns : List ℕ) (come : File)
     (old new : Disk) : Type 0 where
   pub home : HomeFields

@@ -50,10 +50,7 @@ pub fn blocks_wanted<D: Device>(alloc: Global, device: &mut D) -> Result<Option<
 /// # Errors
 ///
 /// `DeviceFault` where a transfer failed.
-pub(crate) fn volume_end<D: Device>(
-    device: &mut D,
-    index: &IndexFile,
-) -> Result<u32, DeviceFault>
+pub(crate) fn volume_end<D: Device>(device: &mut D, index: &IndexFile) -> Result<u32, DeviceFault>
     requires within { IndexLiesWithin (index_kept index.now) (length (D.disk device.old).image) }
     ensures finds { IfOk result (λ end. FindsVolumeEnd (index_kept index.now) end
         (D.disk device.old) (D.disk device.new)) }

@@ -90,49 +90,51 @@ passed-none index file size old reading = record {
   looked = looked_within (looked_none old) (omega arith);
 }
 
-module _ (index : Index) (file here : FileReader) (size there : ℕ) (old now : Disk) (passed : Passed index file here size there old now) where
-  -- what is to come of a file is the same as at first
-  there-are : (f : FileReader) → blocks_there size (blocks_to_come (table index now) f)
-      ≡ blocks_there size (blocks_to_come (table index old) f)
-  there-are f = ap (λ (i : Image). blocks_there size (blocks_to_come (table_in i index) f)) passed.looked.image
+module _ (index : Index) (file here : FileReader) (size there : ℕ) (old now : Disk) (passed : Passed index file here size there old now)
+  where
+    -- what is to come of a file is the same as at first
+    there-are : (f : FileReader) → blocks_there size (blocks_to_come (table index now) f)
+        ≡ blocks_there size (blocks_to_come (table index old) f)
+    there-are f = ap (λ (i : Image). blocks_there size (blocks_to_come (table_in i index) f)) passed.looked.image
 
-  -- one more was passed
-  pub passed-more : (later : FileReader) (new : Disk) → PassesBlock index here later size now new → IsReading index later new
-      → Passed index file later size (there + 1) old new
-  passed-more later new more reading = record {
-    reading = reading;
-    rest = λ honest.
-        let one = more.there (passed.looked.honest ∙ honest) in
-        let before = there-are here in
-        let behind = there-are later in
-        omega (arith, one, before, behind, passed.rest honest);
-    forward = omega (arith, passed.forward, more.forward);
-    near = omega (arith, passed.near, more.few);
-    looked = looked_within (looked_more passed.looked more.looked) (omega (arith, passed.forward, more.forward));
-  }
+    -- one more was passed
+    pub passed-more : (later : FileReader) (new : Disk) → PassesBlock index here later size now new → IsReading index later new
+        → Passed index file later size (there + 1) old new
+    passed-more later new more reading = record {
+      reading = reading;
+      rest = λ honest.
+          let one = more.there (passed.looked.honest ∙ honest) in
+          let before = there-are here in
+          let behind = there-are later in
+          omega (arith, one, before, behind, passed.rest honest);
+      forward = omega (arith, passed.forward, more.forward);
+      near = omega (arith, passed.near, more.few);
+      looked = looked_within (looked_more passed.looked more.looked) (omega (arith, passed.forward, more.forward));
+    }
 
-  -- the next one isn't there
-  pub missing-next : (new : Disk) (blocks : ℕ) → LacksBlock index here size now new → there < blocks
-      → FindsMissing index file size blocks (Some (there + 1)) old new
-  missing-next new blocks lacks few = record {
-    missing_is = λ honest.
-        let none = lacks.none (passed.looked.honest ∙ honest) in
-        let before = there-are here in
-        missing-at size blocks there _ (omega (arith, none, before, passed.rest honest)) few;
-    looked = looked_within (looked_more passed.looked lacks.looked) (omega (arith, passed.forward, passed.near));
-  }
+    -- the next one isn't there
+    pub missing-next : (new : Disk) (blocks : ℕ) → LacksBlock index here size now new → there < blocks
+        → FindsMissing index file size blocks (Some (there + 1)) old new
+    missing-next new blocks lacks few = record {
+      missing_is = λ honest.
+          let none = lacks.none (passed.looked.honest ∙ honest) in
+          let before = there-are here in
+          missing-at size blocks there _ (omega (arith, none, before, passed.rest honest)) few;
+      looked = looked_within (looked_more passed.looked lacks.looked) (omega (arith, passed.forward, passed.near));
+    }
 
-  -- all that were asked for are there
-  pub missing-no : (blocks : ℕ) → blocks ≤ there → FindsMissing index file size blocks None old now
-  missing-no blocks all = record {
-    missing_is = λ honest. missing-none size blocks _ (let rest = passed.rest honest in omega (arith, rest, all));
-    looked = looked_within passed.looked (omega (arith, passed.near));
-  }
+    -- all that were asked for are there
+    pub missing-no : (blocks : ℕ) → blocks ≤ there → FindsMissing index file size blocks None old now
+    missing-no blocks all = record {
+      missing_is = λ honest. missing-none size blocks _ (let rest = passed.rest honest in omega (arith, rest, all));
+      looked = looked_within passed.looked (omega (arith, passed.near));
+    }
 
-  -- a transfer failed
-  pub missing-fails : (after : FileReader) (new : Disk) → FailsToReadOn index here after now new → Looked old new (headers_left file + 1) 1
-  missing-fails after new fails =
-      looked_within (looked_more passed.looked fails.looked) (omega (arith, passed.forward, passed.near))
+    -- a transfer failed
+    pub missing-fails : (after : FileReader) (new : Disk) → FailsToReadOn index here after now new
+        → Looked old new (headers_left file + 1) 1
+    missing-fails after new fails =
+        looked_within (looked_more passed.looked fails.looked) (omega (arith, passed.forward, passed.near))
 
 -- So many headers were read, and the last one that is reached is the same.
 pub record Ending (index : Index) (file later : FileReader) (k : ℕ) (old now : Disk) : Type 0 where

@@ -4,8 +4,8 @@ ghost use Rattle.f11_dev.specs.Looked.{Looked};
 ghost use Rattle.f11_index.specs.Kept.{index_kept, IndexLiesWithin};
 ghost use Rattle.f11_catalog.specs.GoingOver.{OpensMaster};
 
-use crate::found::FoundDirectory;
 use crate::fault::WalkFault;
+use crate::found::FoundDirectory;
 use crate::walk::state::{AllFiles, Directories, EnteredFiles, Unmet};
 use f11_dev::{Device, DeviceFault};
 use f11_index::IndexFile;

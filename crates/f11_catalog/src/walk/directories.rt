@@ -74,14 +74,7 @@ impl EnteredFiles {
             × (self.new.hand ≡ None))) }
         ensures failed { OnErr result (Reads (D.disk device.old) (D.disk device.new) 1) }
     {
-        let Some(
-            OpenDirectory {
-                name,
-                id,
-                found,
-            },
-        ) = self.hand
-        else {
+        let Some(OpenDirectory { name, id, found }) = self.hand else {
             return Ok(None);
         };
         let by = found.index_by(index, wide);

@@ -12,8 +12,8 @@ ghost use Rattle.f11_catalog.specs.Steps.{EntersNone, HasNoneLeft};
 ghost use Rattle.f11_catalog.specs.Walking.{ComesToFile, EntersOne};
 
 use crate::directory::DirectoryReader;
-use crate::found::FoundDirectory;
 use crate::directory_name::DirectoryName;
+use crate::found::FoundDirectory;
 use crate::walk::content::open_content;
 use crate::walk::place::{FileAt, Place};
 use crate::walk::state::OpenDirectory;

@@ -1,8 +1,8 @@
 //! How far a walk over all files has come.
 ghost use Rattle.std.specs.Prelude.{◌≡◌, ◌≤◌, vec_len};
 
-use crate::found::FoundDirectory;
 use crate::directory_name::DirectoryName;
+use crate::found::FoundDirectory;
 use f11_store::FileId;
 
 /// A directory, whose records are read.

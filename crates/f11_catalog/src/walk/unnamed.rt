@@ -11,8 +11,8 @@ ghost use Rattle.f11_reader.specs.Reading.{header_in_hand};
 ghost use Rattle.f11_volume.specs.map.HeaderBlock.{segment_number};
 
 use crate::directory::DirectoryReader;
-use crate::found::FoundDirectory;
 use crate::directory_name::DirectoryName;
+use crate::found::FoundDirectory;
 use crate::own_name::own_name;
 use crate::walk::state::{OpenDirectory, Unmet};
 use f11_dev::{Device, DeviceFault};

@@ -10,9 +10,9 @@ use f11_dev::{Device, DeviceFault};
 use f11_index::IndexFile;
 use f11_reader::FileReader;
 
-/// The same file, whose end is behind its last block, whatever end it states: so all that its blocks have is taken out, also what stands
-/// behind the end, or the whole file where none is stated. Where its headers break off, so that it may have more blocks, its end is past
-/// that one. It reads the headers that follow the first, each twice.
+/// The same file, whose end is behind its last block, or where it states, if that is past it: so all that its blocks have is taken out, also
+/// what stands behind the end, or the whole file where none is stated, and it is told where it has fewer. Where its headers break off, so
+/// that it may have more blocks, its end is past the last one. It reads the headers that follow the first, each twice.
 ///
 /// # Errors
 ///
@@ -26,7 +26,7 @@ pub fn to_last_block<D: Device>(found: FoundFile<D>) -> Result<FoundFile<D>, D>
         device,
         index,
         file,
-        end: _,
+        end: stated,
         size,
         in_use,
         faulty,
@@ -37,7 +37,7 @@ pub fn to_last_block<D: Device>(found: FoundFile<D>) -> Result<FoundFile<D>, D>
             device,
             index,
             file,
-            end,
+            end: end.max(stated),
             size,
             in_use,
             faulty,

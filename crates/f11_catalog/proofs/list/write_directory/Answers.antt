@@ -8,7 +8,8 @@ returns-in-Ok-Err-clause-writes g c =
 
 pub returns-in-Ok-write_records-clause-writes : goal.returns-in-Ok-write_records-clause-writes
 returns-in-Ok-write_records-clause-writes g c =
-    directory-listed _ _ _ _ _ _ _ _ _ _ _ _ _ (rw c.in-Ok-Ok.field-0-is at c.in-Ok-Ok.ensures.opens) c.index_by-by.ensures c.in-Ok.ensures.bytes
+    directory-listed _ _ _ _ _ _ _ _ _ _ _ _ _ (rw c.in-Ok-Ok.field-0-is at c.in-Ok-Ok.ensures.opens) c.index_by-by.ensures
+    c.in-Ok.ensures.bytes
     c.in-Ok-write_records.ensures.writes
 
 pub returns-in-Err-write_records-clause-failed : goal.returns-in-Err-write_records-clause-failed

@@ -10,7 +10,8 @@ loop-record-preserved g c =
     let read = rw c.in-Ok-Some.field-0-is at c.in-Ok-Some.ensures.reads in
     let one = c.in-Ok.ensures.writes read.bytes read.record_is in
     record {
-      written = first-read (record_line (index_kept c.args.wide.now)) _ _ _ read.bytes c.loop-record.invariant.written read.next read.reads _
+      written =
+          first-read (record_line (index_kept c.args.wide.now)) _ _ _ read.bytes c.loop-record.invariant.written read.next read.reads _
           _ one;
       reading = holds-on one.reads.1 c.in-Ok-Some.ensures.reading;
     }

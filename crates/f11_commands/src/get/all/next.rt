@@ -139,8 +139,7 @@ impl<D: Device> TakingAll<D> {
         ) {
             Ok(taken) => {
                 self.failed = self.failed || taken.failed;
-                self.counts
-                    .add_copied(taken.is_cut(), is_lost(place));
+                self.counts.add_copied(taken.is_cut(), is_lost(place));
                 Ok(taken)
             }
             Err(HostFull) => Err(HostFull),

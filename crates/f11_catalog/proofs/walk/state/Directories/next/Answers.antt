@@ -18,7 +18,8 @@ returns-in-Ok-Some-clause-gives g c =
 pub returns-in-Ok-Some-next_unnamed-clause-gives : goal.returns-in-Ok-Some-next_unnamed-clause-gives
 returns-in-Ok-Some-next_unnamed-clause-gives g c =
     gives-unnamed _ _ _ _ _ _ (rw c.in-Ok-None.field-0-is at c.in-Ok-None.ensures.none) _ _ _
-    (rw c.in-Ok-None.ensures.others at ((rw c.in-Ok-Some-next_unnamed.field-0-is at c.in-Ok-Some-next_unnamed.ensures.finds) (index_kept c.args.wide.now)))
+    (rw c.in-Ok-None.ensures.others at
+    ((rw c.in-Ok-Some-next_unnamed.field-0-is at c.in-Ok-Some-next_unnamed.ensures.finds) (index_kept c.args.wide.now)))
     (met-same c.next_unnamed.new.self c.args.self.now.others
     (c.in-Ok-Some-next_unnamed.ensures.met ∙ ap (λ (o : Unmet). o.met) c.in-Ok-None.ensures.others))
 

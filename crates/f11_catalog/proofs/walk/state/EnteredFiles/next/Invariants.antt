@@ -6,7 +6,8 @@ use Rattle.f11_catalog.proofs.walk.state.EnteredFiles.next.Given as goal
 -- the same files are to come
 abbrev pub invariant-loop-found : goal.invariant-loop-found
 invariant-loop-found g l = record {
-  stays : StaysToCome (index_kept l.index) (index_kept l.wide) l.initial.self l.self (g.D.Device.disk l.initial.device) (g.D.Device.disk l.device);
+  stays : StaysToCome (index_kept l.index) (index_kept l.wide) l.initial.self l.self (g.D.Device.disk l.initial.device)
+      (g.D.Device.disk l.device);
   walking : IsWalkingDirectories (index_kept l.index) (index_kept l.wide) l.self (g.D.Device.disk l.device);
 }
 
