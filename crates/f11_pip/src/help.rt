@@ -45,7 +45,7 @@ const COMMANDS: [Synopsis; 19] = [
     Synopsis {
         name: "ls",
         words: "f11_pip ls IMAGE [DIR]",
-        does: "lists the directories of a Files-11 volume, or one, as 200,1 or [NAME], also of a volume that has faults",
+        does: "lists the directories that the master file directory of a Files-11 volume names, or one, as 200,1 or [NAME], also of a volume that has faults",
     },
     Synopsis {
         name: "name",
@@ -135,10 +135,10 @@ fn is_help(word: &String) -> bool {
     matches!(word.as_str(), "--help" | "-h")
 }
 
-/// Whether the words, of which the first is the program's name, ask for its version: by `--version` alone.
+/// Whether the words, of which the first is the program's name, ask for its version: by `--version` or `-V` alone.
 pub fn is_version(words: &[String]) -> bool {
     match words {
-        [_, only] => only.as_str() == "--version",
+        [_, only] => matches!(only.as_str(), "--version" | "-V"),
         _ => false,
     }
 }
@@ -148,12 +148,30 @@ pub fn write_version<W: Write>(writer: &mut W) -> io::Result<()> {
     writeln!(writer, "{}", VERSION)
 }
 
-/// Writes each command's words and what it does, two lines a command.
-pub fn write_all<W: Write>(writer: &mut W) -> io::Result<()> {
+/// Writes the words of the command that is asked about, and what it does, two lines; or those of each command, where none is named.
+pub fn write_asked<W: Write>(words: &[String], writer: &mut W) -> io::Result<()> {
     for command in &COMMANDS {
-        writeln!(writer, "{}\n    {}", command.words, command.does)?;
+        if is_about(words, command.name) {
+            return write_one(command, writer);
+        }
+    }
+    for command in &COMMANDS {
+        write_one(command, writer)?;
     }
     Ok(())
+}
+
+/// Whether words that ask for help name this command, behind `help` or in its place.
+fn is_about(words: &[String], name: &str) -> bool {
+    match words {
+        [_, first, second, ..] => first.as_str() == name
+            || first.as_str() == "help" && second.as_str() == name,
+        _ => false,
+    }
+}
+
+fn write_one<W: Write>(command: &Synopsis, writer: &mut W) -> io::Result<()> {
+    writeln!(writer, "{}\n    {}", command.words, command.does)
 }
 
 /// The words of the command that was meant, where the first word behind the program's name is a command.

@@ -40,6 +40,7 @@ pub fn get<'a, W: Write>(
     remark: &mut Option<Remark<'a>>,
 ) -> Result<Answer, Failure> {
     let Some(name) = read_name(rt.alloc(), file.name)? else {
+        *remark = Some(remarks::of_name(file.name));
         return Ok(refuse_names(writer)?);
     };
     let device = opened(FileImage::open_to_read(rt, file.image), file.image, remark)?;
@@ -105,6 +106,7 @@ pub fn put<'a, W: Write>(
     remark: &mut Option<Remark<'a>>,
 ) -> Result<Answer, Failure> {
     let Some(name) = read_name(rt.alloc(), file.name)? else {
+        *remark = Some(remarks::of_name(file.name));
         return Ok(refuse_names(writer)?);
     };
     let putting = Putting {

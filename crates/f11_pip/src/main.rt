@@ -87,17 +87,23 @@ fn told(
 ) -> Result<Answer, Failure> {
     if let Err(failure) = outcome {
         let _ = eprintln!(rt; "{failure}");
-        if failure == Failure::Usage
-            && !help::is_asked(words)
-            && let Some(meant) = help::meant(words)
-        {
-            let _ = eprintln!(rt; "{meant}");
+        if failure == Failure::Usage && !help::is_asked(words) {
+            tell_usage(rt, words);
         }
     }
     if let Some(remark) = remark {
         let _ = eprintln!(rt; "{remark}");
     }
     outcome
+}
+
+/// Says on standard error the words of the command that was meant, or that there is no such command.
+fn tell_usage(rt: &HostRuntime, words: &[String]) {
+    if let Some(meant) = help::meant(words) {
+        let _ = eprintln!(rt; "{meant}");
+    } else if let Some(remark) = remarks::of_command(words) {
+        let _ = eprintln!(rt; "{remark}");
+    }
 }
 
 /// Does what the words ask for. Standard output is written in pieces of 8 KiB, the last one here; a failure of the work is told
@@ -109,7 +115,7 @@ fn answer<'a>(
 ) -> Result<Answer, Failure> {
     let mut writer = BufWriter::new(rt.alloc(), io::writer(rt)).map_err(failure_of)?;
     let outcome = if help::is_asked(words) {
-        help::write_all(&mut writer)
+        help::write_asked(words, &mut writer)
             .map_err(Failure::from)
             .and(Err(Failure::Usage))
     } else if help::is_version(words) {
@@ -223,7 +229,13 @@ fn run<'a, W: Write>(
         }
         Words::Ls { image } => ls(rt, image, None, writer, remark),
         Words::LsIn { image, directory } => ls(rt, image, Some(directory), writer, remark),
-        Words::Name { text } => Ok(print_name(text, writer)?),
+        Words::Name { text } => {
+            let answer = print_name(text, writer)?;
+            if answer == Answer::Fault {
+                *remark = Some(remarks::of_name(text));
+            }
+            Ok(answer)
+        }
         Words::Put {
             mode,
             image,
@@ -364,6 +376,7 @@ fn copy<'a, W: Write>(
     remark: &mut Option<Remark<'a>>,
 ) -> Result<Answer, Failure> {
     let Some((name, rt_name)) = read_names(asked.name, asked.rt_name) else {
+        *remark = Some(bad_name(asked));
         return Ok(refuse_names(writer)?);
     };
     let copying = Copying {
@@ -376,6 +389,15 @@ fn copy<'a, W: Write>(
     let (files, rt_volume) = opened_both(rt, asked, remark)?;
     let (_, _, answer) = print_copy(rt.alloc(), files, rt_volume, &copying, writer);
     Ok(copied(rt, asked, answer?, remark))
+}
+
+/// Which of the names of a copy, of which one is none, is the first.
+fn bad_name<'a>(asked: &Asked<'a>) -> Remark<'a> {
+    if Name::parse(asked.name.as_bytes()).is_err() {
+        remarks::of_name(asked.name)
+    } else {
+        remarks::of_rt_name(asked.rt_name)
+    }
 }
 
 /// The images of a copy, which are opened in the order of the words: the one that is copied from first, and to be read alone.

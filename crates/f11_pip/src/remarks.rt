@@ -47,6 +47,15 @@ pub enum Why {
     /// No volume can be made with it: within which limits it has to be.
     #[error("{0}")]
     Limit(&'static str),
+    /// It is the name of no file on a Files-11 volume.
+    #[error("no name; one is as LOGIN.CMD;1: up to 9 of A to Z, 0 to 9 and $, a dot, up to 3 more, and an octal version")]
+    NoName,
+    /// It is the name of no file on an RT-11 volume.
+    #[error("no name; one is as LOGIN.CMD: up to 6 of A to Z, 0 to 9 and $, a dot and up to 3 more")]
+    NoRtName,
+    /// It is no command.
+    #[error("no command; f11_pip help lists them")]
+    NoCommand,
     /// Its file was made, and no volume in it: it stays.
     #[error("stays, all zeros; remove it first")]
     Zeros,
@@ -238,4 +247,29 @@ fn of_length(bytes: u64) -> Option<Why> {
     } else {
         None
     }
+}
+
+/// That a word names no file on a Files-11 volume.
+pub fn of_name(word: &str) -> Remark<'_> {
+    Remark {
+        word: Which::Text(word),
+        why: Why::NoName,
+    }
+}
+
+/// That a word names no file on an RT-11 volume.
+pub fn of_rt_name(word: &str) -> Remark<'_> {
+    Remark {
+        word: Which::Text(word),
+        why: Why::NoRtName,
+    }
+}
+
+/// That the first word behind the program's name is no command, where there is one.
+pub fn of_command(words: &[String]) -> Option<Remark<'_>> {
+    let word = words.get(1)?;
+    Some(Remark {
+        word: Which::Text(word.as_str()),
+        why: Why::NoCommand,
+    })
 }

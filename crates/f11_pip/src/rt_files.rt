@@ -34,12 +34,13 @@ pub fn judged<'a>(
 pub fn get<'a, W: Write>(
     rt: &HostRuntime,
     image: &'a str,
-    name: &'a str,
+    word: &'a str,
     host: &'a str,
     writer: &mut W,
     remark: &mut Option<Remark<'a>>,
 ) -> Result<Answer, Failure> {
-    let Some(name) = read_rt_name(name) else {
+    let Some(name) = read_rt_name(word) else {
+        *remark = Some(remarks::of_rt_name(word));
         return Ok(refuse_names(writer)?);
     };
     let device = opened(FileImage::open_to_read(rt, image), image, remark)?;
@@ -65,12 +66,13 @@ pub fn get<'a, W: Write>(
 pub fn put<'a, W: Write>(
     rt: &HostRuntime,
     image: &'a str,
-    name: &'a str,
+    word: &'a str,
     host: &'a str,
     writer: &mut W,
     remark: &mut Option<Remark<'a>>,
 ) -> Result<Answer, Failure> {
-    let Some(name) = read_rt_name(name) else {
+    let Some(name) = read_rt_name(word) else {
+        *remark = Some(remarks::of_rt_name(word));
         return Ok(refuse_names(writer)?);
     };
     let (mut file, bytes) = opened(with_length(rt, host), host, remark)?;
@@ -83,11 +85,12 @@ pub fn put<'a, W: Write>(
 pub fn delete<'a, W: Write>(
     rt: &HostRuntime,
     image: &'a str,
-    name: &'a str,
+    word: &'a str,
     writer: &mut W,
     remark: &mut Option<Remark<'a>>,
 ) -> Result<Answer, Failure> {
-    let Some(name) = read_rt_name(name) else {
+    let Some(name) = read_rt_name(word) else {
+        *remark = Some(remarks::of_rt_name(word));
         return Ok(refuse_names(writer)?);
     };
     let device = opened(FileImage::open(rt, image), image, remark)?;
