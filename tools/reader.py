@@ -188,10 +188,11 @@ class Files:
 
     def stated(self):
         """How many blocks the volume has, by its control block; None where that doesn't say so."""
-        places = self.places(2) if self.has(2, 2, 0) else []
+        of = self.by(2, 2, 0)
+        places = self.places(2, of) if of else []
         control = self.block(places[0]) if places else bytes(BLOCK)
-        size = long(control, 4 + 4 * control[3]) if 1 <= control[3] <= 126 else None
-        return size if size is not None and size <= 4096 * control[3] else None
+        size = long(control, 4 + 4 * control[3]) if 1 <= control[3] <= 126 else 0
+        return size if 0 < size <= 4096 * control[3] else None
 
     def wanted(self):
         """How many blocks the volume should have where the image has fewer; or None."""
@@ -230,17 +231,30 @@ class Files:
             if found[0] and is_name(name) and self.is_there(*found) and self.by(*found)[found[0]].is_directory():
                 yield *called(shown(name)), found
 
-    def all_directories(self):
-        """The same of all directories that `get --all` goes over: behind those the others that have a name, by their numbers."""
+    def all_directories(self, led):
+        """The same of all directories that `get --all` goes over: behind those the others that have a name, by their numbers, and then those
+        out of use to which others lead."""
         try:
             named = [*self.directories()]
         except Refused:
             named = []
         yield from named
-        for n in sorted(self.files.keys() - {found[0] for _, _, found in named}):
-            name = word_name(self.files[n])
-            if self.files[n].is_directory() and name:
-                yield *called(name), (n, self.files[n].sequence, 0)
+        known = {found[0] for _, _, found in named}
+        for of, numbers in (self.files, self.files.keys() - known), (self.valid, led & self.valid.keys() - known):
+            for n in sorted(numbers):
+                name, found = word_name(of[n]), (n, of[n].sequence, 0)
+                if of[n].segment == 0 and of[n].is_directory() and name and (of is self.files or not self.has(*found)):
+                    yield *called(name), found
+
+    def led(self):
+        """The numbers of the directories out of use to which others lead, and that of the master file directory."""
+        led = {4}
+        while True:
+            named = [found for _, _, directory in self.all_directories(led) for _, *found, _ in self.records(directory[0], self.by(*directory))]
+            more = {n for n, *rest in named if self.is_there(n, *rest) and not self.has(n, *rest) and self.valid[n].is_directory()} - led
+            if not more:
+                return led
+            led |= more
 
     def all_listed(self):
         """The lines of all directories."""
@@ -296,7 +310,7 @@ class Files:
     def everything(self):
         """What `get --all` goes over: where each stands, as its line says, the folder and the name of the host, and its identification."""
         known = set()
-        for text, folder, directory in self.all_directories():
+        for text, folder, directory in self.all_directories(self.led()):
             for _, *found, words in self.records(directory[0], self.by(*directory)):
                 if found[0]:
                     if self.has(*found):

@@ -22,20 +22,21 @@ use Rattle.f11_catalog.specs.Contents.{Holds, is_file}
 use Rattle.f11_catalog.specs.GoingOver.{OpensMaster, directories_to_come}
 use Rattle.f11_catalog.specs.Records.{Reads, is_id_of_file}
 use Rattle.f11_catalog.specs.Steps.{IsNew, is_met}
-use Rattle.f11_catalog.specs.Walking.{BeginsWalk, EntersFile, EntersNoMore, FindsNoOther, FindsOther, GivesFile, HasNoFile, HoldsAt}
+use Rattle.f11_catalog.specs.Walking.{BeginsEntered, BeginsWalk, EntersFile, EntersNoMore, FindsAllLed, FindsNoOther, FindsOther, GivesFile}
+use Rattle.f11_catalog.specs.Walking.{HasNoFile, HoldsAt}
 use Rattle.f11_catalog.specs.Walking.{entered_to_come, files_left, files_to_come, hand_to_come, is_known, others_to_come}
 use Rattle.f11_catalog.specs.declared.walk.content.Content.{Content}
 use Rattle.f11_catalog.specs.declared.walk.content.Content.TheVariants.{File, Missing, OutOfUse}
 use Rattle.f11_catalog.specs.declared.walk.place.FileAt.{FileAt}
 use Rattle.f11_catalog.specs.declared.walk.place.Place.{Place}
 use Rattle.f11_catalog.specs.declared.walk.state.AllFiles.{AllFiles}
-use Rattle.f11_catalog.specs.declared.walk.state.Unmet.{Unmet}
+use Rattle.f11_catalog.specs.declared.walk.state.Numbers.{Numbers}
 use Rattle.f11_catalog.specs.declared.walk.state.EnteredFiles.{EnteredFiles}
 use Rattle.f11_catalog.specs.declared.walk.state.OpenDirectory.{OpenDirectory}
 use Rattle.f11_catalog.proofs.ComingLemmas.{id-passes}
 use Rattle.f11_catalog.proofs.EnteredLemmas.{entered-later}
 use Rattle.f11_catalog.proofs.GoingLemmas.{all-to-come}
-use Rattle.f11_catalog.proofs.ListingLemmas.{reads-then}
+use Rattle.f11_catalog.proofs.ListingLemmas.{reads-then, said-later}
 use Rattle.f11_catalog.proofs.LostLemmas.{lost-if}
 use Rattle.f11_catalog.proofs.ScanLemmas.{among-numbers}
 use Rattle.f11_catalog.proofs.SlotLemmas.{own-id, slot-of}
@@ -93,7 +94,7 @@ module _ (index wide : Index) (files : AllFiles) (left : EnteredFiles) (old mid 
       turn-behind (stands_in (table index old)) (λ f. others_to_come (table index old) f files.others) (is_met files.others)
       (entered_to_come index wide old files.entered) (ended.none honest)
 
-  later-others : (others : Unmet) → IsTrue old.honest → files_to_come index wide old (record { entered = left; others = others })
+  later-others : (others : Numbers) → IsTrue old.honest → files_to_come index wide old (record { entered = left; others = others })
       ≡ others_to_come (table index old) (is_met others) others
   unfolding files_to_come
   later-others others honest =
@@ -104,7 +105,7 @@ module _ (index wide : Index) (files : AllFiles) (left : EnteredFiles) (old mid 
   same = ap (λ (i : Image). table_in i index) ended.reads.1.image
 
   -- the next file is another
-  pub gives-other : (others : Unmet) (found : FileAt)
+  pub gives-other : (others : Numbers) (found : FileAt)
       → FindsOther (is_met files.others) index files.others others found mid new → is_met others ≡ is_met files.others
       → GivesFile index wide files (record { entered = left; others = others }) found old new
   unfolding files_left
@@ -122,7 +123,7 @@ module _ (index wide : Index) (files : AllFiles) (left : EnteredFiles) (old mid 
   }
 
   -- or none is left
-  pub no-file : (others : Unmet) → FindsNoOther (is_met files.others) index files.others others mid new
+  pub no-file : (others : Numbers) → FindsNoOther (is_met files.others) index files.others others mid new
       → is_met others ≡ is_met files.others → HasNoFile index wide files (record { entered = left; others = others }) old new
   no-file others none met = record {
     none = λ honest.
@@ -157,36 +158,53 @@ next-reads index wide files later old new (Ok (Some found)) gives none fails = (
 next-reads index wide files later old new (Ok None) gives none fails = (0, none.reads)
 next-reads index wide files later old new (Err fault) gives none fails = (1, fails)
 
--- a walk begins
-pub begins-walk : (index wide : Index) (id : FileId) (files : AllFiles) (old new : Disk)
-    → OpensMaster index wide id files.entered.directories.master old new → files.entered.hand ≡ None
-    → IsNew files.entered.directories.others
-    → IsNew files.others → BeginsWalk index wide id files old new
-unfolding files_to_come
-begins-walk index wide id files old new opens empty directories others = record {
+-- it was begun with what directories name
+pub begins-entered : (index wide : Index) (id : FileId) (files : EnteredFiles) (old new : Disk)
+    → OpensMaster index wide id files.directories.master old new → files.hand ≡ None → IsNew files.directories.others
+    → files.directories.led.next ≡ 1 → BeginsEntered index wide id (is_met files.directories.led) files old new
+begins-entered index wide id files old new opens empty others first = record {
   walking = (rw empty tt, opens.reading);
   all = λ honest.
       let t : Table = table index old in
-      let all : List Place = entered_files wide old.image t id in
-      let entered : entered_to_come index wide old files.entered ≡ all =
       ap (λ (h : Option OpenDirectory). hand_to_come index wide old h
-      ++ flat_map (places_in wide old.image t) (directories_to_come index wide old files.entered.directories)) empty
-      ∙ ap (flat_map (places_in wide old.image t)) (all-to-come index wide id files.entered.directories old new opens directories honest) in
+      ++ flat_map (places_in wide old.image t) (directories_to_come index wide old files.directories)) empty
+      ∙ ap (flat_map (places_in wide old.image t)) (all-to-come index wide id files.directories old new opens others first honest);
+  reads = (_, opens.looked);
+}
+
+-- a walk begins
+pub begins-walk : (index wide : Index) (id : FileId) (files : AllFiles) (led : Numbers) (old mid new : Disk)
+    → FindsAllLed index wide id led old mid → BeginsEntered index wide id (is_met led) files.entered mid new
+    → IsNew files.others → BeginsWalk index wide id files old new
+unfolding files_to_come
+begins-walk index wide id files led old mid new finds begins others = record {
+  walking = begins.walking;
+  led = is_met led;
+  are = finds.are;
+  all = λ honest.
+      let t : Table = table index old in
+      let all : List Place = entered_files wide old.image t id (is_met led) in
+      let image : mid.image ≡ old.image = finds.reads.1.image in
+      let entered : entered_to_come index wide old files.entered ≡ all =
+      sym (entered-later index wide old mid image files.entered)
+      ∙ begins.all (finds.reads.1.honest ∙ honest)
+      ∙ said-later (λ i t'. entered_files wide i t' id (is_met led)) index finds.reads.1 in
       let count : t.slots + 1 - 1 ≡ t.slots = omega arith in
       turn-begin (stands_in t) (λ f. others_to_come t f files.others) (is_met files.others) (entered_to_come index wide old files.entered)
       all
       entered others.none
       ∙ ap (λ (k : ℕ). all ++ lost_files t (is_among t all) k (t.slots + 1 - k)) others.first
       ∙ ap (λ (c : ℕ). all ++ lost_files t (is_among t all) 1 c) count;
-  looked = opens.looked;
+  reads = reads-then finds.reads begins.reads;
 }
 
 -- no file is left out
-pub none-left-out : (wide : Index) (image : Image) (index : Index) (master : FileId) (n : ℕ) → is_first (table_in image index) n ≡ true
-    → is_among (table_in image index) (all_files wide image (table_in image index) master) n ≡ true
-none-left-out wide image index master n is =
+pub none-left-out : (wide : Index) (image : Image) (index : Index) (master : FileId) (led : ℕ → Bool) (n : ℕ)
+    → is_first (table_in image index) n ≡ true
+    → is_among (table_in image index) (all_files wide image (table_in image index) master led) n ≡ true
+none-left-out wide image index master led n is =
     let t : Table = table_in image index in
-    let entered : List Place = entered_files wide image t master in
+    let entered : List Place = entered_files wide image t master led in
     list_any-append (λ p. is_id_of_file t (id_of p) && ((id_of p).number == n)) entered (lost_files t (is_among t entered) 1 t.slots)
     ∙ elim (cases_Bool (is_among t entered n)) [
       | inl met ↦ ap (λ b. b || is_among t (lost_files t (is_among t entered) 1 t.slots) n) met

@@ -1,5 +1,5 @@
 -- The directories that the master file directory names, one after another, and behind them those that it doesn't name.
-use Rattle.std.proofs.Common.{◌≡◌, ◌≢◌, ◌⊎◌, ◌++◌, ◌+◌, ◌-◌, ◌<◌, ◌≤◌, ◌||◌, ◌==◌, ℕ, Bool, false, IsTrue, List, [], ◌∷◌}
+use Rattle.std.proofs.Common.{◌≡◌, ◌≢◌, ◌⊎◌, ◌++◌, ◌+◌, ◌-◌, ◌<◌, ◌≤◌, ◌||◌, ◌==◌, ℕ, Bool, false, true, IsTrue, List, [], ◌∷◌}
 use Rattle.std.proofs.Common.{Option, Some, None, SomeIff, cond, refl, sym, ap, subst, ◌∙◌, inl, inr, arith}
 use Rattle.std.proofs.lemmas.Bool.{cases_Bool}
 use Rattle.f11_chain.specs.Calls.{FindsNoFile, table}
@@ -17,12 +17,13 @@ use Rattle.f11_store.specs.File.{File}
 use Rattle.f11_store.specs.declared.files.FileId.{FileId}
 use Rattle.f11_store.specs.declared.refusals.Refusal.TheVariants.{NotDirectory}
 use Rattle.f11_catalog.specs.AllDirectories.{DirectoryAt, all_directories, directories_under, directory_by, directory_in, directory_under}
-use Rattle.f11_catalog.specs.AllDirectories.{id_at, is_named, name_in, named_directories, own_directories, own_directory}
+use Rattle.f11_catalog.specs.AllDirectories.{id_at, is_named, led_directories, name_in, named_directories, own_directories, own_directory}
 use Rattle.f11_catalog.specs.DirectoryNames.{directory_called}
 use Rattle.f11_catalog.specs.Facts.{is_directory_header}
-use Rattle.f11_catalog.specs.GoingOver.{ComesToDirectory, FindsNamed, FindsNoNamed, FindsNoUnnamed, FindsUnnamed, GivesDirectory}
+use Rattle.f11_catalog.specs.GoingOver.{ComesToDirectory, FindsLed, FindsNamed, FindsNoLed, FindsNoNamed, FindsNoUnnamed}
+use Rattle.f11_catalog.specs.GoingOver.{FindsUnnamed, GivesDirectory}
 use Rattle.f11_catalog.specs.GoingOver.{HasNoDirectory, IsUnderItsName, OpensMaster, OpensNamed, TakesInHand, at_hand, directories_left}
-use Rattle.f11_catalog.specs.GoingOver.{directories_to_come, is_gone_over, named_to_come, unnamed_to_come}
+use Rattle.f11_catalog.specs.GoingOver.{directories_to_come, is_gone_over, led_to_come, named_to_come, others_to_come, unnamed_to_come}
 use Rattle.f11_catalog.specs.Lines.{names_directory}
 use Rattle.f11_catalog.specs.Records.{FindsDirectory, Reads, ReadsRecord, file_found, file_named, found_to_come, index_by, records_found}
 use Rattle.f11_catalog.specs.Steps.{EntersNone, IsNew, is_met}
@@ -31,7 +32,7 @@ use Rattle.f11_catalog.specs.declared.found.FoundDirectory.{FoundDirectory}
 use Rattle.f11_catalog.specs.declared.directory_name.DirectoryName.{DirectoryName}
 use Rattle.f11_catalog.specs.declared.walk.state.Directories.{Directories}
 use Rattle.f11_catalog.specs.declared.walk.state.OpenDirectory.{OpenDirectory}
-use Rattle.f11_catalog.specs.declared.walk.state.Unmet.{Unmet}
+use Rattle.f11_catalog.specs.declared.walk.state.Numbers.{Numbers}
 use Rattle.f11_catalog.proofs.ComingLemmas.{named-none as no-file-named}
 use Rattle.f11_catalog.proofs.DirectoryLemmas.{by-name, readable-names, refused-none}
 use Rattle.f11_catalog.proofs.ListingLemmas.{coming-later, reads-none, reads-then}
@@ -63,10 +64,10 @@ module _ (index wide : Index) (old now : Disk) where
   unfolding directories_to_come
   directories-later image directories =
       ap (λ (ds : List DirectoryAt). ds
-      ++ unnamed_to_come now.image (table index now) (λ n. is_met directories.others n || is_named ds n) directories.others)
+      ++ others_to_come wide now.image (table index now) (λ n. is_met directories.others n || is_named ds n) directories)
       (named-later image directories.master)
       ∙ ap (λ (i : Image). named_to_come index wide old directories.master
-      ++ unnamed_to_come i (table_in i index) (is_gone_over index wide old directories) directories.others) image
+      ++ others_to_come wide i (table_in i index) (is_gone_over index wide old directories) directories) image
 
   -- behind what was read a directory is taken in hand
   pub takes-behind : Reads old now 0 → (hand : OpenDirectory) (new : Disk) → TakesInHand index wide hand now new
@@ -134,7 +135,7 @@ no-master index wide master disk is = record {
 -- A slot was looked at.
 module _ (index : Index) (n : ℕ) (old new : Disk) where
   -- by an identification that names no directory there is none
-  by-other : (found : Option File) (id : FileId) → names_directory found ≡ false → (name : Option (List ℕ))
+  pub by-other : (found : Option File) (id : FileId) → names_directory found ≡ false → (name : Option (List ℕ))
       → directory_by found id name ≡ []
   by-other found id is None = refl
   by-other found id is (Some words) = ap (λ (b : Bool). cond b (called (directory_called words) id ∷ []) []) is
@@ -196,7 +197,7 @@ module _ (index : Index) (n : ℕ) (old new : Disk) where
     }
 
     -- or is one under its own name
-    pub own-opens : (known : ℕ → Bool) → known n ≡ false → (hand : OpenDirectory) → IsUnderItsName file hand → (wide : Index)
+    pub own-opens : (known : ℕ → Bool) → known n ≡ false → (hand : OpenDirectory) → IsUnderItsName file true hand → (wide : Index)
         → OpensNamed (λ image t. own_directory image t known n) index wide hand old new
     own-opens known unmet hand under wide = record {
       one = λ honest.
@@ -222,7 +223,7 @@ module _ (index : Index) (n : ℕ) (old new : Disk) where
         found = finds-in-use index wide (id_in_hand file) file old new opens.opens hand.found (under.in_use, under.begins)
 
 -- So many slots were looked at, and none gives a directory.
-module _ (known : ℕ → Bool) (index : Index) (first here : Unmet) (old now : Disk)
+module _ (known : ℕ → Bool) (index : Index) (first here : Numbers) (old now : Disk)
     (seen : SeesNone (λ image t. own_directory image t known) index first here old now) where
   -- nor do others
   pub finds-no-unnamed : slots index < here.next → FindsNoUnnamed known index first here old now
@@ -234,7 +235,7 @@ module _ (known : ℕ → Bool) (index : Index) (first here : Unmet) (old now : 
   }
 
   -- or the next one does
-  pub finds-unnamed : (later : Unmet) → here.next ≤ slots index → later.next ≡ here.next + 1 → (met : ℕ → Bool) (n : ℕ) → met ≡ known
+  pub finds-unnamed : (later : Numbers) → here.next ≤ slots index → later.next ≡ here.next + 1 → (met : ℕ → Bool) (n : ℕ) → met ≡ known
       → n ≡ here.next → (hand : OpenDirectory) (new : Disk) (wide : Index)
       → OpensNamed (λ image t. own_directory image t met n) index wide hand now new
       → FindsUnnamed known index wide first later hand old new
@@ -250,88 +251,141 @@ module _ (known : ℕ → Bool) (index : Index) (first here : Unmet) (old now : 
 module _ (index wide : Index) (directories later : Directories) (hand : OpenDirectory) (old new : Disk) where
   pub gives-named : FindsNamed index wide directories.master later.master hand old new
       → ((n : ℕ) → is_met later.others n ≡ (is_met directories.others n || (hand.id.number == n)))
-      → later.others.next ≡ directories.others.next → GivesDirectory index wide directories later hand old new
+      → later.others.next ≡ directories.others.next → later.led ≡ directories.led → GivesDirectory index wide directories later hand old new
   unfolding directories_to_come directories_left
-  gives-named finds met next = record {
+  gives-named finds met next led = record {
     next = λ honest.
         let t : Table = table index old in
-        turn-first has_number (λ f. unnamed_to_come old.image t f directories.others) (is_met directories.others) (is_met later.others)
+        let over : ℕ → Bool = is_gone_over index wide old later in
+        turn-first has_number (λ f. others_to_come wide old.image t f directories) (is_met directories.others) (is_met later.others)
         (at_hand hand) (named_to_come index wide old directories.master) (named_to_come index wide old later.master) (finds.next honest) met
         ∙ ap (λ (k : ℕ). at_hand hand ∷ (named_to_come index wide old later.master
-        ++ own_directories old.image t (is_gone_over index wide old later) k (t.slots + 1 - k))) (sym next);
-    fewer = omega (arith, finds.fewer, next);
+        ++ (own_directories old.image t over k (t.slots + 1 - k) ++ led_to_come wide old.image t over directories.led))) (sym next)
+        ∙ ap (λ (l : Numbers). at_hand hand ∷ (named_to_come index wide old later.master
+        ++ (unnamed_to_come old.image t over later.others ++ led_to_come wide old.image t over l))) (sym led);
+    fewer = let same = ap (λ (l : Numbers). l.next) led in omega (arith, finds.fewer, next, same);
     takes = finds.takes;
   }
 
 -- It names no more.
 module _ (index wide : Index) (directories : Directories) (left : Option FoundDirectory) (old mid : Disk)
     (ended : FindsNoNamed index wide directories.master left old mid) where
-  others-later : (f : ℕ → Bool) (others : Unmet)
+  abbrev known : ℕ → Bool
+  known = is_met directories.others
+
+  abbrev behind : Numbers → Numbers → Directories
+  behind others led = record { master = left; others = others; led = led }
+
+  others-later : (f : ℕ → Bool) (others : Numbers)
       → unnamed_to_come mid.image (table index mid) f others ≡ unnamed_to_come old.image (table index old) f others
   others-later f others = ap (λ (i : Image). unnamed_to_come i (table_in i index) f others) ended.reads.1.image
 
-  first-unnamed : IsTrue old.honest → directories_to_come index wide old directories
-      ≡ unnamed_to_come old.image (table index old) (is_met directories.others) directories.others
+  first-others : IsTrue old.honest → directories_to_come index wide old directories
+      ≡ others_to_come wide old.image (table index old) known directories
   unfolding directories_to_come
-  first-unnamed honest =
-      turn-behind has_number (λ f. unnamed_to_come old.image (table index old) f directories.others) (is_met directories.others)
+  first-others honest =
+      turn-behind has_number (λ f. others_to_come wide old.image (table index old) f directories) known
       (named_to_come index wide old directories.master) (ended.none honest)
 
-  later-unnamed : (others : Unmet) → IsTrue old.honest → directories_to_come index wide old (record { master = left; others = others })
-      ≡ unnamed_to_come old.image (table index old) (is_met others) others
+  later-others : (others led : Numbers) → is_met others ≡ known → IsTrue old.honest
+      → directories_to_come index wide old (behind others led) ≡ others_to_come wide old.image (table index old) known (behind others led)
   unfolding directories_to_come
-  later-unnamed others honest =
-      turn-behind has_number (λ f. unnamed_to_come old.image (table index old) f others) (is_met others) (named_to_come index wide old left)
-      (ended.ended honest)
+  later-others others led met honest =
+      turn-behind has_number (λ f. others_to_come wide old.image (table index old) f (behind others led)) (is_met others)
+      (named_to_come index wide old left) (ended.ended honest)
+      ∙ ap (λ (f : ℕ → Bool). others_to_come wide old.image (table index old) f (behind others led)) met
 
-  -- the next directory is another
-  pub gives-unnamed : (others : Unmet) (hand : OpenDirectory) (new : Disk)
-      → FindsUnnamed (is_met directories.others) index wide directories.others others hand mid new
-      → is_met others ≡ is_met directories.others
-      → GivesDirectory index wide directories (record { master = left; others = others }) hand old new
+  -- the next directory is one that it doesn't name
+  pub gives-unnamed : (others led : Numbers) → led ≡ directories.led → (hand : OpenDirectory) (new : Disk)
+      → FindsUnnamed known index wide directories.others others hand mid new → is_met others ≡ known
+      → GivesDirectory index wide directories (behind others led) hand old new
   unfolding directories_left
-  gives-unnamed others hand new finds met = record {
-    next = λ honest.
-        let known : ℕ → Bool = is_met directories.others in
-        first-unnamed honest
-        ∙ sym (others-later known directories.others)
-        ∙ finds.next (ended.reads.1.honest ∙ honest)
-        ∙ ap (λ ds. at_hand hand ∷ ds) (others-later known others)
-        ∙ ap (λ (f : ℕ → Bool). at_hand hand ∷ unnamed_to_come old.image (table index old) f others) (sym met)
-        ∙ ap (λ ds. at_hand hand ∷ ds) (sym (later-unnamed others honest));
-    fewer = omega (arith, ended.no_more, finds.forward, others.few);
-    takes = takes-behind index wide old mid ended.reads hand new finds.takes;
-  }
+  gives-unnamed others led' same hand new finds met =
+      subst (λ (l : Numbers). GivesDirectory index wide directories (behind others l) hand old new) (sym same) (record {
+        next = λ honest.
+            let led : List DirectoryAt = led_to_come wide old.image (table index old) known directories.led in
+            first-others honest
+            ∙ ap (λ ds. ds ++ led) (sym (others-later known directories.others) ∙ finds.next (ended.reads.1.honest ∙ honest)
+            ∙ ap (λ ds. at_hand hand ∷ ds) (others-later known others))
+            ∙ ap (λ ds. at_hand hand ∷ ds) (sym (later-others others directories.led met honest));
+        fewer = omega (arith, ended.no_more, finds.forward, others.few);
+        takes = takes-behind index wide old mid ended.reads hand new finds.takes;
+      })
 
-  -- or none is left
-  pub no-directory-left : (others : Unmet) (new : Disk)
-      → FindsNoUnnamed (is_met directories.others) index directories.others others mid new → is_met others ≡ is_met directories.others
-      → HasNoDirectory index wide directories (record { master = left; others = others }) old new
-  unfolding directories_left
-  no-directory-left others new none met = record {
-    none = λ honest.
-        first-unnamed honest
-        ∙ sym (others-later (is_met directories.others) directories.others)
-        ∙ none.none (ended.reads.1.honest ∙ honest);
-    ended = λ honest.
-        later-unnamed others honest
-        ∙ ap (λ (f : ℕ → Bool). unnamed_to_come old.image (table index old) f others) met
-        ∙ sym (others-later (is_met directories.others) others)
-        ∙ none.ended (ended.reads.1.honest ∙ honest);
-    no_more = omega (arith, ended.no_more, none.forward);
-    reads = reads-then ended.reads none.reads;
-  }
+  -- none is
+  module _ (others : Numbers) (met : is_met others ≡ known) (next : Disk)
+      (none : FindsNoUnnamed known index directories.others others mid next) where
+    there : Reads old next 0
+    there = reads-then ended.reads none.reads
+
+    led-later : (led : Numbers)
+        → led_to_come wide next.image (table index next) known led ≡ led_to_come wide old.image (table index old) known led
+    led-later led = ap (λ (i : Image). led_to_come wide i (table_in i index) known led) there.1.image
+
+    first-led : IsTrue old.honest
+        → directories_to_come index wide old directories ≡ led_to_come wide old.image (table index old) known directories.led
+    first-led honest =
+        first-others honest
+        ∙ ap (λ ds. ds ++ led_to_come wide old.image (table index old) known directories.led)
+        (sym (others-later known directories.others) ∙ none.none (ended.reads.1.honest ∙ honest))
+
+    later-led : (led : Numbers) → IsTrue old.honest
+        → directories_to_come index wide old (behind others led) ≡ led_to_come wide old.image (table index old) known led
+    later-led led honest =
+        later-others others led met honest
+        ∙ ap (λ ds. ds ++ led_to_come wide old.image (table index old) known led)
+        (sym (others-later known others) ∙ none.ended (ended.reads.1.honest ∙ honest))
+
+    -- the next is one to which others lead
+    pub gives-led : (led : Numbers) (hand : OpenDirectory) (new : Disk) (by : ℕ → Bool) → by ≡ known
+        → FindsLed by index wide directories.led led hand next new
+        → GivesDirectory index wide directories (behind others led) hand old new
+    unfolding directories_left
+    gives-led led hand new by is finds = record {
+      next = λ honest.
+          let so : FindsLed known index wide directories.led led hand next new =
+          subst (λ (f : ℕ → Bool). FindsLed f index wide directories.led led hand next new) is finds in
+          first-led honest
+          ∙ sym (led-later directories.led)
+          ∙ so.next (there.1.honest ∙ honest)
+          ∙ ap (λ ds. at_hand hand ∷ ds) (led-later led ∙ sym (later-led led honest));
+      fewer = omega (arith, ended.no_more, none.forward, finds.forward, others.few, led.few);
+      takes = takes-behind index wide old next there hand new finds.takes;
+    }
+
+    -- or none is left
+    pub no-directory-left : (led : Numbers) (new : Disk) (by : ℕ → Bool) → by ≡ known
+        → FindsNoLed by index wide directories.led led next new
+        → HasNoDirectory index wide directories (behind others led) old new
+    unfolding directories_left
+    no-directory-left led new by is finds = record {
+      none = λ honest. first-led honest ∙ sym (led-later directories.led) ∙ so.none (there.1.honest ∙ honest);
+      ended = λ honest. later-led led honest ∙ sym (led-later led) ∙ so.ended (there.1.honest ∙ honest);
+      no_more = omega (arith, ended.no_more, none.forward, finds.forward);
+      reads = reads-then there finds.reads;
+    }
+      where
+        so : FindsNoLed known index wide directories.led led next new
+        so = subst (λ (f : ℕ → Bool). FindsNoLed f index wide directories.led led next new) is finds
 
 -- At first all directories are to come.
 pub all-to-come : (index wide : Index) (id : FileId) (directories : Directories) (old new : Disk)
-    → OpensMaster index wide id directories.master old new → IsNew directories.others → IsTrue old.honest
-    → directories_to_come index wide old directories ≡ all_directories wide old.image (table index old) id
+    → OpensMaster index wide id directories.master old new → IsNew directories.others → directories.led.next ≡ 1 → IsTrue old.honest
+    → directories_to_come index wide old directories ≡ all_directories wide old.image (table index old) id (is_met directories.led)
 unfolding directories_to_come
-all-to-come index wide id directories old new opens begins honest =
+all-to-come index wide id directories old new opens begins first honest =
     let t : Table = table index old in
+    let u : Table = table wide old in
+    let led : ℕ → Bool = is_met directories.led in
     let named : List DirectoryAt = named_directories wide old.image t id in
+    let known : ℕ → Bool = is_named named in
     let count : t.slots + 1 - 1 ≡ t.slots = omega arith in
-    turn-begin has_number (λ f. unnamed_to_come old.image t f directories.others) (is_met directories.others)
+    let wide_count : u.slots + 1 - 1 ≡ u.slots = omega arith in
+    turn-begin has_number (λ f. others_to_come wide old.image t f directories) (is_met directories.others)
     (named_to_come index wide old directories.master) named (opens.come honest) begins.none
-    ∙ ap (λ (k : ℕ). named ++ own_directories old.image t (is_named named) k (t.slots + 1 - k)) begins.first
-    ∙ ap (λ (c : ℕ). named ++ own_directories old.image t (is_named named) 1 c) count
+    ∙ ap (λ (k : ℕ). named ++ (own_directories old.image t known k (t.slots + 1 - k)
+    ++ led_to_come wide old.image t known directories.led)) begins.first
+    ∙ ap (λ (c : ℕ). named ++ (own_directories old.image t known 1 c ++ led_to_come wide old.image t known directories.led)) count
+    ∙ ap (λ (k : ℕ). named ++ (own_directories old.image t known 1 t.slots
+    ++ led_directories wide old.image t led known k (u.slots + 1 - k))) first
+    ∙ ap (λ (c : ℕ). named ++ (own_directories old.image t known 1 t.slots ++ led_directories wide old.image t led known 1 c)) wide_count

@@ -10,7 +10,7 @@ pub mod DirectoryLemmas
 pub mod ContentLemmas
 pub mod NameLemmas
 pub mod WalkLemmas
-pub mod UnmetLemmas
+pub mod NumbersLemmas
 pub mod ScanLemmas
 pub mod TurnLemmas
 pub mod GoingLemmas
@@ -19,3 +19,5 @@ pub mod EnteredLemmas
 pub mod LostLemmas
 pub mod FilesLemmas
 pub mod StoredLemmas
+pub mod LedLemmas
+pub mod FollowingLemmas

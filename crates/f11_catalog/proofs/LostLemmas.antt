@@ -19,7 +19,7 @@ use Rattle.f11_catalog.specs.declared.walk.content.Content.TheVariants.{File}
 use Rattle.f11_catalog.specs.declared.walk.place.FileAt.{FileAt}
 use Rattle.f11_catalog.specs.declared.walk.place.Place.{Place}
 use Rattle.f11_catalog.specs.declared.walk.place.Place.TheVariants.{Lost}
-use Rattle.f11_catalog.specs.declared.walk.state.Unmet.{Unmet}
+use Rattle.f11_catalog.specs.declared.walk.state.Numbers.{Numbers}
 use Rattle.f11_catalog.proofs.ListingLemmas.{reads-none}
 use Rattle.f11_catalog.proofs.ScanLemmas.{SeesNone, none-first, none-here, sees-front}
 use Rattle.f11_catalog.proofs.WalkLemmas.{opens-behind}
@@ -68,7 +68,7 @@ module _ (known : ℕ → Bool) (index : Index) (n : ℕ) (old new : Disk) where
   }
 
 -- So many slots were looked at, and none has such a file.
-module _ (known : ℕ → Bool) (index : Index) (first here : Unmet) (old now : Disk)
+module _ (known : ℕ → Bool) (index : Index) (first here : Numbers) (old now : Disk)
     (seen : SeesNone (λ image t. place_lost t known) index first here old now) where
   -- nor has another one
   pub lost-all : slots index < here.next → FindsNoOther known index first here old now
@@ -79,7 +79,7 @@ module _ (known : ℕ → Bool) (index : Index) (first here : Unmet) (old now : 
   }
 
   -- or the next one has
-  pub sees-one : (later : Unmet) → here.next ≤ slots index → later.next ≡ here.next + 1 → (met : ℕ → Bool) (n : ℕ) → met ≡ known
+  pub sees-one : (later : Numbers) → here.next ≤ slots index → later.next ≡ here.next + 1 → (met : ℕ → Bool) (n : ℕ) → met ≡ known
       → n ≡ here.next → (found : FileAt) (new : Disk) → FindsLost (λ image t. place_lost t met n) index found now new
       → FindsOther known index first later found old new
   sees-one later inside on met n same-met same-n found new one = record {

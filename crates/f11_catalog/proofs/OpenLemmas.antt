@@ -33,7 +33,7 @@ use Rattle.f11_catalog.proofs.ListingLemmas.{coming-later}
 use Rattle.f11_catalog.proofs.RecordLemmas.{entries-are}
 
 -- what a first header says of a file
-header-is-directory : (image : Image) (t : Table) (n : ℕ) → is_directory (file_of image t n) ≡ is_directory_header (t.header n)
+pub header-is-directory : (image : Image) (t : Table) (n : ℕ) → is_directory (file_of image t n) ≡ is_directory_header (t.header n)
 unfolding file_of is_directory
 header-is-directory image t n = refl
 

@@ -37,14 +37,14 @@ contains-given f (z ∷ zs) x y has gives =
     ])
 
 -- so does a record that isn't empty, of a directory that is gone over
-pub record-placed : (wide : Index) (image : Image) (t : Table) (master : FileId) (directory : DirectoryAt) (r : List ℕ)
-    → Contains (all_directories wide image t master) directory → Contains (records_found wide image t directory.id) r
+pub record-placed : (wide : Index) (image : Image) (t : Table) (master : FileId) (led : ℕ → Bool) (directory : DirectoryAt) (r : List ℕ)
+    → Contains (all_directories wide image t master led) directory → Contains (records_found wide image t directory.id) r
     → is_empty r ≡ false
-    → Contains (all_files wide image t master) (Entered directory.name (name_found (record_name r)) (record_id r))
-record-placed wide image t master directory r over has some =
-    let entered : List Place = entered_files wide image t master in
+    → Contains (all_files wide image t master led) (Entered directory.name (name_found (record_name r)) (record_id r))
+record-placed wide image t master led directory r over has some =
+    let entered : List Place = entered_files wide image t master led in
     let place : Place = Entered directory.name (name_found (record_name r)) (record_id r) in
     Contains-append_left entered (lost_files t (is_among t entered) 1 t.slots) place
-    (contains-given (places_in wide image t) (all_directories wide image t master) directory place over
+    (contains-given (places_in wide image t) (all_directories wide image t master led) directory place over
     (contains-given (place_entered directory.name) (records_found wide image t directory.id) r place has
     (subst (λ ps. Contains ps place) (sym (ap (λ (b : Bool). cond b [] (place ∷ [])) some)) (Contains-push [] place))))

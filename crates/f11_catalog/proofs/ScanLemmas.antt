@@ -13,12 +13,12 @@ use Rattle.f11_index.specs.IndexFile.{Index, slots}
 use Rattle.f11_index.specs.Table.{Table}
 use Rattle.f11_catalog.specs.Records.{Reads}
 use Rattle.f11_catalog.specs.Steps.{EntersNone}
-use Rattle.f11_catalog.specs.declared.walk.state.Unmet.{Unmet}
+use Rattle.f11_catalog.specs.declared.walk.state.Numbers.{Numbers}
 use Rattle.f11_catalog.proofs.ContentLemmas.{slots-are}
 use Rattle.f11_catalog.proofs.ListingLemmas.{reads-then, said-later}
 
 -- what those numbers give that are still to come
-abbrev pub given_to_come : {X : Type 0} → (Image → Table → ℕ → List X) → Index → Disk → Unmet → List X
+abbrev pub given_to_come : {X : Type 0} → (Image → Table → ℕ → List X) → Index → Disk → Numbers → List X
 given_to_come given index disk numbers =
     flat_map (given disk.image (table index disk)) (range_with_len numbers.next ((table index disk).slots + 1 - numbers.next))
 
@@ -41,12 +41,12 @@ among-numbers meets given n is (suc count) first from below =
     ]
 
 -- So many numbers were looked at, and none gives anything.
-pub record SeesNone {X : Type 0} (given : Image → Table → ℕ → List X) (index : Index) (first here : Unmet) (old now : Disk) : Type 0 where
+pub record SeesNone {X : Type 0} (given : Image → Table → ℕ → List X) (index : Index) (first here : Numbers) (old now : Disk) : Type 0 where
   pub rest : IsTrue old.honest → given_to_come given index old first ≡ given_to_come given index old here
   pub forward : first.next ≤ here.next
   pub reads : Reads old now 0
 
-module _ {X : Type 0} (given : (ℕ → Bool) → Image → Table → ℕ → List X) (known : ℕ → Bool) (index : Index) (first here : Unmet)
+module _ {X : Type 0} (given : (ℕ → Bool) → Image → Table → ℕ → List X) (known : ℕ → Bool) (index : Index) (first here : Numbers)
     (old now : Disk) (seen : SeesNone (given known) index first here old now) where
   -- nor do others
   pub none-here : slots index < here.next → given_to_come (given known) index old here ≡ []
@@ -59,7 +59,7 @@ module _ {X : Type 0} (given : (ℕ → Bool) → Image → Table → ℕ → Li
   none-first past honest = seen.rest honest ∙ none-here past
 
   -- or one more is looked at, by what was known here
-  module _ (later : Unmet) (inside : here.next ≤ slots index) (on : later.next ≡ here.next + 1) (met : ℕ → Bool) (n : ℕ)
+  module _ (later : Numbers) (inside : here.next ≤ slots index) (on : later.next ≡ here.next + 1) (met : ℕ → Bool) (n : ℕ)
       (same-met : met ≡ known) (same-n : n ≡ here.next) where
     same : given known old.image (table index old) here.next ≡ given met now.image (table index now) n
     same =

@@ -16,7 +16,7 @@ use Rattle.f11_store.specs.declared.files.FileId.{FileId}
 use Rattle.f11_volume.specs.Contents.{file_of}
 use Rattle.f11_volume.specs.Notes.{IsIdOf}
 use Rattle.f11_catalog.specs.AllDirectories.{DirectoryAt, all_directories, directory_by, id_at, is_named, name_in, named_directories}
-use Rattle.f11_catalog.specs.AllDirectories.{own_directories, own_directory}
+use Rattle.f11_catalog.specs.AllDirectories.{led_directories, other_directories, own_directories, own_directory}
 use Rattle.f11_catalog.specs.DirectoryNames.{directory_called}
 use Rattle.f11_catalog.specs.Lines.{names_directory}
 use Rattle.f11_catalog.specs.Records.{file_named, is_id_of_file}
@@ -42,26 +42,29 @@ slot-of image index n is =
     (omega (arith, some), omega (arith, few))
 
 -- no directory is left out
-pub no-directory-left-out : (wide : Index) (image : Image) (index : Index) (master : FileId) (n : ℕ) (name : List ℕ)
+pub no-directory-left-out : (wide : Index) (image : Image) (index : Index) (master : FileId) (led : ℕ → Bool) (n : ℕ) (name : List ℕ)
     → is_first (table_in image index) n ≡ true → is_directory (file_of image (table_in image index) n) ≡ true
     → name_in (ident_area ((table_in image index).header n)) ≡ Some name
-    → is_named (all_directories wide image (table_in image index) master) n ≡ true
-no-directory-left-out wide image index master n name is directory has =
+    → is_named (all_directories wide image (table_in image index) master led) n ≡ true
+no-directory-left-out wide image index master led n name is directory has =
     let t : Table = table_in image index in
     let named : List DirectoryAt = named_directories wide image t master in
     let slot = slot-of image index n is in
     let names : names_directory (file_named image t (id_at t n)) ≡ true =
     ap names_directory (named-some image t (id_at t n) n (its-own t n is)) ∙ directory in
-    list_any-append (λ d. d.id.number == n) named (own_directories image t (is_named named) 1 t.slots)
-    ∙ elim (cases_Bool (is_named named n)) [
-      | inl met ↦ ap (λ b. b || is_named (own_directories image t (is_named named) 1 t.slots) n) met
+    let known : ℕ → Bool = is_named named in
+    let others : List DirectoryAt = led_directories wide image t led known 1 (table_in image wide).slots in
+    list_any-append (λ d. d.id.number == n) named (other_directories wide image t led known)
+    ∙ ap (λ b. is_named named n || b) (list_any-append (λ d. d.id.number == n) (own_directories image t known 1 t.slots) others)
+    ∙ elim (cases_Bool (known n)) [
+      | inl met ↦ ap (λ b. b || (is_named (own_directories image t known 1 t.slots) n || is_named others n)) met
       | inr unmet ↦
-          let own : own_directory image t (is_named named) n ≡ called (directory_called name) (id_at t n) ∷ [] =
+          let own : own_directory image t known n ≡ called (directory_called name) (id_at t n) ∷ [] =
           ap (λ (b : Bool). cond b [] (directory_by (file_named image t (id_at t n)) (id_at t n) (name_in (ident_area (t.header n))))) unmet
           ∙ ap (directory_by (file_named image t (id_at t n)) (id_at t n)) has
           ∙ ap (λ (b : Bool). cond b (called (directory_called name) (id_at t n) ∷ []) []) names in
-          ap (λ b. is_named named n || b)
-          (among-numbers (λ d. d.id.number == n) (own_directory image t (is_named named)) n
+          ap (λ b. is_named named n || (b || is_named others n))
+          (among-numbers (λ d. d.id.number == n) (own_directory image t known) n
           (ap (λ ds. is_named ds n) own ∙ ap (λ b. b || false) (eq-eqb n n refl)) t.slots 1 slot.0 slot.1)
           ∙ or-true (is_named named n)
     ]

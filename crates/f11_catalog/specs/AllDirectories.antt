@@ -1,19 +1,20 @@
--- The directories of a volume that are gone over: those that the master file directory names, record after record, and behind them by their
--- numbers those that it doesn't name, each under the name that its own header has (Files-11 On-Disk Structure Level 1, "Index File",
--- "Directories" and "Ident Area"; profile: the order, and that the latter are gone over).
-use Rattle.std.specs.Prelude.{ℕ, ◌==◌, Bool, List, [], ◌∷◌, ◌++◌, Option, Some, None, if◌then◌else◌}
+-- The directories of a volume that are gone over: those that the master file directory names, record after record; behind them by their
+-- numbers those that it doesn't name; and then, by their numbers, too, those whose slots aren't in use and to which other directories lead.
+-- The latter two are called as their own headers say (Files-11 On-Disk Structure Level 1, "Index File", "Directories" and "Ident Area";
+-- profile: the order, and that these are gone over).
+use Rattle.std.specs.Prelude.{ℕ, ◌==◌, ◌&&◌, Bool, not, List, [], ◌∷◌, ◌++◌, Option, Some, None, if◌then◌else◌}
 use Rattle.std.specs.List.{flat_map, list_any, range_with_len}
 use Rattle.f11_bytes.specs.Words.{word}
 use Rattle.f11_dev.specs.Image.{Image}
 use Rattle.f11_header.specs.Fields.{ident_area}
 use Rattle.f11_index.specs.IndexFile.{Index}
-use Rattle.f11_index.specs.Table.{Table, last_sequence}
+use Rattle.f11_index.specs.Table.{Table, last_sequence, table_in}
 use Rattle.f11_store.specs.Directory.{is_empty, record_id, record_name}
 use Rattle.f11_store.specs.File.{File}
 use Rattle.f11_store.specs.declared.files.FileId.{FileId}
 use Rattle.f11_catalog.specs.DirectoryNames.{directory_called}
 use Rattle.f11_catalog.specs.Lines.{name_found, names_directory}
-use Rattle.f11_catalog.specs.Records.{file_found, file_named, records_found}
+use Rattle.f11_catalog.specs.Records.{file_found, file_named, file_unused, records_found}
 use Rattle.f11_catalog.specs.declared.directory_name.DirectoryName.{DirectoryName}
 
 -- a directory: what it is called, and its identification
@@ -69,7 +70,25 @@ own_directory image t known n =
 abbrev pub own_directories : Image → Table → (ℕ → Bool) → ℕ → ℕ → List DirectoryAt
 own_directories image t known first count = flat_map (own_directory image t known) (range_with_len first count)
 
--- all directories: what the master file directory names, one that it names twice in both places, and then those that it doesn't name
-abbrev pub all_directories : Index → Image → Table → FileId → List DirectoryAt
-all_directories wide image t master =
-    named_directories wide image t master ++ own_directories image t (is_named (named_directories wide image t master)) 1 t.slots
+-- the directory that file n is, whose slot isn't in use, under its own name, if it is one and has one
+abbrev pub unused_directory : Index → Image → Table → ℕ → List DirectoryAt
+unused_directory wide image t n = let u = table_in image wide in
+    directory_by (file_unused wide image t (id_at u n)) (id_at u n) (name_in (ident_area (u.header n)))
+
+-- it, if it is one of those to which others lead, and isn't known from elsewhere
+abbrev pub led_directory : Index → Image → Table → (ℕ → Bool) → (ℕ → Bool) → ℕ → List DirectoryAt
+led_directory wide image t led known n = if led n && not (known n) then unused_directory wide image t n else []
+
+-- those of so many files from a number on, in the order of their numbers
+abbrev pub led_directories : Index → Image → Table → (ℕ → Bool) → (ℕ → Bool) → ℕ → ℕ → List DirectoryAt
+led_directories wide image t led known first count = flat_map (led_directory wide image t led known) (range_with_len first count)
+
+-- those that aren't known from elsewhere
+abbrev pub other_directories : Index → Image → Table → (ℕ → Bool) → (ℕ → Bool) → List DirectoryAt
+other_directories wide image t led known =
+    own_directories image t known 1 t.slots ++ led_directories wide image t led known 1 (table_in image wide).slots
+
+-- all directories: what the master file directory names, one that it names twice in both places, and then the others
+abbrev pub all_directories : Index → Image → Table → FileId → (ℕ → Bool) → List DirectoryAt
+all_directories wide image t master led =
+    named_directories wide image t master ++ other_directories wide image t led (is_named (named_directories wide image t master))

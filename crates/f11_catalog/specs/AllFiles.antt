@@ -1,6 +1,6 @@
 -- All files of a volume, in the order in which they are gone over: what directories name, record after record, and behind it the files
 -- that none of them names, so that none is left out (Files-11 On-Disk Structure Level 1, "Index File" and "Directories"; profile: order).
-use Rattle.std.specs.Prelude.{ℕ, ◌==◌, ◌&&◌, Bool, not, List, [], ◌∷◌, ◌++◌, if◌then◌else◌}
+use Rattle.std.specs.Prelude.{◌≡◌, ℕ, ◌==◌, ◌&&◌, ◌||◌, Bool, true, not, List, [], ◌∷◌, ◌++◌, if◌then◌else◌}
 use Rattle.std.specs.List.{flat_map, list_any, range_with_len}
 use Rattle.f11_dev.specs.Image.{Image}
 use Rattle.f11_header.specs.Fields.{ident_area}
@@ -10,8 +10,8 @@ use Rattle.f11_index.specs.Table.{Table}
 use Rattle.f11_store.specs.Directory.{is_empty, record_id, record_name}
 use Rattle.f11_store.specs.declared.files.FileId.{FileId}
 use Rattle.f11_catalog.specs.AllDirectories.{DirectoryAt, all_directories, id_at, name_in}
-use Rattle.f11_catalog.specs.Lines.{name_found}
-use Rattle.f11_catalog.specs.Records.{is_id_of_file, records_found}
+use Rattle.f11_catalog.specs.Lines.{name_found, names_directory}
+use Rattle.f11_catalog.specs.Records.{file_unused, is_id_of_file, records_found}
 use Rattle.f11_catalog.specs.declared.directory_name.DirectoryName.{DirectoryName}
 use Rattle.f11_catalog.specs.declared.walk.place.Place.{Place}
 use Rattle.f11_catalog.specs.declared.walk.place.Place.TheVariants.{Entered, Lost}
@@ -33,9 +33,26 @@ places_entered directory records = flat_map (place_entered directory) records
 abbrev pub places_in : Index → Image → Table → DirectoryAt → List Place
 places_in wide image t directory = places_entered directory.name (records_found wide image t directory.id)
 
--- the places in all directories
-abbrev pub entered_files : Index → Image → Table → FileId → List Place
-entered_files wide image t master = flat_map (places_in wide image t) (all_directories wide image t master)
+-- the places in all directories, where these numbers are those to which others lead
+abbrev pub entered_files : Index → Image → Table → FileId → (ℕ → Bool) → List Place
+entered_files wide image t master led = flat_map (places_in wide image t) (all_directories wide image t master led)
+
+-- a place leads to number n: it is that of a directory whose slot isn't in use
+abbrev pub leads_to : Index → Image → Table → ℕ → Place → Bool
+leads_to wide image t n place = names_directory (file_unused wide image t (id_of place)) && ((id_of place).number == n)
+
+-- number n is that of the master file directory, or a place in a directory leads to it
+abbrev pub is_led : Index → Image → Table → FileId → (ℕ → Bool) → ℕ → Bool
+is_led wide image t master led n = (master.number == n) || list_any (leads_to wide image t n) (entered_files wide image t master led)
+
+-- all numbers to which they lead are among these
+abbrev pub HasAllLed : Index → Image → Table → FileId → (ℕ → Bool) → Type 0
+HasAllLed wide image t master led = (n : ℕ) → is_led wide image t master led n ≡ true → led n ≡ true
+
+-- These are the numbers to which they lead: the fewest among which all are.
+pub record AreLed (wide : Index) (image : Image) (t : Table) (master : FileId) (led : ℕ → Bool) : Type 0 where
+  pub all : HasAllLed wide image t master led
+  pub fewest : (other : ℕ → Bool) → HasAllLed wide image t master other → (n : ℕ) → led n ≡ true → other n ≡ true
 
 -- file n stands in one of these places
 abbrev pub is_among : Table → List Place → ℕ → Bool
@@ -50,6 +67,6 @@ abbrev pub lost_files : Table → (ℕ → Bool) → ℕ → ℕ → List Place
 lost_files t known first count = flat_map (place_lost t known) (range_with_len first count)
 
 -- all files: what directories name, a file that is entered twice in both places, and then the files that none names
-abbrev pub all_files : Index → Image → Table → FileId → List Place
-all_files wide image t master =
-    entered_files wide image t master ++ lost_files t (is_among t (entered_files wide image t master)) 1 t.slots
+abbrev pub all_files : Index → Image → Table → FileId → (ℕ → Bool) → List Place
+all_files wide image t master led =
+    entered_files wide image t master led ++ lost_files t (is_among t (entered_files wide image t master led)) 1 t.slots

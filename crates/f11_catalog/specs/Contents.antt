@@ -7,10 +7,12 @@ use Rattle.f11_dev.specs.Looked.{Looked}
 use Rattle.f11_header.specs.Header.{IsDead, IsHeader}
 use Rattle.f11_index.specs.IndexFile.{Index}
 use Rattle.f11_index.specs.Table.{Table}
-use Rattle.f11_reader.specs.Reading.{OpensFile}
+use Rattle.f11_reader.specs.Reading.{OpensFile, header_in_hand}
 use Rattle.f11_reader.specs.declared.file.FileReader.{FileReader}
 use Rattle.f11_store.specs.declared.files.FileId.{FileId}
 use Rattle.f11_volume.specs.Notes.{IsIdOf}
+use Rattle.f11_volume.specs.map.HeaderBlock.{segment_number}
+use Rattle.f11_catalog.specs.Facts.{is_directory_header}
 use Rattle.f11_catalog.specs.Records.{Reads}
 use Rattle.f11_catalog.specs.declared.walk.content.Absence.{Absence}
 use Rattle.f11_catalog.specs.declared.walk.content.Absence.TheVariants.{BadHeader, NoFile}
@@ -22,6 +24,18 @@ abbrev pub is_file : Content → Bool
 is_file (File file) = true
 is_file (OutOfUse file) = false
 is_file (Missing absence) = false
+
+-- it is a directory whose slot isn't in use
+abbrev pub is_unused_directory : Content → Bool
+is_unused_directory (File file) = false
+is_unused_directory (OutOfUse file) = is_directory_header (header_in_hand file)
+is_unused_directory (Missing absence) = false
+
+-- where it is a file whose slot isn't in use the header in hand is its first
+abbrev pub HasFirstHeader : Content → Type 0
+HasFirstHeader (File file) = Unit {0}
+HasFirstHeader (OutOfUse file) = segment_number (header_in_hand file) ≡ 0
+HasFirstHeader (Missing absence) = Unit {0}
 
 -- header n is bad: there is such a slot, and its block is neither a dead header nor a valid one
 pub record IsBadHeader (t : Table) (n : ℕ) : Type 0 where

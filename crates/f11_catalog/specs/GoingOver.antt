@@ -1,5 +1,5 @@
 -- What the steps from one directory to the next tell, and which directories are still to come (profile).
-use Rattle.std.specs.Prelude.{◌≡◌, ℕ, ◌+◌, ◌-◌, ◌<◌, ◌≤◌, ◌||◌, Bool, true, IsTrue, List, [], ◌∷◌, ◌++◌}
+use Rattle.std.specs.Prelude.{◌≡◌, ℕ, ◌+◌, ◌-◌, ◌<◌, ◌≤◌, ◌||◌, Bool, IsTrue, List, [], ◌∷◌, ◌++◌}
 use Rattle.std.specs.Prelude.{Option, Some, None, IfSome}
 use Rattle.f11_chain.specs.Calls.{table}
 use Rattle.f11_dev.specs.Disk.{Disk}
@@ -12,7 +12,7 @@ use Rattle.f11_reader.specs.Reading.{header_in_hand, id_in_hand}
 use Rattle.f11_reader.specs.declared.file.FileReader.{FileReader}
 use Rattle.f11_store.specs.declared.files.FileId.{FileId}
 use Rattle.f11_catalog.specs.AllDirectories.{DirectoryAt, directories_under, directory_under, is_named, name_in, named_directories}
-use Rattle.f11_catalog.specs.AllDirectories.{own_directories}
+use Rattle.f11_catalog.specs.AllDirectories.{led_directories, own_directories}
 use Rattle.f11_catalog.specs.DirectoryNames.{directory_called}
 use Rattle.f11_catalog.specs.Records.{BeginsDirectory, IsReadingFound, Reads, found_to_come, records_found}
 use Rattle.f11_catalog.specs.Steps.{ComesTo, is_met}
@@ -20,7 +20,7 @@ use Rattle.f11_catalog.specs.declared.directory.DirectoryReader.{DirectoryReader
 use Rattle.f11_catalog.specs.declared.found.FoundDirectory.{FoundDirectory}
 use Rattle.f11_catalog.specs.declared.walk.state.Directories.{Directories}
 use Rattle.f11_catalog.specs.declared.walk.state.OpenDirectory.{OpenDirectory}
-use Rattle.f11_catalog.specs.declared.walk.state.Unmet.{Unmet}
+use Rattle.f11_catalog.specs.declared.walk.state.Numbers.{Numbers}
 
 -- the directories that the rest of the master file directory names
 abbrev pub named_to_come : Index → Index → Disk → Option FoundDirectory → List DirectoryAt
@@ -29,8 +29,18 @@ named_to_come index wide disk (Some master) =
     directories_under wide disk.image (table index disk) (found_to_come index wide disk master)
 
 -- those of other numbers that are still to come, where these are known
-abbrev pub unnamed_to_come : Image → Table → (ℕ → Bool) → Unmet → List DirectoryAt
+abbrev pub unnamed_to_come : Image → Table → (ℕ → Bool) → Numbers → List DirectoryAt
 unnamed_to_come image t known others = own_directories image t known others.next (t.slots + 1 - others.next)
+
+-- those to which others lead that are still to come, where these are known
+abbrev pub led_to_come : Index → Image → Table → (ℕ → Bool) → Numbers → List DirectoryAt
+led_to_come wide image t known led =
+    led_directories wide image t (is_met led) known led.next ((table_in image wide).slots + 1 - led.next)
+
+-- all that are still to come and that the master file directory doesn't name, where these are known
+abbrev pub others_to_come : Index → Image → Table → (ℕ → Bool) → Directories → List DirectoryAt
+others_to_come wide image t known directories =
+    unnamed_to_come image t known directories.others ++ led_to_come wide image t known directories.led
 
 -- file n is a directory that was gone over, as the master file directory names it, or will be
 abbrev pub is_gone_over : Index → Index → Disk → Directories → ℕ → Bool
@@ -40,7 +50,7 @@ is_gone_over index wide disk directories n = is_met directories.others n || is_n
 unfoldable pub directories_to_come : Index → Index → Disk → Directories → List DirectoryAt
 directories_to_come index wide disk directories =
     named_to_come index wide disk directories.master
-    ++ unnamed_to_come disk.image (table index disk) (is_gone_over index wide disk directories) directories.others
+    ++ others_to_come wide disk.image (table index disk) (is_gone_over index wide disk directories) directories
 
 -- the master file directory of this disk is read, where it can be
 abbrev pub IsReadingMaster : Index → Index → Option FoundDirectory → Disk → Type 0
@@ -52,7 +62,8 @@ master_left None = 0
 master_left (Some master) = master.directory.left
 
 unfoldable pub directories_left : Directories → ℕ
-directories_left directories = master_left directories.master + (65536 - directories.others.next)
+directories_left directories =
+    master_left directories.master + ((65536 - directories.others.next) + (65536 - directories.led.next))
 
 -- the directory in hand
 abbrev pub at_hand : OpenDirectory → DirectoryAt
@@ -69,13 +80,13 @@ pub record TakesInHand (index wide : Index) (hand : OpenDirectory) (old new : Di
   pub records : HasAllRecords index wide hand old
   pub reads : Reads old new 0
 
--- A directory is in hand under the name that its own header has, which is in hand, too.
-pub record IsUnderItsName (file : FileReader) (hand : OpenDirectory) : Type 0 where
+-- A directory is in hand under the name that its own header has, which is in hand, too; its slot is in use, or isn't.
+pub record IsUnderItsName (file : FileReader) (used : Bool) (hand : OpenDirectory) : Type 0 where
   pub words : List ℕ
   pub named : name_in (ident_area (header_in_hand file)) ≡ Some words
   pub name : hand.name ≡ directory_called words
   pub id : hand.id ≡ id_in_hand file
-  pub in_use : hand.found.in_use ≡ true
+  pub in_use : hand.found.in_use ≡ used
   pub begins : BeginsDirectory file hand.found.directory
 
 -- A directory was found, by its identification or in its slot.
@@ -102,7 +113,7 @@ pub record FindsNoNamed (index wide : Index) (master later : Option FoundDirecto
   pub reads : Reads old new 0
 
 -- The next directory was found that isn't known.
-pub record FindsUnnamed (known : ℕ → Bool) (index wide : Index) (others later : Unmet) (hand : OpenDirectory) (old new : Disk) : Type 0
+pub record FindsUnnamed (known : ℕ → Bool) (index wide : Index) (others later : Numbers) (hand : OpenDirectory) (old new : Disk) : Type 0
   where
     pub next : IsTrue old.honest → unnamed_to_come old.image (table index old) known others
         ≡ at_hand hand ∷ unnamed_to_come old.image (table index old) known later
@@ -110,10 +121,24 @@ pub record FindsUnnamed (known : ℕ → Bool) (index wide : Index) (others late
     pub takes : TakesInHand index wide hand old new
 
 -- There is none.
-pub record FindsNoUnnamed (known : ℕ → Bool) (index : Index) (others later : Unmet) (old new : Disk) : Type 0 where
+pub record FindsNoUnnamed (known : ℕ → Bool) (index : Index) (others later : Numbers) (old new : Disk) : Type 0 where
   pub none : IsTrue old.honest → unnamed_to_come old.image (table index old) known others ≡ []
   pub ended : IsTrue old.honest → unnamed_to_come old.image (table index old) known later ≡ []
   pub forward : others.next ≤ later.next
+  pub reads : Reads old new 0
+
+-- The next one was found to which others lead and that isn't known.
+pub record FindsLed (known : ℕ → Bool) (index wide : Index) (led later : Numbers) (hand : OpenDirectory) (old new : Disk) : Type 0 where
+  pub next : IsTrue old.honest → led_to_come wide old.image (table index old) known led
+      ≡ at_hand hand ∷ led_to_come wide old.image (table index old) known later
+  pub forward : led.next < later.next
+  pub takes : TakesInHand index wide hand old new
+
+-- There is none.
+pub record FindsNoLed (known : ℕ → Bool) (index wide : Index) (led later : Numbers) (old new : Disk) : Type 0 where
+  pub none : IsTrue old.honest → led_to_come wide old.image (table index old) known led ≡ []
+  pub ended : IsTrue old.honest → led_to_come wide old.image (table index old) known later ≡ []
+  pub forward : led.next ≤ later.next
   pub reads : Reads old new 0
 
 -- The next of all directories was found.

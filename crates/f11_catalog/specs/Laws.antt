@@ -1,5 +1,5 @@
 -- Laws of directories and files (Files-11 On-Disk Structure Level 1, "Index File" and "Directories").
-use Rattle.std.specs.Prelude.{◌≡◌, ℕ, ◌==◌, false, true, Contains, List, Option, Some, None, nat_le, option_map, if◌then◌else◌}
+use Rattle.std.specs.Prelude.{◌≡◌, ℕ, ◌==◌, Bool, false, true, Contains, List, Option, Some, None, nat_le, option_map, if◌then◌else◌}
 use Rattle.f11_dev.specs.Image.{Image}
 use Rattle.f11_volume.specs.home.Home.{HomeFields}
 use Rattle.f11_header.specs.Fields.{ident_area}
@@ -12,33 +12,44 @@ use Rattle.f11_store.specs.Store as store
 use Rattle.f11_store.specs.Store.{Store}
 use Rattle.f11_store.specs.declared.files.FileId.{FileId}
 use Rattle.f11_volume.specs.Contents.{file_of}
-use Rattle.f11_catalog.specs.AllDirectories.{DirectoryAt, all_directories, is_named, name_in}
-use Rattle.f11_catalog.specs.AllFiles.{all_files, is_among}
-use Rattle.f11_catalog.specs.Lines.{name_found, name_shown, named_line, record_line}
-use Rattle.f11_catalog.specs.Records.{file_found, file_named, records_found, records_of}
+use Rattle.f11_catalog.specs.AllDirectories.{DirectoryAt, all_directories, id_at, is_named, name_in}
+use Rattle.f11_catalog.specs.AllFiles.{AreLed, all_files, is_among, is_led}
+use Rattle.f11_catalog.specs.Lines.{name_found, name_shown, named_line, names_directory, record_line}
+use Rattle.f11_catalog.specs.Records.{file_found, file_named, file_unused, records_found, records_of}
 use Rattle.f11_catalog.specs.declared.walk.place.Place.TheVariants.{Entered}
 
 -- each file of a volume is one of all its files
 abbrev pub NoFileIsLeftOut : Type 0
 NoFileIsLeftOut =
-    (wide : Index) (image : Image) (index : Index) (master : FileId) (n : ℕ) → is_first (table_in image index) n ≡ true →
-    is_among (table_in image index) (all_files wide image (table_in image index) master) n ≡ true
+    (wide : Index) (image : Image) (index : Index) (master : FileId) (led : ℕ → Bool) (n : ℕ) →
+    is_first (table_in image index) n ≡ true →
+    is_among (table_in image index) (all_files wide image (table_in image index) master led) n ≡ true
 
 -- each record that isn't empty, of a directory that is gone over, has its place among all files
 abbrev pub NoRecordIsLeftOut : Type 0
 NoRecordIsLeftOut =
-    (wide : Index) (image : Image) (t : Table) (master : FileId) (directory : DirectoryAt) (r : List ℕ) →
-    Contains (all_directories wide image t master) directory → Contains (records_found wide image t directory.id) r →
+    (wide : Index) (image : Image) (t : Table) (master : FileId) (led : ℕ → Bool) (directory : DirectoryAt) (r : List ℕ) →
+    Contains (all_directories wide image t master led) directory → Contains (records_found wide image t directory.id) r →
     is_empty r ≡ false →
-    Contains (all_files wide image t master) (Entered directory.name (name_found (record_name r)) (record_id r))
+    Contains (all_files wide image t master led) (Entered directory.name (name_found (record_name r)) (record_id r))
 
 -- each directory is gone over whose slot is in use and whose own header has a name
 abbrev pub NoDirectoryIsLeftOut : Type 0
 NoDirectoryIsLeftOut =
-    (wide : Index) (image : Image) (index : Index) (master : FileId) (n : ℕ) (name : List ℕ) → is_first (table_in image index) n ≡ true →
-    is_directory (file_of image (table_in image index) n) ≡ true →
+    (wide : Index) (image : Image) (index : Index) (master : FileId) (led : ℕ → Bool) (n : ℕ) (name : List ℕ) →
+    is_first (table_in image index) n ≡ true → is_directory (file_of image (table_in image index) n) ≡ true →
     name_in (ident_area ((table_in image index).header n)) ≡ Some name →
-    is_named (all_directories wide image (table_in image index) master) n ≡ true
+    is_named (all_directories wide image (table_in image index) master led) n ≡ true
+
+-- nor is one whose slot isn't in use, and whose own header has a name, if one that is gone over leads to it, or it is the master file
+-- directory
+abbrev pub NoUnusedDirectoryIsLeftOut : Type 0
+NoUnusedDirectoryIsLeftOut =
+    (wide : Index) (image : Image) (t : Table) (master : FileId) (led : ℕ → Bool) (n : ℕ) (name : List ℕ) →
+    AreLed wide image t master led → is_led wide image t master led n ≡ true →
+    names_directory (file_unused wide image t (id_at (table_in image wide) n)) ≡ true →
+    name_in (ident_area ((table_in image wide).header n)) ≡ Some name →
+    is_named (all_directories wide image t master led) n ≡ true
 
 -- the file that the plain store has with an identification on this volume is the one that it names, as requests see it: files 1 to 3
 -- without their blocks

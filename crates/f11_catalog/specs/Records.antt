@@ -63,6 +63,10 @@ records_of image t id = entries_of (unwrap_or (file_named image t id) no_file)
 abbrev pub file_found : Index → Image → Table → FileId → Option File
 file_found wide image t id = option_or (file_named image t id) (file_named image (table_in image wide) id)
 
+-- that of these whose slot isn't in use
+abbrev pub file_unused : Index → Image → Table → FileId → Option File
+file_unused wide image t id = if is_id_of_file t id then None else file_named image (table_in image wide) id
+
 -- its records, none where there is no such file
 abbrev pub records_found : Index → Image → Table → FileId → List (List ℕ)
 records_found wide image t id = entries_of (unwrap_or (file_found wide image t id) no_file)

@@ -1,5 +1,5 @@
 -- What a step of a walk tells: along the records of a directory, or along the numbers of files (profile).
-use Rattle.std.specs.Prelude.{◌≡◌, ℕ, ◌<◌, Bool, false, IsTrue, List, [], ◌++◌, get_or}
+use Rattle.std.specs.Prelude.{◌≡◌, ℕ, zero, suc, ◌+◌, ◌<◌, if◌then◌else◌, Bool, false, IsTrue, List, [], ◌++◌, get_or}
 use Rattle.std.specs.List.{flat_map}
 use Rattle.f11_chain.specs.Calls.{table}
 use Rattle.f11_dev.specs.Disk.{Disk}
@@ -8,14 +8,23 @@ use Rattle.f11_index.specs.IndexFile.{Index}
 use Rattle.f11_index.specs.Table.{Table}
 use Rattle.f11_catalog.specs.Records.{Reads, records_to_come}
 use Rattle.f11_catalog.specs.declared.directory.DirectoryReader.{DirectoryReader}
-use Rattle.f11_catalog.specs.declared.walk.state.Unmet.{Unmet}
+use Rattle.f11_catalog.specs.declared.walk.state.Numbers.{Numbers}
 
 -- number n was met
-abbrev pub is_met : Unmet → ℕ → Bool
+abbrev pub is_met : Numbers → ℕ → Bool
 is_met numbers n = get_or numbers.met.items n false
 
+-- how many of the numbers below one weren't met
+abbrev pub unmet_below : Numbers → ℕ → ℕ
+unmet_below numbers zero = 0
+unmet_below numbers (suc n) = (if is_met numbers n then 0 else 1) + unmet_below numbers n
+
+-- how many weren't
+unfoldable pub unmet : Numbers → ℕ
+unmet numbers = unmet_below numbers 65536
+
 -- All numbers are to come.
-pub record IsNew (numbers : Unmet) : Type 0 where
+pub record IsNew (numbers : Numbers) : Type 0 where
   pub none : (n : ℕ) → is_met numbers n ≡ false
   pub first : numbers.next ≡ 1
 

@@ -1,16 +1,16 @@
 -- What the steps of a walk over all files tell, and what is still to come (profile).
 use Rattle.std.specs.Prelude.{◌≡◌, ℕ, ◌+◌, ◌-◌, ◌*◌, ◌^◌, ◌<◌, ◌≤◌, ◌||◌, Bool, IsTrue, List, [], ◌∷◌, ◌++◌}
 use Rattle.std.specs.Prelude.{Option, Some, None, IfSome}
-use Rattle.std.specs.List.{flat_map}
+use Rattle.std.specs.List.{flat_map, list_any}
 use Rattle.f11_chain.specs.Calls.{table}
 use Rattle.f11_dev.specs.Disk.{Disk}
 use Rattle.f11_dev.specs.Image.{Image}
-use Rattle.f11_dev.specs.Looked.{Looked}
 use Rattle.f11_index.specs.IndexFile.{Index}
 use Rattle.f11_index.specs.Table.{Table}
 use Rattle.f11_reader.specs.declared.file.FileReader.{FileReader}
 use Rattle.f11_store.specs.declared.files.FileId.{FileId}
-use Rattle.f11_catalog.specs.AllFiles.{all_files, id_of, is_among, lost_files, place_entered, places_entered, places_in}
+use Rattle.f11_catalog.specs.AllFiles.{AreLed, all_files, entered_files, id_of, is_among, leads_to, lost_files, place_entered}
+use Rattle.f11_catalog.specs.AllFiles.{places_entered, places_in}
 use Rattle.f11_catalog.specs.Contents.{Holds, OpensBehind}
 use Rattle.f11_catalog.specs.GoingOver.{IsReadingMaster, directories_left, directories_to_come}
 use Rattle.f11_catalog.specs.Records.{IsReadingFound, Reads, found_to_come}
@@ -25,7 +25,7 @@ use Rattle.f11_catalog.specs.declared.walk.place.Place.{Place}
 use Rattle.f11_catalog.specs.declared.walk.state.AllFiles.{AllFiles}
 use Rattle.f11_catalog.specs.declared.walk.state.EnteredFiles.{EnteredFiles}
 use Rattle.f11_catalog.specs.declared.walk.state.OpenDirectory.{OpenDirectory}
-use Rattle.f11_catalog.specs.declared.walk.state.Unmet.{Unmet}
+use Rattle.f11_catalog.specs.declared.walk.state.Numbers.{Numbers}
 
 -- what the rest of a directory names
 abbrev pub hand_to_come : Index → Index → Disk → Option OpenDirectory → List Place
@@ -39,7 +39,7 @@ entered_to_come index wide disk files =
     ++ flat_map (places_in wide disk.image (table index disk)) (directories_to_come index wide disk files.directories)
 
 -- those of other files that are still to come, where these are known
-abbrev pub others_to_come : Table → (ℕ → Bool) → Unmet → List Place
+abbrev pub others_to_come : Table → (ℕ → Bool) → Numbers → List Place
 others_to_come t known others = lost_files t known others.next (t.slots + 1 - others.next)
 
 -- file n was met, or will be
@@ -125,28 +125,54 @@ pub record EntersNoMore (index wide : Index) (files later : EnteredFiles) (old n
   pub reads : Reads old new 0
 
 -- The next file that isn't known was found.
-pub record FindsOther (known : ℕ → Bool) (index : Index) (others later : Unmet) (found : FileAt) (old new : Disk) : Type 0 where
+pub record FindsOther (known : ℕ → Bool) (index : Index) (others later : Numbers) (found : FileAt) (old new : Disk) : Type 0 where
   pub next : IsTrue old.honest →
       others_to_come (table index old) known others ≡ found.place ∷ others_to_come (table index old) known later
   pub forward : others.next < later.next
   pub opens : OpensAt index found old new
 
 -- There is none.
-pub record FindsNoOther (known : ℕ → Bool) (index : Index) (others later : Unmet) (old new : Disk) : Type 0 where
+pub record FindsNoOther (known : ℕ → Bool) (index : Index) (others later : Numbers) (old new : Disk) : Type 0 where
   pub none : IsTrue old.honest → others_to_come (table index old) known others ≡ []
   pub ended : IsTrue old.honest → others_to_come (table index old) known later ≡ []
   pub reads : Reads old new 0
 
--- A walk has begun: all files are to come.
+-- It was begun with what directories name: all of it is to come, where these numbers are those to which others lead.
+pub record BeginsEntered (index wide : Index) (master : FileId) (led : ℕ → Bool) (files : EnteredFiles) (old new : Disk) : Type 0 where
+  pub walking : IsWalkingDirectories index wide files new
+  pub all : IsTrue old.honest → entered_to_come index wide old files ≡ entered_files wide old.image (table index old) master led
+  pub reads : Reads old new 0
+
+-- All that was still to come was gone over: the numbers to which it leads are met.
+pub record FollowsAll (index wide : Index) (files : EnteredFiles) (seen later : Numbers) (old new : Disk) : Type 0 where
+  pub met : IsTrue old.honest → (n : ℕ) → is_met later n
+      ≡ (is_met seen n || list_any (leads_to wide old.image (table index old) n) (entered_to_come index wide old files))
+  pub reads : Reads old new 0
+
+-- All that directories name was gone over: these are the numbers to which it leads.
+pub record FollowsEntered (index wide : Index) (master : FileId) (led : ℕ → Bool) (seen : Numbers) (old new : Disk) : Type 0 where
+  pub met : IsTrue old.honest → (n : ℕ) → is_met seen n
+      ≡ list_any (leads_to wide old.image (table index old) n) (entered_files wide old.image (table index old) master led)
+  pub reads : Reads old new 0
+
+-- The numbers were found to which directories lead, and none of them was looked at.
+pub record FindsAllLed (index wide : Index) (master : FileId) (led : Numbers) (old new : Disk) : Type 0 where
+  pub are : IsTrue old.honest → AreLed wide old.image (table index old) master (is_met led)
+  pub first : led.next ≡ 1
+  pub reads : Reads old new 0
+
+-- A walk has begun: all files are to come, where these are the numbers to which directories lead.
 pub record BeginsWalk (index wide : Index) (master : FileId) (files : AllFiles) (old new : Disk) : Type 0 where
   pub walking : IsWalking index wide files new
-  pub all : IsTrue old.honest → files_to_come index wide old files ≡ all_files wide old.image (table index old) master
-  pub looked : Looked old new 2 0
+  pub led : ℕ → Bool
+  pub are : IsTrue old.honest → AreLed wide old.image (table index old) master led
+  pub all : IsTrue old.honest → files_to_come index wide old files ≡ all_files wide old.image (table index old) master led
+  pub reads : Reads old new 0
 
 -- It hasn't: a transfer failed, or there was no memory.
 abbrev pub FailsToBegin : WalkFault → Disk → Disk → Type 0
-FailsToBegin DeviceFault old new = Looked old new 2 1
-FailsToBegin NoMemory old new = new ≡ old
+FailsToBegin DeviceFault old new = Reads old new 1
+FailsToBegin NoMemory old new = Reads old new 0
 
 -- What stands in the next place was found.
 pub record GivesFile (index wide : Index) (files later : AllFiles) (found : FileAt) (old new : Disk) : Type 0 where

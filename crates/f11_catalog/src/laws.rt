@@ -7,9 +7,10 @@ pub fn all_files()
     ensures records { laws.NoRecordIsLeftOut }
 {}
 
-/// All directories of a volume.
+/// All directories of a volume, in use and out of use.
 pub fn all_directories()
-    ensures { laws.NoDirectoryIsLeftOut }
+    ensures in_use { laws.NoDirectoryIsLeftOut }
+    ensures unused { laws.NoUnusedDirectoryIsLeftOut }
 {}
 
 /// The files that the plain store has, what it has of directories, and the lines that tell of them.

@@ -32,7 +32,7 @@ pub fn stated_end(attributes: &[u8; 32]) -> u64
 }
 
 /// Whether the first header of a file in hand is that of a directory.
-fn is_of_directory(block: &Block) -> bool
+pub(crate) fn is_of_directory(block: &Block) -> bool
     requires header { IsTrue (holds_header block.now) }
     requires first { segment_number block.now ≡ 0 }
     ensures { result ≡ is_directory_header block.now }

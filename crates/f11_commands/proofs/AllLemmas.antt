@@ -3,7 +3,7 @@ use Rattle.std.proofs.Common.{◌≡◌, ℕ, IsTrue, List, Option, length, refl
 use Rattle.f11_catalog.proofs.ListingLemmas.{reads-then, said-later}
 use Rattle.f11_catalog.proofs.EnteredLemmas.{hand-on, master-on}
 use Rattle.f11_catalog.proofs.FilesLemmas.{files-later}
-use Rattle.f11_catalog.specs.AllFiles.{all_files, id_of}
+use Rattle.f11_catalog.specs.AllFiles.{AreLed, all_files, id_of}
 use Rattle.f11_catalog.specs.Contents.{Holds}
 use Rattle.f11_catalog.specs.Records.{Reads}
 use Rattle.f11_catalog.specs.Walking.{FailsToBegin, HoldsAt, IsWalking}
@@ -21,7 +21,7 @@ use Rattle.f11_dev.specs.Image.{Image}
 use Rattle.f11_home.specs.Home.{HomeFields}
 use Rattle.f11_index.proofs.UsedLemmas.{all-lies-within}
 use Rattle.f11_index.specs.IndexFile.{Index, all_in_use, index_of}
-use Rattle.f11_index.specs.Table.{table_of}
+use Rattle.f11_index.specs.Table.{table_in, table_of}
 use Rattle.f11_index.specs.Kept.{IndexLiesWithin}
 use Rattle.f11_reader.specs.declared.file.FileReader.{FileReader}
 use Rattle.f11_store.specs.declared.files.FileId.{FileId}
@@ -31,7 +31,7 @@ use Rattle.f11_commands.specs.AllCommand.{nothing, part, to_end, unsure}
 use Rattle.f11_commands.specs.AllCommand.{whole}
 use Rattle.f11_commands.specs.AnyVolume.{FindsVolume, IsReadable}
 use Rattle.f11_commands.specs.Copying.{master_directory}
-use Rattle.f11_commands.specs.Size.{volume_end}
+use Rattle.f11_commands.specs.Size.{volume_end, volume_end_on}
 use Rattle.f11_commands.specs.declared.outcome.Failure.{Failure}
 use Rattle.f11_commands.specs.declared.outcome.Failure.TheVariants.{DeviceFault, NoMemory, CannotWrite}
 use Rattle.f11_commands.proofs.AnyVolumeLemmas.{hindered-behind, index-of-volume, said-of-volume}
@@ -92,22 +92,32 @@ within-on index old new faults reads within = subst (λ (i : Image). IndexLiesWi
 module _ (home : HomeFields) (index wide : Index) (old mid : Disk) (found : FindsVolume home index old mid) (size : ℕ) (files : AllFiles)
     (new : Disk) (begun : BeginsWithEnd index wide size files mid new) (all-used : wide ≡ all_in_use index) where
   begun-reads : Reads mid new 0
-  begun-reads = reads-then begun.ends.reads (_, begun.begins.looked)
+  begun-reads = reads-then begun.ends.reads begun.begins.reads
+
+  there : IsTrue old.honest → IsTrue begun.mid.honest
+  there honest = begun.ends.reads.1.honest ∙ (found.looked.honest ∙ honest)
 
   pub begins-all : BeginsAll index wide size files old new
   begins-all = record {
     home = home;
     readable = found.readable;
+    led = begun.begins.led;
+    are = λ honest.
+        subst (λ (i : Index). AreLed wide old.image (table_in old.image i) master_directory begun.begins.led)
+        (index-of-volume home index old mid found honest)
+        (subst (λ (i : Image). AreLed wide i (table_in i index) master_directory begun.begins.led)
+        (begun.ends.reads.1.image ∙ found.looked.image) (begun.begins.are (there honest)));
     all = λ honest.
-        let honest' : IsTrue mid.honest = found.looked.honest ∙ honest in
-        files-later index wide files begun.mid new begun.begins.looked.image
-        ∙ begun.begins.all (begun.ends.reads.1.honest ∙ honest')
-        ∙ said-later (λ image t. all_files wide image t master_directory) index begun.ends.reads.1
-        ∙ said-of-volume home index old mid found (λ image t. all_files wide image t master_directory) honest;
+        files-later index wide files begun.mid new begun.begins.reads.1.image
+        ∙ begun.begins.all (there honest)
+        ∙ said-later (λ image t. all_files wide image t master_directory begun.begins.led) index begun.ends.reads.1
+        ∙ said-of-volume home index old mid found (λ image t. all_files wide image t master_directory begun.begins.led) honest;
     index_is = index-of-volume home index old mid found;
     wide_is = all-used;
     size_is = λ honest.
-        begun.ends.end_is (found.looked.honest ∙ honest) ∙ said-of-volume home index old mid found volume_end honest;
+        begun.ends.end_is (found.looked.honest ∙ honest) ∙ said-of-volume home index old mid found (volume_end wide) honest
+        ∙ ap (λ (x : Index). volume_end x old.image (table_of old.image home))
+        (all-used ∙ ap all_in_use (index-of-volume home index old mid found honest));
     reads = reads-then (_, found.looked) begun-reads;
   }
 
@@ -120,8 +130,8 @@ module _ (home : HomeFields) (index wide : Index) (old mid : Disk) (found : Find
 
 -- or they couldn't be begun with
 pub begin-fails : (fault : WalkFault) (old mid new : Disk) → Reads old mid 0 → FailsToBegin fault mid new → FailsWithEnd fault old new
-begin-fails walk.DeviceFault old mid new reads fails = reads-then reads (_, fails)
-begin-fails walk.NoMemory old mid new reads same = subst (λ (d : Disk). Reads old d 0) (sym same) reads
+begin-fails walk.DeviceFault old mid new reads fails = reads-then reads fails
+begin-fails walk.NoMemory old mid new reads fails = reads-then reads fails
 
 -- the volume was verified before
 module _ (old mid new : Disk) (reads : Reads old mid 0) where
@@ -130,13 +140,17 @@ module _ (old mid new : Disk) (reads : Reads old mid 0) where
   all-behind index wide size files begins = record {
     home = begins.home;
     readable = λ honest. subst (λ (i : Image). IsReadable i begins.home) reads.1.image (begins.readable (reads.1.honest ∙ honest));
+    led = begins.led;
+    are = λ honest.
+        subst (λ (i : Image). AreLed wide i (table_of i begins.home) master_directory begins.led) reads.1.image
+        (begins.are (reads.1.honest ∙ honest));
     all = λ honest.
         begins.all (reads.1.honest ∙ honest)
-        ∙ ap (λ (i : Image). all_files wide i (table_of i begins.home) master_directory) reads.1.image;
+        ∙ ap (λ (i : Image). all_files wide i (table_of i begins.home) master_directory begins.led) reads.1.image;
     index_is = λ honest. begins.index_is (reads.1.honest ∙ honest) ∙ ap (λ (i : Image). index_of i begins.home) reads.1.image;
     wide_is = begins.wide_is;
     size_is = λ honest.
-        begins.size_is (reads.1.honest ∙ honest) ∙ ap (λ (i : Image). volume_end i (table_of i begins.home)) reads.1.image;
+        begins.size_is (reads.1.honest ∙ honest) ∙ ap (λ (i : Image). volume_end_on i begins.home) reads.1.image;
     reads = reads-then reads begins.reads;
   }
 

@@ -6,9 +6,9 @@ use Rattle.std.specs.Prelude.{Option, Some, None, Result, Ok, Err, is_some, if�
 use Rattle.std.specs.Fmt.{decimal}
 use Rattle.std.specs.Int.{bit_at}
 use Rattle.std.specs.List.{concat}
-use Rattle.f11_catalog.specs.AllFiles.{all_files, id_of}
+use Rattle.f11_catalog.specs.AllFiles.{AreLed, all_files, id_of}
 use Rattle.f11_catalog.specs.Lines.{place_text}
-use Rattle.f11_catalog.specs.Records.{Reads}
+use Rattle.f11_catalog.specs.Records.{Reads, index_by as by_use}
 use Rattle.f11_catalog.specs.Walking.{BeginsWalk, GivesFile, HasNoFile, files_left as walk_left, files_to_come}
 use Rattle.f11_catalog.specs.declared.fault.WalkFault.{WalkFault}
 use Rattle.f11_catalog.specs.declared.fault.WalkFault.TheVariants as walk
@@ -38,7 +38,7 @@ use Rattle.f11_commands.specs.AnyVolume.{CannotBeRead, IsReadable}
 use Rattle.f11_commands.specs.Copying.{master_directory}
 use Rattle.f11_commands.specs.Output.{WriterTakes}
 use Rattle.f11_commands.specs.FoundFile.{last_end}
-use Rattle.f11_commands.specs.Size.{FindsVolumeEnd, volume_end}
+use Rattle.f11_commands.specs.Size.{FindsVolumeEnd, volume_end_on}
 use Rattle.f11_commands.specs.TakingOut.{StopsBehind, WritesContent, blocks_before_end, end_before, missing_text}
 use Rattle.f11_commands.specs.declared.get.all.counts.Counts.{Counts}
 use Rattle.f11_commands.specs.declared.get.all.left_out.LeftOut.{LeftOut}
@@ -94,7 +94,7 @@ counts_of all = all.counts
 
 -- the index file by which a file was found: its slot is in use, or isn't
 abbrev pub index_by : {D : Type 0} {G : Ghosts D} → Bool → TakingAll D G → Index
-index_by in_use all = if in_use then index_of all else wide_of all
+index_by in_use all = by_use in_use (index_of all) (wide_of all)
 
 -- how many more files may come at most
 abbrev pub files_left : {D : Type 0} {G : Ghosts D} → TakingAll D G → ℕ
@@ -170,7 +170,7 @@ all_answered all = if all.failed then Err DeviceFault else Ok (record { answer =
 -- All files were begun with, of those that an index file has, and it was found where the volume ends.
 pub record BeginsWithEnd (index wide : Index) (size : ℕ) (files : AllFiles) (old new : Disk) : Type 0 where
   pub mid : Disk
-  pub ends : FindsVolumeEnd index size old mid
+  pub ends : FindsVolumeEnd index wide size old mid
   pub begins : BeginsWalk index wide master_directory files mid new
 
 -- They weren't.
@@ -178,14 +178,17 @@ abbrev pub FailsWithEnd : WalkFault → Disk → Disk → Type 0
 FailsWithEnd walk.DeviceFault old new = Reads old new 1
 FailsWithEnd walk.NoMemory old new = Reads old new 0
 
--- All files of a volume that can be read are to come.
+-- All files of a volume that can be read are to come, where these are the numbers to which directories lead.
 pub record BeginsAll (index wide : Index) (size : ℕ) (files : AllFiles) (old new : Disk) : Type 0 where
   pub home : HomeFields
   pub readable : IsTrue old.honest → IsReadable old.image home
-  pub all : IsTrue old.honest → files_to_come index wide new files ≡ all_files wide old.image (table_of old.image home) master_directory
+  pub led : ℕ → Bool
+  pub are : IsTrue old.honest → AreLed wide old.image (table_of old.image home) master_directory led
+  pub all : IsTrue old.honest →
+      files_to_come index wide new files ≡ all_files wide old.image (table_of old.image home) master_directory led
   pub index_is : IsTrue old.honest → index ≡ index_of_image old.image home
   pub wide_is : wide ≡ all_in_use index
-  pub size_is : IsTrue old.honest → size ≡ volume_end old.image (table_of old.image home)
+  pub size_is : IsTrue old.honest → size ≡ volume_end_on old.image home
   pub reads : Reads old new 0
 
 -- The files couldn't be begun with: a transfer failed, or there was no memory, and nothing was written; or the volume can't be read, and

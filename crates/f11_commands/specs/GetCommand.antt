@@ -1,11 +1,11 @@
 -- What `get` takes out of a volume, faulty or not (profile).
-use Rattle.std.specs.Prelude.{◌≡◌, ℕ, ◌+◌, Bool, IsTrue, List, [], ◌∷◌, ◌++◌, codes, length, take, Option, None, Result, Ok, Err}
-use Rattle.std.specs.Prelude.{if◌then◌else◌}
+use Rattle.std.specs.Prelude.{◌≡◌, ℕ, ◌+◌, Bool, IsTrue, List, [], ◌∷◌, ◌++◌, codes, length, take, Option, None, is_some, option_map}
+use Rattle.std.specs.Prelude.{Result, Ok, Err}
 use Rattle.std.specs.Fmt.{decimal}
 use Rattle.std.specs.List.{concat}
 use Rattle.std.specs.Option.{ok_or}
 use Rattle.f11_catalog.specs.Listing.{id_entered}
-use Rattle.f11_catalog.specs.Records.{Reads, file_found}
+use Rattle.f11_catalog.specs.Records.{Reads, file_found, file_named, index_by}
 use Rattle.f11_catalog.specs.chain.Calls.{table}
 use Rattle.f11_dev.specs.Disk.{Disk}
 use Rattle.f11_dev.specs.Image.{Image}
@@ -25,14 +25,15 @@ use Rattle.f11_store.specs.File.{File, stated_end}
 use Rattle.f11_store.specs.declared.files.FileId.{FileId}
 use Rattle.f11_store.specs.declared.refusals.Refusal.{Refusal}
 use Rattle.f11_store.specs.declared.refusals.Refusal.TheVariants.{NoSuchFile}
-use Rattle.f11_volume.specs.Contents.{blocks_reached, file_of}
+use Rattle.f11_volume.specs.Contents.{blocks_reached}
 use Rattle.f11_commands.specs.AnyVolume.{CannotBeRead, IsReadable, TellsFault, directory_named, unless_refused}
 use Rattle.f11_commands.specs.CopyCommand.{refused_line}
 use Rattle.f11_commands.specs.Output.{WriterTakes}
-use Rattle.f11_commands.specs.Size.{volume_end}
+use Rattle.f11_commands.specs.Size.{volume_end, volume_end_on}
 use Rattle.f11_commands.specs.TakingOut.{FailsToWriteContent, WritesContent, blocks_before_end, bytes_to_come, end_before, lbns_to_come}
 use Rattle.f11_commands.specs.TakingOut.{missing_text}
 use Rattle.f11_commands.specs.TakingText.{FailsToWriteText, WritesGoodText, WritesText, file_to_come}
+use Rattle.f11_commands.specs.declared.get.sought.Sought.{Sought}
 use Rattle.f11_commands.specs.declared.get.told.Told.{Told}
 use Rattle.f11_commands.specs.declared.get.told.Told.TheVariants.{BadRecords, Copied}
 use Rattle.f11_commands.specs.declared.outcome.Answer.{Answer}
@@ -45,53 +46,55 @@ use Rattle.f11_commands.specs.declared.volume.VolumeFault.{VolumeFault}
 abbrev pub bytes_of : File → List ℕ
 bytes_of f = take (stated_end f.attr) (concat f.blocks)
 
--- the file with an identification: one whose slot is in use, else the one that the index file has which takes each slot as in use
-abbrev pub file_identified : Index → Image → Table → FileId → Result File Refusal
-file_identified wide image t id = ok_or (file_found wide image t id) NoSuchFile
+-- an identification and the file with it, if there is one: one whose slot is in use, else the one that the index file has which takes each
+-- slot as in use
+abbrev pub file_identified : Index → Image → Table → FileId → Result (FileId × File) Refusal
+file_identified wide image t id = ok_or (option_map (λ file. (id, file)) (file_found wide image t id)) NoSuchFile
 
--- the file that a directory has under a name, or why there is none
-abbrev pub file_entered : Index → Image → Table → List ℕ → FileId → Result File Refusal
+-- those that a directory has under a name, or why there is none
+abbrev pub file_entered : Index → Image → Table → List ℕ → FileId → Result (FileId × File) Refusal
 file_entered wide image t name directory =
     unless_refused (file_identified wide image t) (id_entered wide image t directory name)
 
--- the file that the directory with a name has under a name, or why there is none
-abbrev pub file_sought : Index → Image → Table → List ℕ → List ℕ → Result File Refusal
+-- those that the directory with a name has under a name, or why there is none
+abbrev pub file_sought : Index → Image → Table → List ℕ → List ℕ → Result (FileId × File) Refusal
 file_sought wide image t directory name = unless_refused (file_entered wide image t name) (directory_named wide image t directory)
 
 -- so on a volume
-abbrev pub volume_file : Image → HomeFields → List ℕ → List ℕ → Result File Refusal
+abbrev pub volume_file : Image → HomeFields → List ℕ → List ℕ → Result (FileId × File) Refusal
 volume_file image home directory name = file_sought (all_in_use (index_of image home)) image (table_of image home) directory name
 
--- the index file by which a file is read: its slot is in use, or isn't
-abbrev pub index_read : Bool → Image → HomeFields → Index
-index_read in_use image home = if in_use then index_of image home else all_in_use (index_of image home)
+-- the index file by which a file is read that was found: its slot is in use, or isn't
+abbrev pub read_by : Index → Index → Sought → Index
+read_by index wide sought = index_by sought.in_use index wide
 
--- A file was found, by what this says of the files that an index file has: it has this number, and all its bytes and blocks are to come,
--- read by this index file.
-pub record OpensSought (sought : Image → Table → Result File Refusal) (index by : Index) (file : FileReader) (end : ℕ) (old new : Disk)
+-- A file was found, by what this says of the files that an index file has: it is told whether its slot is in use, and all its bytes and
+-- blocks are to come.
+pub record OpensSought (what : Image → Table → Result (FileId × File) Refusal) (index wide : Index) (sought : Sought) (old new : Disk)
     : Type 0 where
-  pub found : File
-  pub is : IsTrue old.honest → sought old.image (table index old) ≡ Ok found
-  pub number : ℕ
-  pub found_is : IsTrue old.honest → found ≡ file_of old.image (table by old) number
-  pub places : IsTrue old.honest → lbns_to_come by new file ≡ blocks_reached (table by old) number
-  pub to_come : IsTrue old.honest → bytes_to_come by new file end ≡ bytes_of found
-  pub end_is : IsTrue old.honest → end ≡ stated_end found.attr
-  pub attr_is : IsTrue old.honest → (file_to_come by new file).attr ≡ found.attr
-  pub blocks_are : IsTrue old.honest → (file_to_come by new file).blocks ≡ found.blocks
-  pub reading : IsReading by file new
+  pub id : FileId
+  pub file : File
+  pub is : IsTrue old.honest → what old.image (table index old) ≡ Ok (id, file)
+  pub use_is : IsTrue old.honest → sought.in_use ≡ is_some (file_named old.image (table index old) id)
+  pub places : IsTrue old.honest →
+      lbns_to_come (read_by index wide sought) new sought.file ≡ blocks_reached (table (read_by index wide sought) old) id.number
+  pub to_come : IsTrue old.honest → bytes_to_come (read_by index wide sought) new sought.file sought.end ≡ bytes_of file
+  pub end_is : IsTrue old.honest → sought.end ≡ stated_end file.attr
+  pub attr_is : IsTrue old.honest → (file_to_come (read_by index wide sought) new sought.file).attr ≡ file.attr
+  pub blocks_are : IsTrue old.honest → (file_to_come (read_by index wide sought) new sought.file).blocks ≡ file.blocks
+  pub reading : IsReading (read_by index wide sought) sought.file new
   pub reads : Reads old new 0
 
 -- So it was, and where the volume ends.
-pub record OpensWithEnd (sought : Image → Table → Result File Refusal) (index by : Index) (file : FileReader) (end size : ℕ)
-    (old new : Disk)
-    : Type 0 where
-  pub opens : OpensSought sought index by file end old new
-  pub size_is : IsTrue old.honest → size ≡ volume_end old.image (table index old)
+pub record OpensWithEnd (what : Image → Table → Result (FileId × File) Refusal) (index wide : Index) (sought : Sought) (size : ℕ)
+    (old new : Disk) : Type 0 where
+  pub opens : OpensSought what index wide sought old new
+  pub size_is : IsTrue old.honest → size ≡ volume_end wide old.image (table index old)
 
 -- It wasn't.
-pub record LacksSought (sought : Image → Table → Result File Refusal) (index : Index) (refusal : Refusal) (old new : Disk) : Type 0 where
-  pub refused : IsTrue old.honest → sought old.image (table index old) ≡ Err refusal
+pub record LacksSought (what : Image → Table → Result (FileId × File) Refusal) (index : Index) (refusal : Refusal) (old new : Disk)
+    : Type 0 where
+  pub refused : IsTrue old.honest → what old.image (table index old) ≡ Err refusal
   pub reads : Reads old new 0
 
 -- A file is to be read: it has its header in hand, and its volume's index file lies on the device.
@@ -99,23 +102,26 @@ pub record IsToRead (index : Index) (file : FileReader) (disk : Disk) : Type 0 w
   pub within : IndexLiesWithin index (length disk.image)
   pub reading : IsReading index file disk
 
--- The file of a directory was found on a volume that can be read and ends here, and has this number; its slot is in use, or isn't. What is
--- to come is all of it: its bytes, up to the end that it states; its blocks, which lie there; and, as another file, what its attributes and
--- its blocks say.
+-- the index file by which a volume's file is read: its slot is in use, or isn't
+abbrev pub index_read : Bool → Image → HomeFields → Index
+index_read in_use image home = index_by in_use (index_of image home) (all_in_use (index_of image home))
+
+-- The file of a directory was found on a volume that can be read and ends here; its slot is in use, or isn't. What is to come is all of it:
+-- its bytes, up to the end that it states; its blocks, which lie there; and, as another file, what its attributes and its blocks say.
 pub record FindsSought (directory name : List ℕ) (in_use : Bool) (size : ℕ) (bytes : List ℕ) (end : ℕ) (lbns : List ℕ) (come : File)
     (old new : Disk) : Type 0 where
   pub home : HomeFields
   pub readable : IsTrue old.honest → IsReadable old.image home
-  pub found : File
-  pub is : IsTrue old.honest → volume_file old.image home directory name ≡ Ok found
-  pub number : ℕ
-  pub found_is : IsTrue old.honest → found ≡ file_of old.image (table_in old.image (index_read in_use old.image home)) number
-  pub places : IsTrue old.honest → lbns ≡ blocks_reached (table_in old.image (index_read in_use old.image home)) number
-  pub size_is : IsTrue old.honest → size ≡ volume_end old.image (table_of old.image home)
-  pub bytes_are : IsTrue old.honest → bytes ≡ bytes_of found
-  pub end_is : IsTrue old.honest → end ≡ stated_end found.attr
-  pub attr_is : IsTrue old.honest → come.attr ≡ found.attr
-  pub blocks_are : IsTrue old.honest → come.blocks ≡ found.blocks
+  pub id : FileId
+  pub file : File
+  pub is : IsTrue old.honest → volume_file old.image home directory name ≡ Ok (id, file)
+  pub use_is : IsTrue old.honest → in_use ≡ is_some (file_named old.image (table_of old.image home) id)
+  pub places : IsTrue old.honest → lbns ≡ blocks_reached (table_in old.image (index_read in_use old.image home)) id.number
+  pub size_is : IsTrue old.honest → size ≡ volume_end_on old.image home
+  pub bytes_are : IsTrue old.honest → bytes ≡ bytes_of file
+  pub end_is : IsTrue old.honest → end ≡ stated_end file.attr
+  pub attr_is : IsTrue old.honest → come.attr ≡ file.attr
+  pub blocks_are : IsTrue old.honest → come.blocks ≡ file.blocks
   pub reads : Reads old new 0
 
 -- There is none on it, and this says why.

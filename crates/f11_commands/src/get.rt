@@ -5,6 +5,8 @@ pub mod blocks;
 pub mod found;
 mod missing;
 pub mod name;
+pub mod open;
 pub mod seek;
+pub mod sought;
 mod told;
 pub mod write;

@@ -1,12 +1,14 @@
 //! How many blocks a Files-11 volume has.
 ghost use Rattle.std.specs.Prelude.{◌≡◌, IfErr, IfOk, OnErr, length};
 ghost use Rattle.f11_catalog.specs.Records.{Reads};
-ghost use Rattle.f11_commands.specs.Size.{FailsToFindWanted, FindsVolumeEnd, FindsWanted, ReadsSize, if_above, size_in as size_of_control};
+ghost use Rattle.f11_commands.specs.GetCommand.{IsToRead};
+ghost use Rattle.f11_commands.specs.Size.{FailsToFindWanted, FindsVolumeEnd, FindsWanted, ReadsControl, ReadsSize, if_above, size_in as size_of_control};
 ghost use Rattle.f11_index.specs.Kept.{index_kept, IndexLiesWithin};
 
+use crate::get::open::open_file;
 use crate::outcome::Failure;
 use crate::volume::read_index;
-use f11_bytes::{BLOCK_SIZE, Block, read_long};
+use f11_bytes::{BLOCK_SIZE, Block, NoMemory, read_long};
 use f11_dev::{Device, DeviceFault};
 use f11_index::IndexFile;
 use f11_reader::FileReader;
@@ -35,9 +37,12 @@ pub fn blocks_wanted<D: Device>(alloc: Global, device: &mut D) -> Result<Option<
         (D.disk device.old) (D.disk device.new)) }
 {
     match read_index(alloc, device) {
-        Ok(Ok((_, index))) => match read_size(device, &index) {
-            Ok(size) => Ok(above(device.blocks(), size)),
-            Err(DeviceFault) => Err(Failure::DeviceFault),
+        Ok(Ok((_, index))) => match index.with_all_in_use(alloc) {
+            Ok(wide) => match read_size(device, &index, &wide) {
+                Ok(size) => Ok(above(device.blocks(), size)),
+                Err(DeviceFault) => Err(Failure::DeviceFault),
+            },
+            Err(NoMemory) => Err(Failure::NoMemory),
         },
         Ok(Err(_)) => Ok(None),
         Err(failure) => Err(failure),
@@ -50,13 +55,18 @@ pub fn blocks_wanted<D: Device>(alloc: Global, device: &mut D) -> Result<Option<
 /// # Errors
 ///
 /// `DeviceFault` where a transfer failed.
-pub(crate) fn volume_end<D: Device>(device: &mut D, index: &IndexFile) -> Result<u32, DeviceFault>
+pub(crate) fn volume_end<D: Device>(
+    device: &mut D,
+    index: &IndexFile,
+    wide: &IndexFile,
+) -> Result<u32, DeviceFault>
     requires within { IndexLiesWithin (index_kept index.now) (length (D.disk device.old).image) }
-    ensures finds { IfOk result (λ end. FindsVolumeEnd (index_kept index.now) end
+    requires wide { IndexLiesWithin (index_kept wide.now) (length (D.disk device.old).image) }
+    ensures finds { IfOk result (λ end. FindsVolumeEnd (index_kept index.now) (index_kept wide.now) end
         (D.disk device.old) (D.disk device.new)) }
     ensures failed { OnErr result (Reads (D.disk device.old) (D.disk device.new) 1) }
 {
-    match read_size(device, index) {
+    match read_size(device, index, wide) {
         Ok(size) => Ok(size.unwrap_or(MOST_BLOCKS).max(device.blocks())),
         Err(DeviceFault) => Err(DeviceFault),
     }
@@ -72,27 +82,49 @@ fn above(blocks: u32, size: Option<u32>) -> Option<u32>
     }
 }
 
-/// The size that the control block of a volume states, if it does.
-fn read_size<D: Device>(device: &mut D, index: &IndexFile) -> Result<Option<u32>, DeviceFault>
+/// The size that the control block of a volume states, if it does; whether or not the slot of its file is in use.
+fn read_size<D: Device>(
+    device: &mut D,
+    index: &IndexFile,
+    wide: &IndexFile,
+) -> Result<Option<u32>, DeviceFault>
     requires within { IndexLiesWithin (index_kept index.now) (length (D.disk device.old).image) }
-    ensures reads { IfOk result (λ size. ReadsSize (index_kept index.now) size
+    requires wide { IndexLiesWithin (index_kept wide.now) (length (D.disk device.old).image) }
+    ensures reads { IfOk result (λ size. ReadsSize (index_kept index.now) (index_kept wide.now) size
         (D.disk device.old) (D.disk device.new)) }
     ensures failed { OnErr result (Reads (D.disk device.old) (D.disk device.new) 1) }
 {
-    let mut file = match FileReader::open(device, index, BITMAP_FILE) {
-        Ok(Some(file)) => file,
-        Ok(None) => return Ok(None),
-        Err(DeviceFault) => return Err(DeviceFault),
-    };
+    match open_file(device, index, wide, BITMAP_FILE) {
+        Ok(Ok(found)) => {
+            let by = if found.in_use { index } else { wide };
+            read_control(device, by, found.file)
+        }
+        Ok(Err(_)) => Ok(None),
+        Err(DeviceFault) => Err(DeviceFault),
+    }
+}
+
+/// The size that the next block of a file states, which is a control block, if it does.
+fn read_control<D: Device>(
+    device: &mut D,
+    by: &IndexFile,
+    file: FileReader,
+) -> Result<Option<u32>, DeviceFault>
+    requires to_read { IsToRead (index_kept by.now) file (D.disk device.old) }
+    ensures reads { IfOk result (λ size. ReadsControl (index_kept by.now) file size
+        (D.disk device.old) (D.disk device.new)) }
+    ensures failed { OnErr result (Reads (D.disk device.old) (D.disk device.new) 1) }
+{
+    let mut file = file;
     let mut block = [0; BLOCK_SIZE];
-    match file.read(device, index, &mut block) {
+    match file.read(device, by, &mut block) {
         Ok(true) => Ok(size_in(&block)),
         Ok(false) => Ok(None),
         Err(DeviceFault) => Err(DeviceFault),
     }
 }
 
-/// The size that a control block states, where it tells of 1 to 126 bitmap blocks, and these have bits for so many.
+/// The size that a control block states, where it tells of 1 to 126 bitmap blocks, and these have bits for so many, which are some.
 fn size_in(block: &Block) -> Option<u32>
     ensures { result ≡ size_of_control block.now }
 {
@@ -101,7 +133,7 @@ fn size_in(block: &Block) -> Option<u32>
         return None;
     }
     let size = read_long(block, 4 + 4 * count);
-    if size > 4096 * count as u32 {
+    if size == 0 || size > 4096 * count as u32 {
         return None;
     }
     Some(size)

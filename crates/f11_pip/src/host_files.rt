@@ -178,7 +178,10 @@ pub fn ended<'a>(
     answer: FileAnswer,
     remark: &mut Option<Remark<'a>>,
 ) -> Answer {
-    let is_faulty = matches!(answer, FileAnswer::Faulty(_));
-    *remark = remarks::of_image(rt, image, is_faulty);
+    let fault = match answer {
+        FileAnswer::Faulty(system) => Some(system),
+        FileAnswer::Done | FileAnswer::Refused => None,
+    };
+    *remark = remarks::of_image(rt, image, fault);
     answer.answer()
 }

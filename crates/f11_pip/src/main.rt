@@ -149,7 +149,7 @@ fn run<'a, W: Write>(
         Words::Dump { image, number } => {
             let mut device = opened(FileImage::open_to_read(rt, image), image, remark)?;
             let answer = print_header(rt.alloc(), &mut device, writer, number)?;
-            Ok(looked(rt, image, answer, remark))
+            Ok(looked(rt, image, System::Files11, answer, remark))
         }
         Words::FlxFromRt {
             mode,
@@ -209,7 +209,7 @@ fn run<'a, W: Write>(
         Words::Home { image } => {
             let mut device = opened(FileImage::open_to_read(rt, image), image, remark)?;
             let answer = print_home(&mut device, writer)?;
-            Ok(looked(rt, image, answer, remark))
+            Ok(looked(rt, image, System::Files11, answer, remark))
         }
         Words::Init {
             image,
@@ -280,7 +280,7 @@ fn run<'a, W: Write>(
         Words::RtList { image } => {
             let device = opened(FileImage::open_to_read(rt, image), image, remark)?;
             let (_, answer) = print_rt_list(rt.alloc(), device, writer);
-            Ok(looked(rt, image, answer?, remark))
+            Ok(looked(rt, image, System::Rt11, answer?, remark))
         }
         Words::RtLs { rt: image } => {
             let device = opened(FileImage::open_to_read(rt, image), image, remark)?;
@@ -295,14 +295,14 @@ fn run<'a, W: Write>(
         Words::RtVfy { image } => {
             let device = opened(FileImage::open_to_read(rt, image), image, remark)?;
             let (_, answer) = print_rt_vfy(rt.alloc(), device, writer);
-            Ok(looked(rt, image, answer?, remark))
+            Ok(looked(rt, image, System::Rt11, answer?, remark))
         }
         Words::Run { image, script } => {
             let device = opened(FileImage::open(rt, image), image, remark)?;
             let reader = File::open(rt, script).map_err(CannotOpen::from);
             let reader = opened(reader, script, remark)?;
             let (_, answer) = print_run(rt.alloc(), device, reader, writer);
-            Ok(looked(rt, image, answer?, remark))
+            Ok(looked(rt, image, System::Files11, answer?, remark))
         }
         Words::Vfy { image, update } => vfy(rt, image, update, writer, remark),
     }
@@ -338,7 +338,7 @@ fn vfy<'a, W: Write>(
         let (_, answer) = print_vfy(rt.alloc(), device, writer);
         answer?
     };
-    Ok(looked(rt, image, answer, remark))
+    Ok(looked(rt, image, System::Files11, answer, remark))
 }
 
 /// The answer of a command that serves any volume, and what there is to say of its image.
@@ -429,14 +429,18 @@ fn copied<'a>(
     remark: &mut Option<Remark<'a>>,
 ) -> Answer {
     *remark = match answer {
-        FileAnswer::Faulty(System::Files11) => remarks::of_image(rt, asked.image, true),
-        FileAnswer::Faulty(System::Rt11) => remarks::of_image(rt, asked.rt_image, true),
+        FileAnswer::Faulty(System::Files11) => remarks::of_image(
+            rt,
+            asked.image,
+            Some(System::Files11),
+        ),
+        FileAnswer::Faulty(System::Rt11) => remarks::of_image(
+            rt,
+            asked.rt_image,
+            Some(System::Rt11),
+        ),
         FileAnswer::Done | FileAnswer::Refused => {
-            remarks::of_image(rt, asked.image, false).or(remarks::of_image(
-                rt,
-                asked.rt_image,
-                false,
-            ))
+            remarks::of_image(rt, asked.image, None).or(remarks::of_image(rt, asked.rt_image, None))
         }
     };
     answer.answer()
@@ -460,14 +464,20 @@ fn opened<'a, T>(
     }
 }
 
-/// The answer of a command on an image, and a remark on its file where there is one.
+/// The answer of a command on an image of a volume of this system, and a remark on its file where there is one.
 fn looked<'a>(
     rt: &HostRuntime,
     image: &'a str,
+    system: System,
     answer: Answer,
     remark: &mut Option<Remark<'a>>,
 ) -> Answer {
-    *remark = remarks::of_image(rt, image, answer == Answer::Fault);
+    let fault = if answer == Answer::Fault {
+        Some(system)
+    } else {
+        None
+    };
+    *remark = remarks::of_image(rt, image, fault);
     answer
 }
 

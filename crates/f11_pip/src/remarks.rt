@@ -1,10 +1,10 @@
 //! What is said on standard error beside the lines that are fixed: which word is meant, and why.
 use f11_commands::f11_layout::{InitParams, MOST_BLOCKS, is_label};
-use f11_commands::{RtState, blocks_wanted};
+use f11_commands::{Answer, RtState, System, blocks_wanted, print_home, print_rt_vfy};
 use f11_dev::{CannotOpen, FileImage, MAX_BLOCKS};
 use std::env::{Env, FillError};
 use std::fs::{self, File};
-use std::io::Read;
+use std::io::{self, Read};
 use thiserror::Error;
 
 /// The bytes of the longest word in which is looked for some that are no text: those of the longest path.
@@ -60,8 +60,14 @@ pub enum Why {
     #[error("stays, all zeros; remove it first")]
     Zeros,
     /// Its file begins as that of another program does, which packs what it keeps.
-    #[error("not a raw image")]
-    NotRaw,
+    #[error("{0}, not a raw image: unpack it first")]
+    NotRaw(&'static str),
+    /// A Files-11 volume was looked for, and it is an RT-11 volume.
+    #[error("an RT-11 volume: rt-vfy, rt-ls and rt-get serve it")]
+    OfRt11,
+    /// An RT-11 volume was looked for, and it is a Files-11 volume.
+    #[error("a Files-11 volume: vfy, ls and get serve it")]
+    OfFiles11,
     /// The volume in it has faults.
     #[error("the volume has faults, which vfy tells")]
     Faulty,
@@ -145,9 +151,13 @@ fn limit(word: &'static str, limit: &'static str) -> Remark<'static> {
 /// where it has none, that not all of its file is read.
 pub fn of_volume<'a>(rt: &HostRuntime, word: &'a str, is_faulty: bool) -> Option<Remark<'a>> {
     if is_faulty {
-        Some(unless_packed(rt, word, of_faults(rt, word)))
+        let why = of_other(rt, word, System::Files11).unwrap_or(of_faults(rt, word));
+        Some(Remark {
+            word: Which::Text(word),
+            why,
+        })
     } else {
-        of_image(rt, word, false)
+        of_image(rt, word, None)
     }
 }
 
@@ -174,43 +184,32 @@ fn of_faults(rt: &HostRuntime, word: &str) -> Why {
 /// The same of the image of an RT-11 volume, by how that is.
 pub fn of_rt_volume<'a>(rt: &HostRuntime, word: &'a str, state: RtState) -> Option<Remark<'a>> {
     match state {
-        RtState::Sound => of_image(rt, word, false),
+        RtState::Sound => of_image(rt, word, None),
         RtState::Short(blocks) => Some(Remark {
             word: Which::Text(word),
             why: Why::Short(blocks, 512 * u64::from(blocks)),
         }),
-        RtState::Faulty => Some(unless_packed(rt, word, Why::RtFaulty)),
+        RtState::Faulty => Some(Remark {
+            word: Which::Text(word),
+            why: of_other(rt, word, System::Rt11).unwrap_or(Why::RtFaulty),
+        }),
     }
 }
 
-/// That an image is no raw one, where it is none, and else why it is remarked.
-fn unless_packed<'a>(rt: &HostRuntime, word: &'a str, why: Why) -> Remark<'a> {
-    let why = match of_image(rt, word, true) {
-        Some(
-            Remark {
-                why: Why::NotRaw,
-                ..
-            },
-        ) => Why::NotRaw,
-        _ => why,
-    };
-    Remark {
-        word: Which::Text(word),
-        why,
-    }
-}
-
-/// What there is to say of the file that a word names as an image: that it isn't one, which is asked where a fault was found,
-/// or that not all of it is read.
-pub fn of_image<'a>(rt: &HostRuntime, word: &'a str, is_faulty: bool) -> Option<Remark<'a>> {
+/// What there is to say of the file that a word names as an image: that it is something else, which is asked where a fault of this system's
+/// volume was found, or that not all of it is read.
+pub fn of_image<'a>(rt: &HostRuntime, word: &'a str, fault: Option<System>) -> Option<Remark<'a>> {
     let metadata = fs::metadata(rt, word).ok()?;
     if !metadata.is_file() {
         return None;
     }
-    let why = if is_faulty && is_packed(beginning(rt, word)) {
-        Some(Why::NotRaw)
-    } else {
-        of_length(metadata.len())
+    let other = match fault {
+        Some(system) => of_other(rt, word, system),
+        None => None,
+    };
+    let why = match other {
+        Some(why) => Some(why),
+        None => of_length(metadata.len()),
     };
     why.map(|why| Remark {
         word: Which::Text(word),
@@ -218,23 +217,48 @@ pub fn of_image<'a>(rt: &HostRuntime, word: &'a str, is_faulty: bool) -> Option<
     })
 }
 
+/// What the file of an image is, if it is no volume of this system, but no raw image, or a volume of the other system.
+fn of_other(rt: &HostRuntime, word: &str, system: System) -> Option<Why> {
+    if !fs::metadata(rt, word).ok()?.is_file() {
+        return None;
+    }
+    if let Some(what) = packed(beginning(rt, word)) {
+        return Some(Why::NotRaw(what));
+    }
+    let mut device = FileImage::open_to_read(rt, word).ok()?;
+    match system {
+        System::Files11 => match print_rt_vfy(rt.alloc(), device, &mut io::sink()) {
+            (_, Ok(Answer::Done)) => Some(Why::OfRt11),
+            _ => None,
+        },
+        System::Rt11 => match print_home(&mut device, &mut io::sink()) {
+            Ok(Answer::Done) => Some(Why::OfFiles11),
+            _ => None,
+        },
+    }
+}
+
 /// The first bytes of a file, zeros where it has fewer or can't be read.
-fn beginning(rt: &HostRuntime, word: &str) -> [u8; 4] {
-    let mut bytes = [0; 4];
+fn beginning(rt: &HostRuntime, word: &str) -> [u8; 8] {
+    let mut bytes = [0; 8];
     if let Ok(mut file) = File::open(rt, word) {
         let _ = file.read(&mut bytes);
     }
     bytes
 }
 
-/// Whether a file that begins so is one of gzip, of ImageDisk, or of TeleDisk.
-fn is_packed(bytes: [u8; 4]) -> bool {
+/// What a file is that begins so, if it is one in which another program packs what it keeps.
+fn packed(bytes: [u8; 8]) -> Option<&'static str> {
     match bytes {
-        [0x1f, 0x8b, ..] => true,
-        [b'I', b'M', b'D', b' '] => true,
-        [b'T', b'D', ..] => true,
-        [b't', b'd', ..] => true,
-        _ => false,
+        [0x1f, 0x8b, ..] => Some("a gzip file"),
+        [b'P', b'K', 3, 4, ..] => Some("a zip archive"),
+        [0xfd, b'7', b'z', b'X', b'Z', 0, ..] => Some("an xz file"),
+        [b'B', b'Z', b'h', ..] => Some("a bzip2 file"),
+        [b'I', b'M', b'D', b' ', ..] => Some("an ImageDisk file"),
+        [b'T', b'D', ..] => Some("a TeleDisk file"),
+        [b't', b'd', ..] => Some("a TeleDisk file"),
+        [b'c', b'o', b'n', b'e', b'c', b't', b'i', b'x'] => Some("a dynamic VHD"),
+        _ => None,
     }
 }
 

@@ -42,7 +42,11 @@ impl Directories {
             }
             Ok(None) => match self.others.next_unnamed(device, index) {
                 Ok(Some(hand)) => Ok(Some(hand)),
-                Ok(None) => Ok(None),
+                Ok(None) => match self.led.next_led(device, index, wide, &self.others) {
+                    Ok(Some(hand)) => Ok(Some(hand)),
+                    Ok(None) => Ok(None),
+                    Err(DeviceFault) => Err(DeviceFault),
+                },
                 Err(DeviceFault) => Err(DeviceFault),
             },
             Err(DeviceFault) => Err(DeviceFault),
@@ -71,6 +75,7 @@ impl Directories {
             FindsNoNamed (index_kept index.now) (index_kept wide.now) self.old.master self.new.master
             (D.disk device.old) (D.disk device.new))) }
         ensures others { self.new.others ≡ self.old.others }
+        ensures led { self.new.led ≡ self.old.led }
         ensures failed { OnErr result (Reads (D.disk device.old) (D.disk device.new) 1) }
     {
         let Some(master) = self.master else {

@@ -1,12 +1,13 @@
 //! The beginning of a walk over all files.
-ghost use Rattle.std.specs.Prelude.{IfOk, IfErr, OnErr, length};
+ghost use Rattle.std.specs.Prelude.{◌≡◌, IfOk, IfErr, OnErr, length};
 ghost use Rattle.f11_dev.specs.Looked.{Looked};
 ghost use Rattle.f11_index.specs.Kept.{index_kept, IndexLiesWithin};
 ghost use Rattle.f11_catalog.specs.GoingOver.{OpensMaster};
 
 use crate::fault::WalkFault;
 use crate::found::FoundDirectory;
-use crate::walk::state::{AllFiles, Directories, EnteredFiles, Unmet};
+use crate::walk::following::find_led;
+use crate::walk::state::{AllFiles, Directories, EnteredFiles, Numbers};
 use f11_dev::{Device, DeviceFault};
 use f11_index::IndexFile;
 use f11_store::FileId;
@@ -37,17 +38,59 @@ fn open_master<D: Device>(
     }
 }
 
+impl EnteredFiles {
+    ghost use Rattle.f11_catalog.specs.Steps.{is_met};
+    ghost use Rattle.f11_catalog.specs.Walking.{BeginsEntered, FailsToBegin};
+
+    /// Begins with what directories name, where the numbers that were met are those to which others lead. Two transfers at most. It takes
+    /// 64 KiB of memory.
+    ///
+    /// # Errors
+    ///
+    /// [`WalkFault::NoMemory`] where there is no memory for it, and [`WalkFault::DeviceFault`] where a transfer failed.
+    pub(crate) fn begin<D: Device>(
+        alloc: Global,
+        device: &mut D,
+        index: &IndexFile,
+        wide: &IndexFile,
+        master: FileId,
+        led: Numbers,
+    ) -> Result<EnteredFiles, WalkFault>
+        requires within { IndexLiesWithin (index_kept index.now) (length (D.disk device.old).image) }
+        requires wide { IndexLiesWithin (index_kept wide.now) (length (D.disk device.old).image) }
+        requires first { led.next ≡ 1 }
+        ensures begins { IfOk result (λ files.
+            BeginsEntered (index_kept index.now) (index_kept wide.now) master (is_met led) files
+            (D.disk device.old) (D.disk device.new)) }
+        ensures failed { IfErr result (λ fault. FailsToBegin fault (D.disk device.old) (D.disk device.new)) }
+    {
+        let Some(others) = Numbers::begin(alloc) else {
+            return Err(WalkFault::NoMemory);
+        };
+        match open_master(device, index, wide, master) {
+            Ok(master) => Ok(EnteredFiles {
+                hand: None,
+                directories: Directories {
+                    master,
+                    others,
+                    led,
+                },
+            }),
+            Err(DeviceFault) => Err(WalkFault::DeviceFault),
+        }
+    }
+}
+
 impl AllFiles {
     ghost use Rattle.f11_catalog.specs.Walking.{BeginsWalk, FailsToBegin};
 
     /// Begins with all files of a volume whose master file directory has this identification, and is found by `wide`, which
-    /// takes each slot as in use, where its slot's bit is lost. Two transfers at most. It takes 128 KiB of memory, which is all that a walk
-    /// takes.
+    /// takes each slot as in use, where its slot's bit is lost. What directories name is gone over for those to which they lead, once more
+    /// than these lead on. It takes 256 KiB of memory, of which a walk keeps 192 KiB and takes no more.
     ///
     /// # Errors
     ///
-    /// [`WalkFault::NoMemory`] where there is no memory for it, and then nothing was read; [`WalkFault::DeviceFault`] where a transfer
-    /// failed.
+    /// [`WalkFault::NoMemory`] where there is no memory for it; [`WalkFault::DeviceFault`] where a transfer failed.
     pub fn begin<D: Device>(
         alloc: Global,
         device: &mut D,
@@ -63,24 +106,15 @@ impl AllFiles {
         ensures failed { IfErr result (λ fault. FailsToBegin fault
             (D.disk device.old) (D.disk device.new)) }
     {
-        let Some(directories) = Unmet::begin(alloc) else {
-            return Err(WalkFault::NoMemory);
-        };
-        let Some(files) = Unmet::begin(alloc) else {
-            return Err(WalkFault::NoMemory);
-        };
-        match open_master(device, index, wide, master) {
-            Ok(master) => Ok(AllFiles {
-                entered: EnteredFiles {
-                    hand: None,
-                    directories: Directories {
-                        master,
-                        others: directories,
-                    },
+        match find_led(alloc, device, index, wide, master) {
+            Ok(led) => match EnteredFiles::begin(alloc, device, index, wide, master, led) {
+                Ok(entered) => match Numbers::begin(alloc) {
+                    Some(others) => Ok(AllFiles { entered, others }),
+                    None => Err(WalkFault::NoMemory),
                 },
-                others: files,
-            }),
-            Err(DeviceFault) => Err(WalkFault::DeviceFault),
+                Err(fault) => Err(fault),
+            },
+            Err(fault) => Err(fault),
         }
     }
 }

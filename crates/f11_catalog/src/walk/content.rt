@@ -6,6 +6,7 @@ ghost use Rattle.f11_index.specs.Kept.{index_kept, IndexLiesWithin};
 ghost use Rattle.f11_catalog.specs.Contents.{Holds, HoldsElse, TellsAbsence};
 ghost use Rattle.f11_catalog.specs.Records.{Reads};
 
+use crate::records::is_of_directory;
 use f11_bytes::{BLOCK_SIZE, Block};
 use f11_dev::{Device, DeviceFault};
 use f11_header::{HeaderFault, check};
@@ -34,13 +35,24 @@ pub enum Absence {
 }
 
 impl Content {
-    ghost use Rattle.f11_catalog.specs.Contents.{is_file};
+    ghost use Rattle.f11_catalog.specs.Contents.{HasFirstHeader, is_file, is_unused_directory};
 
     /// Whether it is a file, with its slot in use.
     pub(crate) fn is_file(&self) -> bool
         ensures { result ≡ is_file self.now }
     {
         matches!(self, Content::File(_))
+    }
+
+    /// Whether it is a directory whose slot isn't in use.
+    pub(crate) fn is_unused_directory(&self) -> bool
+        requires first { HasFirstHeader self.now }
+        ensures { result ≡ is_unused_directory self.now }
+    {
+        match self {
+            Content::OutOfUse(file) => is_of_directory(file.header()),
+            Content::File(_) | Content::Missing(_) => false,
+        }
     }
 }
 

@@ -6,12 +6,12 @@ ghost use Rattle.f11_catalog.specs.Records.{Reads};
 use crate::own_name::own_name;
 use crate::walk::content::Content;
 use crate::walk::place::{FileAt, Place};
-use crate::walk::state::Unmet;
+use crate::walk::state::Numbers;
 use f11_dev::{Device, DeviceFault};
 use f11_index::IndexFile;
 use f11_reader::FileReader;
 
-impl Unmet {
+impl Numbers {
     ghost use Rattle.f11_catalog.specs.AllFiles.{place_lost};
     ghost use Rattle.f11_catalog.specs.Steps.{EntersNone, is_met};
     ghost use Rattle.f11_catalog.specs.Walking.{FindsLost, FindsNoOther, FindsOther};

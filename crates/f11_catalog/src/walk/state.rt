@@ -13,9 +13,9 @@ pub(crate) struct OpenDirectory {
     pub(crate) found: FoundDirectory,
 }
 
-/// The file numbers that weren't met, one after another.
+/// File numbers, one after another, and which of them were met.
 #[derive(Drop)]
-pub(crate) struct Unmet {
+pub(crate) struct Numbers {
     /// Of each number, whether it was met.
     pub(crate) met: Vec<bool>,
     /// The least number that wasn't looked at, from 1.
@@ -26,13 +26,15 @@ pub(crate) struct Unmet {
 }
 
 /// The directories, one after another: those that the master file directory names, and behind them, by their numbers and under the names
-/// that their own headers have, those that it doesn't name.
+/// that their own headers have, those that it doesn't name, and then those whose slots aren't in use and to which others lead.
 #[derive(Drop)]
 pub(crate) struct Directories {
     /// The master file directory, of whose records those of further directories are still to come, if it can be read.
     pub(crate) master: Option<FoundDirectory>,
     /// The numbers that weren't met there as those of a directory.
-    pub(crate) others: Unmet,
+    pub(crate) others: Numbers,
+    /// The numbers that were met as those to which directories lead.
+    pub(crate) led: Numbers,
 }
 
 /// What directories name, one record after another.
@@ -46,10 +48,11 @@ pub(crate) struct EnteredFiles {
 
 /// All files of a volume, one after another: what the directories name that the master file directory names, a record at a time, in the
 /// order in which [`crate::list_directories`] goes over them; then what the other directories name whose own headers have names, in the
-/// order of their numbers; and behind all that, by their numbers, the files that none of these directories names.
+/// order of their numbers; then what those directories name whose slots aren't in use and to which one that is gone over leads; and behind
+/// all that, by their numbers, the files that none of these directories names.
 #[derive(Drop)]
 pub struct AllFiles {
     pub(crate) entered: EnteredFiles,
     /// The numbers that weren't met in a directory as those of a file.
-    pub(crate) others: Unmet,
+    pub(crate) others: Numbers,
 }

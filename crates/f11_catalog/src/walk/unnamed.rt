@@ -14,15 +14,16 @@ use crate::directory::DirectoryReader;
 use crate::directory_name::DirectoryName;
 use crate::found::FoundDirectory;
 use crate::own_name::own_name;
-use crate::walk::state::{OpenDirectory, Unmet};
+use crate::walk::state::{Numbers, OpenDirectory};
 use f11_dev::{Device, DeviceFault};
 use f11_index::IndexFile;
 use f11_reader::FileReader;
 
-/// The directory whose first header is in hand, under the name that this header has, if it is one and has one.
-fn under_its_name(file: &FileReader) -> Option<OpenDirectory>
+/// The directory whose first header is in hand, under the name that this header has, if it is one and has one; its slot is in use, or
+/// isn't.
+pub(crate) fn under_its_name(file: &FileReader, in_use: bool) -> Option<OpenDirectory>
     requires first { segment_number (header_in_hand file.now) ≡ 0 }
-    ensures under { IfSome result (λ hand. IsUnderItsName file.now hand) }
+    ensures under { IfSome result (λ hand. IsUnderItsName file.now in_use hand) }
     ensures none { IfNone result (
         (name_in (ident_area (header_in_hand file.now)) ≡ None)
         ⊎ (is_directory_header (header_in_hand file.now) ≡ false)) }
@@ -34,16 +35,13 @@ fn under_its_name(file: &FileReader) -> Option<OpenDirectory>
         Some(directory) => Some(OpenDirectory {
             name: DirectoryName::of(&name),
             id: file.id(),
-            found: FoundDirectory {
-                directory,
-                in_use: true,
-            },
+            found: FoundDirectory { directory, in_use },
         }),
         None => None,
     }
 }
 
-impl Unmet {
+impl Numbers {
     ghost use Rattle.f11_catalog.specs.GoingOver.{FindsNoUnnamed, FindsUnnamed, OpensNamed};
     ghost use Rattle.f11_catalog.specs.Steps.{EntersNone, is_met};
 
@@ -71,7 +69,7 @@ impl Unmet {
             return Ok(None);
         }
         match FileReader::open_slot(device, index, number) {
-            Ok(Some(file)) => match under_its_name(&file) {
+            Ok(Some(file)) => match under_its_name(&file, true) {
                 Some(hand) => Ok(Some(hand)),
                 None => Ok(None),
             },

@@ -15,17 +15,17 @@ ghost use Rattle.f11_commands.specs.TakingText.{file_to_come};
 
 use crate::copy::finding::MASTER_DIRECTORY;
 use crate::get::found::FoundFile;
+use crate::get::open::open_file;
+use crate::get::sought::Sought;
 use crate::ls::Served;
 use crate::outcome::{Answer, Failure};
 use crate::size::volume_end;
 use crate::volume::read_index;
 use f11_bytes::NoMemory;
-use f11_catalog::{find, stated_end};
+use f11_catalog::find;
 use f11_dev::{Device, DeviceFault};
-use f11_header::Header;
 use f11_index::IndexFile;
 use f11_rad50::Name;
-use f11_reader::FileReader;
 use f11_serving::f11_vfy::{Report, VfyError, verify};
 use f11_store::{FileId, Refusal};
 use std::alloc::Global;
@@ -156,17 +156,6 @@ fn seek_on_volume<D: Device, W: Write>(
     }
 }
 
-/// A file that was found.
-#[derive(Clone, Copy)]
-struct Sought {
-    /// The file, whose first header is in hand.
-    file: FileReader,
-    /// Where it ends, in bytes, if it has blocks for so many.
-    end: u64,
-    /// Whether the bit of its slot says that it is in use.
-    in_use: bool,
-}
-
 /// Finds the file as [`seek_in_index`] does, and where the volume ends.
 fn seek_to_end<D: Device>(
     device: &mut D,
@@ -179,14 +168,14 @@ fn seek_to_end<D: Device>(
     requires wide { IndexLiesWithin (index_kept wide.now) (length (D.disk device.old).image) }
     ensures found { IfOk result (λ answer. IfOk answer (λ found. OpensWithEnd
         (λ image t. file_sought (index_kept wide.now) image t directory.now name.now)
-        (index_kept index.now) (if found.0.in_use then index_kept index.now else index_kept wide.now)
-        found.0.file found.0.end found.1 (D.disk device.old) (D.disk device.new))) }
+        (index_kept index.now) (index_kept wide.now) found.0 found.1
+        (D.disk device.old) (D.disk device.new))) }
     ensures none { IfOk result (λ answer. IfErr answer (λ refusal. LacksSought
         (λ image t. file_sought (index_kept wide.now) image t directory.now name.now)
         (index_kept index.now) refusal (D.disk device.old) (D.disk device.new))) }
     ensures failed { OnErr result (Reads (D.disk device.old) (D.disk device.new) 1) }
 {
-    match volume_end(device, index) {
+    match volume_end(device, index, wide) {
         Ok(size) => match seek_in_index(device, index, wide, directory, name) {
             Ok(Ok(found)) => Ok(Ok((found, size))),
             Ok(Err(refusal)) => Ok(Err(refusal)),
@@ -209,8 +198,7 @@ fn seek_in_index<D: Device>(
     requires wide { IndexLiesWithin (index_kept wide.now) (length (D.disk device.old).image) }
     ensures found { IfOk result (λ answer. IfOk answer (λ found. OpensSought
         (λ image t. file_sought (index_kept wide.now) image t directory.now name.now)
-        (index_kept index.now) (if found.in_use then index_kept index.now else index_kept wide.now)
-        found.file found.end (D.disk device.old) (D.disk device.new))) }
+        (index_kept index.now) (index_kept wide.now) found (D.disk device.old) (D.disk device.new))) }
     ensures none { IfOk result (λ answer. IfErr answer (λ refusal. LacksSought
         (λ image t. file_sought (index_kept wide.now) image t directory.now name.now)
         (index_kept index.now) refusal (D.disk device.old) (D.disk device.new))) }
@@ -239,8 +227,7 @@ fn open_entered<D: Device>(
     requires wide { IndexLiesWithin (index_kept wide.now) (length (D.disk device.old).image) }
     ensures found { IfOk result (λ answer. IfOk answer (λ found. OpensSought
         (λ image t. file_entered (index_kept wide.now) image t name.now directory)
-        (index_kept index.now) (if found.in_use then index_kept index.now else index_kept wide.now)
-        found.file found.end (D.disk device.old) (D.disk device.new))) }
+        (index_kept index.now) (index_kept wide.now) found (D.disk device.old) (D.disk device.new))) }
     ensures none { IfOk result (λ answer. IfErr answer (λ refusal. LacksSought
         (λ image t. file_entered (index_kept wide.now) image t name.now directory)
         (index_kept index.now) refusal (D.disk device.old) (D.disk device.new))) }
@@ -255,44 +242,4 @@ fn open_entered<D: Device>(
         Ok(Err(refusal)) => Ok(Err(refusal)),
         Err(DeviceFault) => Err(DeviceFault),
     }
-}
-
-/// Opens the file with an identification, and reads off its header where it ends. One whose slot is in use comes before one whose slot
-/// isn't.
-fn open_file<D: Device>(
-    device: &mut D,
-    index: &IndexFile,
-    wide: &IndexFile,
-    id: FileId,
-) -> Result<Result<Sought, Refusal>, DeviceFault>
-    requires within { IndexLiesWithin (index_kept index.now) (length (D.disk device.old).image) }
-    requires wide { IndexLiesWithin (index_kept wide.now) (length (D.disk device.old).image) }
-    ensures found { IfOk result (λ answer. IfOk answer (λ found. OpensSought
-        (λ image t. file_identified (index_kept wide.now) image t id)
-        (index_kept index.now) (if found.in_use then index_kept index.now else index_kept wide.now)
-        found.file found.end (D.disk device.old) (D.disk device.new))) }
-    ensures none { IfOk result (λ answer. IfErr answer (λ refusal. LacksSought
-        (λ image t. file_identified (index_kept wide.now) image t id)
-        (index_kept index.now) refusal (D.disk device.old) (D.disk device.new))) }
-    ensures failed { OnErr result (Reads (D.disk device.old) (D.disk device.new) 1) }
-{
-    match FileReader::open(device, index, id) {
-        Ok(Some(file)) => Ok(Ok(found_file(file, true))),
-        Ok(None) => match FileReader::open(device, wide, id) {
-            Ok(Some(file)) => Ok(Ok(found_file(file, false))),
-            Ok(None) => Ok(Err(Refusal::NoSuchFile)),
-            Err(DeviceFault) => Err(DeviceFault),
-        },
-        Err(DeviceFault) => Err(DeviceFault),
-    }
-}
-
-/// A file that was found, with the end that its header states.
-fn found_file(file: FileReader, in_use: bool) -> Sought
-    ensures file { result.file ≡ file }
-    ensures end { result.end ≡ stated_end (attributes (header_in_hand file)) }
-    ensures in_use { result.in_use ≡ in_use }
-{
-    let end = stated_end(&Header::new(file.header()).attributes());
-    Sought { file, end, in_use }
 }

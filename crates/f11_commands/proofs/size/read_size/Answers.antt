@@ -1,22 +1,24 @@
-use Rattle.std.proofs.Common.{Ok, ap}
+use Rattle.std.proofs.Common.{◌≡◌, Bool, ap, if◌then◌else◌, sym, ◌∙◌}
+use Rattle.std.proofs.lemmas.Result.{IfOk-weaker, on_err_weaker}
 use Rattle.f11_catalog.proofs.ListingLemmas.{reads-then}
-use Rattle.f11_commands.proofs.SizeLemmas.{size-ended, size-first, size-none}
+use Rattle.f11_index.specs.IndexFile.{Index}
+use Rattle.f11_index.specs.Kept.{index_kept}
+use Rattle.f11_commands.proofs.SizeLemmas.{size-none, size-read}
 use Rattle.f11_commands.proofs.size.read_size.Goals as goal
+use Rattle.f11_commands.proofs.size.read_size.Goals.{then-found, else-found}
 
-pub returns-in-Ok-None-clause-reads : goal.returns-in-Ok-None-clause-reads
-returns-in-Ok-None-clause-reads g c = size-none _ _ _ (rw c.in-Ok-None.field-0-is at c.in-Ok-None.ensures.none)
+pub returns-after-found-clause-reads : goal.returns-after-found-clause-reads
+returns-after-found-clause-reads g c =
+    let found = c.in-Ok-Ok.found in
+    let opens = rw c.in-Ok-Ok.field-0-is at c.in-Ok-Ok.ensures.found in
+    let either : Bool → Index = λ b. if b then index_kept c.args.index.now else index_kept c.args.wide.now in
+    let chosen : index_kept c.if-found.by.now ≡ either found.in_use = elim c.if-found.branch [
+      | then-found w ↦ rw w.by-is (sym (ap either w.if-found.true))
+      | else-found w ↦ rw w.by-is (sym (ap either w.if-found.false))
+    ] in
+    IfOk-weaker c.read_control.result _ _ (λ size reads. size-read _ _ found size _ _ _ opens _ chosen reads) c.read_control.ensures.reads
 
-pub returns-in-Ok-true-clause-reads : goal.returns-in-Ok-true-clause-reads
-returns-in-Ok-true-clause-reads g c =
-    size-first _ c.in-Ok-Some.file _ _ _ (rw c.in-Ok-Some.field-0-is at c.in-Ok-Some.ensures.opens) _ _
-    (c.in-Ok-true.ensures.reads (ap Ok c.in-Ok-true.field-0-test)) _ c.size_in.ensures
-
-pub returns-in-Ok-false-clause-reads : goal.returns-in-Ok-false-clause-reads
-returns-in-Ok-false-clause-reads g c =
-    size-ended _ c.in-Ok-Some.file _ _ _ (rw c.in-Ok-Some.field-0-is at c.in-Ok-Some.ensures.opens) _
-    (c.in-Ok-false.ensures.ended (ap Ok c.in-Ok-false.field-0-test))
-
-pub returns-in-Err-read-clause-failed : goal.returns-in-Err-read-clause-failed
-returns-in-Err-read-clause-failed g c =
-    let opens = rw c.in-Ok-Some.field-0-is at c.in-Ok-Some.ensures.opens in
-    reads-then (_, opens.looked) (_, c.in-Err-read.ensures.failed.looked)
+pub returns-after-found-clause-failed : goal.returns-after-found-clause-failed
+returns-after-found-clause-failed g c =
+    let opens = rw c.in-Ok-Ok.field-0-is at c.in-Ok-Ok.ensures.found in
+    on_err_weaker c.read_control.result (λ fails. reads-then opens.reads fails) c.read_control.ensures.failed

@@ -140,7 +140,7 @@ fn begin_in_index<D: Device>(
         begun.0 begun.1 (D.disk device.old) (D.disk device.new)) }
     ensures failed { IfErr result (λ fault. FailsWithEnd fault (D.disk device.old) (D.disk device.new)) }
 {
-    match volume_end(device, index) {
+    match volume_end(device, index, wide) {
         Ok(size) => match AllFiles::begin(alloc, device, index, wide, MASTER_DIRECTORY) {
             Ok(files) => Ok((size, files)),
             Err(fault) => Err(fault),

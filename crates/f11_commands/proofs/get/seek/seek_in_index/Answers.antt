@@ -5,7 +5,7 @@ use Rattle.f11_commands.proofs.get.seek.seek_in_index.Goals as goal
 pub returns-in-Ok-Ok-open_entered-clause-found : goal.returns-in-Ok-Ok-open_entered-clause-found
 returns-in-Ok-Ok-open_entered-clause-found g c =
     let found = rw c.in-Ok-Ok.field-0-is at c.in-Ok-Ok.ensures.found in
-    finds-behind _ _ _ _ _ _ found.reads (sought-is _ _ _ _ _ _ _ found) _ _ _
+    finds-behind _ _ _ _ _ _ found.reads (sought-is _ _ _ _ _ _ _ found) _ _
     (rw c.in-Ok-Ok-open_entered.field-0-is at c.in-Ok-Ok-open_entered.ensures.found)
 
 pub returns-in-Ok-Err-open_entered-clause-none : goal.returns-in-Ok-Err-open_entered-clause-none

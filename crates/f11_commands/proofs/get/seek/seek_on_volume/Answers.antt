@@ -17,7 +17,7 @@ returns-in-Ok-Ok-seek_to_end-clause-found g c =
       | then-found w ↦ ap index_kept w.result-is ∙ sym (ap either w.if-found.true)
       | else-found w ↦ ap index_kept w.result-is ∙ sym (ap either w.if-found.false)
     ] in
-    let gives = volume-gives _ _ _ _ _ volume c.in-Ok.ensures _ _ _ _ found.in_use chosen found.file found.end _ finds in
+    let gives = volume-gives _ _ _ _ _ volume c.in-Ok.ensures _ _ _ found _ finds _ chosen in
     (refl, gives.0, gives.1)
 
 pub returns-in-Ok-writeln-clause-none : goal.returns-in-Ok-writeln-clause-none

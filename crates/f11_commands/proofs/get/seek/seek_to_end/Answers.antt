@@ -5,7 +5,7 @@ use Rattle.f11_commands.proofs.get.seek.seek_to_end.Goals as goal
 
 pub returns-in-Ok-Ok-clause-found : goal.returns-in-Ok-Ok-clause-found
 returns-in-Ok-Ok-clause-found g c =
-    finds-with-end _ _ _ _ _ _ _ _ _ c.in-Ok.ensures.finds (rw c.in-Ok-Ok.field-0-is at c.in-Ok-Ok.ensures.found)
+    finds-with-end _ _ _ _ _ _ _ _ c.in-Ok.ensures.finds (rw c.in-Ok-Ok.field-0-is at c.in-Ok-Ok.ensures.found)
 
 pub returns-in-Ok-Err-clause-none : goal.returns-in-Ok-Err-clause-none
 returns-in-Ok-Err-clause-none g c =

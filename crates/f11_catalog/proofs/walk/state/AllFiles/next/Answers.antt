@@ -4,7 +4,7 @@ use Rattle.f11_catalog.specs.Contents.{is_file}
 use Rattle.f11_catalog.specs.Steps.{is_met}
 use Rattle.f11_catalog.proofs.FilesLemmas.{gives-entered, gives-other, no-file}
 use Rattle.f11_catalog.proofs.ListingLemmas.{reads-then}
-use Rattle.f11_catalog.proofs.UnmetLemmas.{met-same}
+use Rattle.f11_catalog.proofs.NumbersLemmas.{met-same}
 use Rattle.f11_catalog.proofs.walk.state.AllFiles.next.Goals as goal
 
 pub returns-in-Ok-Some-clause-gives : goal.returns-in-Ok-Some-clause-gives

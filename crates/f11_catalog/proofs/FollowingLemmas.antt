@@ -1,0 +1,303 @@
+-- To which directories others lead whose slots aren't in use.
+use Rattle.std.proofs.Common.{◌≡◌, ◌⊎◌, ◌||◌, ◌&&◌, ◌==◌, not, ℕ, Bool, true, false, IsTrue, List, [], ◌∷◌}
+use Rattle.std.proofs.Common.{cond, refl, sym, ap, subst, ◌∙◌, inl, inr}
+use Rattle.std.proofs.Math.Bool.{or-false, or-true, or_assoc}
+use Rattle.std.proofs.lemmas.Bool.{cases_Bool}
+use Rattle.std.proofs.lemmas.List.Concat.{flat_map-cons}
+use Rattle.std.proofs.lemmas.List.Folds.{list_any-append}
+use Rattle.std.specs.List.{flat_map, list_any, range_with_len}
+use Rattle.f11_chain.specs.Calls.{table}
+use Rattle.f11_dev.specs.Disk.{Disk}
+use Rattle.f11_dev.specs.Image.{Image}
+use Rattle.f11_index.specs.IndexFile.{Index}
+use Rattle.f11_index.specs.Table.{Table, table_in}
+use Rattle.f11_store.specs.declared.files.FileId.{FileId}
+use Rattle.f11_volume.specs.Notes.{IsIdOf}
+use Rattle.f11_catalog.specs.AllDirectories.{DirectoryAt, all_directories, led_directories, led_directory, named_directories}
+use Rattle.f11_catalog.specs.AllDirectories.{other_directories}
+use Rattle.f11_catalog.specs.AllDirectories.{is_named, own_directories, unused_directory}
+use Rattle.f11_catalog.specs.AllFiles.{HasAllLed, entered_files, id_of, is_led, leads_to, places_in}
+use Rattle.f11_catalog.specs.Contents.{Holds, is_unused_directory}
+use Rattle.f11_catalog.specs.Facts.{is_directory_header}
+use Rattle.f11_catalog.specs.Lines.{names_directory}
+use Rattle.f11_catalog.specs.Records.{Reads, file_unused}
+use Rattle.f11_catalog.specs.Steps.{IsNew, is_met}
+use Rattle.f11_catalog.specs.Walking.{BeginsEntered, EntersFile, EntersNoMore, FindsAllLed, FollowsAll, FollowsEntered, HoldsAt}
+use Rattle.f11_catalog.specs.Walking.{FailsToBegin, IsWalkingDirectories, entered_to_come}
+use Rattle.f11_catalog.specs.declared.fault.WalkFault.{WalkFault}
+use Rattle.f11_catalog.specs.declared.fault.WalkFault.TheVariants.{DeviceFault, NoMemory}
+use Rattle.f11_catalog.specs.declared.walk.content.Content.{Content}
+use Rattle.f11_catalog.specs.declared.walk.content.Content.TheVariants.{File, Missing, OutOfUse}
+use Rattle.f11_catalog.specs.declared.walk.place.FileAt.{FileAt}
+use Rattle.f11_catalog.specs.declared.walk.place.Place.{Place}
+use Rattle.f11_catalog.specs.declared.walk.state.EnteredFiles.{EnteredFiles}
+use Rattle.f11_catalog.specs.declared.walk.state.Numbers.{Numbers}
+use Rattle.f11_catalog.proofs.ComingLemmas.{id-passes, named-none, named-some}
+use Rattle.f11_catalog.proofs.EnteredLemmas.{entered-later}
+use Rattle.f11_catalog.proofs.LedLemmas.{unused-is, unused-none}
+use Rattle.f11_catalog.proofs.ListingLemmas.{reads-none, reads-then, said-later}
+use Rattle.f11_catalog.proofs.OpenLemmas.{header-is-directory}
+use Rattle.f11_catalog.proofs.WalkLemmas.{at-reads, id-fails}
+
+-- what was found under an identification is a directory whose slot isn't in use where the identification is one of such
+unused-found : (index wide : Index) (id : FileId) (content : Content) (old new : Disk) → Holds index wide id content old new
+    → IsTrue old.honest → is_unused_directory content ≡ names_directory (file_unused wide old.image (table index old) id)
+unused-found index wide id (File file) old new holds honest =
+    let t : Table = table index old in
+    let is : IsIdOf t id file.number =
+    subst (λ (i : Image). IsIdOf (table_in i index) id file.number) holds.before.1.image
+    (holds.opens.is_id (holds.before.1.honest ∙ honest)) in
+    sym (ap names_directory (unused-none wide old.image t id (id-passes t id file.number is)))
+unused-found index wide id (OutOfUse file) old new holds honest =
+    let opens = holds.opens.opens in
+    let mid : Disk = holds.opens.mid in
+    let image : mid.image ≡ old.image = holds.opens.before.1.image in
+    let honest' : IsTrue mid.honest = holds.opens.before.1.honest ∙ honest in
+    let u : Table = table wide old in
+    let is : IsIdOf u id file.number = subst (λ (i : Image). IsIdOf (table_in i wide) id file.number) image (opens.is_id honest') in
+    sym (ap names_directory (unused-is wide old.image (table index old) id (id-fails (table index old) id (holds.none honest))
+    ∙ named-some old.image u id file.number is)
+    ∙ header-is-directory old.image u file.number
+    ∙ sym (ap is_directory_header (opens.header_is honest' ∙ ap (λ (i : Image). (table_in i wide).header file.number) image)))
+unused-found index wide id (Missing absence) old new holds honest =
+    sym (ap names_directory (unused-is wide old.image (table index old) id (id-fails (table index old) id (holds.none honest))
+    ∙ named-none old.image (table wide old) id (holds.none_else honest)))
+
+-- so a place leads to the number that it has
+pub leads-found : (index wide : Index) (found : FileAt) (old new : Disk) → HoldsAt index wide found old new → IsTrue old.honest → (n : ℕ)
+    → (is_unused_directory found.content && ((id_of found.place).number == n)) ≡ leads_to wide old.image (table index old) n found.place
+leads-found index wide found old new holds honest n =
+    ap (λ (b : Bool). b && ((id_of found.place).number == n))
+    (unused-found index wide (id_of found.place) found.content holds.mid new holds.holds (holds.before.1.honest ∙ honest)
+    ∙ ap (λ (i : Image). names_directory (file_unused wide i (table_in i index) (id_of found.place))) holds.before.1.image)
+
+-- Some places were gone over: the numbers are met to which they lead.
+pub record Followed (index wide : Index) (first here : EnteredFiles) (seen now-seen : Numbers) (old now : Disk) : Type 0 where
+  pub walking : IsWalkingDirectories index wide here now
+  pub met : IsTrue old.honest → (n : ℕ) → (is_met now-seen n
+      || list_any (leads_to wide old.image (table index old) n) (entered_to_come index wide old here))
+      ≡ (is_met seen n || list_any (leads_to wide old.image (table index old) n) (entered_to_come index wide old first))
+  pub reads : Reads old now 0
+
+module _ (index wide : Index) where
+  pub followed-none : (first : EnteredFiles) (seen : Numbers) (disk : Disk) → IsWalkingDirectories index wide first disk
+      → Followed index wide first first seen seen disk disk
+  followed-none first seen disk walking = record { walking = walking; met = λ honest n. refl; reads = reads-none disk }
+
+  module _ (first here : EnteredFiles) (seen now-seen : Numbers) (old now : Disk)
+      (followed : Followed index wide first here seen now-seen old now) where
+    -- one more is
+    pub followed-on : (later : EnteredFiles) (found : FileAt) (new : Disk) → EntersFile index wide here later found now new
+        → IsWalkingDirectories index wide later new → (later-seen : Numbers)
+        → ((n : ℕ) → is_met later-seen n
+        ≡ (is_met now-seen n || (is_unused_directory found.content && ((id_of found.place).number == n))))
+        → Followed index wide first later seen later-seen old new
+    followed-on later found new enters walking later-seen meets = record {
+      walking = walking;
+      met = λ honest n.
+          let image : now.image ≡ old.image = followed.reads.1.image in
+          let honest' : IsTrue now.honest = followed.reads.1.honest ∙ honest in
+          let leads : Place → Bool = leads_to wide old.image (table index old) n in
+          let rest : List Place = entered_to_come index wide old later in
+          let here-come : entered_to_come index wide old here ≡ found.place ∷ rest =
+          sym (entered-later index wide old now image here) ∙ enters.next honest'
+          ∙ ap (λ ps. found.place ∷ ps) (entered-later index wide old now image later) in
+          let leads-here : (is_unused_directory found.content && ((id_of found.place).number == n)) ≡ leads found.place =
+          leads-found index wide found now new enters.holds honest' n
+          ∙ ap (λ (i : Image). leads_to wide i (table_in i index) n found.place) image in
+          ap (λ (b : Bool). b || list_any leads rest) (meets n ∙ ap (λ (b : Bool). is_met now-seen n || b) leads-here)
+          ∙ or_assoc (is_met now-seen n) (leads found.place) (list_any leads rest)
+          ∙ ap (λ ps. is_met now-seen n || list_any leads ps) (sym here-come)
+          ∙ followed.met honest n;
+      reads = reads-then followed.reads (at-reads index wide found now new enters.holds);
+    }
+
+    -- or none is left
+    pub followed-all : (later : EnteredFiles) (new : Disk) → EntersNoMore index wide here later now new
+        → FollowsAll index wide first seen now-seen old new
+    followed-all later new none = record {
+      met = λ honest n.
+          let image : now.image ≡ old.image = followed.reads.1.image in
+          let ended : entered_to_come index wide old here ≡ [] =
+          sym (entered-later index wide old now image here) ∙ none.none (followed.reads.1.honest ∙ honest) in
+          sym (or-false (is_met now-seen n))
+          ∙ ap (λ ps. is_met now-seen n || list_any (leads_to wide old.image (table index old) n) ps) (sym ended)
+          ∙ followed.met honest n;
+      reads = reads-then followed.reads none.reads;
+    }
+
+-- a walk couldn't be begun behind what was read
+pub fails-behind : (fault : WalkFault) (old mid new : Disk) → Reads old mid 0 → FailsToBegin fault mid new → FailsToBegin fault old new
+fails-behind DeviceFault old mid new reads fails = reads-then reads fails
+fails-behind NoMemory old mid new reads fails = reads-then reads fails
+
+-- all that directories name was gone over
+pub follows-entered : (index wide : Index) (master : FileId) (led copy new-numbers seen later : Numbers) (files : EnteredFiles)
+    (old mid new : Disk) → IsNew new-numbers → ((n : ℕ) → is_met copy n ≡ (is_met new-numbers n || is_met led n)) → IsNew seen
+    → BeginsEntered index wide master (is_met copy) files old mid → FollowsAll index wide files seen later mid new
+    → FollowsEntered index wide master (is_met led) later old new
+follows-entered index wide master led copy new-numbers seen later files old mid new is-new copies none begins follows = record {
+  met = λ honest n.
+      let same : is_met copy ≡ is_met led =
+      λ i. λ m. (copies m ∙ ap (λ (b : Bool). b || is_met led m) (is-new.none m)) i in
+      follows.met (begins.reads.1.honest ∙ honest) n
+      ∙ ap (λ (b : Bool). b || list_any (leads_to wide mid.image (table index mid) n) (entered_to_come index wide mid files)) (none.none n)
+      ∙ said-later (λ image t. list_any (leads_to wide image t n) (entered_to_come index wide mid files)) index begins.reads.1
+      ∙ ap (list_any (leads_to wide old.image (table index old) n))
+      (entered-later index wide old mid begins.reads.1.image files ∙ begins.all honest
+      ∙ ap (entered_files wide old.image (table index old) master) same);
+  reads = reads-then begins.reads follows.reads;
+}
+
+-- a test that elements of a list pass, by what they give
+any-given : {X Y : Type 0} (f : Y → Bool) (given : X → List Y) (xs : List X)
+    → list_any f (flat_map given xs) ≡ list_any (λ x. list_any f (given x)) xs
+any-given f given [] = refl
+any-given f given (x ∷ xs) =
+    ap (list_any f) (flat_map-cons given x xs)
+    ∙ list_any-append f (given x) (flat_map given xs)
+    ∙ ap (λ (b : Bool). list_any f (given x) || b) (any-given f given xs)
+
+-- where one of these holds, one of those does
+either : (a b b' : Bool) → (b ≡ true → b' ≡ true) → (a || b) ≡ true → (a || b') ≡ true
+either true b b' more is = refl
+either false b b' more is = more is
+
+both-ways : (a a' b b' : Bool) → (a ≡ true → a' ≡ true) → (b ≡ true → b' ≡ true) → (a || b) ≡ true → (a' || b') ≡ true
+both-ways true a' b b' more-a more-b is = ap (λ (c : Bool). c || b') (more-a refl)
+both-ways false a' b b' more-a more-b is = ap (λ (c : Bool). a' || c) (more-b is) ∙ or-true a'
+
+any-more : {X : Type 0} (f g : X → Bool) → ((x : X) → f x ≡ true → g x ≡ true) → (xs : List X) → list_any f xs ≡ true
+    → list_any g xs ≡ true
+any-more f g more [] is = is
+any-more f g more (x ∷ xs) is = both-ways (f x) (g x) (list_any f xs) (list_any g xs) (more x) (any-more f g more xs) is
+
+-- Where others lead to more numbers there are more places.
+module _ (wide : Index) (image : Image) (t : Table) (master : FileId) (few more : ℕ → Bool)
+    (all : (n : ℕ) → few n ≡ true → more n ≡ true) (meets : Place → Bool) where
+  abbrev known : ℕ → Bool
+  known = is_named (named_directories wide image t master)
+
+  abbrev in_it : DirectoryAt → Bool
+  in_it d = list_any meets (places_in wide image t d)
+
+  abbrev in_led : (ℕ → Bool) → ℕ → Bool
+  in_led led n = list_any in_it (led_directory wide image t led known n)
+
+  abbrev of_led : Bool → ℕ → Bool
+  of_led b n = list_any in_it (cond (b && not (known n)) (unused_directory wide image t n) [])
+
+  in-more : (n : ℕ) → in_led few n ≡ true → in_led more n ≡ true
+  in-more n is = elim (cases_Bool (few n)) [
+    | inl so ↦ ap (λ (b : Bool). of_led b n) (all n so ∙ sym so) ∙ is
+    | inr not-so ↦ let no : false ≡ true = sym (ap (λ (b : Bool). of_led b n) not-so) ∙ is in absurd cc
+  ]
+
+  abbrev numbers : List ℕ
+  numbers = range_with_len 1 (table_in image wide).slots
+
+  parts : (led : ℕ → Bool) → list_any meets (entered_files wide image t master led)
+      ≡ (list_any in_it (named_directories wide image t master)
+      || (list_any in_it (own_directories image t known 1 t.slots) || list_any (in_led led) numbers))
+  parts led =
+      any-given meets (places_in wide image t) (all_directories wide image t master led)
+      ∙ list_any-append in_it (named_directories wide image t master) (other_directories wide image t led known)
+      ∙ ap (λ (b : Bool). list_any in_it (named_directories wide image t master) || b)
+      (list_any-append in_it (own_directories image t known 1 t.slots)
+      (led_directories wide image t led known 1 (table_in image wide).slots)
+      ∙ ap (λ (b : Bool). list_any in_it (own_directories image t known 1 t.slots) || b)
+      (any-given in_it (led_directory wide image t led known) numbers))
+
+  pub more-entered : list_any meets (entered_files wide image t master few) ≡ true
+      → list_any meets (entered_files wide image t master more) ≡ true
+  more-entered is =
+      parts more
+      ∙ either (list_any in_it (named_directories wide image t master)) _ _
+      (either (list_any in_it (own_directories image t known 1 t.slots)) _ _ (any-more (in_led few) (in_led more) in-more numbers))
+      (sym (parts few) ∙ is)
+
+-- So many numbers were found to which directories lead: no others are among them, and that of the master file directory is.
+pub record LeadsOn (index wide : Index) (master : FileId) (led : Numbers) (old now : Disk) : Type 0 where
+  pub fewest : IsTrue old.honest → (other : ℕ → Bool) → HasAllLed wide old.image (table index old) master other → (n : ℕ)
+      → is_met led n ≡ true → other n ≡ true
+  pub master_is : (n : ℕ) → (master.number == n) ≡ true → is_met led n ≡ true
+  pub first : led.next ≡ 1
+  pub reads : Reads old now 0
+
+module _ (index wide : Index) (master : FileId) where
+  -- at first the latter alone is
+  pub leads-first : (new-numbers led : Numbers) (disk : Disk) → IsNew new-numbers
+      → ((n : ℕ) → is_met led n ≡ (is_met new-numbers n || (master.number == n))) → led.next ≡ new-numbers.next
+      → LeadsOn index wide master led disk disk
+  leads-first new-numbers led disk is-new meets next = record {
+    fewest = λ honest other has n met.
+        let is : (master.number == n) ≡ true =
+        sym (meets n ∙ ap (λ (b : Bool). b || (master.number == n)) (is-new.none n)) ∙ met in
+        has n (ap (λ (b : Bool). b || list_any (leads_to wide disk.image (table index disk) n)
+        (entered_files wide disk.image (table index disk) master other)) is);
+    master_is = λ n is. meets n ∙ ap (λ (b : Bool). is_met new-numbers n || b) is ∙ or-true (is_met new-numbers n);
+    first = next ∙ is-new.first;
+    reads = reads-none disk;
+  }
+
+  module _ (led seen : Numbers) (old now new : Disk) (leads : LeadsOn index wide master led old now)
+      (follows : FollowsEntered index wide master (is_met led) seen now new) (later : Numbers)
+      (meets : (n : ℕ) → is_met later n ≡ (is_met led n || is_met seen n)) (next : later.next ≡ led.next) where
+    there : Reads old new 0
+    there = reads-then leads.reads follows.reads
+
+    seen-is : IsTrue old.honest → (n : ℕ) → is_met seen n
+        ≡ list_any (leads_to wide old.image (table index old) n) (entered_files wide old.image (table index old) master (is_met led))
+    seen-is honest n =
+        follows.met (leads.reads.1.honest ∙ honest) n
+        ∙ said-later (λ image t. list_any (leads_to wide image t n) (entered_files wide image t master (is_met led))) index leads.reads.1
+
+    -- then those to which directories lead that are gone over
+    pub leads-more : LeadsOn index wide master later old new
+    leads-more = record {
+      fewest = λ honest other has n met.
+          go other (leads.fewest honest other has) n has (seen-is honest n) (cases_Bool (is_met led n)) (sym (meets n) ∙ met);
+      master_is = λ n is. meets n ∙ ap (λ (b : Bool). b || is_met seen n) (leads.master_is n is);
+      first = next ∙ leads.first;
+      reads = there;
+    }
+      where
+        t : Table
+        t = table index old
+
+        go : (other : ℕ → Bool) → ((m : ℕ) → is_met led m ≡ true → other m ≡ true) → (n : ℕ)
+            → HasAllLed wide old.image t master other
+            → is_met seen n ≡ list_any (leads_to wide old.image t n) (entered_files wide old.image t master (is_met led))
+            → (is_met led n ≡ true) ⊎ (is_met led n ≡ false) → (is_met led n || is_met seen n) ≡ true → other n ≡ true
+        go other sub n has is (inl met) both = sub n met
+        go other sub n has is (inr unmet) both =
+            let seen-so : is_met seen n ≡ true = sym (ap (λ (b : Bool). b || is_met seen n) unmet) ∙ both in
+            has n (ap (λ (b : Bool). (master.number == n) || b)
+            (more-entered wide old.image t master (is_met led) other sub (leads_to wide old.image t n) (sym is ∙ seen-so))
+            ∙ or-true (master.number == n))
+
+    -- until these are no more
+    pub leads-all : ((n : ℕ) → is_met later n ≡ is_met led n) → FindsAllLed index wide master later old new
+    leads-all same = record {
+      are = λ honest. record {
+        all = λ n is. same n ∙ all-in honest n (sym (ap (λ (f : ℕ → Bool). is_led wide old.image (table index old) master f n) same-met)
+            ∙ is);
+        fewest = leads-more.fewest honest;
+      };
+      first = leads-more.first;
+      reads = there;
+    }
+      where
+        same-met : is_met later ≡ is_met led
+        same-met = λ i. λ n. same n i
+
+        all-in : IsTrue old.honest → (n : ℕ) → is_led wide old.image (table index old) master (is_met led) n ≡ true
+            → is_met led n ≡ true
+        all-in honest n is = elim (cases_Bool (master.number == n)) [
+          | inl first ↦ leads.master_is n first
+          | inr other ↦
+              let so : is_met seen n ≡ true =
+              seen-is honest n ∙ sym (ap (λ (b : Bool). b || list_any (leads_to wide old.image (table index old) n)
+              (entered_files wide old.image (table index old) master (is_met led))) other) ∙ is in
+              sym (same n) ∙ meets n ∙ ap (λ (b : Bool). is_met led n || b) so ∙ or-true (is_met led n)
+        ]

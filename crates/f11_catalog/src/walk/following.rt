@@ -1,0 +1,121 @@
+//! To which directories others lead whose slots aren't in use.
+ghost use Rattle.std.specs.Prelude.{◌≡◌, IfErr, IfOk, IfSome, OnErr, length};
+ghost use Rattle.f11_index.specs.Kept.{index_kept, IndexLiesWithin};
+ghost use Rattle.f11_catalog.specs.Records.{Reads};
+ghost use Rattle.f11_catalog.specs.Steps.{is_met};
+ghost use Rattle.f11_catalog.specs.Walking.{FailsToBegin, FindsAllLed, FollowsEntered};
+
+use crate::fault::WalkFault;
+use crate::walk::state::{EnteredFiles, Numbers};
+use f11_dev::{Device, DeviceFault};
+use f11_index::IndexFile;
+use f11_store::FileId;
+use std::alloc::Global;
+
+/// The numbers to which directories lead: that of the master file directory, and of each directory out of use that one which is gone over
+/// names. What directories name is gone over until no further one is found. It takes 256 KiB of memory, of which 64 KiB are kept.
+///
+/// # Errors
+///
+/// [`WalkFault::NoMemory`] where there is no memory for it, and [`WalkFault::DeviceFault`] where a transfer failed.
+pub(crate) fn find_led<D: Device>(
+    alloc: Global,
+    device: &mut D,
+    index: &IndexFile,
+    wide: &IndexFile,
+    master: FileId,
+) -> Result<Numbers, WalkFault>
+    requires within { IndexLiesWithin (index_kept index.now) (length (D.disk device.old).image) }
+    requires wide { IndexLiesWithin (index_kept wide.now) (length (D.disk device.old).image) }
+    ensures finds { IfOk result (λ led. FindsAllLed (index_kept index.now) (index_kept wide.now) master led
+        (D.disk device.old) (D.disk device.new)) }
+    ensures failed { IfErr result (λ fault. FailsToBegin fault (D.disk device.old) (D.disk device.new)) }
+{
+    let Some(led) = Numbers::begin(alloc) else {
+        return Err(WalkFault::NoMemory);
+    };
+    let mut led = led;
+    led.meet(master.number, true);
+    loop {
+        match follow_entered(alloc, device, index, wide, master, &led) {
+            Ok(seen) => {
+                if !led.meet_all(&seen) {
+                    return Ok(led);
+                }
+            }
+            Err(fault) => return Err(fault),
+        }
+    }
+}
+
+/// The numbers to which directories lead, where these are those of directories to which others lead.
+fn follow_entered<D: Device>(
+    alloc: Global,
+    device: &mut D,
+    index: &IndexFile,
+    wide: &IndexFile,
+    master: FileId,
+    led: &Numbers,
+) -> Result<Numbers, WalkFault>
+    requires within { IndexLiesWithin (index_kept index.now) (length (D.disk device.old).image) }
+    requires wide { IndexLiesWithin (index_kept wide.now) (length (D.disk device.old).image) }
+    ensures follows { IfOk result (λ seen.
+        FollowsEntered (index_kept index.now) (index_kept wide.now) master (is_met led.now) seen
+        (D.disk device.old) (D.disk device.new)) }
+    ensures failed { IfErr result (λ fault. FailsToBegin fault (D.disk device.old) (D.disk device.new)) }
+{
+    let Some(copy) = Numbers::begin(alloc) else {
+        return Err(WalkFault::NoMemory);
+    };
+    let Some(seen) = Numbers::begin(alloc) else {
+        return Err(WalkFault::NoMemory);
+    };
+    let mut copy = copy;
+    let mut seen = seen;
+    copy.meet_all(led);
+    match EnteredFiles::begin(alloc, device, index, wide, master, copy) {
+        Ok(entered) => {
+            let mut entered = entered;
+            match entered.follow(device, index, wide, &mut seen) {
+                Ok(()) => Ok(seen),
+                Err(DeviceFault) => Err(WalkFault::DeviceFault),
+            }
+        }
+        Err(fault) => Err(fault),
+    }
+}
+
+impl EnteredFiles {
+    ghost use Rattle.f11_catalog.specs.Walking.{FollowsAll, IsWalkingDirectories};
+
+    /// Goes over all that is still to come: the numbers to which it leads are met.
+    ///
+    /// # Errors
+    ///
+    /// `DeviceFault` where a transfer failed.
+    fn follow<D: Device>(
+        &mut self,
+        device: &mut D,
+        index: &IndexFile,
+        wide: &IndexFile,
+        seen: &mut Numbers,
+    ) -> Result<(), DeviceFault>
+        requires within { IndexLiesWithin (index_kept index.now) (length (D.disk device.old).image) }
+        requires wide { IndexLiesWithin (index_kept wide.now) (length (D.disk device.old).image) }
+        requires walking { IsWalkingDirectories (index_kept index.now) (index_kept wide.now) self.old (D.disk device.old) }
+        ensures follows { IfOk result (λ _. FollowsAll (index_kept index.now) (index_kept wide.now) self.old
+            seen.old seen.new (D.disk device.old) (D.disk device.new)) }
+        ensures failed { OnErr result (Reads (D.disk device.old) (D.disk device.new) 1) }
+    {
+        loop {
+            match self.next(device, index, wide) {
+                Ok(Some(found)) => {
+                    let id = found.place.id();
+                    seen.meet(id.number, found.content.is_unused_directory());
+                }
+                Ok(None) => return Ok(()),
+                Err(DeviceFault) => return Err(DeviceFault),
+            }
+        }
+    }
+}

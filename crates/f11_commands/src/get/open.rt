@@ -1,0 +1,56 @@
+//! A file with an identification is opened, whether or not its slot is in use.
+ghost use Rattle.std.specs.Prelude.{◌≡◌, IfErr, IfOk, OnErr, length};
+ghost use Rattle.f11_catalog.specs.Records.{Reads};
+ghost use Rattle.f11_header.specs.Fields.{attributes};
+ghost use Rattle.f11_index.specs.Kept.{index_kept, IndexLiesWithin};
+ghost use Rattle.f11_reader.specs.Reading.{header_in_hand};
+ghost use Rattle.f11_store.specs.File.{stated_end};
+ghost use Rattle.f11_commands.specs.GetCommand.{LacksSought, OpensSought};
+ghost use Rattle.f11_commands.specs.GetCommand.{file_identified};
+
+use crate::get::sought::Sought;
+use f11_catalog::stated_end;
+use f11_dev::{Device, DeviceFault};
+use f11_header::Header;
+use f11_index::IndexFile;
+use f11_reader::FileReader;
+use f11_store::{FileId, Refusal};
+
+/// Opens the file with an identification, and reads off its header where it ends. One whose slot is in use comes before one whose slot
+/// isn't.
+pub(crate) fn open_file<D: Device>(
+    device: &mut D,
+    index: &IndexFile,
+    wide: &IndexFile,
+    id: FileId,
+) -> Result<Result<Sought, Refusal>, DeviceFault>
+    requires within { IndexLiesWithin (index_kept index.now) (length (D.disk device.old).image) }
+    requires wide { IndexLiesWithin (index_kept wide.now) (length (D.disk device.old).image) }
+    ensures found { IfOk result (λ answer. IfOk answer (λ found. OpensSought
+        (λ image t. file_identified (index_kept wide.now) image t id)
+        (index_kept index.now) (index_kept wide.now) found (D.disk device.old) (D.disk device.new))) }
+    ensures none { IfOk result (λ answer. IfErr answer (λ refusal. LacksSought
+        (λ image t. file_identified (index_kept wide.now) image t id)
+        (index_kept index.now) refusal (D.disk device.old) (D.disk device.new))) }
+    ensures failed { OnErr result (Reads (D.disk device.old) (D.disk device.new) 1) }
+{
+    match FileReader::open(device, index, id) {
+        Ok(Some(file)) => Ok(Ok(found_file(file, true))),
+        Ok(None) => match FileReader::open(device, wide, id) {
+            Ok(Some(file)) => Ok(Ok(found_file(file, false))),
+            Ok(None) => Ok(Err(Refusal::NoSuchFile)),
+            Err(DeviceFault) => Err(DeviceFault),
+        },
+        Err(DeviceFault) => Err(DeviceFault),
+    }
+}
+
+/// A file that was found, with the end that its header states.
+fn found_file(file: FileReader, in_use: bool) -> Sought
+    ensures file { result.file ≡ file }
+    ensures end { result.end ≡ stated_end (attributes (header_in_hand file)) }
+    ensures in_use { result.in_use ≡ in_use }
+{
+    let end = stated_end(&Header::new(file.header()).attributes());
+    Sought { file, end, in_use }
+}
