@@ -17,14 +17,14 @@ use Rattle.f11_index.specs.IndexFile.{Index}
 use Rattle.f11_index.specs.Table.{Table, table_in}
 use Rattle.f11_store.specs.declared.files.FileId.{FileId}
 use Rattle.f11_volume.specs.Notes.{IsIdOf}
-use Rattle.f11_catalog.specs.AllFiles.{all_files, entered_files, id_of, is_among, lost_files, place_lost, places_in}
+use Rattle.f11_catalog.specs.AllFiles.{AreLed, all_files, entered_files, id_of, is_among, lost_files, place_lost, places_in}
 use Rattle.f11_catalog.specs.Contents.{Holds, is_file}
 use Rattle.f11_catalog.specs.GoingOver.{OpensMaster, directories_to_come}
 use Rattle.f11_catalog.specs.Records.{Reads, is_id_of_file}
 use Rattle.f11_catalog.specs.Steps.{IsNew, is_met}
 use Rattle.f11_catalog.specs.Walking.{BeginsEntered, BeginsWalk, EntersFile, EntersNoMore, FindsAllLed, FindsNoOther, FindsOther, GivesFile}
 use Rattle.f11_catalog.specs.Walking.{HasNoFile, HoldsAt}
-use Rattle.f11_catalog.specs.Walking.{entered_to_come, files_left, files_to_come, hand_to_come, is_known, others_to_come}
+use Rattle.f11_catalog.specs.Walking.{entered_to_come, files_left, files_to_come, hand_to_come, is_known, one_if, others_to_come}
 use Rattle.f11_catalog.specs.declared.walk.content.Content.{Content}
 use Rattle.f11_catalog.specs.declared.walk.content.Content.TheVariants.{File, Missing, OutOfUse}
 use Rattle.f11_catalog.specs.declared.walk.place.FileAt.{FileAt}
@@ -34,9 +34,9 @@ use Rattle.f11_catalog.specs.declared.walk.state.Numbers.{Numbers}
 use Rattle.f11_catalog.specs.declared.walk.state.EnteredFiles.{EnteredFiles}
 use Rattle.f11_catalog.specs.declared.walk.state.OpenDirectory.{OpenDirectory}
 use Rattle.f11_catalog.proofs.ComingLemmas.{id-passes}
-use Rattle.f11_catalog.proofs.EnteredLemmas.{entered-later}
+use Rattle.f11_catalog.proofs.EnteredLemmas.{entered-later, hand-on, master-on}
 use Rattle.f11_catalog.proofs.GoingLemmas.{all-to-come}
-use Rattle.f11_catalog.proofs.ListingLemmas.{reads-then, said-later}
+use Rattle.f11_catalog.proofs.ListingLemmas.{reads-then}
 use Rattle.f11_catalog.proofs.LostLemmas.{lost-if}
 use Rattle.f11_catalog.proofs.ScanLemmas.{among-numbers}
 use Rattle.f11_catalog.proofs.SlotLemmas.{own-id, slot-of}
@@ -173,30 +173,35 @@ begins-entered index wide id files old new opens empty others first = record {
 }
 
 -- a walk begins
-pub begins-walk : (index wide : Index) (id : FileId) (files : AllFiles) (led : Numbers) (old mid new : Disk)
-    → FindsAllLed index wide id led old mid → BeginsEntered index wide id (is_met led) files.entered mid new
-    → IsNew files.others → BeginsWalk index wide id files old new
+pub begins-walk : (index wide : Index) (id : FileId) (files : AllFiles) (failed : Bool) (old mid new : Disk)
+    → BeginsEntered index wide id (is_met files.entered.directories.led) files.entered old mid
+    → FindsAllLed index wide id files.entered.directories.led failed mid new → IsNew files.others
+    → BeginsWalk index wide id files failed old new
 unfolding files_to_come
-begins-walk index wide id files led old mid new finds begins others = record {
-  walking = begins.walking;
-  led = is_met led;
-  are = finds.are;
+begins-walk index wide id files failed old mid new begins finds others = record {
+  walking = (
+    hand-on index wide files.entered.hand mid new (one_if failed) finds.reads begins.walking.0,
+    master-on index wide files.entered.directories.master mid new (one_if failed) finds.reads begins.walking.1,
+  );
+  led = led;
+  are = λ well honest.
+      subst (λ (i : Image). AreLed wide i (table_in i index) id led) begins.reads.1.image
+      (finds.are well (begins.reads.1.honest ∙ honest));
   all = λ honest.
       let t : Table = table index old in
-      let all : List Place = entered_files wide old.image t id (is_met led) in
-      let image : mid.image ≡ old.image = finds.reads.1.image in
-      let entered : entered_to_come index wide old files.entered ≡ all =
-      sym (entered-later index wide old mid image files.entered)
-      ∙ begins.all (finds.reads.1.honest ∙ honest)
-      ∙ said-later (λ i t'. entered_files wide i t' id (is_met led)) index finds.reads.1 in
+      let all : List Place = entered_files wide old.image t id led in
+      let entered : entered_to_come index wide old files.entered ≡ all = begins.all honest in
       let count : t.slots + 1 - 1 ≡ t.slots = omega arith in
       turn-begin (stands_in t) (λ f. others_to_come t f files.others) (is_met files.others) (entered_to_come index wide old files.entered)
       all
       entered others.none
       ∙ ap (λ (k : ℕ). all ++ lost_files t (is_among t all) k (t.slots + 1 - k)) others.first
       ∙ ap (λ (c : ℕ). all ++ lost_files t (is_among t all) 1 c) count;
-  reads = reads-then finds.reads begins.reads;
+  reads = reads-then begins.reads finds.reads;
 }
+  where
+    led : ℕ → Bool
+    led = is_met files.entered.directories.led
 
 -- no file is left out
 pub none-left-out : (wide : Index) (image : Image) (index : Index) (master : FileId) (led : ℕ → Bool) (n : ℕ)

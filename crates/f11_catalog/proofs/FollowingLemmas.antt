@@ -16,7 +16,7 @@ use Rattle.f11_volume.specs.Notes.{IsIdOf}
 use Rattle.f11_catalog.specs.AllDirectories.{DirectoryAt, all_directories, led_directories, led_directory, named_directories}
 use Rattle.f11_catalog.specs.AllDirectories.{other_directories}
 use Rattle.f11_catalog.specs.AllDirectories.{is_named, own_directories, unused_directory}
-use Rattle.f11_catalog.specs.AllFiles.{HasAllLed, entered_files, id_of, is_led, leads_to, places_in}
+use Rattle.f11_catalog.specs.AllFiles.{HasAllLed, entered_files, id_of, is_led, is_unused, leads_to, places_in}
 use Rattle.f11_catalog.specs.Contents.{Holds, is_unused_directory}
 use Rattle.f11_catalog.specs.Facts.{is_directory_header}
 use Rattle.f11_catalog.specs.Lines.{names_directory}
@@ -37,7 +37,7 @@ use Rattle.f11_catalog.proofs.EnteredLemmas.{entered-later}
 use Rattle.f11_catalog.proofs.LedLemmas.{unused-is, unused-none}
 use Rattle.f11_catalog.proofs.ListingLemmas.{reads-none, reads-then, said-later}
 use Rattle.f11_catalog.proofs.OpenLemmas.{header-is-directory}
-use Rattle.f11_catalog.proofs.WalkLemmas.{at-reads, id-fails}
+use Rattle.f11_catalog.proofs.WalkLemmas.{at-reads, holds-reads, id-fails}
 
 -- what was found under an identification is a directory whose slot isn't in use where the identification is one of such
 unused-found : (index wide : Index) (id : FileId) (content : Content) (old new : Disk) → Holds index wide id content old new
@@ -216,28 +216,42 @@ module _ (wide : Index) (image : Image) (t : Table) (master : FileId) (few more 
       (either (list_any in_it (own_directories image t known 1 t.slots)) _ _ (any-more (in_led few) (in_led more) in-more numbers))
       (sym (parts few) ∙ is)
 
--- So many numbers were found to which directories lead: no others are among them, and that of the master file directory is.
+-- So many numbers were found to which directories lead: no others are among them, and that of the master file directory is if it leads.
 pub record LeadsOn (index wide : Index) (master : FileId) (led : Numbers) (old now : Disk) : Type 0 where
   pub fewest : IsTrue old.honest → (other : ℕ → Bool) → HasAllLed wide old.image (table index old) master other → (n : ℕ)
       → is_met led n ≡ true → other n ≡ true
-  pub master_is : (n : ℕ) → (master.number == n) ≡ true → is_met led n ≡ true
+  pub master_is : IsTrue old.honest → (n : ℕ) → is_unused wide old.image (table index old) n master ≡ true → is_met led n ≡ true
   pub first : led.next ≡ 1
   pub reads : Reads old now 0
 
 module _ (index wide : Index) (master : FileId) where
   -- at first the latter alone is
-  pub leads-first : (new-numbers led : Numbers) (disk : Disk) → IsNew new-numbers
-      → ((n : ℕ) → is_met led n ≡ (is_met new-numbers n || (master.number == n))) → led.next ≡ new-numbers.next
-      → LeadsOn index wide master led disk disk
-  leads-first new-numbers led disk is-new meets next = record {
+  pub leads-first : (new-numbers led : Numbers) (content : Content) (old new : Disk) → IsNew new-numbers
+      → Holds index wide master content old new
+      → ((n : ℕ) → is_met led n ≡ (is_met new-numbers n || (is_unused_directory content && (master.number == n))))
+      → led.next ≡ new-numbers.next → LeadsOn index wide master led old new
+  leads-first new-numbers led content old new is-new holds meets next = record {
     fewest = λ honest other has n met.
-        let is : (master.number == n) ≡ true =
-        sym (meets n ∙ ap (λ (b : Bool). b || (master.number == n)) (is-new.none n)) ∙ met in
-        has n (ap (λ (b : Bool). b || list_any (leads_to wide disk.image (table index disk) n)
-        (entered_files wide disk.image (table index disk) master other)) is);
-    master_is = λ n is. meets n ∙ ap (λ (b : Bool). is_met new-numbers n || b) is ∙ or-true (is_met new-numbers n);
+        has n (ap (λ (b : Bool). b || list_any (leads_to wide old.image (table index old) n)
+        (entered_files wide old.image (table index old) master other)) (sym (met-is honest n) ∙ met));
+    master_is = λ honest n is. met-is honest n ∙ is;
     first = next ∙ is-new.first;
-    reads = reads-none disk;
+    reads = holds-reads index wide master content old new holds;
+  }
+    where
+      met-is : IsTrue old.honest → (n : ℕ) → is_met led n ≡ is_unused wide old.image (table index old) n master
+      met-is honest n =
+          meets n
+          ∙ ap (λ (b : Bool). b || (is_unused_directory content && (master.number == n))) (is-new.none n)
+          ∙ ap (λ (b : Bool). b && (master.number == n)) (unused-found index wide master content old new holds honest)
+
+  -- a transfer failed before all were found
+  pub leads-stopped : (led : Numbers) (old now new : Disk) → LeadsOn index wide master led old now → Reads now new 1
+      → FindsAllLed index wide master led true old new
+  leads-stopped led old now new leads fails = record {
+    are = λ no. absurd cc;
+    first = leads.first;
+    reads = reads-then leads.reads fails;
   }
 
   module _ (led seen : Numbers) (old now new : Disk) (leads : LeadsOn index wide master led old now)
@@ -257,7 +271,7 @@ module _ (index wide : Index) (master : FileId) where
     leads-more = record {
       fewest = λ honest other has n met.
           go other (leads.fewest honest other has) n has (seen-is honest n) (cases_Bool (is_met led n)) (sym (meets n) ∙ met);
-      master_is = λ n is. meets n ∙ ap (λ (b : Bool). b || is_met seen n) (leads.master_is n is);
+      master_is = λ honest n is. meets n ∙ ap (λ (b : Bool). b || is_met seen n) (leads.master_is honest n is);
       first = next ∙ leads.first;
       reads = there;
     }
@@ -272,14 +286,14 @@ module _ (index wide : Index) (master : FileId) where
         go other sub n has is (inl met) both = sub n met
         go other sub n has is (inr unmet) both =
             let seen-so : is_met seen n ≡ true = sym (ap (λ (b : Bool). b || is_met seen n) unmet) ∙ both in
-            has n (ap (λ (b : Bool). (master.number == n) || b)
+            has n (ap (λ (b : Bool). is_unused wide old.image t n master || b)
             (more-entered wide old.image t master (is_met led) other sub (leads_to wide old.image t n) (sym is ∙ seen-so))
-            ∙ or-true (master.number == n))
+            ∙ or-true (is_unused wide old.image t n master))
 
     -- until these are no more
-    pub leads-all : ((n : ℕ) → is_met later n ≡ is_met led n) → FindsAllLed index wide master later old new
+    pub leads-all : ((n : ℕ) → is_met later n ≡ is_met led n) → FindsAllLed index wide master later false old new
     leads-all same = record {
-      are = λ honest. record {
+      are = λ _ honest. record {
         all = λ n is. same n ∙ all-in honest n (sym (ap (λ (f : ℕ → Bool). is_led wide old.image (table index old) master f n) same-met)
             ∙ is);
         fewest = leads-more.fewest honest;
@@ -293,8 +307,8 @@ module _ (index wide : Index) (master : FileId) where
 
         all-in : IsTrue old.honest → (n : ℕ) → is_led wide old.image (table index old) master (is_met led) n ≡ true
             → is_met led n ≡ true
-        all-in honest n is = elim (cases_Bool (master.number == n)) [
-          | inl first ↦ leads.master_is n first
+        all-in honest n is = elim (cases_Bool (is_unused wide old.image (table index old) n master)) [
+          | inl first ↦ leads.master_is honest n first
           | inr other ↦
               let so : is_met seen n ≡ true =
               seen-is honest n ∙ sym (ap (λ (b : Bool). b || list_any (leads_to wide old.image (table index old) n)

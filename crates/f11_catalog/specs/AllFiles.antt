@@ -37,19 +37,25 @@ places_in wide image t directory = places_entered directory.name (records_found 
 abbrev pub entered_files : Index → Image → Table → FileId → (ℕ → Bool) → List Place
 entered_files wide image t master led = flat_map (places_in wide image t) (all_directories wide image t master led)
 
--- a place leads to number n: it is that of a directory whose slot isn't in use
+-- an identification is that of file n, which is a directory whose slot isn't in use
+abbrev pub is_unused : Index → Image → Table → ℕ → FileId → Bool
+is_unused wide image t n id = names_directory (file_unused wide image t id) && (id.number == n)
+
+-- a place leads to file n, which is such a directory
 abbrev pub leads_to : Index → Image → Table → ℕ → Place → Bool
-leads_to wide image t n place = names_directory (file_unused wide image t (id_of place)) && ((id_of place).number == n)
+leads_to wide image t n place = is_unused wide image t n (id_of place)
 
--- number n is that of the master file directory, or a place in a directory leads to it
+-- directories lead to file n, where these numbers are those to which others lead: it is the master file directory, with its slot not in
+-- use, or a place in one of them leads to it
 abbrev pub is_led : Index → Image → Table → FileId → (ℕ → Bool) → ℕ → Bool
-is_led wide image t master led n = (master.number == n) || list_any (leads_to wide image t n) (entered_files wide image t master led)
+is_led wide image t master led n =
+    is_unused wide image t n master || list_any (leads_to wide image t n) (entered_files wide image t master led)
 
--- all numbers to which they lead are among these
+-- all numbers to which directories lead are among these
 abbrev pub HasAllLed : Index → Image → Table → FileId → (ℕ → Bool) → Type 0
 HasAllLed wide image t master led = (n : ℕ) → is_led wide image t master led n ≡ true → led n ≡ true
 
--- These are the numbers to which they lead: the fewest among which all are.
+-- These are the numbers to which directories lead: the fewest among which all are.
 pub record AreLed (wide : Index) (image : Image) (t : Table) (master : FileId) (led : ℕ → Bool) : Type 0 where
   pub all : HasAllLed wide image t master led
   pub fewest : (other : ℕ → Bool) → HasAllLed wide image t master other → (n : ℕ) → led n ≡ true → other n ≡ true

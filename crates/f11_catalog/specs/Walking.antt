@@ -1,6 +1,6 @@
 -- What the steps of a walk over all files tell, and what is still to come (profile).
 use Rattle.std.specs.Prelude.{◌≡◌, ℕ, ◌+◌, ◌-◌, ◌*◌, ◌^◌, ◌<◌, ◌≤◌, ◌||◌, Bool, IsTrue, List, [], ◌∷◌, ◌++◌}
-use Rattle.std.specs.Prelude.{Option, Some, None, IfSome}
+use Rattle.std.specs.Prelude.{Option, Some, None, IfSome, false, if◌then◌else◌}
 use Rattle.std.specs.List.{flat_map, list_any}
 use Rattle.f11_chain.specs.Calls.{table}
 use Rattle.f11_dev.specs.Disk.{Disk}
@@ -155,19 +155,24 @@ pub record FollowsEntered (index wide : Index) (master : FileId) (led : ℕ → 
       ≡ list_any (leads_to wide old.image (table index old) n) (entered_files wide old.image (table index old) master led)
   pub reads : Reads old new 0
 
--- The numbers were found to which directories lead, and none of them was looked at.
-pub record FindsAllLed (index wide : Index) (master : FileId) (led : Numbers) (old new : Disk) : Type 0 where
-  pub are : IsTrue old.honest → AreLed wide old.image (table index old) master (is_met led)
-  pub first : led.next ≡ 1
-  pub reads : Reads old new 0
+-- one transfer failed, or none
+abbrev pub one_if : Bool → ℕ
+one_if failed = if failed then 1 else 0
 
--- A walk has begun: all files are to come, where these are the numbers to which directories lead.
-pub record BeginsWalk (index wide : Index) (master : FileId) (files : AllFiles) (old new : Disk) : Type 0 where
+-- The numbers were found to which directories lead, or a transfer failed before all were; none of them was looked at.
+pub record FindsAllLed (index wide : Index) (master : FileId) (led : Numbers) (failed : Bool) (old new : Disk) : Type 0 where
+  pub are : failed ≡ false → IsTrue old.honest → AreLed wide old.image (table index old) master (is_met led)
+  pub first : led.next ≡ 1
+  pub reads : Reads old new (one_if failed)
+
+-- A walk has begun: all files are to come, where these are the numbers to which directories lead; or some of these, since a transfer
+-- failed.
+pub record BeginsWalk (index wide : Index) (master : FileId) (files : AllFiles) (failed : Bool) (old new : Disk) : Type 0 where
   pub walking : IsWalking index wide files new
   pub led : ℕ → Bool
-  pub are : IsTrue old.honest → AreLed wide old.image (table index old) master led
+  pub are : failed ≡ false → IsTrue old.honest → AreLed wide old.image (table index old) master led
   pub all : IsTrue old.honest → files_to_come index wide old files ≡ all_files wide old.image (table index old) master led
-  pub reads : Reads old new 0
+  pub reads : Reads old new (one_if failed)
 
 -- It hasn't: a transfer failed, or there was no memory.
 abbrev pub FailsToBegin : WalkFault → Disk → Disk → Type 0

@@ -1,12 +1,12 @@
 -- What each step of taking out all files tells.
-use Rattle.std.proofs.Common.{◌≡◌, ℕ, IsTrue, List, Option, length, refl, sym, ap, subst, ◌∙◌}
+use Rattle.std.proofs.Common.{◌≡◌, ℕ, Bool, IsTrue, List, Option, length, refl, sym, ap, subst, ◌∙◌}
 use Rattle.f11_catalog.proofs.ListingLemmas.{reads-then, said-later}
 use Rattle.f11_catalog.proofs.EnteredLemmas.{hand-on, master-on}
 use Rattle.f11_catalog.proofs.FilesLemmas.{files-later}
 use Rattle.f11_catalog.specs.AllFiles.{AreLed, all_files, id_of}
 use Rattle.f11_catalog.specs.Contents.{Holds}
 use Rattle.f11_catalog.specs.Records.{Reads}
-use Rattle.f11_catalog.specs.Walking.{FailsToBegin, HoldsAt, IsWalking}
+use Rattle.f11_catalog.specs.Walking.{FailsToBegin, HoldsAt, IsWalking, one_if}
 use Rattle.f11_catalog.specs.declared.fault.WalkFault.{WalkFault}
 use Rattle.f11_catalog.specs.declared.fault.WalkFault.TheVariants as walk
 use Rattle.f11_catalog.specs.declared.walk.content.Absence.{Absence}
@@ -90,23 +90,23 @@ within-on index old new faults reads within = subst (λ (i : Image). IndexLiesWi
 
 -- The index file was read, and all its files begun with.
 module _ (home : HomeFields) (index wide : Index) (old mid : Disk) (found : FindsVolume home index old mid) (size : ℕ) (files : AllFiles)
-    (new : Disk) (begun : BeginsWithEnd index wide size files mid new) (all-used : wide ≡ all_in_use index) where
-  begun-reads : Reads mid new 0
+    (failed : Bool) (new : Disk) (begun : BeginsWithEnd index wide size files failed mid new) (all-used : wide ≡ all_in_use index) where
+  begun-reads : Reads mid new (one_if failed)
   begun-reads = reads-then begun.ends.reads begun.begins.reads
 
   there : IsTrue old.honest → IsTrue begun.mid.honest
   there honest = begun.ends.reads.1.honest ∙ (found.looked.honest ∙ honest)
 
-  pub begins-all : BeginsAll index wide size files old new
+  pub begins-all : BeginsAll index wide size files failed old new
   begins-all = record {
     home = home;
     readable = found.readable;
     led = begun.begins.led;
-    are = λ honest.
+    are = λ well honest.
         subst (λ (i : Index). AreLed wide old.image (table_in old.image i) master_directory begun.begins.led)
         (index-of-volume home index old mid found honest)
         (subst (λ (i : Image). AreLed wide i (table_in i index) master_directory begun.begins.led)
-        (begun.ends.reads.1.image ∙ found.looked.image) (begun.begins.are (there honest)));
+        (begun.ends.reads.1.image ∙ found.looked.image) (begun.begins.are well (there honest)));
     all = λ honest.
         files-later index wide files begun.mid new begun.begins.reads.1.image
         ∙ begun.begins.all (there honest)
@@ -122,7 +122,7 @@ module _ (home : HomeFields) (index wide : Index) (old mid : Disk) (found : Find
   }
 
   pub lies-within : IndexLiesWithin index (length new.image)
-  lies-within = within-on index mid new 0 begun-reads found.is_for.within
+  lies-within = within-on index mid new (one_if failed) begun-reads found.is_for.within
 
   pub wide-within : IndexLiesWithin wide (length new.image)
   wide-within =
@@ -135,15 +135,15 @@ begin-fails walk.NoMemory old mid new reads fails = reads-then reads fails
 
 -- the volume was verified before
 module _ (old mid new : Disk) (reads : Reads old mid 0) where
-  pub all-behind : (index wide : Index) (size : ℕ) (files : AllFiles) → BeginsAll index wide size files mid new
-      → BeginsAll index wide size files old new
-  all-behind index wide size files begins = record {
+  pub all-behind : (index wide : Index) (size : ℕ) (files : AllFiles) (failed : Bool) → BeginsAll index wide size files failed mid new
+      → BeginsAll index wide size files failed old new
+  all-behind index wide size files failed begins = record {
     home = begins.home;
     readable = λ honest. subst (λ (i : Image). IsReadable i begins.home) reads.1.image (begins.readable (reads.1.honest ∙ honest));
     led = begins.led;
-    are = λ honest.
+    are = λ well honest.
         subst (λ (i : Image). AreLed wide i (table_of i begins.home) master_directory begins.led) reads.1.image
-        (begins.are (reads.1.honest ∙ honest));
+        (begins.are well (reads.1.honest ∙ honest));
     all = λ honest.
         begins.all (reads.1.honest ∙ honest)
         ∙ ap (λ (i : Image). all_files wide i (table_of i begins.home) master_directory begins.led) reads.1.image;

@@ -228,7 +228,7 @@ module _ (home : HomeFields) (index wide : Index) (old mid : Disk) (found : Find
 
   module _ (sought : Sought) (size : ℕ) (both : OpensWithEnd (what wide) index wide sought size mid new) where
     volume-has : let by = read_by index wide sought in
-        FindsSought directory name sought.in_use size (bytes_to_come by new sought.file sought.end) sought.end
+        FindsSought directory name sought.in_use by size (bytes_to_come by new sought.file sought.end) sought.end
         (lbns_to_come by new sought.file) (file_to_come by new sought.file) old new
     volume-has = let finds = both.opens in record {
       home = home;
@@ -239,6 +239,7 @@ module _ (home : HomeFields) (index wide : Index) (old mid : Disk) (found : Find
       use_is = λ honest.
           finds.use_is (found.looked.honest ∙ honest)
           ∙ said-of-volume home index old mid found (λ image t. is_some (file_named image t finds.id)) honest;
+      by_is = by-volume sought.in_use;
       places = λ honest.
           finds.places (found.looked.honest ∙ honest) ∙ of-table (λ image t. blocks_reached t finds.id.number) sought.in_use honest;
       size_is = λ honest. both.size_is (found.looked.honest ∙ honest) ∙ of-volume volume_end honest;
@@ -259,11 +260,11 @@ module _ (home : HomeFields) (index wide : Index) (old mid : Disk) (found : Find
 
     -- so it is by the one that is kept
     pub volume-gives : (chosen : Index) → chosen ≡ read_by index wide sought → IsToRead chosen sought.file new
-        × FindsSought directory name sought.in_use size (bytes_to_come chosen new sought.file sought.end) sought.end
+        × FindsSought directory name sought.in_use chosen size (bytes_to_come chosen new sought.file sought.end) sought.end
         (lbns_to_come chosen new sought.file) (file_to_come chosen new sought.file) old new
     volume-gives chosen is =
         subst (λ (i : Index). IsToRead i sought.file new
-        × FindsSought directory name sought.in_use size (bytes_to_come i new sought.file sought.end) sought.end
+        × FindsSought directory name sought.in_use i size (bytes_to_come i new sought.file sought.end) sought.end
         (lbns_to_come i new sought.file) (file_to_come i new sought.file) old new)
         (sym is) (is-to-read, volume-has)
 
@@ -278,10 +279,10 @@ module _ (home : HomeFields) (index wide : Index) (old mid : Disk) (found : Find
 
 -- the volume was verified before
 module _ (directory name : List ℕ) (old mid new : Disk) (reads : Reads old mid 0) where
-  pub sought-behind : (in_use : Bool) (size : ℕ) (bytes : List ℕ) (end : ℕ) (lbns : List ℕ) (come : File)
-      → FindsSought directory name in_use size bytes end lbns come mid new
-      → FindsSought directory name in_use size bytes end lbns come old new
-  sought-behind in_use size bytes end lbns come finds = record {
+  pub sought-behind : (in_use : Bool) (by : Index) (size : ℕ) (bytes : List ℕ) (end : ℕ) (lbns : List ℕ) (come : File)
+      → FindsSought directory name in_use by size bytes end lbns come mid new
+      → FindsSought directory name in_use by size bytes end lbns come old new
+  sought-behind in_use by size bytes end lbns come finds = record {
     home = finds.home;
     readable = λ honest. subst (λ (i : Image). IsReadable i finds.home) reads.1.image (finds.readable (reads.1.honest ∙ honest));
     id = finds.id;
@@ -291,6 +292,7 @@ module _ (directory name : List ℕ) (old mid new : Disk) (reads : Reads old mid
     use_is = λ honest.
         finds.use_is (reads.1.honest ∙ honest)
         ∙ ap (λ (i : Image). is_some (file_named i (table_of i finds.home) finds.id)) reads.1.image;
+    by_is = λ honest. finds.by_is (reads.1.honest ∙ honest) ∙ ap (λ (i : Image). index_read in_use i finds.home) reads.1.image;
     places = λ honest.
         finds.places (reads.1.honest ∙ honest)
         ∙ ap (λ (i : Image). blocks_reached (table_in i (index_read in_use i finds.home)) finds.id.number) reads.1.image;

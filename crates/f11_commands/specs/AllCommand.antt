@@ -9,7 +9,7 @@ use Rattle.std.specs.List.{concat}
 use Rattle.f11_catalog.specs.AllFiles.{AreLed, all_files, id_of}
 use Rattle.f11_catalog.specs.Lines.{place_text}
 use Rattle.f11_catalog.specs.Records.{Reads, index_by as by_use}
-use Rattle.f11_catalog.specs.Walking.{BeginsWalk, GivesFile, HasNoFile, files_left as walk_left, files_to_come}
+use Rattle.f11_catalog.specs.Walking.{BeginsWalk, GivesFile, HasNoFile, files_left as walk_left, files_to_come, one_if}
 use Rattle.f11_catalog.specs.declared.fault.WalkFault.{WalkFault}
 use Rattle.f11_catalog.specs.declared.fault.WalkFault.TheVariants as walk
 use Rattle.f11_catalog.specs.chain.Calls.{table}
@@ -168,28 +168,29 @@ abbrev pub all_answered : {D : Type 0} {G : Ghosts D} → TakingAll D G → Resu
 all_answered all = if all.failed then Err DeviceFault else Ok (record { answer = all_answer all.counts; faulty = all.faulty })
 
 -- All files were begun with, of those that an index file has, and it was found where the volume ends.
-pub record BeginsWithEnd (index wide : Index) (size : ℕ) (files : AllFiles) (old new : Disk) : Type 0 where
+pub record BeginsWithEnd (index wide : Index) (size : ℕ) (files : AllFiles) (failed : Bool) (old new : Disk) : Type 0 where
   pub mid : Disk
   pub ends : FindsVolumeEnd index wide size old mid
-  pub begins : BeginsWalk index wide master_directory files mid new
+  pub begins : BeginsWalk index wide master_directory files failed mid new
 
 -- They weren't.
 abbrev pub FailsWithEnd : WalkFault → Disk → Disk → Type 0
 FailsWithEnd walk.DeviceFault old new = Reads old new 1
 FailsWithEnd walk.NoMemory old new = Reads old new 0
 
--- All files of a volume that can be read are to come, where these are the numbers to which directories lead.
-pub record BeginsAll (index wide : Index) (size : ℕ) (files : AllFiles) (old new : Disk) : Type 0 where
+-- All files of a volume that can be read are to come, where these are the numbers to which directories lead; or some of these, since a
+-- transfer failed.
+pub record BeginsAll (index wide : Index) (size : ℕ) (files : AllFiles) (failed : Bool) (old new : Disk) : Type 0 where
   pub home : HomeFields
   pub readable : IsTrue old.honest → IsReadable old.image home
   pub led : ℕ → Bool
-  pub are : IsTrue old.honest → AreLed wide old.image (table_of old.image home) master_directory led
+  pub are : failed ≡ false → IsTrue old.honest → AreLed wide old.image (table_of old.image home) master_directory led
   pub all : IsTrue old.honest →
       files_to_come index wide new files ≡ all_files wide old.image (table_of old.image home) master_directory led
   pub index_is : IsTrue old.honest → index ≡ index_of_image old.image home
   pub wide_is : wide ≡ all_in_use index
   pub size_is : IsTrue old.honest → size ≡ volume_end_on old.image home
-  pub reads : Reads old new 0
+  pub reads : Reads old new (one_if failed)
 
 -- The files couldn't be begun with: a transfer failed, or there was no memory, and nothing was written; or the volume can't be read, and
 -- the writer takes no more.

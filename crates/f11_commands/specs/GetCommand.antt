@@ -106,16 +106,18 @@ pub record IsToRead (index : Index) (file : FileReader) (disk : Disk) : Type 0 w
 abbrev pub index_read : Bool → Image → HomeFields → Index
 index_read in_use image home = index_by in_use (index_of image home) (all_in_use (index_of image home))
 
--- The file of a directory was found on a volume that can be read and ends here; its slot is in use, or isn't. What is to come is all of it:
--- its bytes, up to the end that it states; its blocks, which lie there; and, as another file, what its attributes and its blocks say.
-pub record FindsSought (directory name : List ℕ) (in_use : Bool) (size : ℕ) (bytes : List ℕ) (end : ℕ) (lbns : List ℕ) (come : File)
-    (old new : Disk) : Type 0 where
+-- The file of a directory was found on a volume that can be read and ends here; its slot is in use, or isn't, and it is read by the index
+-- file that has it so. What is to come is all of it: its bytes, up to the end that it states; its blocks, which lie there; and, as another
+-- file, what its attributes and its blocks say.
+pub record FindsSought (directory name : List ℕ) (in_use : Bool) (by : Index) (size : ℕ) (bytes : List ℕ) (end : ℕ) (lbns : List ℕ)
+    (come : File) (old new : Disk) : Type 0 where
   pub home : HomeFields
   pub readable : IsTrue old.honest → IsReadable old.image home
   pub id : FileId
   pub file : File
   pub is : IsTrue old.honest → volume_file old.image home directory name ≡ Ok (id, file)
   pub use_is : IsTrue old.honest → in_use ≡ is_some (file_named old.image (table_of old.image home) id)
+  pub by_is : IsTrue old.honest → by ≡ index_read in_use old.image home
   pub places : IsTrue old.honest → lbns ≡ blocks_reached (table_in old.image (index_read in_use old.image home)) id.number
   pub size_is : IsTrue old.honest → size ≡ volume_end_on old.image home
   pub bytes_are : IsTrue old.honest → bytes ≡ bytes_of file

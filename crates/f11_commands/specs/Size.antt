@@ -25,7 +25,7 @@ use Rattle.f11_commands.specs.declared.volume.VolumeFault.{VolumeFault}
 abbrev pub bitmap_file_id : FileId
 bitmap_file_id = record { number = 2; sequence = 2; volume = 0 }
 
--- bitmap blocks that are 1 to 126 have bits for so many blocks, which are some
+-- so many bitmap blocks, 1 to 126, have bits for so many blocks, 1 at least
 abbrev pub covers : ℕ → ℕ → Bool
 covers bitmaps size = nat_lt 0 bitmaps && (nat_le bitmaps 126 && (nat_lt 0 size && nat_le size (4096 * bitmaps)))
 

@@ -81,7 +81,7 @@ pub enum Why {
     #[error("the volume has faults, which rt-vfy tells")]
     RtFaulty,
     /// The RT-11 volume in it ends within its last empty area: how many blocks it should have, and how many bytes these are.
-    #[error("it ends within its last empty area, so that no file is cut: it should have {0} blocks, as truncate -s {1} makes it")]
+    #[error("it ends within its last empty area, so that no file is cut if the lengths in its directory are right: it should have {0} blocks, as truncate -s {1} makes it")]
     Short(u32, u64),
     /// Its file has so many bytes behind the last whole block.
     #[error("length not a multiple of 512 bytes, the rest of {0} is left out")]

@@ -8,6 +8,7 @@ use crate::fault::WalkFault;
 use crate::found::FoundDirectory;
 use crate::walk::following::find_led;
 use crate::walk::state::{AllFiles, Directories, EnteredFiles, Numbers};
+use f11_bytes::NoMemory;
 use f11_dev::{Device, DeviceFault};
 use f11_index::IndexFile;
 use f11_store::FileId;
@@ -85,36 +86,58 @@ impl AllFiles {
     ghost use Rattle.f11_catalog.specs.Walking.{BeginsWalk, FailsToBegin};
 
     /// Begins with all files of a volume whose master file directory has this identification, and is found by `wide`, which
-    /// takes each slot as in use, where its slot's bit is lost. What directories name is gone over for those to which they lead, once more
-    /// than these lead on. It takes 256 KiB of memory, of which a walk keeps 192 KiB and takes no more.
+    /// takes each slot as in use, where its slot's bit is lost. What directories name is gone over for those to which they lead, and again
+    /// each time that led on. It tells whether a transfer failed before all of these were found: then they may be left out. It takes
+    /// 320 KiB of memory, of which a walk keeps 192 KiB and takes no more.
     ///
     /// # Errors
     ///
-    /// [`WalkFault::NoMemory`] where there is no memory for it; [`WalkFault::DeviceFault`] where a transfer failed.
+    /// [`WalkFault::NoMemory`] where there is no memory for it; [`WalkFault::DeviceFault`] where a transfer failed before the master file
+    /// directory was found, or found not to be there.
     pub fn begin<D: Device>(
         alloc: Global,
         device: &mut D,
         index: &IndexFile,
         wide: &IndexFile,
         master: FileId,
-    ) -> Result<AllFiles, WalkFault>
+    ) -> Result<(AllFiles, bool), WalkFault>
         requires within { IndexLiesWithin (index_kept index.now) (length (D.disk device.old).image) }
         requires wide { IndexLiesWithin (index_kept wide.now) (length (D.disk device.old).image) }
-        ensures begins { IfOk result (λ files.
-            BeginsWalk (index_kept index.now) (index_kept wide.now) master files
+        ensures begins { IfOk result (λ begun.
+            BeginsWalk (index_kept index.now) (index_kept wide.now) master begun.0 begun.1
             (D.disk device.old) (D.disk device.new)) }
         ensures failed { IfErr result (λ fault. FailsToBegin fault
             (D.disk device.old) (D.disk device.new)) }
     {
-        match find_led(alloc, device, index, wide, master) {
-            Ok(led) => match EnteredFiles::begin(alloc, device, index, wide, master, led) {
-                Ok(entered) => match Numbers::begin(alloc) {
-                    Some(others) => Ok(AllFiles { entered, others }),
-                    None => Err(WalkFault::NoMemory),
-                },
-                Err(fault) => Err(fault),
+        let Some(directories) = Numbers::begin(alloc) else {
+            return Err(WalkFault::NoMemory);
+        };
+        let Some(files) = Numbers::begin(alloc) else {
+            return Err(WalkFault::NoMemory);
+        };
+        match open_master(device, index, wide, master) {
+            Ok(found) => match find_led(alloc, device, index, wide, master) {
+                Ok((led, failed)) => {
+                    let directories = Directories {
+                        master: found,
+                        others: directories,
+                        led,
+                    };
+                    let entered = EnteredFiles {
+                        hand: None,
+                        directories,
+                    };
+                    Ok((
+                        AllFiles {
+                            entered,
+                            others: files,
+                        },
+                        failed,
+                    ))
+                }
+                Err(NoMemory) => Err(WalkFault::NoMemory),
             },
-            Err(fault) => Err(fault),
+            Err(DeviceFault) => Err(WalkFault::DeviceFault),
         }
     }
 }

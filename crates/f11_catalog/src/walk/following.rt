@@ -6,44 +6,51 @@ ghost use Rattle.f11_catalog.specs.Steps.{is_met};
 ghost use Rattle.f11_catalog.specs.Walking.{FailsToBegin, FindsAllLed, FollowsEntered};
 
 use crate::fault::WalkFault;
+use crate::walk::content::open_content;
 use crate::walk::state::{EnteredFiles, Numbers};
+use f11_bytes::NoMemory;
 use f11_dev::{Device, DeviceFault};
 use f11_index::IndexFile;
 use f11_store::FileId;
 use std::alloc::Global;
 
-/// The numbers to which directories lead: that of the master file directory, and of each directory out of use that one which is gone over
-/// names. What directories name is gone over until no further one is found. It takes 256 KiB of memory, of which 64 KiB are kept.
+/// The numbers to which directories lead: that of each directory out of use that one which is gone over names, and of the master file
+/// directory if it is out of use. What directories name is gone over until no further one is found. It tells whether a transfer failed: then
+/// it has those that were found before. It takes 256 KiB of memory, of which 64 KiB are kept.
 ///
 /// # Errors
 ///
-/// [`WalkFault::NoMemory`] where there is no memory for it, and [`WalkFault::DeviceFault`] where a transfer failed.
+/// `NoMemory` where there is no memory for it.
 pub(crate) fn find_led<D: Device>(
     alloc: Global,
     device: &mut D,
     index: &IndexFile,
     wide: &IndexFile,
     master: FileId,
-) -> Result<Numbers, WalkFault>
+) -> Result<(Numbers, bool), NoMemory>
     requires within { IndexLiesWithin (index_kept index.now) (length (D.disk device.old).image) }
     requires wide { IndexLiesWithin (index_kept wide.now) (length (D.disk device.old).image) }
-    ensures finds { IfOk result (λ led. FindsAllLed (index_kept index.now) (index_kept wide.now) master led
-        (D.disk device.old) (D.disk device.new)) }
-    ensures failed { IfErr result (λ fault. FailsToBegin fault (D.disk device.old) (D.disk device.new)) }
+    ensures finds { IfOk result (λ found. FindsAllLed (index_kept index.now) (index_kept wide.now) master
+        found.0 found.1 (D.disk device.old) (D.disk device.new)) }
+    ensures failed { OnErr result (Reads (D.disk device.old) (D.disk device.new) 0) }
 {
     let Some(led) = Numbers::begin(alloc) else {
-        return Err(WalkFault::NoMemory);
+        return Err(NoMemory);
     };
     let mut led = led;
-    led.meet(master.number, true);
+    match open_content(device, index, wide, master) {
+        Ok(content) => led.meet(master.number, content.is_unused_directory()),
+        Err(DeviceFault) => return Ok((led, true)),
+    }
     loop {
         match follow_entered(alloc, device, index, wide, master, &led) {
             Ok(seen) => {
                 if !led.meet_all(&seen) {
-                    return Ok(led);
+                    return Ok((led, false));
                 }
             }
-            Err(fault) => return Err(fault),
+            Err(WalkFault::DeviceFault) => return Ok((led, true)),
+            Err(WalkFault::NoMemory) => return Err(NoMemory),
         }
     }
 }

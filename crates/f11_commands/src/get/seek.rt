@@ -52,7 +52,7 @@ pub fn seek_file<D: Device, W: Write>(
 ) -> Result<Result<FoundFile<D>, (D, Served)>, (D, Failure)>
     ensures found { IfOk result (λ answer. IfOk answer (λ found. (writer.new ≡ writer.old)
         × IsVerified (has_faults found) (D.disk device)
-        × FindsSought directory.now name.now (is_used found) (size_with found)
+        × FindsSought directory.now name.now (is_used found) (index_with found) (size_with found)
         (bytes_to_come (index_with found) (D.disk (device_with found))
         (reader_of found) (end_found found)) (end_found found)
         (lbns_to_come (index_with found) (D.disk (device_with found)) (reader_of found))
@@ -86,7 +86,7 @@ fn seek<D: Device, W: Write>(
 ) -> Result<Result<FoundFile<D>, (D, Served)>, (D, Failure)>
     ensures found { IfOk result (λ answer. IfOk answer (λ found. (writer.new ≡ writer.old)
         × (has_faults found ≡ faulty)
-        × FindsSought directory.now name.now (is_used found) (size_with found)
+        × FindsSought directory.now name.now (is_used found) (index_with found) (size_with found)
         (bytes_to_come (index_with found) (D.disk (device_with found))
         (reader_of found) (end_found found)) (end_found found)
         (lbns_to_come (index_with found) (D.disk (device_with found)) (reader_of found))
@@ -124,7 +124,7 @@ fn seek_on_volume<D: Device, W: Write>(
 ) -> Result<Result<(IndexFile, Sought, u32), Answer>, Failure>
     ensures found { IfOk result (λ answer. IfOk answer (λ found. (writer.new ≡ writer.old)
         × IsToRead (index_kept found.0) found.1.file (D.disk device.new)
-        × FindsSought directory.now name.now found.1.in_use found.2
+        × FindsSought directory.now name.now found.1.in_use (index_kept found.0) found.2
         (bytes_to_come (index_kept found.0) (D.disk device.new) found.1.file found.1.end)
         found.1.end (lbns_to_come (index_kept found.0) (D.disk device.new) found.1.file)
         (file_to_come (index_kept found.0) (D.disk device.new) found.1.file)

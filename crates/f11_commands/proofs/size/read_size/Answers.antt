@@ -1,9 +1,9 @@
-use Rattle.std.proofs.Common.{◌≡◌, Bool, ap, if◌then◌else◌, sym, ◌∙◌}
+use Rattle.std.proofs.Common.{◌≡◌, Bool, ap, if◌then◌else◌, sym}
 use Rattle.std.proofs.lemmas.Result.{IfOk-weaker, on_err_weaker}
 use Rattle.f11_catalog.proofs.ListingLemmas.{reads-then}
 use Rattle.f11_index.specs.IndexFile.{Index}
 use Rattle.f11_index.specs.Kept.{index_kept}
-use Rattle.f11_commands.proofs.SizeLemmas.{size-none, size-read}
+use Rattle.f11_commands.proofs.SizeLemmas.{size-read}
 use Rattle.f11_commands.proofs.size.read_size.Goals as goal
 use Rattle.f11_commands.proofs.size.read_size.Goals.{then-found, else-found}
 

@@ -1,5 +1,5 @@
 //! The beginning of `get --all`.
-ghost use Rattle.std.specs.Prelude.{◌≡◌, false, length, IfErr, IfOk};
+ghost use Rattle.std.specs.Prelude.{◌≡◌, length, IfErr, IfOk};
 ghost use Rattle.f11_catalog.specs.Walking.{IsWalking};
 ghost use Rattle.f11_index.specs.Kept.{index_kept, IndexLiesWithin};
 ghost use Rattle.f11_commands.specs.AllCommand.{BeginsAll, BeginsWithEnd, FailsToBeginAll, FailsWithEnd, counts_of, device_of, files_of, has_failed, has_faults, index_of, no_counts, size_of, wide_of};
@@ -25,7 +25,8 @@ use std::io::Write;
 /// be read, faulty or not, and writes nothing to it.
 ///
 /// Where the volume can't be read it writes the line of its fault, F1 or F2: then it gives the device back, and what the command answers.
-/// Else it writes nothing.
+/// Else it writes nothing. Where a transfer failed before all directories out of use were found that are to be gone over, it begins with
+/// what was found, and the command ends with a device fault.
 ///
 /// # Errors
 ///
@@ -38,9 +39,8 @@ pub fn begin_all<D: Device, W: Write>(
 ) -> Result<TakingAll<D>, (D, Result<Served, Failure>)>
     ensures begins { IfOk result (λ all. (writer.new ≡ writer.old)
         × IsVerified (has_faults all) (D.disk device)
-        × (has_failed all ≡ false)
         × (counts_of all ≡ no_counts)
-        × BeginsAll (index_of all) (wide_of all) (size_of all) (files_of all)
+        × BeginsAll (index_of all) (wide_of all) (size_of all) (files_of all) (has_failed all)
         (D.disk device) (D.disk (device_of all))) }
     ensures told { IfErr result (λ told. IfOk told.1 (λ served.
         IsVerified served.faulty (D.disk device)
@@ -66,9 +66,8 @@ fn begin<D: Device, W: Write>(
 ) -> Result<TakingAll<D>, (D, Result<Served, Failure>)>
     ensures begins { IfOk result (λ all. (writer.new ≡ writer.old)
         × (has_faults all ≡ faulty)
-        × (has_failed all ≡ false)
         × (counts_of all ≡ no_counts)
-        × BeginsAll (index_of all) (wide_of all) (size_of all) (files_of all)
+        × BeginsAll (index_of all) (wide_of all) (size_of all) (files_of all) (has_failed all)
         (D.disk device) (D.disk (device_of all))) }
     ensures told { IfErr result (λ told. IfOk told.1 (λ served. (served.faulty ≡ faulty)
         × TellsFault served.answer
@@ -78,14 +77,14 @@ fn begin<D: Device, W: Write>(
 {
     let mut device = device;
     match begin_on_volume(alloc, &mut device, writer) {
-        Ok(Ok((index, wide, size, files))) => Ok(TakingAll {
+        Ok(Ok((index, wide, size, files, failed))) => Ok(TakingAll {
             device,
             index,
             wide,
             files,
             size,
             faulty,
-            failed: false,
+            failed,
             counts: Counts::none(),
         }),
         Ok(Err(answer)) => Err((device, Ok(Served { answer, faulty }))),
@@ -98,12 +97,12 @@ fn begin_on_volume<D: Device, W: Write>(
     alloc: Global,
     device: &mut D,
     writer: &mut W,
-) -> Result<Result<(IndexFile, IndexFile, u32, AllFiles), Answer>, Failure>
+) -> Result<Result<(IndexFile, IndexFile, u32, AllFiles, bool), Answer>, Failure>
     ensures begins { IfOk result (λ answer. IfOk answer (λ found. (writer.new ≡ writer.old)
         × IndexLiesWithin (index_kept found.0) (length (D.disk device.new).image)
         × IndexLiesWithin (index_kept found.1) (length (D.disk device.new).image)
         × IsWalking (index_kept found.0) (index_kept found.1) found.3 (D.disk device.new)
-        × BeginsAll (index_kept found.0) (index_kept found.1) found.2 found.3
+        × BeginsAll (index_kept found.0) (index_kept found.1) found.2 found.3 found.4
         (D.disk device.old) (D.disk device.new))) }
     ensures told { IfOk result (λ answer. IfErr answer (λ told.
         TellsFault told (D.disk device.old) (D.disk device.new) W.contents writer.old writer.new)) }
@@ -113,7 +112,7 @@ fn begin_on_volume<D: Device, W: Write>(
     match read_index(alloc, device) {
         Ok(Ok((_, index))) => match index.with_all_in_use(alloc) {
             Ok(wide) => match begin_in_index(alloc, device, &index, &wide) {
-                Ok((size, files)) => Ok(Ok((index, wide, size, files))),
+                Ok((size, files, failed)) => Ok(Ok((index, wide, size, files, failed))),
                 Err(WalkFault::DeviceFault) => Err(Failure::DeviceFault),
                 Err(WalkFault::NoMemory) => Err(Failure::NoMemory),
             },
@@ -127,22 +126,23 @@ fn begin_on_volume<D: Device, W: Write>(
     }
 }
 
-/// Finds where the volume ends, and begins with all files.
+/// Finds where the volume ends, and begins with all files; whether a transfer failed before all directories were found that are to be gone
+/// over.
 fn begin_in_index<D: Device>(
     alloc: Global,
     device: &mut D,
     index: &IndexFile,
     wide: &IndexFile,
-) -> Result<(u32, AllFiles), WalkFault>
+) -> Result<(u32, AllFiles, bool), WalkFault>
     requires within { IndexLiesWithin (index_kept index.now) (length (D.disk device.old).image) }
     requires wide { IndexLiesWithin (index_kept wide.now) (length (D.disk device.old).image) }
     ensures begins { IfOk result (λ begun. BeginsWithEnd (index_kept index.now) (index_kept wide.now)
-        begun.0 begun.1 (D.disk device.old) (D.disk device.new)) }
+        begun.0 begun.1 begun.2 (D.disk device.old) (D.disk device.new)) }
     ensures failed { IfErr result (λ fault. FailsWithEnd fault (D.disk device.old) (D.disk device.new)) }
 {
     match volume_end(device, index, wide) {
         Ok(size) => match AllFiles::begin(alloc, device, index, wide, MASTER_DIRECTORY) {
-            Ok(files) => Ok((size, files)),
+            Ok((files, failed)) => Ok((size, files, failed)),
             Err(fault) => Err(fault),
         },
         Err(DeviceFault) => Err(WalkFault::DeviceFault),

@@ -9,7 +9,7 @@ returns-in-Ok-Accepted-clause-found g c =
     let report = rw c.in-Ok-Accepted.field-0-is at c.in-Ok-Accepted.ensures.report in
     let examines = rw (sym c.device.ensures.device) at report in
     IfOk-weaker c.seek.result _ _ (λ answer so. IfOk-weaker answer _ _ (λ found is.
-    (is.0, verified-first _ false _ _ _ _ examines refl is.1, sought-behind _ _ _ _ _ (_, examines.looked.looked) _ _ _ _ _ _ is.2)) so)
+    (is.0, verified-first _ false _ _ _ _ examines refl is.1, sought-behind _ _ _ _ _ (_, examines.looked.looked) _ _ _ _ _ _ _ is.2)) so)
     c.seek.ensures.found
 
 pub returns-in-Ok-Accepted-clause-none : goal.returns-in-Ok-Accepted-clause-none
@@ -31,7 +31,8 @@ pub returns-in-Ok-Faulty-clause-found : goal.returns-in-Ok-Faulty-clause-found
 returns-in-Ok-Faulty-clause-found g c =
     let report = rw c.in-Ok-Faulty.field-0-is at c.in-Ok-Faulty.ensures.report in
     IfOk-weaker c.seek-in-Ok-Faulty.result _ _ (λ answer so. IfOk-weaker answer _ _ (λ found is.
-    (is.0, verified-first _ true _ _ _ _ report.0 report.1 is.1, sought-behind _ _ _ _ _ (_, report.0.looked.looked) _ _ _ _ _ _ is.2)) so)
+    (is.0, verified-first _ true _ _ _ _ report.0 report.1 is.1, sought-behind _ _ _ _ _ (_, report.0.looked.looked) _ _ _ _ _ _ _ is.2))
+    so)
     c.seek-in-Ok-Faulty.ensures.found
 
 pub returns-in-Ok-Faulty-clause-none : goal.returns-in-Ok-Faulty-clause-none

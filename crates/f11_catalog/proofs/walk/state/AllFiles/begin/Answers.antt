@@ -1,15 +1,13 @@
-use Rattle.f11_catalog.proofs.FilesLemmas.{begins-walk}
-use Rattle.f11_catalog.proofs.FollowingLemmas.{fails-behind}
+use Rattle.std.proofs.Common.{refl}
+use Rattle.f11_catalog.proofs.FilesLemmas.{begins-entered, begins-walk}
 use Rattle.f11_catalog.proofs.ListingLemmas.{reads-then}
 use Rattle.f11_catalog.proofs.walk.state.AllFiles.begin.Goals as goal
 
-pub returns-in-Some-clause-begins : goal.returns-in-Some-clause-begins
-returns-in-Some-clause-begins g c =
-    begins-walk _ _ _ _ c.in-Ok.led _ _ _ c.in-Ok.ensures.finds c.in-Ok-begin.ensures.begins c.in-Some.ensures
+pub returns-in-Ok-find_led-clause-begins : goal.returns-in-Ok-find_led-clause-begins
+returns-in-Ok-find_led-clause-begins g c =
+    let finds = c.in-Ok-find_led.ensures.finds in
+    begins-walk _ _ _ _ _ _ _ _ (begins-entered _ _ _ _ _ _ c.in-Ok.ensures.opens refl c.in-Some.ensures finds.first) finds
+    c.in-Some-begin.ensures
 
-pub returns-in-None-clause-failed : goal.returns-in-None-clause-failed
-returns-in-None-clause-failed g c = reads-then c.in-Ok.ensures.finds.reads c.in-Ok-begin.ensures.begins.reads
-
-pub returns-in-Err-begin-clause-failed : goal.returns-in-Err-begin-clause-failed
-returns-in-Err-begin-clause-failed g c =
-    fails-behind c.in-Err-begin.fault _ _ _ c.in-Ok.ensures.finds.reads c.in-Err-begin.ensures.failed
+pub returns-in-Err-find_led-clause-failed : goal.returns-in-Err-find_led-clause-failed
+returns-in-Err-find_led-clause-failed g c = reads-then (_, c.in-Ok.ensures.opens.looked) c.in-Err-find_led.ensures.failed

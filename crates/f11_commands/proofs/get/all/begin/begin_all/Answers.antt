@@ -9,7 +9,7 @@ returns-in-Ok-Accepted-clause-begins g c =
     let report = rw c.in-Ok-Accepted.field-0-is at c.in-Ok-Accepted.ensures.report in
     let examines = rw (sym c.device.ensures.device) at report in
     IfOk-weaker c.begin.result _ _ (λ all is.
-    (is.0, verified-first _ false _ _ _ _ examines refl is.1, is.2, is.3, all-behind _ _ _ (_, examines.looked.looked) _ _ _ _ is.4))
+    (is.0, verified-first _ false _ _ _ _ examines refl is.1, is.2, all-behind _ _ _ (_, examines.looked.looked) _ _ _ _ _ is.3))
     c.begin.ensures.begins
 
 pub returns-in-Ok-Accepted-clause-told : goal.returns-in-Ok-Accepted-clause-told
@@ -32,7 +32,7 @@ pub returns-in-Ok-Faulty-clause-begins : goal.returns-in-Ok-Faulty-clause-begins
 returns-in-Ok-Faulty-clause-begins g c =
     let report = rw c.in-Ok-Faulty.field-0-is at c.in-Ok-Faulty.ensures.report in
     IfOk-weaker c.begin-in-Ok-Faulty.result _ _ (λ all is.
-    (is.0, verified-first _ true _ _ _ _ report.0 report.1 is.1, is.2, is.3, all-behind _ _ _ (_, report.0.looked.looked) _ _ _ _ is.4))
+    (is.0, verified-first _ true _ _ _ _ report.0 report.1 is.1, is.2, all-behind _ _ _ (_, report.0.looked.looked) _ _ _ _ _ is.3))
     c.begin-in-Ok-Faulty.ensures.begins
 
 pub returns-in-Ok-Faulty-clause-told : goal.returns-in-Ok-Faulty-clause-told

@@ -9,10 +9,10 @@ returns-in-Ok-begin_in_index-clause-begins g c =
     let begun = c.in-Ok-begin_in_index.ensures.begins in
     let all-used = c.in-Ok.ensures in (
       refl,
-      lies-within _ _ _ _ _ found _ _ _ begun all-used,
-      wide-within _ _ _ _ _ found _ _ _ begun all-used,
+      lies-within _ _ _ _ _ found _ _ _ _ begun all-used,
+      wide-within _ _ _ _ _ found _ _ _ _ begun all-used,
       begun.begins.walking,
-      begins-all _ _ _ _ _ found _ _ _ begun all-used,
+      begins-all _ _ _ _ _ found _ _ _ _ begun all-used,
     )
 
 pub returns-in-Err-DeviceFault-clause-failed : goal.returns-in-Err-DeviceFault-clause-failed
