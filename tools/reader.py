@@ -299,10 +299,14 @@ class Files:
         content, _, said = self.up_to(max(self.last_end(n, of) * all_blocks, of[n].end()), self.places(n, of))
         return content, f"copied {len(content)} bytes{said}"
 
+    def is_left_open(self, n, of):
+        """A file by these headers wasn't closed, and states the end 0."""
+        return of[n].end() == 0 and of[n].b[12] >> 6 & 1 == 1
+
     def whole(self, n, of):
         """As taken, of a file by these headers: all its blocks where it wasn't closed and states the end 0."""
         header, places = of[n], self.places(n, of)
-        all_blocks = header.end() == 0 and header.b[12] >> 6 & 1
+        all_blocks = self.is_left_open(n, of)
         content, missing, said = self.up_to(self.last_end(n, of) if all_blocks else header.end(), places)
         open_text = " open, all blocks" * bool(all_blocks and places)
         return content, f"copied {len(content)} bytes{open_text}{' out of use' * (of is self.valid)}{said}", missing

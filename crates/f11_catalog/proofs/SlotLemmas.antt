@@ -1,5 +1,5 @@
 -- The identification of a file by its number, and that none is left out by going over the slots.
-use Rattle.std.proofs.Common.{◌≡◌, ◌+◌, ◌<◌, ◌≤◌, ◌||◌, ◌==◌, ℕ, Bool, true, false, List, [], ◌∷◌, Some, cond, refl}
+use Rattle.std.proofs.Common.{◌≡◌, ◌↔◌, ◌+◌, ◌<◌, ◌≤◌, ◌||◌, ◌==◌, ℕ, Bool, true, false, List, [], ◌∷◌, Some, cond, refl}
 use Rattle.std.proofs.Common.{ap, ◌∙◌, inl, inr, arith}
 use Rattle.std.proofs.Math.Bool.{or-true}
 use Rattle.std.proofs.lemmas.Bool.{cases_Bool, eq-eqb}
@@ -9,7 +9,8 @@ use Rattle.f11_header.specs.Fields.{ident_area}
 use Rattle.f11_image_store.proofs.StoreLemmas.{first-is-tested}
 use Rattle.f11_image_store.specs.StoreOf.{is_first}
 use Rattle.f11_index.proofs.InUseLemmas.{in_use-slot, in_use-some}
-use Rattle.f11_index.specs.IndexFile.{Index, is_in_use}
+use Rattle.f11_index.proofs.UsedLemmas.{all-used}
+use Rattle.f11_index.specs.IndexFile.{Index, IsIndex, all_in_use, is_in_use}
 use Rattle.f11_index.specs.Table.{Table, table_in}
 use Rattle.f11_store.specs.Directory.{is_directory}
 use Rattle.f11_store.specs.declared.files.FileId.{FileId}
@@ -18,9 +19,10 @@ use Rattle.f11_volume.specs.Notes.{IsIdOf}
 use Rattle.f11_catalog.specs.AllDirectories.{DirectoryAt, all_directories, directory_by, id_at, is_named, name_in, named_directories}
 use Rattle.f11_catalog.specs.AllDirectories.{led_directories, other_directories, own_directories, own_directory}
 use Rattle.f11_catalog.specs.DirectoryNames.{directory_called}
+use Rattle.f11_catalog.specs.Laws.{IsFirstHeader}
 use Rattle.f11_catalog.specs.Lines.{names_directory}
 use Rattle.f11_catalog.specs.Records.{file_named, is_id_of_file}
-use Rattle.f11_catalog.proofs.ComingLemmas.{id-passes, named-some}
+use Rattle.f11_catalog.proofs.ComingLemmas.{id-passes, named-some, tested-id}
 use Rattle.f11_catalog.proofs.GoingLemmas.{called}
 use Rattle.f11_catalog.proofs.ScanLemmas.{among-numbers}
 
@@ -68,3 +70,28 @@ no-directory-left-out wide image index master led n name is directory has =
           (ap (λ ds. is_named ds n) own ∙ ap (λ b. b || false) (eq-eqb n n refl)) t.slots 1 slot.0 slot.1)
           ∙ or-true (is_named named n)
     ]
+
+-- by the index file that takes each slot as in use each valid first header is a file
+pub each-first-header : (index : Index) (image : Image) (id : FileId) → IsIndex index
+    → (is_id_of_file (table_in image (all_in_use index)) id ≡ true) ↔ IsFirstHeader index (table_in image (all_in_use index)) id
+unfolding table_in
+each-first-header index image id is = (
+  λ passes. let of = tested-id (table_in image (all_in_use index)) id passes in
+      record {
+        some = in_use-some (all_in_use index) id.number of.file.live.in_use;
+        slot = in_use-slot (all_in_use index) id.number of.file.live.in_use;
+        valid = of.file.live.valid;
+        first = of.file.first;
+        sequence = of.sequence;
+        here = of.here;
+      },
+  λ header. id-passes (table_in image (all_in_use index)) id id.number (record {
+    file = record {
+      live = record { in_use = all-used index is id.number header.some header.slot; valid = header.valid };
+      first = header.first;
+    };
+    number = refl;
+    sequence = header.sequence;
+    here = header.here;
+  }),
+)

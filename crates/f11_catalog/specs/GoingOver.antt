@@ -42,7 +42,7 @@ abbrev pub others_to_come : Index → Image → Table → (ℕ → Bool) → Dir
 others_to_come wide image t known directories =
     unnamed_to_come image t known directories.others ++ led_to_come wide image t known directories.led
 
--- file n is a directory that was gone over, as the master file directory names it, or will be
+-- file n is a directory that the master file directory names: it was gone over so, or will be
 abbrev pub is_gone_over : Index → Index → Disk → Directories → ℕ → Bool
 is_gone_over index wide disk directories n = is_met directories.others n || is_named (named_to_come index wide disk directories.master) n
 

@@ -1,22 +1,34 @@
 -- Laws of directories and files (Files-11 On-Disk Structure Level 1, "Index File" and "Directories").
-use Rattle.std.specs.Prelude.{◌≡◌, ℕ, ◌==◌, Bool, false, true, Contains, List, Option, Some, None, nat_le, option_map, if◌then◌else◌}
+use Rattle.std.specs.Prelude.{◌≡◌, ◌↔◌, ◌<◌, ◌≤◌, ℕ, ◌==◌, Bool, false, true, Contains, List, Option, Some, None, nat_le, option_map}
+use Rattle.std.specs.Prelude.{if◌then◌else◌}
 use Rattle.f11_dev.specs.Image.{Image}
 use Rattle.f11_volume.specs.home.Home.{HomeFields}
 use Rattle.f11_header.specs.Fields.{ident_area}
+use Rattle.f11_header.specs.Header.{IsHeader}
 use Rattle.f11_image_store.specs.StoreOf.{as_seen, is_first, store_of}
-use Rattle.f11_index.specs.IndexFile.{Index}
-use Rattle.f11_index.specs.Table.{Table, table_in, table_of}
+use Rattle.f11_index.specs.IndexFile.{Index, IsIndex, all_in_use, slots}
+use Rattle.f11_index.specs.Table.{Table, last_sequence, table_in, table_of}
 use Rattle.f11_store.specs.Directory.{entries_of, is_directory, is_empty, record_id, record_name}
 use Rattle.f11_store.specs.File.{File}
 use Rattle.f11_store.specs.Store as store
 use Rattle.f11_store.specs.Store.{Store}
 use Rattle.f11_store.specs.declared.files.FileId.{FileId}
 use Rattle.f11_volume.specs.Contents.{file_of}
+use Rattle.f11_volume.specs.map.HeaderBlock.{segment_number}
 use Rattle.f11_catalog.specs.AllDirectories.{DirectoryAt, all_directories, id_at, is_named, name_in}
 use Rattle.f11_catalog.specs.AllFiles.{AreLed, all_files, is_among, is_led}
 use Rattle.f11_catalog.specs.Lines.{name_found, name_shown, named_line, names_directory, record_line}
-use Rattle.f11_catalog.specs.Records.{file_found, file_named, file_unused, records_found, records_of}
+use Rattle.f11_catalog.specs.Records.{file_found, file_named, file_unused, is_id_of_file, records_found, records_of}
 use Rattle.f11_catalog.specs.declared.walk.place.Place.TheVariants.{Entered}
+
+-- An identification is that of a valid first header in one of these slots.
+pub record IsFirstHeader (index : Index) (t : Table) (id : FileId) : Type 0 where
+  pub some : 0 < id.number
+  pub slot : id.number ≤ slots index
+  pub valid : IsHeader (t.header id.number) id.number
+  pub first : segment_number (t.header id.number) ≡ 0
+  pub sequence : id.sequence ≡ last_sequence t id.number
+  pub here : id.volume ≡ 0
 
 -- each file of a volume is one of all its files
 abbrev pub NoFileIsLeftOut : Type 0
@@ -50,6 +62,14 @@ NoUnusedDirectoryIsLeftOut =
     names_directory (file_unused wide image t (id_at (table_in image wide) n)) ≡ true →
     name_in (ident_area ((table_in image wide).header n)) ≡ Some name →
     is_named (all_directories wide image t master led) n ≡ true
+
+-- by the index file that takes each slot as in use each valid first header is a file, whatever the bit of its slot, under its own number
+-- and sequence number; and no other identification is one of a file
+abbrev pub FindsEachFirstHeader : Type 0
+FindsEachFirstHeader =
+    (index : Index) (image : Image) (id : FileId) → IsIndex index →
+    let t = table_in image (all_in_use index) in
+    (is_id_of_file t id ≡ true) ↔ IsFirstHeader index t id
 
 -- the file that the plain store has with an identification on this volume is the one that it names, as requests see it: files 1 to 3
 -- without their blocks

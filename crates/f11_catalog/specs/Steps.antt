@@ -14,7 +14,7 @@ use Rattle.f11_catalog.specs.declared.walk.state.Numbers.{Numbers}
 abbrev pub is_met : Numbers → ℕ → Bool
 is_met numbers n = get_or numbers.met.items n false
 
--- how many of the numbers below one weren't met
+-- how many of so many numbers from 0 on weren't met
 abbrev pub unmet_below : Numbers → ℕ → ℕ
 unmet_below numbers zero = 0
 unmet_below numbers (suc n) = (if is_met numbers n then 0 else 1) + unmet_below numbers n

@@ -13,6 +13,11 @@ pub fn all_directories()
     ensures unused { laws.NoUnusedDirectoryIsLeftOut }
 {}
 
+/// The files of the index file that takes each slot as in use: each valid first header, whatever the bit of its slot.
+pub fn files_out_of_use()
+    ensures { laws.FindsEachFirstHeader }
+{}
+
 /// The files that the plain store has, what it has of directories, and the lines that tell of them.
 pub fn stored_files()
     ensures named { laws.NamesTheStoresFile }

@@ -4,7 +4,6 @@ use Rattle.std.specs.Prelude.{◌≡◌, ℕ, ◌+◌, ◌*◌, ◌/◌, ◌||�
 use Rattle.std.specs.Prelude.{length}
 use Rattle.std.specs.Prelude.{Option, Some, None, Result, Ok, Err, is_some, if◌then◌else◌}
 use Rattle.std.specs.Fmt.{decimal}
-use Rattle.std.specs.Int.{bit_at}
 use Rattle.std.specs.List.{concat}
 use Rattle.f11_catalog.specs.AllFiles.{AreLed, all_files, id_of}
 use Rattle.f11_catalog.specs.Lines.{place_text}
@@ -23,7 +22,7 @@ use Rattle.f11_catalog.specs.declared.walk.state.AllFiles.{AllFiles}
 use Rattle.f11_dev.specs.Disk.{Disk}
 use Rattle.f11_dev.specs.Looked.{Looked}
 use Rattle.f11_dev.specs.declared.device.Device.{Ghosts}
-use Rattle.f11_header.specs.Fields.{attributes, characteristics}
+use Rattle.f11_header.specs.Fields.{attributes}
 use Rattle.f11_home.specs.Home.{HomeFields}
 use Rattle.f11_index.specs.IndexFile.{Index, all_in_use, index_of as index_of_image}
 use Rattle.f11_index.specs.Kept.{index_kept}
@@ -36,6 +35,7 @@ use Rattle.f11_store.specs.Text.{id_text}
 use Rattle.f11_store.specs.declared.files.FileId.{FileId}
 use Rattle.f11_commands.specs.AnyVolume.{CannotBeRead, IsReadable}
 use Rattle.f11_commands.specs.Copying.{master_directory}
+use Rattle.f11_commands.specs.OpenEnd.{has_open_end}
 use Rattle.f11_commands.specs.Output.{WriterTakes}
 use Rattle.f11_commands.specs.FoundFile.{last_end}
 use Rattle.f11_commands.specs.Size.{FindsVolumeEnd, volume_end_on}
@@ -104,11 +104,6 @@ files_left all = walk_left all.files
 abbrev pub place_is_lost : Place → Bool
 place_is_lost (Entered directory name id) = false
 place_is_lost (Lost name id) = true
-
--- a file wasn't closed (UC.DLK, bit 6 of H.UCHA) and states the end 0, as one does that was open when the system stopped
-abbrev pub has_open_end : FileReader → Bool
-has_open_end file =
-    let header = header_in_hand file in (stated_end (attributes header) == 0) && (bit_at (characteristics header) 6 == 1)
 
 -- where a file ends in bytes as it is taken out: then behind the last block that is reached, else where it states
 abbrev pub end_taken : Table → FileReader → ℕ

@@ -11,6 +11,7 @@ pub mod Home
 pub mod InitCommand
 pub mod Label
 pub mod Name
+pub mod OpenEnd
 pub mod Output
 pub mod AllCommand
 pub mod AnyVolume

@@ -49,6 +49,9 @@ pub fn get<'a, W: Write>(
             if !found.is_in_use() {
                 remarks::tell_unused(rt, file.image);
             }
+            if found.was_left_open() && !taking.all_blocks {
+                remarks::tell_left_open(rt, file.image);
+            }
             let found = as_far_as(found, taking.all_blocks)?;
             take_out(rt, found, taking.mode, host, writer, remark)?
         }

@@ -77,6 +77,9 @@ pub enum Why {
     /// The bit of the slot of the file in it that is taken out is lost.
     #[error("the file's slot is out of use: if the volume was written since, its blocks may be another file's")]
     Unused,
+    /// The file in it that is taken out was open when the system stopped, and states no bytes.
+    #[error("the file was open when the system stopped, and states that it has no bytes: --blocks takes what blocks it has")]
+    LeftOpen,
     /// The RT-11 volume in it has faults.
     #[error("the volume has faults, which rt-vfy tells")]
     RtFaulty,
@@ -166,6 +169,15 @@ pub fn tell_unused(rt: &HostRuntime, word: &str) {
     let remark = Remark {
         word: Which::Text(word),
         why: Why::Unused,
+    };
+    let _ = eprintln!(rt; "{remark}");
+}
+
+/// Tells of the file of a volume that is taken out up to its end that it was open when the system stopped, so that it states none.
+pub fn tell_left_open(rt: &HostRuntime, word: &str) {
+    let remark = Remark {
+        word: Which::Text(word),
+        why: Why::LeftOpen,
     };
     let _ = eprintln!(rt; "{remark}");
 }

@@ -1,8 +1,10 @@
 //! A file that was found, on its device.
 ghost use Rattle.std.specs.Prelude.{◌≡◌, length};
+ghost use Rattle.f11_commands.specs.OpenEnd.{has_open_end as is_left_open};
 ghost use Rattle.f11_index.specs.Kept.{index_kept, IndexLiesWithin};
 ghost use Rattle.f11_reader.specs.Reading.{IsReading};
 
+use crate::get::open::has_open_end;
 use f11_dev::Device;
 use f11_index::IndexFile;
 use f11_reader::FileReader;
@@ -37,5 +39,13 @@ impl<D: Device> FoundFile<D> {
         ensures { result ≡ self.now.in_use }
     {
         self.in_use
+    }
+
+    /// Whether it wasn't closed and states that it has no bytes, as a file does that was open when the system stopped:
+    /// [`crate::to_last_block`] takes what blocks it has.
+    pub fn was_left_open(&self) -> bool
+        ensures { result ≡ is_left_open self.now.file }
+    {
+        has_open_end(&self.file)
     }
 }

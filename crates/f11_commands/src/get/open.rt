@@ -7,6 +7,7 @@ ghost use Rattle.f11_reader.specs.Reading.{header_in_hand};
 ghost use Rattle.f11_store.specs.File.{stated_end};
 ghost use Rattle.f11_commands.specs.GetCommand.{LacksSought, OpensSought};
 ghost use Rattle.f11_commands.specs.GetCommand.{file_identified};
+ghost use Rattle.f11_commands.specs.OpenEnd.{has_open_end};
 
 use crate::get::sought::Sought;
 use f11_catalog::stated_end;
@@ -53,4 +54,12 @@ fn found_file(file: FileReader, in_use: bool) -> Sought
 {
     let end = stated_end(&Header::new(file.header()).attributes());
     Sought { file, end, in_use }
+}
+
+/// Whether a file wasn't closed (UC.DLK) and states the end 0, as one does that was open when the system stopped.
+pub(crate) fn has_open_end(file: &FileReader) -> bool
+    ensures { result ≡ has_open_end file.now }
+{
+    let header = Header::new(file.header());
+    stated_end(&header.attributes()) == 0 && header.characteristics() >> 6 & 1 == 1
 }

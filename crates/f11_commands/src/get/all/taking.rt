@@ -1,7 +1,7 @@
 //! A file's content is taken out as far as it can be.
 ghost use Rattle.std.specs.Prelude.{◌≡◌, ◌*◌, if◌then◌else◌, length, IfErr, IfOk, OnErr};
 ghost use Rattle.f11_catalog.specs.Records.{Reads};
-ghost use Rattle.f11_commands.specs.AllCommand.{FindsEndTaken, TakesAtEnd, TakesFile, TakesNone, has_open_end};
+ghost use Rattle.f11_commands.specs.AllCommand.{FindsEndTaken, TakesAtEnd, TakesFile, TakesNone};
 ghost use Rattle.f11_dev.specs.Looked.{Looked};
 ghost use Rattle.f11_commands.specs.TakingOut.{ReadsBefore, end_before};
 ghost use Rattle.f11_index.specs.Kept.{index_kept, IndexLiesWithin};
@@ -10,6 +10,7 @@ ghost use Rattle.f11_reader.specs.Reading.{IsReading, headers_left};
 use crate::contents::put_contents;
 use crate::get::blocks::last_end;
 use crate::get::missing::end_before as end_cut;
+use crate::get::open::has_open_end;
 use crate::outcome::Stop;
 use f11_catalog::stated_end;
 use f11_dev::{Device, DeviceFault};
@@ -48,14 +49,6 @@ impl Taken {
 /// The host's file takes no more.
 #[derive(Clone, Copy)]
 pub(crate) struct HostFull;
-
-/// Whether a file wasn't closed (UC.DLK) and states the end 0, as one does that was open when the system stopped.
-fn has_open_end(file: &FileReader) -> bool
-    ensures { result ≡ has_open_end file.now }
-{
-    let header = Header::new(file.header());
-    stated_end(&header.attributes()) == 0 && header.characteristics() >> 6 & 1 == 1
-}
 
 /// Where a file ends in bytes as it is taken out: where it states, and behind its last block where it wasn't closed and states the end 0,
 /// as a file does that was open when the system stopped, or past it where its headers break off there; and whether that is so.

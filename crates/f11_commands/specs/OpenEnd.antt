@@ -1,0 +1,13 @@
+-- Files that were open when the system stopped (Files-11 On-Disk Structure Level 1, "File Characteristics" and "File Attributes"; profile:
+-- what tells them).
+use Rattle.std.specs.Prelude.{◌&&◌, ◌==◌, Bool}
+use Rattle.std.specs.Int.{bit_at}
+use Rattle.f11_header.specs.Fields.{attributes, characteristics}
+use Rattle.f11_reader.specs.Reading.{header_in_hand}
+use Rattle.f11_reader.specs.declared.file.FileReader.{FileReader}
+use Rattle.f11_store.specs.File.{stated_end}
+
+-- a file wasn't closed (UC.DLK, bit 6 of H.UCHA) and states the end 0, as one does that was open when the system stopped
+abbrev pub has_open_end : FileReader → Bool
+has_open_end file =
+    let header = header_in_hand file in (stated_end (attributes header) == 0) && (bit_at (characteristics header) 6 == 1)
