@@ -65,6 +65,22 @@ class RtVolume:
         broken = f" broke off at block {past}" if past <= e.length else ""
         return broken, "".join(f" block {n} replaced" for n in self.bad() if e.first <= n < e.first + e.length)
 
+    def wanted(self):
+        """Where the last area ends that a directory may give away."""
+        return max((e.first + e.length for e in self.entries() if e.first + e.length <= 65535), default=0)
+
+    def names(self):
+        """The names of entries."""
+        return [e.name for e in self.entries() if e.name]
+
+    def taken(self, name):
+        """The line of `rt-get`, and the file's bytes; None for them where there is none of that name."""
+        for e in self.entries():
+            if e.kind == "file" and e.name == name and e.first + e.length <= 65535:
+                broken, replaced = self.marks(e)
+                return f"copied {e.length}{broken}{replaced}", b"".join(map(self.block, range(e.first, e.first + e.length)))
+        return "no NoSuchFile", None
+
     def listing(self):
         """The lines of `rt-ls`."""
         for e in self.entries():

@@ -17,7 +17,7 @@ use Rattle.f11_index.specs.IndexFile.{Index}
 use Rattle.f11_index.specs.Table.{Table, table_in}
 use Rattle.f11_store.specs.declared.files.FileId.{FileId}
 use Rattle.f11_volume.specs.Notes.{IsIdOf}
-use Rattle.f11_catalog.specs.AllFiles.{AreLed, all_files, entered_files, id_of, is_among, lost_files, place_lost, places_in}
+use Rattle.f11_catalog.specs.AllFiles.{HasAllLed, HasOnlyLed, all_files, entered_files, id_of, is_among, lost_files, place_lost, places_in}
 use Rattle.f11_catalog.specs.Contents.{Holds, is_file}
 use Rattle.f11_catalog.specs.GoingOver.{OpensMaster, directories_to_come}
 use Rattle.f11_catalog.specs.Records.{Reads, is_id_of_file}
@@ -184,9 +184,12 @@ begins-walk index wide id files failed old mid new begins finds others = record 
     master-on index wide files.entered.directories.master mid new (one_if failed) finds.reads begins.walking.1,
   );
   led = led;
-  are = λ well honest.
-      subst (λ (i : Image). AreLed wide i (table_in i index) id led) begins.reads.1.image
-      (finds.are well (begins.reads.1.honest ∙ honest));
+  only = λ honest.
+      subst (λ (i : Image). HasOnlyLed wide i (table_in i index) id led) begins.reads.1.image
+      (finds.only (begins.reads.1.honest ∙ honest));
+  whole = λ well honest.
+      subst (λ (i : Image). HasAllLed wide i (table_in i index) id led) begins.reads.1.image
+      (finds.whole well (begins.reads.1.honest ∙ honest));
   all = λ honest.
       let t : Table = table index old in
       let all : List Place = entered_files wide old.image t id led in

@@ -1,5 +1,5 @@
 -- To which directories others lead whose slots aren't in use.
-use Rattle.std.proofs.Common.{◌≡◌, ◌⊎◌, ◌||◌, ◌&&◌, ◌==◌, not, ℕ, Bool, true, false, IsTrue, List, [], ◌∷◌}
+use Rattle.std.proofs.Common.{◌≡◌, ◌||◌, ◌&&◌, ◌==◌, not, ℕ, Bool, true, false, IsTrue, List, [], ◌∷◌}
 use Rattle.std.proofs.Common.{cond, refl, sym, ap, subst, ◌∙◌, inl, inr}
 use Rattle.std.proofs.Math.Bool.{or-false, or-true, or_assoc}
 use Rattle.std.proofs.lemmas.Bool.{cases_Bool}
@@ -16,16 +16,15 @@ use Rattle.f11_volume.specs.Notes.{IsIdOf}
 use Rattle.f11_catalog.specs.AllDirectories.{DirectoryAt, all_directories, led_directories, led_directory, named_directories}
 use Rattle.f11_catalog.specs.AllDirectories.{other_directories}
 use Rattle.f11_catalog.specs.AllDirectories.{is_named, own_directories, unused_directory}
-use Rattle.f11_catalog.specs.AllFiles.{HasAllLed, entered_files, id_of, is_led, is_unused, leads_to, places_in}
+use Rattle.f11_catalog.specs.AllFiles.{HasOnlyLed, entered_files, id_of, is_led, is_led_by, is_unused, leads_to, places_in}
 use Rattle.f11_catalog.specs.Contents.{Holds, is_unused_directory}
 use Rattle.f11_catalog.specs.Facts.{is_directory_header}
 use Rattle.f11_catalog.specs.Lines.{names_directory}
 use Rattle.f11_catalog.specs.Records.{Reads, file_unused}
 use Rattle.f11_catalog.specs.Steps.{IsNew, is_met}
-use Rattle.f11_catalog.specs.Walking.{BeginsEntered, EntersFile, EntersNoMore, FindsAllLed, FollowsAll, FollowsEntered, HoldsAt}
-use Rattle.f11_catalog.specs.Walking.{FailsToBegin, IsWalkingDirectories, entered_to_come}
-use Rattle.f11_catalog.specs.declared.fault.WalkFault.{WalkFault}
-use Rattle.f11_catalog.specs.declared.fault.WalkFault.TheVariants.{DeviceFault, NoMemory}
+use Rattle.f11_catalog.specs.Walking.{BeginsEntered, EntersFile, EntersNoMore, FindsAllLed, FollowsAll, FollowsEntered, FollowsPart}
+use Rattle.f11_catalog.specs.Walking.{FailsToBegin, HoldsAt, IsWalkingDirectories, entered_to_come, one_if}
+use Rattle.f11_catalog.specs.declared.fault.WalkFault.TheVariants.{DeviceFault}
 use Rattle.f11_catalog.specs.declared.walk.content.Content.{Content}
 use Rattle.f11_catalog.specs.declared.walk.content.Content.TheVariants.{File, Missing, OutOfUse}
 use Rattle.f11_catalog.specs.declared.walk.place.FileAt.{FileAt}
@@ -112,6 +111,15 @@ module _ (index wide : Index) where
       reads = reads-then followed.reads (at-reads index wide found now new enters.holds);
     }
 
+    -- or a transfer fails
+    pub followed-part : (new : Disk) → Reads now new 1 → FollowsPart index wide first seen now-seen old new
+    followed-part new fails = record {
+      met = λ honest n met.
+          sym (followed.met honest n)
+          ∙ ap (λ (b : Bool). b || list_any (leads_to wide old.image (table index old) n) (entered_to_come index wide old here)) met;
+      reads = reads-then followed.reads fails;
+    }
+
     -- or none is left
     pub followed-all : (later : EnteredFiles) (new : Disk) → EntersNoMore index wide here later now new
         → FollowsAll index wide first seen now-seen old new
@@ -126,27 +134,50 @@ module _ (index wide : Index) where
       reads = reads-then followed.reads none.reads;
     }
 
--- a walk couldn't be begun behind what was read
-pub fails-behind : (fault : WalkFault) (old mid new : Disk) → Reads old mid 0 → FailsToBegin fault mid new → FailsToBegin fault old new
-fails-behind DeviceFault old mid new reads fails = reads-then reads fails
-fails-behind NoMemory old mid new reads fails = reads-then reads fails
+-- What directories name is gone over, with copies of the numbers that were found.
+module _ (index wide : Index) (master : FileId) (led copy new-numbers seen : Numbers) (files : EnteredFiles) (old mid : Disk)
+    (is-new : IsNew new-numbers) (copies : (n : ℕ) → is_met copy n ≡ (is_met new-numbers n || is_met led n)) (none : IsNew seen)
+    (begins : BeginsEntered index wide master (is_met copy) files old mid) where
+  there : IsTrue old.honest → IsTrue mid.honest
+  there honest = begins.reads.1.honest ∙ honest
 
--- all that directories name was gone over
-pub follows-entered : (index wide : Index) (master : FileId) (led copy new-numbers seen later : Numbers) (files : EnteredFiles)
-    (old mid new : Disk) → IsNew new-numbers → ((n : ℕ) → is_met copy n ≡ (is_met new-numbers n || is_met led n)) → IsNew seen
-    → BeginsEntered index wide master (is_met copy) files old mid → FollowsAll index wide files seen later mid new
-    → FollowsEntered index wide master (is_met led) later old new
-follows-entered index wide master led copy new-numbers seen later files old mid new is-new copies none begins follows = record {
-  met = λ honest n.
+  led-by : IsTrue old.honest → (n : ℕ)
+      → (is_met seen n || list_any (leads_to wide mid.image (table index mid) n) (entered_to_come index wide mid files))
+      ≡ is_led_by wide old.image (table index old) master (is_met led) n
+  led-by honest n =
       let same : is_met copy ≡ is_met led =
       λ i. λ m. (copies m ∙ ap (λ (b : Bool). b || is_met led m) (is-new.none m)) i in
-      follows.met (begins.reads.1.honest ∙ honest) n
-      ∙ ap (λ (b : Bool). b || list_any (leads_to wide mid.image (table index mid) n) (entered_to_come index wide mid files)) (none.none n)
+      ap (λ (b : Bool). b || list_any (leads_to wide mid.image (table index mid) n) (entered_to_come index wide mid files)) (none.none n)
       ∙ said-later (λ image t. list_any (leads_to wide image t n) (entered_to_come index wide mid files)) index begins.reads.1
       ∙ ap (list_any (leads_to wide old.image (table index old) n))
       (entered-later index wide old mid begins.reads.1.image files ∙ begins.all honest
-      ∙ ap (entered_files wide old.image (table index old) master) same);
-  reads = reads-then begins.reads follows.reads;
+      ∙ ap (entered_files wide old.image (table index old) master) same)
+
+  -- to its end
+  pub follows-entered : (later : Numbers) (new : Disk) → FollowsAll index wide files seen later mid new
+      → FollowsEntered index wide master (is_met led) later false old new
+  follows-entered later new follows = record {
+    only = λ honest n met. sym (led-by honest n) ∙ sym (follows.met (there honest) n) ∙ met;
+    whole = λ _ honest n led. follows.met (there honest) n ∙ led-by honest n ∙ led;
+    reads = reads-then begins.reads follows.reads;
+  }
+
+  -- or until a transfer failed
+  pub follows-part : (later : Numbers) (new : Disk) → FollowsPart index wide files seen later mid new
+      → FollowsEntered index wide master (is_met led) later true old new
+  follows-part later new follows = record {
+    only = λ honest n met. sym (led-by honest n) ∙ follows.met (there honest) n met;
+    whole = λ no. absurd cc;
+    reads = reads-then begins.reads follows.reads;
+  }
+
+-- or none of it is, since it couldn't be begun with
+pub follows-none : (index wide : Index) (master : FileId) (led : ℕ → Bool) (seen : Numbers) (old new : Disk) → IsNew seen
+    → FailsToBegin DeviceFault old new → FollowsEntered index wide master led seen true old new
+follows-none index wide master led seen old new none fails = record {
+  only = λ honest n met. let no : false ≡ true = sym (none.none n) ∙ met in absurd cc;
+  whole = λ no. absurd cc;
+  reads = (_, fails);
 }
 
 -- a test that elements of a list pass, by what they give
@@ -218,8 +249,7 @@ module _ (wide : Index) (image : Image) (t : Table) (master : FileId) (few more 
 
 -- So many numbers were found to which directories lead: no others are among them, and that of the master file directory is if it leads.
 pub record LeadsOn (index wide : Index) (master : FileId) (led : Numbers) (old now : Disk) : Type 0 where
-  pub fewest : IsTrue old.honest → (other : ℕ → Bool) → HasAllLed wide old.image (table index old) master other → (n : ℕ)
-      → is_met led n ≡ true → other n ≡ true
+  pub only : IsTrue old.honest → HasOnlyLed wide old.image (table index old) master (is_met led)
   pub master_is : IsTrue old.honest → (n : ℕ) → is_unused wide old.image (table index old) n master ≡ true → is_met led n ≡ true
   pub first : led.next ≡ 1
   pub reads : Reads old now 0
@@ -231,7 +261,7 @@ module _ (index wide : Index) (master : FileId) where
       → ((n : ℕ) → is_met led n ≡ (is_met new-numbers n || (is_unused_directory content && (master.number == n))))
       → led.next ≡ new-numbers.next → LeadsOn index wide master led old new
   leads-first new-numbers led content old new is-new holds meets next = record {
-    fewest = λ honest other has n met.
+    only = λ honest other has n met.
         has n (ap (λ (b : Bool). b || list_any (leads_to wide old.image (table index old) n)
         (entered_files wide old.image (table index old) master other)) (sym (met-is honest n) ∙ met));
     master_is = λ honest n is. met-is honest n ∙ is;
@@ -245,73 +275,66 @@ module _ (index wide : Index) (master : FileId) where
           ∙ ap (λ (b : Bool). b || (is_unused_directory content && (master.number == n))) (is-new.none n)
           ∙ ap (λ (b : Bool). b && (master.number == n)) (unused-found index wide master content old new holds honest)
 
-  -- a transfer failed before all were found
-  pub leads-stopped : (led : Numbers) (old now new : Disk) → LeadsOn index wide master led old now → Reads now new 1
-      → FindsAllLed index wide master led true old new
-  leads-stopped led old now new leads fails = record {
-    are = λ no. absurd cc;
-    first = leads.first;
-    reads = reads-then leads.reads fails;
+  -- a transfer failed before any other was found
+  pub leads-none : (led : Numbers) (old new : Disk) → IsNew led → Reads old new 1 → FindsAllLed index wide master led true old new
+  leads-none led old new is-new fails = record {
+    only = λ honest other has n met. let no : false ≡ true = sym (is-new.none n) ∙ met in absurd cc;
+    whole = λ no. absurd cc;
+    first = is-new.first;
+    reads = fails;
   }
 
-  module _ (led seen : Numbers) (old now new : Disk) (leads : LeadsOn index wide master led old now)
-      (follows : FollowsEntered index wide master (is_met led) seen now new) (later : Numbers)
+  module _ (led seen : Numbers) (failed : Bool) (old now new : Disk) (leads : LeadsOn index wide master led old now)
+      (follows : FollowsEntered index wide master (is_met led) seen failed now new) (later : Numbers)
       (meets : (n : ℕ) → is_met later n ≡ (is_met led n || is_met seen n)) (next : later.next ≡ led.next) where
-    there : Reads old new 0
-    there = reads-then leads.reads follows.reads
+    abbrev t : Table
+    t = table index old
 
-    seen-is : IsTrue old.honest → (n : ℕ) → is_met seen n
-        ≡ list_any (leads_to wide old.image (table index old) n) (entered_files wide old.image (table index old) master (is_met led))
-    seen-is honest n =
-        follows.met (leads.reads.1.honest ∙ honest) n
-        ∙ said-later (λ image t. list_any (leads_to wide image t n) (entered_files wide image t master (is_met led))) index leads.reads.1
+    abbrev by : ℕ → Bool
+    by = is_led_by wide old.image t master (is_met led)
+
+    same-by : (n : ℕ) → is_led_by wide now.image (table index now) master (is_met led) n ≡ by n
+    same-by n =
+        said-later (λ image t. list_any (leads_to wide image t n) (entered_files wide image t master (is_met led))) index leads.reads.1
+
+    only-more : IsTrue old.honest → HasOnlyLed wide old.image t master (is_met later)
+    only-more honest other has n met = elim (cases_Bool (is_met led n)) [
+      | inl before ↦ leads.only honest other has n before
+      | inr not-before ↦
+          let seen-so : is_met seen n ≡ true = sym (ap (λ (b : Bool). b || is_met seen n) not-before) ∙ sym (meets n) ∙ met in
+          let led-so : by n ≡ true = sym (same-by n) ∙ follows.only (leads.reads.1.honest ∙ honest) n seen-so in
+          has n (ap (λ (b : Bool). is_unused wide old.image t n master || b)
+          (more-entered wide old.image t master (is_met led) other (leads.only honest other has) (leads_to wide old.image t n) led-so)
+          ∙ or-true (is_unused wide old.image t n master))
+    ]
 
     -- then those to which directories lead that are gone over
-    pub leads-more : LeadsOn index wide master later old new
-    leads-more = record {
-      fewest = λ honest other has n met.
-          go other (leads.fewest honest other has) n has (seen-is honest n) (cases_Bool (is_met led n)) (sym (meets n) ∙ met);
+    pub leads-more : failed ≡ false → LeadsOn index wide master later old new
+    leads-more well = record {
+      only = only-more;
       master_is = λ honest n is. meets n ∙ ap (λ (b : Bool). b || is_met seen n) (leads.master_is honest n is);
       first = next ∙ leads.first;
-      reads = there;
+      reads = reads-then leads.reads (subst (λ (b : Bool). Reads now new (one_if b)) well follows.reads);
     }
-      where
-        t : Table
-        t = table index old
 
-        go : (other : ℕ → Bool) → ((m : ℕ) → is_met led m ≡ true → other m ≡ true) → (n : ℕ)
-            → HasAllLed wide old.image t master other
-            → is_met seen n ≡ list_any (leads_to wide old.image t n) (entered_files wide old.image t master (is_met led))
-            → (is_met led n ≡ true) ⊎ (is_met led n ≡ false) → (is_met led n || is_met seen n) ≡ true → other n ≡ true
-        go other sub n has is (inl met) both = sub n met
-        go other sub n has is (inr unmet) both =
-            let seen-so : is_met seen n ≡ true = sym (ap (λ (b : Bool). b || is_met seen n) unmet) ∙ both in
-            has n (ap (λ (b : Bool). is_unused wide old.image t n master || b)
-            (more-entered wide old.image t master (is_met led) other sub (leads_to wide old.image t n) (sym is ∙ seen-so))
-            ∙ or-true (is_unused wide old.image t n master))
-
-    -- until these are no more
-    pub leads-all : ((n : ℕ) → is_met later n ≡ is_met led n) → FindsAllLed index wide master later false old new
+    -- until these are no more, or a transfer failed
+    pub leads-all : (failed ≡ false → (n : ℕ) → is_met later n ≡ is_met led n) → FindsAllLed index wide master later failed old new
     leads-all same = record {
-      are = λ _ honest. record {
-        all = λ n is. same n ∙ all-in honest n (sym (ap (λ (f : ℕ → Bool). is_led wide old.image (table index old) master f n) same-met)
-            ∙ is);
-        fewest = leads-more.fewest honest;
-      };
-      first = leads-more.first;
-      reads = there;
+      only = only-more;
+      whole = λ well honest n is.
+          let same-met : is_met later ≡ is_met led = λ i. λ m. same well m i in
+          same well n
+          ∙ all-in well honest n (sym (ap (λ (f : ℕ → Bool). is_led wide old.image t master f n) same-met) ∙ is);
+      first = next ∙ leads.first;
+      reads = reads-then leads.reads follows.reads;
     }
       where
-        same-met : is_met later ≡ is_met led
-        same-met = λ i. λ n. same n i
-
-        all-in : IsTrue old.honest → (n : ℕ) → is_led wide old.image (table index old) master (is_met led) n ≡ true
+        all-in : failed ≡ false → IsTrue old.honest → (n : ℕ) → is_led wide old.image t master (is_met led) n ≡ true
             → is_met led n ≡ true
-        all-in honest n is = elim (cases_Bool (is_unused wide old.image (table index old) n master)) [
+        all-in well honest n is = elim (cases_Bool (is_unused wide old.image t n master)) [
           | inl first ↦ leads.master_is honest n first
           | inr other ↦
-              let so : is_met seen n ≡ true =
-              seen-is honest n ∙ sym (ap (λ (b : Bool). b || list_any (leads_to wide old.image (table index old) n)
-              (entered_files wide old.image (table index old) master (is_met led))) other) ∙ is in
-              sym (same n) ∙ meets n ∙ ap (λ (b : Bool). is_met led n || b) so ∙ or-true (is_met led n)
+              let led-so : by n ≡ true = sym (ap (λ (b : Bool). b || by n) other) ∙ is in
+              let so : is_met seen n ≡ true = follows.whole well (leads.reads.1.honest ∙ honest) n (same-by n ∙ led-so) in
+              sym (same well n) ∙ meets n ∙ ap (λ (b : Bool). is_met led n || b) so ∙ or-true (is_met led n)
         ]

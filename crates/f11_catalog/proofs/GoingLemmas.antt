@@ -23,7 +23,7 @@ use Rattle.f11_catalog.specs.Facts.{is_directory_header}
 use Rattle.f11_catalog.specs.GoingOver.{ComesToDirectory, FindsLed, FindsNamed, FindsNoLed, FindsNoNamed, FindsNoUnnamed}
 use Rattle.f11_catalog.specs.GoingOver.{FindsUnnamed, GivesDirectory}
 use Rattle.f11_catalog.specs.GoingOver.{HasNoDirectory, IsUnderItsName, OpensMaster, OpensNamed, TakesInHand, at_hand, directories_left}
-use Rattle.f11_catalog.specs.GoingOver.{directories_to_come, is_gone_over, led_to_come, named_to_come, others_to_come, unnamed_to_come}
+use Rattle.f11_catalog.specs.GoingOver.{directories_to_come, is_masters, led_to_come, named_to_come, rest_to_come, unnamed_to_come}
 use Rattle.f11_catalog.specs.Lines.{names_directory}
 use Rattle.f11_catalog.specs.Records.{FindsDirectory, Reads, ReadsRecord, file_found, file_named, found_to_come, index_by, records_found}
 use Rattle.f11_catalog.specs.Steps.{EntersNone, IsNew, is_met}
@@ -64,10 +64,10 @@ module _ (index wide : Index) (old now : Disk) where
   unfolding directories_to_come
   directories-later image directories =
       ap (λ (ds : List DirectoryAt). ds
-      ++ others_to_come wide now.image (table index now) (λ n. is_met directories.others n || is_named ds n) directories)
+      ++ rest_to_come wide now.image (table index now) (λ n. is_met directories.others n || is_named ds n) directories)
       (named-later image directories.master)
       ∙ ap (λ (i : Image). named_to_come index wide old directories.master
-      ++ others_to_come wide i (table_in i index) (is_gone_over index wide old directories) directories) image
+      ++ rest_to_come wide i (table_in i index) (is_masters index wide old directories) directories) image
 
   -- behind what was read a directory is taken in hand
   pub takes-behind : Reads old now 0 → (hand : OpenDirectory) (new : Disk) → TakesInHand index wide hand now new
@@ -256,8 +256,8 @@ module _ (index wide : Index) (directories later : Directories) (hand : OpenDire
   gives-named finds met next led = record {
     next = λ honest.
         let t : Table = table index old in
-        let over : ℕ → Bool = is_gone_over index wide old later in
-        turn-first has_number (λ f. others_to_come wide old.image t f directories) (is_met directories.others) (is_met later.others)
+        let over : ℕ → Bool = is_masters index wide old later in
+        turn-first has_number (λ f. rest_to_come wide old.image t f directories) (is_met directories.others) (is_met later.others)
         (at_hand hand) (named_to_come index wide old directories.master) (named_to_come index wide old later.master) (finds.next honest) met
         ∙ ap (λ (k : ℕ). at_hand hand ∷ (named_to_come index wide old later.master
         ++ (own_directories old.image t over k (t.slots + 1 - k) ++ led_to_come wide old.image t over directories.led))) (sym next)
@@ -281,19 +281,19 @@ module _ (index wide : Index) (directories : Directories) (left : Option FoundDi
   others-later f others = ap (λ (i : Image). unnamed_to_come i (table_in i index) f others) ended.reads.1.image
 
   first-others : IsTrue old.honest → directories_to_come index wide old directories
-      ≡ others_to_come wide old.image (table index old) known directories
+      ≡ rest_to_come wide old.image (table index old) known directories
   unfolding directories_to_come
   first-others honest =
-      turn-behind has_number (λ f. others_to_come wide old.image (table index old) f directories) known
+      turn-behind has_number (λ f. rest_to_come wide old.image (table index old) f directories) known
       (named_to_come index wide old directories.master) (ended.none honest)
 
   later-others : (others led : Numbers) → is_met others ≡ known → IsTrue old.honest
-      → directories_to_come index wide old (behind others led) ≡ others_to_come wide old.image (table index old) known (behind others led)
+      → directories_to_come index wide old (behind others led) ≡ rest_to_come wide old.image (table index old) known (behind others led)
   unfolding directories_to_come
   later-others others led met honest =
-      turn-behind has_number (λ f. others_to_come wide old.image (table index old) f (behind others led)) (is_met others)
+      turn-behind has_number (λ f. rest_to_come wide old.image (table index old) f (behind others led)) (is_met others)
       (named_to_come index wide old left) (ended.ended honest)
-      ∙ ap (λ (f : ℕ → Bool). others_to_come wide old.image (table index old) f (behind others led)) met
+      ∙ ap (λ (f : ℕ → Bool). rest_to_come wide old.image (table index old) f (behind others led)) met
 
   -- the next directory is one that it doesn't name
   pub gives-unnamed : (others led : Numbers) → led ≡ directories.led → (hand : OpenDirectory) (new : Disk)
@@ -381,7 +381,7 @@ all-to-come index wide id directories old new opens begins first honest =
     let known : ℕ → Bool = is_named named in
     let count : t.slots + 1 - 1 ≡ t.slots = omega arith in
     let wide_count : u.slots + 1 - 1 ≡ u.slots = omega arith in
-    turn-begin has_number (λ f. others_to_come wide old.image t f directories) (is_met directories.others)
+    turn-begin has_number (λ f. rest_to_come wide old.image t f directories) (is_met directories.others)
     (named_to_come index wide old directories.master) named (opens.come honest) begins.none
     ∙ ap (λ (k : ℕ). named ++ (own_directories old.image t known k (t.slots + 1 - k)
     ++ led_to_come wide old.image t known directories.led)) begins.first

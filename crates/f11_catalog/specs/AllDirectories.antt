@@ -4,13 +4,12 @@
 -- profile: the order, and that these are gone over).
 use Rattle.std.specs.Prelude.{ℕ, ◌==◌, ◌&&◌, Bool, not, List, [], ◌∷◌, ◌++◌, Option, Some, None, if◌then◌else◌}
 use Rattle.std.specs.List.{flat_map, list_any, range_with_len}
-use Rattle.f11_bytes.specs.Words.{word}
 use Rattle.f11_dev.specs.Image.{Image}
 use Rattle.f11_header.specs.Fields.{ident_area}
 use Rattle.f11_index.specs.IndexFile.{Index}
 use Rattle.f11_index.specs.Table.{Table, last_sequence, table_in}
 use Rattle.f11_store.specs.Directory.{is_empty, record_id, record_name}
-use Rattle.f11_store.specs.File.{File}
+use Rattle.f11_store.specs.File.{File, name_words}
 use Rattle.f11_store.specs.declared.files.FileId.{FileId}
 use Rattle.f11_catalog.specs.DirectoryNames.{directory_called}
 use Rattle.f11_catalog.specs.Lines.{name_found, names_directory}
@@ -26,13 +25,9 @@ pub record DirectoryAt : Type 0 where
 abbrev pub id_at : Table → ℕ → FileId
 id_at t n = record { number = n; sequence = last_sequence t n; volume = 0 }
 
--- the five words that an ident area begins with ("Ident Area")
-abbrev pub words_in : List ℕ → List ℕ
-words_in ident = word ident 0 ∷ word ident 2 ∷ word ident 4 ∷ word ident 6 ∷ word ident 8 ∷ []
-
--- the name in an ident area, if they are one
+-- the name in an ident area, if its words are one ("Ident Area")
 abbrev pub name_in : List ℕ → Option (List ℕ)
-name_in ident = name_found (words_in ident)
+name_in ident = name_found (name_words ident)
 
 -- the file that was found under an identification as a directory, called so, if it is one
 abbrev pub directory_in : Option File → FileId → DirectoryName → List DirectoryAt

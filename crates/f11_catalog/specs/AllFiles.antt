@@ -45,20 +45,27 @@ is_unused wide image t n id = names_directory (file_unused wide image t id) && (
 abbrev pub leads_to : Index → Image → Table → ℕ → Place → Bool
 leads_to wide image t n place = is_unused wide image t n (id_of place)
 
--- directories lead to file n, where these numbers are those to which others lead: it is the master file directory, with its slot not in
--- use, or a place in one of them leads to it
+-- a place in a directory leads to file n, where these numbers are those to which others lead
+abbrev pub is_led_by : Index → Image → Table → FileId → (ℕ → Bool) → ℕ → Bool
+is_led_by wide image t master led n = list_any (leads_to wide image t n) (entered_files wide image t master led)
+
+-- directories lead to file n then: it is the master file directory, with its slot not in use, or a place in one of them leads to it
 abbrev pub is_led : Index → Image → Table → FileId → (ℕ → Bool) → ℕ → Bool
-is_led wide image t master led n =
-    is_unused wide image t n master || list_any (leads_to wide image t n) (entered_files wide image t master led)
+is_led wide image t master led n = is_unused wide image t n master || is_led_by wide image t master led n
 
 -- all numbers to which directories lead are among these
 abbrev pub HasAllLed : Index → Image → Table → FileId → (ℕ → Bool) → Type 0
 HasAllLed wide image t master led = (n : ℕ) → is_led wide image t master led n ≡ true → led n ≡ true
 
+-- only such numbers are among these: each is among any numbers among which all are
+abbrev pub HasOnlyLed : Index → Image → Table → FileId → (ℕ → Bool) → Type 0
+HasOnlyLed wide image t master led =
+    (any : ℕ → Bool) → HasAllLed wide image t master any → (n : ℕ) → led n ≡ true → any n ≡ true
+
 -- These are the numbers to which directories lead: the fewest among which all are.
 pub record AreLed (wide : Index) (image : Image) (t : Table) (master : FileId) (led : ℕ → Bool) : Type 0 where
   pub all : HasAllLed wide image t master led
-  pub fewest : (other : ℕ → Bool) → HasAllLed wide image t master other → (n : ℕ) → led n ≡ true → other n ≡ true
+  pub only : HasOnlyLed wide image t master led
 
 -- file n stands in one of these places
 abbrev pub is_among : Table → List Place → ℕ → Bool

@@ -38,19 +38,19 @@ led_to_come wide image t known led =
     led_directories wide image t (is_met led) known led.next ((table_in image wide).slots + 1 - led.next)
 
 -- all that are still to come and that the master file directory doesn't name, where these are known
-abbrev pub others_to_come : Index → Image → Table → (ℕ → Bool) → Directories → List DirectoryAt
-others_to_come wide image t known directories =
+abbrev pub rest_to_come : Index → Image → Table → (ℕ → Bool) → Directories → List DirectoryAt
+rest_to_come wide image t known directories =
     unnamed_to_come image t known directories.others ++ led_to_come wide image t known directories.led
 
--- file n is a directory that the master file directory names: it was gone over so, or will be
-abbrev pub is_gone_over : Index → Index → Disk → Directories → ℕ → Bool
-is_gone_over index wide disk directories n = is_met directories.others n || is_named (named_to_come index wide disk directories.master) n
+-- file n is a directory that the master file directory names: it was gone over under that name, or will be
+abbrev pub is_masters : Index → Index → Disk → Directories → ℕ → Bool
+is_masters index wide disk directories n = is_met directories.others n || is_named (named_to_come index wide disk directories.master) n
 
 -- all directories that are still to come
 unfoldable pub directories_to_come : Index → Index → Disk → Directories → List DirectoryAt
 directories_to_come index wide disk directories =
     named_to_come index wide disk directories.master
-    ++ others_to_come wide disk.image (table index disk) (is_gone_over index wide disk directories) directories
+    ++ rest_to_come wide disk.image (table index disk) (is_masters index wide disk directories) directories
 
 -- the master file directory of this disk is read, where it can be
 abbrev pub IsReadingMaster : Index → Index → Option FoundDirectory → Disk → Type 0

@@ -1,16 +1,17 @@
 -- What the steps of a walk over all files tell, and what is still to come (profile).
 use Rattle.std.specs.Prelude.{◌≡◌, ℕ, ◌+◌, ◌-◌, ◌*◌, ◌^◌, ◌<◌, ◌≤◌, ◌||◌, Bool, IsTrue, List, [], ◌∷◌, ◌++◌}
-use Rattle.std.specs.Prelude.{Option, Some, None, IfSome, false, if◌then◌else◌}
+use Rattle.std.specs.Prelude.{Option, Some, None, IfSome, false, true, if◌then◌else◌}
 use Rattle.std.specs.List.{flat_map, list_any}
 use Rattle.f11_chain.specs.Calls.{table}
 use Rattle.f11_dev.specs.Disk.{Disk}
 use Rattle.f11_dev.specs.Image.{Image}
+use Rattle.f11_dev.specs.Looked.{Looked}
 use Rattle.f11_index.specs.IndexFile.{Index}
 use Rattle.f11_index.specs.Table.{Table}
 use Rattle.f11_reader.specs.declared.file.FileReader.{FileReader}
 use Rattle.f11_store.specs.declared.files.FileId.{FileId}
-use Rattle.f11_catalog.specs.AllFiles.{AreLed, all_files, entered_files, id_of, is_among, leads_to, lost_files, place_entered}
-use Rattle.f11_catalog.specs.AllFiles.{places_entered, places_in}
+use Rattle.f11_catalog.specs.AllFiles.{HasAllLed, HasOnlyLed, all_files, entered_files, id_of, is_among, is_led_by, leads_to}
+use Rattle.f11_catalog.specs.AllFiles.{lost_files, place_entered, places_entered, places_in}
 use Rattle.f11_catalog.specs.Contents.{Holds, OpensBehind}
 use Rattle.f11_catalog.specs.GoingOver.{IsReadingMaster, directories_left, directories_to_come}
 use Rattle.f11_catalog.specs.Records.{IsReadingFound, Reads, found_to_come}
@@ -149,19 +150,28 @@ pub record FollowsAll (index wide : Index) (files : EnteredFiles) (seen later : 
       ≡ (is_met seen n || list_any (leads_to wide old.image (table index old) n) (entered_to_come index wide old files))
   pub reads : Reads old new 0
 
--- All that directories name was gone over: these are the numbers to which it leads.
-pub record FollowsEntered (index wide : Index) (master : FileId) (led : ℕ → Bool) (seen : Numbers) (old new : Disk) : Type 0 where
-  pub met : IsTrue old.honest → (n : ℕ) → is_met seen n
-      ≡ list_any (leads_to wide old.image (table index old) n) (entered_files wide old.image (table index old) master led)
-  pub reads : Reads old new 0
+-- A part of it was, before a transfer failed: it leads to no number that is met but those that were.
+pub record FollowsPart (index wide : Index) (files : EnteredFiles) (seen later : Numbers) (old new : Disk) : Type 0 where
+  pub met : IsTrue old.honest → (n : ℕ) → is_met later n ≡ true
+      → (is_met seen n || list_any (leads_to wide old.image (table index old) n) (entered_to_come index wide old files)) ≡ true
+  pub reads : Reads old new 1
 
 -- one transfer failed, or none
 abbrev pub one_if : Bool → ℕ
 one_if failed = if failed then 1 else 0
 
+-- What directories name was gone over: these are the numbers to which it leads; or some of them, since a transfer failed.
+pub record FollowsEntered (index wide : Index) (master : FileId) (led : ℕ → Bool) (seen : Numbers) (failed : Bool) (old new : Disk) : Type 0
+  where
+    pub only : IsTrue old.honest → (n : ℕ) → is_met seen n ≡ true → is_led_by wide old.image (table index old) master led n ≡ true
+    pub whole : failed ≡ false → IsTrue old.honest → (n : ℕ) → is_led_by wide old.image (table index old) master led n ≡ true
+        → is_met seen n ≡ true
+    pub reads : Reads old new (one_if failed)
+
 -- The numbers were found to which directories lead, or a transfer failed before all were; none of them was looked at.
 pub record FindsAllLed (index wide : Index) (master : FileId) (led : Numbers) (failed : Bool) (old new : Disk) : Type 0 where
-  pub are : failed ≡ false → IsTrue old.honest → AreLed wide old.image (table index old) master (is_met led)
+  pub only : IsTrue old.honest → HasOnlyLed wide old.image (table index old) master (is_met led)
+  pub whole : failed ≡ false → IsTrue old.honest → HasAllLed wide old.image (table index old) master (is_met led)
   pub first : led.next ≡ 1
   pub reads : Reads old new (one_if failed)
 
@@ -170,13 +180,14 @@ pub record FindsAllLed (index wide : Index) (master : FileId) (led : Numbers) (f
 pub record BeginsWalk (index wide : Index) (master : FileId) (files : AllFiles) (failed : Bool) (old new : Disk) : Type 0 where
   pub walking : IsWalking index wide files new
   pub led : ℕ → Bool
-  pub are : failed ≡ false → IsTrue old.honest → AreLed wide old.image (table index old) master led
+  pub only : IsTrue old.honest → HasOnlyLed wide old.image (table index old) master led
+  pub whole : failed ≡ false → IsTrue old.honest → HasAllLed wide old.image (table index old) master led
   pub all : IsTrue old.honest → files_to_come index wide old files ≡ all_files wide old.image (table index old) master led
   pub reads : Reads old new (one_if failed)
 
 -- It hasn't: a transfer failed, or there was no memory.
 abbrev pub FailsToBegin : WalkFault → Disk → Disk → Type 0
-FailsToBegin DeviceFault old new = Reads old new 1
+FailsToBegin DeviceFault old new = Looked old new 2 1
 FailsToBegin NoMemory old new = Reads old new 0
 
 -- What stands in the next place was found.

@@ -5,9 +5,10 @@ ghost use Rattle.f11_header.specs.Header.{holds_header};
 ghost use Rattle.f11_volume.specs.map.HeaderBlock.{segment_number};
 ghost use Rattle.f11_catalog.specs.AllDirectories.{name_in};
 
-use f11_bytes::{Block, read_word};
+use f11_bytes::Block;
 use f11_header::Header;
 use f11_rad50::Name;
+use f11_store::name_words;
 
 /// The name that the first header of a file has in its ident area, where it is one (Files-11 On-Disk Structure Level 1, "Ident Area").
 pub(crate) fn own_name(header: &Block) -> Option<Name>
@@ -23,11 +24,5 @@ fn name_of(ident: &[u8]) -> Option<Name>
     requires { length ident.now ≡ 46 }
     ensures { result ≡ name_in ident.now }
 {
-    Name::from_words([
-        read_word(ident, 0),
-        read_word(ident, 2),
-        read_word(ident, 4),
-        read_word(ident, 6),
-        read_word(ident, 8),
-    ])
+    Name::from_words(name_words(ident))
 }

@@ -3,7 +3,7 @@ use Rattle.std.proofs.Common.{◌≡◌, ℕ, Bool, IsTrue, List, Option, length
 use Rattle.f11_catalog.proofs.ListingLemmas.{reads-then, said-later}
 use Rattle.f11_catalog.proofs.EnteredLemmas.{hand-on, master-on}
 use Rattle.f11_catalog.proofs.FilesLemmas.{files-later}
-use Rattle.f11_catalog.specs.AllFiles.{AreLed, all_files, id_of}
+use Rattle.f11_catalog.specs.AllFiles.{HasAllLed, HasOnlyLed, all_files, id_of}
 use Rattle.f11_catalog.specs.Contents.{Holds}
 use Rattle.f11_catalog.specs.Records.{Reads}
 use Rattle.f11_catalog.specs.Walking.{FailsToBegin, HoldsAt, IsWalking, one_if}
@@ -21,7 +21,7 @@ use Rattle.f11_dev.specs.Image.{Image}
 use Rattle.f11_home.specs.Home.{HomeFields}
 use Rattle.f11_index.proofs.UsedLemmas.{all-lies-within}
 use Rattle.f11_index.specs.IndexFile.{Index, all_in_use, index_of}
-use Rattle.f11_index.specs.Table.{table_in, table_of}
+use Rattle.f11_index.specs.Table.{Table, table_in, table_of}
 use Rattle.f11_index.specs.Kept.{IndexLiesWithin}
 use Rattle.f11_reader.specs.declared.file.FileReader.{FileReader}
 use Rattle.f11_store.specs.declared.files.FileId.{FileId}
@@ -97,16 +97,21 @@ module _ (home : HomeFields) (index wide : Index) (old mid : Disk) (found : Find
   there : IsTrue old.honest → IsTrue begun.mid.honest
   there honest = begun.ends.reads.1.honest ∙ (found.looked.honest ∙ honest)
 
+  on-volume : IsTrue old.honest → (says : Image → Table → Type 0) → says begun.mid.image (table_in begun.mid.image index)
+      → says old.image (table_of old.image home)
+  on-volume honest says said =
+      subst (λ (i : Index). says old.image (table_in old.image i)) (index-of-volume home index old mid found honest)
+      (subst (λ (i : Image). says i (table_in i index)) (begun.ends.reads.1.image ∙ found.looked.image) said)
+
   pub begins-all : BeginsAll index wide size files failed old new
   begins-all = record {
     home = home;
     readable = found.readable;
     led = begun.begins.led;
-    are = λ well honest.
-        subst (λ (i : Index). AreLed wide old.image (table_in old.image i) master_directory begun.begins.led)
-        (index-of-volume home index old mid found honest)
-        (subst (λ (i : Image). AreLed wide i (table_in i index) master_directory begun.begins.led)
-        (begun.ends.reads.1.image ∙ found.looked.image) (begun.begins.are well (there honest)));
+    only = λ honest.
+        on-volume honest (λ image t. HasOnlyLed wide image t master_directory begun.begins.led) (begun.begins.only (there honest));
+    whole = λ well honest.
+        on-volume honest (λ image t. HasAllLed wide image t master_directory begun.begins.led) (begun.begins.whole well (there honest));
     all = λ honest.
         files-later index wide files begun.mid new begun.begins.reads.1.image
         ∙ begun.begins.all (there honest)
@@ -130,7 +135,7 @@ module _ (home : HomeFields) (index wide : Index) (old mid : Disk) (found : Find
 
 -- or they couldn't be begun with
 pub begin-fails : (fault : WalkFault) (old mid new : Disk) → Reads old mid 0 → FailsToBegin fault mid new → FailsWithEnd fault old new
-begin-fails walk.DeviceFault old mid new reads fails = reads-then reads fails
+begin-fails walk.DeviceFault old mid new reads fails = reads-then reads (_, fails)
 begin-fails walk.NoMemory old mid new reads fails = reads-then reads fails
 
 -- the volume was verified before
@@ -141,9 +146,12 @@ module _ (old mid new : Disk) (reads : Reads old mid 0) where
     home = begins.home;
     readable = λ honest. subst (λ (i : Image). IsReadable i begins.home) reads.1.image (begins.readable (reads.1.honest ∙ honest));
     led = begins.led;
-    are = λ well honest.
-        subst (λ (i : Image). AreLed wide i (table_of i begins.home) master_directory begins.led) reads.1.image
-        (begins.are well (reads.1.honest ∙ honest));
+    only = λ honest.
+        subst (λ (i : Image). HasOnlyLed wide i (table_of i begins.home) master_directory begins.led) reads.1.image
+        (begins.only (reads.1.honest ∙ honest));
+    whole = λ well honest.
+        subst (λ (i : Image). HasAllLed wide i (table_of i begins.home) master_directory begins.led) reads.1.image
+        (begins.whole well (reads.1.honest ∙ honest));
     all = λ honest.
         begins.all (reads.1.honest ∙ honest)
         ∙ ap (λ (i : Image). all_files wide i (table_of i begins.home) master_directory begins.led) reads.1.image;

@@ -5,7 +5,7 @@ use Rattle.std.specs.Prelude.{length}
 use Rattle.std.specs.Prelude.{Option, Some, None, Result, Ok, Err, is_some, if◌then◌else◌}
 use Rattle.std.specs.Fmt.{decimal}
 use Rattle.std.specs.List.{concat}
-use Rattle.f11_catalog.specs.AllFiles.{AreLed, all_files, id_of}
+use Rattle.f11_catalog.specs.AllFiles.{HasAllLed, HasOnlyLed, all_files, id_of}
 use Rattle.f11_catalog.specs.Lines.{place_text}
 use Rattle.f11_catalog.specs.Records.{Reads, index_by as by_use}
 use Rattle.f11_catalog.specs.Walking.{BeginsWalk, GivesFile, HasNoFile, files_left as walk_left, files_to_come, one_if}
@@ -179,7 +179,8 @@ pub record BeginsAll (index wide : Index) (size : ℕ) (files : AllFiles) (faile
   pub home : HomeFields
   pub readable : IsTrue old.honest → IsReadable old.image home
   pub led : ℕ → Bool
-  pub are : failed ≡ false → IsTrue old.honest → AreLed wide old.image (table_of old.image home) master_directory led
+  pub only : IsTrue old.honest → HasOnlyLed wide old.image (table_of old.image home) master_directory led
+  pub whole : failed ≡ false → IsTrue old.honest → HasAllLed wide old.image (table_of old.image home) master_directory led
   pub all : IsTrue old.honest →
       files_to_come index wide new files ≡ all_files wide old.image (table_of old.image home) master_directory led
   pub index_is : IsTrue old.honest → index ≡ index_of_image old.image home

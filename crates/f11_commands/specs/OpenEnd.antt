@@ -1,6 +1,6 @@
 -- Files that were open when the system stopped (Files-11 On-Disk Structure Level 1, "File Characteristics" and "File Attributes"; profile:
 -- what tells them).
-use Rattle.std.specs.Prelude.{◌&&◌, ◌==◌, Bool}
+use Rattle.std.specs.Prelude.{◌&&◌, ◌%◌, ◌==◌, Bool, not, slice_index}
 use Rattle.std.specs.Int.{bit_at}
 use Rattle.f11_header.specs.Fields.{attributes, characteristics}
 use Rattle.f11_reader.specs.Reading.{header_in_hand}
@@ -11,3 +11,8 @@ use Rattle.f11_store.specs.File.{stated_end}
 abbrev pub has_open_end : FileReader → Bool
 has_open_end file =
     let header = header_in_hand file in (stated_end (attributes header) == 0) && (bit_at (characteristics header) 6 == 1)
+
+-- its record attributes say how a printer goes on to the next line: FD.FTN, FD.CR or FD.PRN (bits 0 to 2 of F.RATT), so that its records
+-- are lines
+abbrev pub has_lines : FileReader → Bool
+has_lines file = not (slice_index (attributes (header_in_hand file)) 1 % 8 == 0)

@@ -10,11 +10,10 @@ use Rattle.rt11_volume.specs.AnyDirectory.{fits, is_sound_file_named}
 use Rattle.rt11_volume.specs.RtName.{rt_name_text}
 use Rattle.rt11_volume.specs.declared.any_entries.RtEntry.{RtEntry}
 use Rattle.rt11_volume.specs.declared.any_state.RtState.{RtState}
-use Rattle.rt11_volume.specs.declared.any_state.RtState.TheVariants.{Faulty}
 use Rattle.rt11_volume.specs.declared.area.RtKind.{RtKind}
 use Rattle.rt11_volume.specs.declared.area.RtKind.TheVariants.{Tentative, Empty, Permanent}
 use Rattle.f11_commands.specs.Output.{WriterTakes}
-use Rattle.f11_commands.specs.RtAny.{EndsUnserved, replaced_text, served_so}
+use Rattle.f11_commands.specs.RtAny.{replaced_text}
 use Rattle.f11_commands.specs.RtTaking.{StopsTaking, TakesArea, broken_text, first_past}
 use Rattle.f11_commands.specs.declared.copy.FileAnswer.{FileAnswer}
 use Rattle.f11_commands.specs.declared.copy.FileAnswer.TheVariants.{Done, Refused}
@@ -149,13 +148,6 @@ has_failed all = all.failed
 abbrev pub entries_left : {D : Type 0} → TakingAllRt D → ℕ
 entries_left all = length all.entries - all.next
 
--- The directory or the table of bad blocks can't be read.
-pub record CannotServe {W : Type 0} (served : Result RtServed Failure) (old new : Disk) (contents : W → Option (List ℕ))
-    (before after : W) : Type 0 where
-  pub told : Result FileAnswer Failure
-  pub ends : EndsUnserved told old new contents before after
-  pub served_is : served ≡ served_so Faulty told
-
 -- nothing was counted yet
 abbrev pub no_counts : RtCounts
 no_counts = record { copied = 0; cut = 0; not_copied = 0; lost = 0 }
@@ -206,40 +198,67 @@ module _ {D : Type 0} where
     pub none : length (entries_of all) ≤ next_of all
     pub same : later ≡ all
 
--- A file was taken out to the host, and its line says how far.
-pub record TakesNext {D H W : Type 0} (found : RtFileAt) (disk : D → Disk) (all later : TakingAllRt D)
-    (held : H → Option (List ℕ)) (host host' : H) (contents : W → Option (List ℕ)) (before after : W) : Type 0 where
+-- A file was taken out to the host, as far as it could be, and counted; it is known if a transfer failed.
+pub record TakesOut {D H : Type 0} (found : RtFileAt) (taken : RtTaken) (disk : D → Disk) (all later : TakingAllRt D)
+    (held : H → Option (List ℕ)) (host host' : H) : Type 0 where
   pub stays : StaysInHand all later
-  pub taken : RtTaken
   pub takes : TakesEntry found.entry taken (disk (device_of all)) (disk (device_of later)) held host host'
   pub failed : has_failed later ≡ (has_failed all || taken.failed)
   pub counts : counts_of later ≡ counted_copied found.place taken.missing (counts_of all)
+
+-- It was, and its line says how far.
+pub record TakesNext {D H W : Type 0} (found : RtFileAt) (disk : D → Disk) (all later : TakingAllRt D)
+    (held : H → Option (List ℕ)) (host host' : H) (contents : W → Option (List ℕ)) (before after : W) : Type 0 where
+  pub taken : RtTaken
+  pub takes_out : TakesOut found taken disk all later held host host'
   pub line : WriterTakes contents before after (copied_at_line (bad_of all) found taken)
 
--- The host took no more, or it has all that was to be taken out and the writer took no more of the line.
-pub record CannotTake {D : Type 0} (found : RtFileAt) (disk : D → Disk) (all later : TakingAllRt D) : Type 0 where
-  pub faults : ℕ
-  pub looked : Looked (disk (device_of all)) (disk (device_of later)) found.entry.blocks faults
+-- The host took no more, and no transfer failed. Nothing was counted.
+pub record FillsHost {D : Type 0} (found : RtFileAt) (disk : D → Disk) (all later : TakingAllRt D) : Type 0 where
+  pub stays : StaysInHand all later
+  pub failed : has_failed later ≡ has_failed all
+  pub counts : counts_of later ≡ counts_of all
+  pub looked : Looked (disk (device_of all)) (disk (device_of later)) found.entry.blocks 0
 
-abbrev pub FailsToTake : {D : Type 0} → Failure → RtFileAt → (D → Disk) → TakingAllRt D → TakingAllRt D → Type 0
-FailsToTake DeviceFault found disk all later = ⊥
-FailsToTake NoMemory found disk all later = ⊥
-FailsToTake CannotWrite found disk all later = CannotTake found disk all later
+-- The host took no more, and no line was begun; or it has all that was to be taken out and the writer took no more of the line.
+pub data CannotTake {D H W : Type 0} (found : RtFileAt) (disk : D → Disk) (all later : TakingAllRt D)
+    (held : H → Option (List ℕ)) (host host' : H) (before after : W) : Type 0 where
+  host_full : FillsHost found disk all later → after ≡ before → CannotTake found disk all later held host host' before after
+  line_lost : (taken : RtTaken) → TakesOut found taken disk all later held host host'
+      → CannotTake found disk all later held host host' before after
 
--- An entry wasn't taken out, and that was told.
-pub record RefusesNext {D W : Type 0} (found : RtFileAt) (all later : TakingAllRt D)
-    (contents : W → Option (List ℕ)) (before after : W) : Type 0 where
+abbrev pub FailsToTake : {D H W : Type 0} → Failure → RtFileAt → (D → Disk) → TakingAllRt D → TakingAllRt D
+    → (H → Option (List ℕ)) → H → H → W → W → Type 0
+FailsToTake DeviceFault found disk all later held host host' before after = ⊥
+FailsToTake NoMemory found disk all later held host host' before after = ⊥
+FailsToTake CannotWrite found disk all later held host host' before after = CannotTake found disk all later held host host' before after
+
+-- An entry wasn't taken out, and was counted; nothing else changes.
+pub record CountsRefused {D : Type 0} (all later : TakingAllRt D) : Type 0 where
   pub stays : StaysInHand all later
   pub device : device_of later ≡ device_of all
   pub failed : has_failed later ≡ has_failed all
   pub counts : counts_of later ≡ counted_refused (counts_of all)
+
+-- Its line says why;
+pub record RefusesNext {D W : Type 0} (found : RtFileAt) (all later : TakingAllRt D)
+    (contents : W → Option (List ℕ)) (before after : W) : Type 0 where
+  pub refuses : CountsRefused all later
   pub line : WriterTakes contents before after (not_copied_line found.place (why_of found.fate))
+
+-- or the writer took no more of it.
+abbrev pub FailsToRefuse : {D : Type 0} → Failure → TakingAllRt D → TakingAllRt D → Type 0
+FailsToRefuse DeviceFault all later = ⊥
+FailsToRefuse NoMemory all later = ⊥
+FailsToRefuse CannotWrite all later = CountsRefused all later
 
 -- what the command answers: that a transfer failed, or how its work ended
 abbrev pub all_answered : {D : Type 0} → TakingAllRt D → Result RtServed Failure
 all_answered all = if all.failed then Err DeviceFault else Ok (record { answer = counts_answer all.counts; state = all.state })
 
--- how it ends: the last line was written, or the writer takes no more
-abbrev pub EndsAll : {D W : Type 0} → Result RtServed Failure → TakingAllRt D → (W → Option (List ℕ)) → W → W → Type 0
-EndsAll served all contents before after =
-    ((served ≡ all_answered all) × WriterTakes contents before after (counts_line (counts_of all))) ⊎ (served ≡ Err CannotWrite)
+-- How it ends: the last line was written; or the writer took no more of it, which is answered where no transfer failed.
+pub data EndsAll {D W : Type 0} (all : TakingAllRt D) (served : Result RtServed Failure) (contents : W → Option (List ℕ))
+    (before after : W) : Type 0 where
+  told : served ≡ all_answered all → WriterTakes contents before after (counts_line (counts_of all))
+      → EndsAll all served contents before after
+  untold : served ≡ Err (if has_failed all then DeviceFault else CannotWrite) → EndsAll all served contents before after

@@ -13,6 +13,7 @@ use Rattle.rt11_volume.specs.declared.any_entries.RtEntry.{RtEntry}
 use Rattle.rt11_volume.specs.declared.directory.LookFault.{LookFault}
 use Rattle.rt11_volume.specs.declared.directory.LookFault.TheVariants as look
 use Rattle.rt11_volume.specs.declared.any_state.RtState.{RtState}
+use Rattle.rt11_volume.specs.declared.any_state.RtState.TheVariants.{Faulty}
 use Rattle.f11_commands.specs.CopyCommand.{EndsRt}
 use Rattle.f11_commands.specs.declared.copy.FileAnswer.{FileAnswer}
 use Rattle.f11_commands.specs.declared.copy.FileAnswer.TheVariants.{Done}
@@ -66,6 +67,13 @@ pub record LacksTable {W : Type 0} (told : Result FileAnswer Failure) (old new :
 -- how a command ends where directory or table can't be read
 abbrev pub EndsUnserved : {W : Type 0} → Result FileAnswer Failure → Disk → Disk → (W → Option (List ℕ)) → W → W → Type 0
 EndsUnserved told old new contents before after = (EndsUnread told old new contents before after) ⊎ (LacksTable told old new before after)
+
+-- The directory or the table of bad blocks can't be read.
+pub record CannotServe {W : Type 0} (served : Result RtServed Failure) (old new : Disk) (contents : W → Option (List ℕ))
+    (before after : W) : Type 0 where
+  pub told : Result FileAnswer Failure
+  pub ends : EndsUnserved told old new contents before after
+  pub served_is : served ≡ served_so Faulty told
 
 -- what is told of a bad block where it is one of an area's
 abbrev pub replaced_mark : ℕ → ℕ → ℕ → List ℕ

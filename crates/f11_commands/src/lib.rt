@@ -48,6 +48,7 @@ pub use dump::dump_header;
 pub use f11_catalog;
 pub use f11_flx;
 pub use f11_rad50;
+pub use f11_script::ScriptError;
 pub use f11_serving;
 pub use f11_serving::{f11_fcp, f11_files, f11_vfy};
 pub use f11_volume::f11_layout;

@@ -124,7 +124,7 @@ fn read_control<D: Device>(
     }
 }
 
-/// The size that a control block states, where it tells of 1 to 126 bitmap blocks, and these have bits for so many, which are some.
+/// The size that a control block states, where it counts 1 to 126 bitmap blocks, and the size is 1 to 4,096 for each of these.
 fn size_in(block: &Block) -> Option<u32>
     ensures { result ≡ size_of_control block.now }
 {

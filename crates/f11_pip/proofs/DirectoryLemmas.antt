@@ -1,9 +1,8 @@
 -- What stands in brackets, and how long a name is.
-use Rattle.std.proofs.Common.{◌≡◌, ◌≢◌, ◌≤◌, ◌<◌, ◌+◌, ◌++◌, ◌∷◌, [], ℕ, List, Bool, true, false, Option, Some, None, IfSome, length, map}
-use Rattle.std.proofs.Common.{take, refl, sym, subst, ap, ◌∙◌, arith}
-use Rattle.std.proofs.Common.{◌⊎◌, inl, inr}
+use Rattle.std.proofs.Common.{◌≡◌, ◌≢◌, ◌≤◌, ◌+◌, ◌++◌, ◌∷◌, [], ℕ, List, Option, Some, None, IfSome, length}
+use Rattle.std.proofs.Common.{sym, ap, ◌∙◌, arith}
+use Rattle.std.proofs.Common.{inl, inr}
 use Rattle.std.proofs.lemmas.List.{append_cancel_right, length-append}
-use Rattle.std.specs.Char.{to_ascii_uppercase}
 use Rattle.f11_commands.specs.rad50.Name.{Spells}
 use Rattle.f11_commands.specs.Copying.{directory_name}
 use Rattle.f11_numbers.specs.Octal.{SpellsUic}

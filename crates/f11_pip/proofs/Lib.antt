@@ -4,4 +4,5 @@ mod HostFileLemmas
 mod LineLemmas
 mod PlainLemmas
 mod RtFileLemmas
+mod SubcommandLemmas
 pub mod WordsLemmas

@@ -165,12 +165,28 @@ takes-run program (a ∷ xs) [] p q = rw (p, p) refl
 takes-run program (a ∷ xs) (b ∷ ys) p q = rw (p, p, q, q) refl
 
 pub subcommand_of-run : (program image script : Text) → is_option image ≡ false → is_option script ≡ false
-    → MeetsRun image script (subcommand_of program_app (program ∷ codes "run" ∷ image ∷ script ∷ []))
+    → MeetsRun false image script (subcommand_of program_app (program ∷ codes "run" ∷ image ∷ script ∷ []))
 unfolding clap_on_literals
-subcommand_of-run program [] [] p q = (refl, refl)
-subcommand_of-run program [] (b ∷ ys) p q = (rw (q, q) refl, rw (q, q) refl)
-subcommand_of-run program (a ∷ xs) [] p q = (rw (p, p) refl, rw (p, p) refl)
-subcommand_of-run program (a ∷ xs) (b ∷ ys) p q = (rw (p, p, q, q) refl, rw (p, p, q, q) refl)
+subcommand_of-run program [] [] p q = (refl, refl, refl)
+subcommand_of-run program [] (b ∷ ys) p q = (rw (q, q) refl, rw (q, q) refl, rw (q, q) refl)
+subcommand_of-run program (a ∷ xs) [] p q = (rw (p, p) refl, rw (p, p) refl, rw (p, p) refl)
+subcommand_of-run program (a ∷ xs) (b ∷ ys) p q = (rw (p, p, q, q) refl, rw (p, p, q, q) refl, rw (p, p, q, q) refl)
+
+pub takes-quiet_run : (program image script : Text) → is_option image ≡ false → is_option script ≡ false
+    → takes program_app (program ∷ codes "run" ∷ codes "--quiet" ∷ image ∷ script ∷ []) ≡ true
+unfolding clap_on_literals
+takes-quiet_run program [] [] p q = refl
+takes-quiet_run program [] (b ∷ ys) p q = rw (q, q) refl
+takes-quiet_run program (a ∷ xs) [] p q = rw (p, p) refl
+takes-quiet_run program (a ∷ xs) (b ∷ ys) p q = rw (p, p, q, q) refl
+
+pub subcommand_of-quiet_run : (program image script : Text) → is_option image ≡ false → is_option script ≡ false
+    → MeetsRun true image script (subcommand_of program_app (program ∷ codes "run" ∷ codes "--quiet" ∷ image ∷ script ∷ []))
+unfolding clap_on_literals
+subcommand_of-quiet_run program [] [] p q = (refl, refl, refl)
+subcommand_of-quiet_run program [] (b ∷ ys) p q = (rw (q, q) refl, rw (q, q) refl, rw (q, q) refl)
+subcommand_of-quiet_run program (a ∷ xs) [] p q = (rw (p, p) refl, rw (p, p) refl, rw (p, p) refl)
+subcommand_of-quiet_run program (a ∷ xs) (b ∷ ys) p q = (rw (p, p, q, q) refl, rw (p, p, q, q) refl, rw (p, p, q, q) refl)
 
 pub subcommand_of-none : {X : Type 0} (text : X → Text) (words : List X) → length words ≤ 1
     → subcommand_of program_app (map text words) ≡ None

@@ -47,13 +47,14 @@ rights_app = with_rule (with_rule (with_rule (new_app (codes "rights")) (needed_
 abbrev pub dump_app : App
 dump_app = with_rule (with_rule (new_app (codes "dump")) (needed_rule (codes "image"))) (needed_rule (codes "number"))
 
--- `run IMAGE SCRIPT`
-abbrev pub run_app : App
-run_app = with_rule (with_rule (new_app (codes "run")) (needed_rule (codes "image"))) (needed_rule (codes "script"))
-
 -- a word behind `--` that may be there, and has none behind it
 abbrev pub flag_rule : Text → Rule
 flag_rule name = record (new_rule name) { long = Some name; action = Some SetTrue }
+
+-- `run [--quiet] IMAGE SCRIPT`
+abbrev pub run_app : App
+run_app = with_rule (with_rule (with_rule (new_app (codes "run")) (flag_rule (codes "quiet"))) (needed_rule (codes "image")))
+    (needed_rule (codes "script"))
 
 -- `vfy [--update] IMAGE`
 abbrev pub vfy_app : App
@@ -195,9 +196,11 @@ abbrev pub MeetsVfy : Bool → Text → Option (Text × List Row) → Type 0
 MeetsVfy update image met = MeetsWord (codes "vfy") (codes "image") image met
     × (command_and_flag (codes "update") met ≡ Some (codes "vfy", Some (flag_text update)))
 
--- `run` was met, with these two words
-abbrev pub MeetsRun : Text → Text → Option (Text × List Row) → Type 0
-MeetsRun image script met = MeetsWord (codes "run") (codes "image") image met × MeetsWord (codes "run") (codes "script") script met
+-- `run` was met, with `--quiet` or without, and with these two words
+abbrev pub MeetsRun : Bool → Text → Text → Option (Text × List Row) → Type 0
+MeetsRun quiet image script met = MeetsWord (codes "run") (codes "image") image met
+    × MeetsWord (codes "run") (codes "script") script met
+    × (command_and_flag (codes "quiet") met ≡ Some (codes "run", Some (flag_text quiet)))
 
 -- the first words of these names, where there are such
 abbrev pub words_in : List Text → List Row → List (Option Text)
@@ -291,9 +294,10 @@ abbrev pub HasVfyWords : Bool → Text → ArgMatches → Type 0
 HasVfyWords update image given = HasWord (codes "image") image given ×
     (one_text (found_of given) (codes "update") ≡ Some (flag_text update))
 
--- `run` has these two words
-abbrev pub HasRunWords : Text → Text → ArgMatches → Type 0
-HasRunWords image script given = HasWord (codes "image") image given × HasWord (codes "script") script given
+-- `run` has `--quiet` or hasn't, and has these two words
+abbrev pub HasRunWords : Bool → Text → Text → ArgMatches → Type 0
+HasRunWords quiet image script given = HasWord (codes "image") image given × HasWord (codes "script") script given
+    × (one_text (found_of given) (codes "quiet") ≡ Some (flag_text quiet))
 
 -- a copy has these words
 pub record HasCopyWords (mode image uic name rt rt_name : Text) (given : ArgMatches) : Type 0 where

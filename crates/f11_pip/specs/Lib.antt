@@ -1,4 +1,5 @@
 pub mod Commands
 pub mod Directory
 pub mod Outcome
+pub mod Subcommands
 pub mod Words

@@ -3,7 +3,6 @@ use Rattle.std.specs.Prelude.{◌≡◌, ◌⊎◌, ℕ, ◌==◌, All, Bool, tr
 use Rattle.std.specs.Prelude.{option_to_list}
 use Rattle.f11_commands.specs.flx.declared.mode.CopyMode.{CopyMode}
 use Rattle.f11_commands.specs.flx.declared.mode.CopyMode.TheVariants.{Image, Text}
-use Rattle.f11_store.specs.declared.callers.Uic.{Uic}
 use Rattle.f11_numbers.specs.Decimal.{IsCount, IsNumber, SpellsNumber, SpellsCount}
 use Rattle.f11_numbers.specs.Octal.{IsProtection, SpellsProtection, SpellsUic}
 use Rattle.f11_pip.specs.Directory.{IsNoDirectory, IsNoUic, SpellsDirectory}
@@ -63,6 +62,7 @@ pub data CommandLine : Type 0 where
   rt_put_line : (rt name host : List ℕ) → CommandLine
   rt_vfy_line : (image : List ℕ) → CommandLine
   run_line : (image script : List ℕ) → CommandLine
+  quiet_run_line : (image script : List ℕ) → CommandLine
   vfy_line : (image : List ℕ) → CommandLine
   update_line : (image : List ℕ) → CommandLine
 
@@ -96,6 +96,7 @@ words_given (rt_ls_line rt) = codes "rt-ls" ∷ rt ∷ []
 words_given (rt_put_line rt name host) = codes "rt-put" ∷ rt ∷ name ∷ host ∷ []
 words_given (rt_vfy_line image) = codes "rt-vfy" ∷ image ∷ []
 words_given (run_line image script) = codes "run" ∷ image ∷ script ∷ []
+words_given (quiet_run_line image script) = codes "run" ∷ codes "--quiet" ∷ image ∷ script ∷ []
 words_given (vfy_line image) = codes "vfy" ∷ image ∷ []
 words_given (update_line image) = codes "vfy" ∷ codes "--update" ∷ image ∷ []
 
@@ -122,6 +123,7 @@ texts_of (rt_ls_line rt) = rt ∷ []
 texts_of (rt_put_line rt name host) = rt ∷ name ∷ host ∷ []
 texts_of (rt_vfy_line image) = image ∷ []
 texts_of (run_line image script) = image ∷ script ∷ []
+texts_of (quiet_run_line image script) = image ∷ script ∷ []
 texts_of (vfy_line image) = image ∷ []
 texts_of (update_line image) = image ∷ []
 
@@ -186,10 +188,10 @@ abbrev pub AsksHome : List ℕ → Words → Type 0
 AsksHome name (Home image) = image.now ≡ name
 AsksHome name _ = ⊥
 
--- the words ask that this script be served on this image
-abbrev pub AsksRun : List ℕ → List ℕ → Words → Type 0
-AsksRun name text (Run image script) = (image.now ≡ name) × (script.now ≡ text)
-AsksRun name text _ = ⊥
+-- the words ask that this script be served on this image, and its lines that aren't done be told on standard error, or not be told
+abbrev pub AsksRun : Bool → List ℕ → List ℕ → Words → Type 0
+AsksRun quiet name text (Run image script is_quiet) = (image.now ≡ name) × (script.now ≡ text) × (is_quiet ≡ quiet)
+AsksRun quiet name text _ = ⊥
 
 -- the words ask that this image be verified, and what lies idle on it be given back, or that it be verified alone
 abbrev pub AsksVfy : Bool → List ℕ → Words → Type 0
@@ -290,7 +292,8 @@ Asks (rt_list_line image) words = AsksRtList image words
 Asks (rt_ls_line rt) words = AsksRtLs rt words
 Asks (rt_put_line rt name host) words = AsksRtPut rt name host words
 Asks (rt_vfy_line image) words = AsksRtVfy image words
-Asks (run_line image script) words = AsksRun image script words
+Asks (run_line image script) words = AsksRun false image script words
+Asks (quiet_run_line image script) words = AsksRun true image script words
 Asks (vfy_line image) words = AsksVfy false image words
 Asks (update_line image) words = AsksVfy true image words
 
@@ -344,6 +347,7 @@ IsUnreadable (rt_ls_line rt) = ⊥
 IsUnreadable (rt_put_line rt name host) = ⊥
 IsUnreadable (rt_vfy_line image) = ⊥
 IsUnreadable (run_line image script) = ⊥
+IsUnreadable (quiet_run_line image script) = ⊥
 IsUnreadable (vfy_line image) = ⊥
 IsUnreadable (update_line image) = ⊥
 

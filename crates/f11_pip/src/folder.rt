@@ -1,7 +1,7 @@
 //! The command `get --all`: the files of the host that it makes, in a folder.
 use crate::host_file::HostFile;
 use crate::outcome::Failure;
-use crate::remarks::{Remark, Which, Why};
+use crate::remarks::{self, Remark, Why};
 use crate::{judged, opened};
 use f11_commands::f11_catalog::{Content, DirectoryName, Place};
 use f11_commands::{Answer, LeftOut, TakingAll, begin_all};
@@ -61,17 +61,13 @@ fn take_all<W: Write>(
     let mut complete = true;
     while let Some(found) = all.next() {
         match found.content {
-            Content::Missing(absence) => {
-                let why = LeftOut::Missing(found.place.id(), absence);
-                all.leave_out(&found.place, &why, writer)?;
-            }
+            Content::Missing(_) => all.write(&found, None, &mut io::sink(), writer)?,
             _ => match host_of(rt, folder, &found.place)? {
                 Host::File(mut made) => {
                     let written = all.write(&found, made.beside, &mut made.file, writer);
-                    if let Err(failure) = written {
-                        let _ = writeln!(writer, "{} not written to its end", found.place);
-                        let _ = eprintln!(rt; "{}: not written to its end", made.path);
-                        return Err(Failure::from(failure));
+                    if written.is_err() || made.file.end().is_err() {
+                        tell_unwritten(rt, &found.place, &made, writer);
+                        return Err(Failure::CannotWrite);
                     }
                 }
                 Host::Again => all.leave_out(&found.place, &LeftOut::Again, writer)?,
@@ -83,6 +79,14 @@ fn take_all<W: Write>(
         }
     }
     Ok(complete)
+}
+
+/// Tells of a file of the host that it took no more, and why, if it was that.
+fn tell_unwritten<W: Write>(rt: &HostRuntime, place: &Place, made: &Made, writer: &mut W) {
+    if let Some(error) = made.file.failure() {
+        let _ = writeln!(writer, "{place} not written to its end");
+        remarks::tell(rt, made.path.as_str(), Why::NotWritten(error));
+    }
 }
 
 /// What the host has for a file of the volume.
@@ -181,11 +185,7 @@ fn or_told(
         Ok(file) => Host::File(Made { path, file, beside }),
         Err(CannotOpen::Exists) => Host::Again,
         Err(why) => {
-            let remark = Remark {
-                word: Which::Text(path.as_str()),
-                why: Why::CannotOpen(why),
-            };
-            let _ = eprintln!(rt; "{remark}");
+            remarks::tell(rt, path.as_str(), Why::CannotOpen(why));
             Host::None
         }
     }

@@ -1,111 +1,217 @@
 //! What the program says of its words.
 use std::io::{self, Write};
 
-/// A command: its name, its words, and what it does.
+/// Commands that belong together, under a title.
+struct Group {
+    title: &'static str,
+    commands: &'static [Synopsis],
+}
+
+/// A command: its name, its words, what it does, what there is to say of its words, a line each, and an example.
 struct Synopsis {
     name: &'static str,
     words: &'static str,
     does: &'static str,
+    about: &'static [&'static str],
+    example: &'static str,
 }
 
 /// The program's name and version, and what it was built with.
 const VERSION: &str = "f11_pip 0.1, built with Rattle, logic dac8208d650f15bf";
 
-const COMMANDS: [Synopsis; 19] = [
-    Synopsis {
-        name: "dump",
-        words: "f11_pip dump IMAGE NUMBER",
-        does: "shows the file header of this number of a Files-11 volume",
+const GROUPS: [Group; 4] = [
+    Group {
+        title: "Files-11 volumes",
+        commands: &[
+            Synopsis {
+                name: "ls",
+                words: "f11_pip ls IMAGE [DIR]",
+                does: "lists all directories, or one",
+                about: &[
+                    "of a volume that has faults, too; a line a record: name, blocks, bytes, owner and protection word",
+                    "DIR: a UIC, octal, as 200,1, or a name, as [USERFILES]; 0,0 is the master file directory",
+                ],
+                example: "f11_pip ls pack.dsk 200,1",
+            },
+            Synopsis {
+                name: "get",
+                words: "f11_pip get [--mode M|--blocks] IMAGE DIR NAME HOST | get --all IMAGE FOLDER",
+                does: "takes out a file, or all files",
+                about: &[
+                    "of a volume that has faults, too; HOST and FOLDER are made, and mustn't be there",
+                    "--mode M: image, as where none is given, all bytes as they are, or text: records become lines",
+                    "--blocks: all its blocks, those behind its end, too",
+                    "--all: each file into a folder of FOLDER for its directory; those that none names into FOLDER/lost",
+                    "DIR: a UIC, octal, as 200,1, or a name, as [USERFILES]; 0,0 is the master file directory",
+                ],
+                example: "f11_pip get --mode text pack.dsk 200,1 'LOGIN.CMD;1' login.cmd",
+            },
+            Synopsis {
+                name: "put",
+                words: "f11_pip put [--mode M] IMAGE DIR NAME HOST",
+                does: "makes a file of one of the host",
+                about: &[
+                    "of a volume that is accepted",
+                    "--mode M: image, as where none is given, all bytes as they are, or text: lines, ended by LF or CR LF, become records",
+                    "text: bytes of 0 are dropped, and the last line gets an end",
+                    "DIR: a UIC, octal, as 200,1, or a name, as [USERFILES]; 0,0 is the master file directory",
+                ],
+                example: "f11_pip put --mode text pack.dsk 200,1 'LOGIN.CMD;1' login.cmd",
+            },
+            Synopsis {
+                name: "vfy",
+                words: "f11_pip vfy [--update] IMAGE",
+                does: "verifies a volume: a line a fault or note, and whether it is accepted",
+                about: &[
+                    "--update: gives back what is lost, where the volume is accepted",
+                    "docs/VFY.md tells what each line means, and what to type then",
+                ],
+                example: "f11_pip vfy pack.dsk",
+            },
+            Synopsis {
+                name: "run",
+                words: "f11_pip run [--quiet] IMAGE SCRIPT",
+                does: "serves the requests of a script on a volume that is accepted",
+                about: &[
+                    "SCRIPT: a file, a request a line; docs/FORMATS.md tells its language",
+                    "docs/RECIPES.md has scripts that make a directory, delete, rename and protect",
+                    "--quiet: standard error doesn't tell which lines are bad or refused",
+                ],
+                example: "f11_pip run pack.dsk requests",
+            },
+            Synopsis {
+                name: "init",
+                words: "f11_pip init --blocks N --slots N --label L [--max N] IMAGE",
+                does: "makes an image with a fresh volume",
+                about: &[
+                    "--blocks: of 512 bytes, at most 516096",
+                    "--slots: of file headers at first, 16 to 16000; a file takes one, a long one more; docs/RECIPES.md tells how many",
+                    "--label: 1 to 12 of A to Z and 0 to 9",
+                    "--max: of slots at most, as many as --slots to 65500; 4000 where it isn't given",
+                ],
+                example: "f11_pip init --blocks 4800 --slots 160 --label MYPACK pack.dsk",
+            },
+            Synopsis {
+                name: "home",
+                words: "f11_pip home IMAGE",
+                does: "shows the home block",
+                about: &[],
+                example: "f11_pip home pack.dsk",
+            },
+            Synopsis {
+                name: "dump",
+                words: "f11_pip dump IMAGE NUMBER",
+                does: "shows a file header and its retrieval pointers",
+                about: &["NUMBER: the file's, decimal"],
+                example: "f11_pip dump pack.dsk 4",
+            },
+        ],
     },
-    Synopsis {
-        name: "flx-from-rt",
-        words: "f11_pip flx-from-rt --mode M RT RTNAME IMAGE UIC NAME",
-        does: "copies a file of an RT-11 volume to a Files-11 one, as it is or as text: M is image or text, UIC names the directory",
+    Group {
+        title: "RT-11 volumes",
+        commands: &[
+            Synopsis {
+                name: "rt-ls",
+                words: "f11_pip rt-ls RT",
+                does: "lists the files",
+                about: &["of a volume that has faults, too"],
+                example: "f11_pip rt-ls rt.dsk",
+            },
+            Synopsis {
+                name: "rt-get",
+                words: "f11_pip rt-get RT NAME HOST | rt-get --all RT FOLDER",
+                does: "takes out a file, or all files, as they are",
+                about: &[
+                    "of a volume that has faults, too; HOST and FOLDER are made, and mustn't be there",
+                ],
+                example: "f11_pip rt-get rt.dsk SWAP.SYS swap.sys",
+            },
+            Synopsis {
+                name: "rt-put",
+                words: "f11_pip rt-put RT NAME HOST",
+                does: "makes a file of one of the host, filled up with zeros to whole blocks",
+                about: &["of a volume that is accepted"],
+                example: "f11_pip rt-put rt.dsk LOGIN.COM login.com",
+            },
+            Synopsis {
+                name: "rt-del",
+                words: "f11_pip rt-del RT NAME",
+                does: "deletes a file",
+                about: &["of a volume that is accepted"],
+                example: "f11_pip rt-del rt.dsk OLD.BAK",
+            },
+            Synopsis {
+                name: "rt-vfy",
+                words: "f11_pip rt-vfy IMAGE",
+                does: "verifies a volume: a line a fault or note, and whether it is accepted",
+                about: &[],
+                example: "f11_pip rt-vfy rt.dsk",
+            },
+            Synopsis {
+                name: "rt-list",
+                words: "f11_pip rt-list IMAGE",
+                does: "lists the areas of a volume that is accepted",
+                about: &[],
+                example: "f11_pip rt-list rt.dsk",
+            },
+            Synopsis {
+                name: "rt-init",
+                words: "f11_pip rt-init --blocks N --segments N IMAGE",
+                does: "makes an image with a fresh volume",
+                about: &[
+                    "--blocks: of 512 bytes, at most 65535",
+                    "--segments: of the directory, 1 to 31, each for some 70 files",
+                ],
+                example: "f11_pip rt-init --blocks 4800 --segments 4 rt.dsk",
+            },
+        ],
     },
-    Synopsis {
-        name: "flx-to-rt",
-        words: "f11_pip flx-to-rt --mode M IMAGE UIC NAME RT RTNAME",
-        does: "copies a file of a Files-11 volume to an RT-11 one, as it is or as text: M is image or text, UIC names the directory",
+    Group {
+        title: "Copies between the two",
+        commands: &[
+            Synopsis {
+                name: "flx-to-rt",
+                words: "f11_pip flx-to-rt --mode M IMAGE UIC NAME RT RTNAME",
+                does: "copies a file of a Files-11 volume to an RT-11 one",
+                about: &[
+                    "--mode M: image, all bytes as they are, or text: records become lines ended by CR LF",
+                    "UIC: of its directory, octal, as 200,1; 0,0 is the master file directory",
+                ],
+                example: "f11_pip flx-to-rt --mode text pack.dsk 200,1 'LOGIN.CMD;1' rt.dsk LOGIN.CMD",
+            },
+            Synopsis {
+                name: "flx-from-rt",
+                words: "f11_pip flx-from-rt --mode M RT RTNAME IMAGE UIC NAME",
+                does: "copies a file of an RT-11 volume to a Files-11 one",
+                about: &[
+                    "--mode M: image, all bytes as they are, or text: lines, ended by CR LF, become records",
+                    "UIC: of its directory, octal, as 200,1; 0,0 is the master file directory",
+                ],
+                example: "f11_pip flx-from-rt --mode text rt.dsk LOGIN.CMD pack.dsk 200,1 'LOGIN.CMD;1'",
+            },
+        ],
     },
-    Synopsis {
-        name: "get",
-        words: "f11_pip get [--mode M|--blocks] IMAGE DIR NAME HOST | get --all IMAGE FOLDER",
-        does: "copies a file of a Files-11 volume to a new file HOST, or all files into a new FOLDER, also of a volume that has faults: M is image or text, --blocks takes all blocks past the end too, DIR is 200,1 or [NAME]",
-    },
-    Synopsis {
-        name: "home",
-        words: "f11_pip home IMAGE",
-        does: "shows the home block of a Files-11 volume",
-    },
-    Synopsis {
-        name: "init",
-        words: "f11_pip init --blocks N --slots N --label L [--max N] IMAGE",
-        does: "makes an image file with a fresh Files-11 volume",
-    },
-    Synopsis {
-        name: "ls",
-        words: "f11_pip ls IMAGE [DIR]",
-        does: "lists the directories that the master file directory of a Files-11 volume names, or one, as 200,1 or [NAME], also of a volume that has faults",
-    },
-    Synopsis {
-        name: "name",
-        words: "f11_pip name TEXT",
-        does: "shows the five words of a file's name, as A.TXT;1",
-    },
-    Synopsis {
-        name: "put",
-        words: "f11_pip put [--mode M] IMAGE DIR NAME HOST",
-        does: "makes a file on a Files-11 volume with the bytes of a file of the host, HOST, or with its lines: M is image or text, DIR is 200,1 or [NAME]",
-    },
-    Synopsis {
-        name: "rights",
-        words: "f11_pip rights UIC OWNER WORD",
-        does: "shows the rights of a caller, as 200,1, to a file of an owner with a protection word",
-    },
-    Synopsis {
-        name: "rt-del",
-        words: "f11_pip rt-del RT NAME",
-        does: "deletes a file of an RT-11 volume",
-    },
-    Synopsis {
-        name: "rt-get",
-        words: "f11_pip rt-get RT NAME HOST | rt-get --all RT FOLDER",
-        does: "copies a file of an RT-11 volume to a new file HOST, or all files into a new FOLDER, as they are, also of a volume that has faults",
-    },
-    Synopsis {
-        name: "rt-init",
-        words: "f11_pip rt-init --blocks N --segments N IMAGE",
-        does: "makes an image file with a fresh RT-11 volume",
-    },
-    Synopsis {
-        name: "rt-list",
-        words: "f11_pip rt-list IMAGE",
-        does: "lists the areas of an RT-11 volume, which is verified first",
-    },
-    Synopsis {
-        name: "rt-ls",
-        words: "f11_pip rt-ls RT",
-        does: "lists the files of an RT-11 volume, also of one that has faults",
-    },
-    Synopsis {
-        name: "rt-put",
-        words: "f11_pip rt-put RT NAME HOST",
-        does: "makes a file on an RT-11 volume with the bytes of a file of the host, HOST, filled up with zeros to whole blocks",
-    },
-    Synopsis {
-        name: "rt-vfy",
-        words: "f11_pip rt-vfy IMAGE",
-        does: "verifies an RT-11 volume: each fault and note, and whether it is accepted",
-    },
-    Synopsis {
-        name: "run",
-        words: "f11_pip run IMAGE SCRIPT",
-        does: "serves the requests of a script on a Files-11 volume, which is verified first",
-    },
-    Synopsis {
-        name: "vfy",
-        words: "f11_pip vfy [--update] IMAGE",
-        does: "verifies a Files-11 volume: each fault and note, and whether it is accepted; with --update what is lost is given back",
+    Group {
+        title: "Words and rights",
+        commands: &[
+            Synopsis {
+                name: "name",
+                words: "f11_pip name TEXT",
+                does: "shows the five words of a file's name",
+                about: &[],
+                example: "f11_pip name 'LOGIN.CMD;1'",
+            },
+            Synopsis {
+                name: "rights",
+                words: "f11_pip rights UIC OWNER WORD",
+                does: "shows a caller's rights to a file of an owner with a protection word",
+                about: &[
+                    "UIC, OWNER: octal, as 200,1",
+                    "WORD: octal, a bit that is 1 denies: four each, from the right, for system, owner, group and world",
+                ],
+                example: "f11_pip rights 200,2 200,1 160000",
+            },
+        ],
     },
 ];
 
@@ -148,39 +254,71 @@ pub fn write_version<W: Write>(writer: &mut W) -> io::Result<()> {
     writeln!(writer, "{}", VERSION)
 }
 
-/// Writes the words of the command that is asked about, and what it does, two lines; or those of each command, where none is named.
+/// Writes what there is to say of the command that is asked about, or a line of each, where none is named.
 pub fn write_asked<W: Write>(words: &[String], writer: &mut W) -> io::Result<()> {
-    for command in &COMMANDS {
-        if is_about(words, command.name) {
-            return write_one(command, writer);
-        }
+    match asked_about(words) {
+        Some(command) => write_one(command, writer),
+        None => write_all(writer),
     }
-    for command in &COMMANDS {
-        write_one(command, writer)?;
-    }
-    Ok(())
 }
 
-/// Whether words that ask for help name this command, behind `help` or in its place.
-fn is_about(words: &[String], name: &str) -> bool {
+/// The command that words that ask for help name, if they name one.
+fn asked_about(words: &[String]) -> Option<&'static Synopsis> {
     match words {
-        [_, first, second, ..] => first.as_str() == name
-            || first.as_str() == "help" && second.as_str() == name,
-        _ => false,
+        [_, first, second, ..] if first.as_str() == "help" => command_of(second),
+        [_, first, _, ..] => command_of(first),
+        _ => None,
     }
+}
+
+/// The word behind `help`, or in its place before what asks for help, where it is no command.
+pub fn asked_for(words: &[String]) -> Option<&String> {
+    let word = match words {
+        [_, first, second, ..] if first.as_str() == "help" => second,
+        [_, first, _, ..] => first,
+        _ => return None,
+    };
+    if command_of(word).is_some() || is_help(word) {
+        return None;
+    }
+    Some(word)
+}
+
+/// The command of this name, if there is one.
+fn command_of(name: &String) -> Option<&'static Synopsis> {
+    for group in &GROUPS {
+        for command in group.commands {
+            if command.name == name.as_str() {
+                return Some(command);
+            }
+        }
+    }
+    None
 }
 
 fn write_one<W: Write>(command: &Synopsis, writer: &mut W) -> io::Result<()> {
-    writeln!(writer, "{}\n    {}", command.words, command.does)
+    writeln!(writer, "{}\n    {}", command.words, command.does)?;
+    for line in command.about {
+        writeln!(writer, "    {line}")?;
+    }
+    writeln!(writer, "    as {}", command.example)
+}
+
+fn write_all<W: Write>(writer: &mut W) -> io::Result<()> {
+    for group in &GROUPS {
+        writeln!(writer, "{}", group.title)?;
+        for command in group.commands {
+            writeln!(writer, "  {}: {}", command.name, command.does)?;
+        }
+    }
+    writeln!(
+        writer,
+        "f11_pip help COMMAND tells a command's words, with an example"
+    )
 }
 
 /// The words of the command that was meant, where the first word behind the program's name is a command.
 pub fn meant(words: &[String]) -> Option<&'static str> {
-    let name = words.get(1)?;
-    for command in &COMMANDS {
-        if command.name == name.as_str() {
-            return Some(command.words);
-        }
-    }
-    None
+    let command = command_of(words.get(1)?)?;
+    Some(command.words)
 }

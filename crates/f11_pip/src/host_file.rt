@@ -1,4 +1,6 @@
 //! A file of the host that is made.
+ghost use Rattle.std.specs.Prelude.{◌≤◌, IfOk, length};
+
 use f11_dev::CannotOpen;
 use std::fs::{self, File, OpenOptions};
 use std::io::{self, Seek, SeekFrom, Write};
@@ -13,6 +15,10 @@ pub struct HostFile {
     length: u64,
     /// Whether the last of them were zeros that were passed over, so that the file is shorter yet.
     is_short: bool,
+    /// Whether the disk has all that it was given.
+    is_synced: bool,
+    /// Why it took no more when it was last asked, if it didn't.
+    failure: Option<io::Error>,
 }
 
 impl HostFile {
@@ -26,11 +32,18 @@ impl HostFile {
             file,
             length: 0,
             is_short: false,
+            is_synced: false,
+            failure: None,
         })
     }
 
-    /// Gives it up: where no byte was written to it, it is removed again.
-    pub fn give_up(self, rt: &HostRuntime, path: &str) {
+    /// Why it took no more when it was last asked, if it didn't: a write that was interrupted and then done again is no failure.
+    pub fn failure(&self) -> Option<io::Error> {
+        self.failure
+    }
+
+    /// Gives it up: where no byte was written to it, it is removed again. Whether it stays.
+    pub fn give_up(self, rt: &HostRuntime, path: &str) -> bool {
         let mut file = self;
         let _ = file.lengthen();
         let is_empty = file.length == 0;
@@ -38,6 +51,7 @@ impl HostFile {
         if is_empty {
             let _ = fs::remove_file(rt, path);
         }
+        !is_empty
     }
 
     /// Passes over a block of zeros.
@@ -59,8 +73,16 @@ impl HostFile {
     }
 }
 
-impl Write for HostFile {
-    fn write(&mut self, bytes: &[u8]) -> io::Result<usize> {
+impl HostFile {
+    /// Ends it where it broke off, before its `flush`: it gets its length, and is synced.
+    pub fn end(&mut self) -> io::Result<()> {
+        if self.is_synced { Ok(()) } else { self.flush() }
+    }
+
+    fn take(&mut self, bytes: &[u8]) -> io::Result<usize>
+        ensures bound { IfOk result (λ written. written ≤ length bytes.now) }
+    {
+        self.is_synced = false;
         if bytes.len() >= 512 && bytes.iter().all(|byte| *byte == 0) {
             self.pass(bytes.len())?;
             return Ok(bytes.len());
@@ -73,8 +95,24 @@ impl Write for HostFile {
         Ok(written)
     }
 
-    fn flush(&mut self) -> io::Result<()> {
+    fn sync(&mut self) -> io::Result<()> {
         self.lengthen()?;
-        self.file.sync_all()
+        self.file.sync_all()?;
+        self.is_synced = true;
+        Ok(())
+    }
+}
+
+impl Write for HostFile {
+    fn write(&mut self, bytes: &[u8]) -> io::Result<usize> {
+        let written = self.take(bytes);
+        self.failure = written.err();
+        written
+    }
+
+    fn flush(&mut self) -> io::Result<()> {
+        let synced = self.sync();
+        self.failure = synced.err();
+        synced
     }
 }

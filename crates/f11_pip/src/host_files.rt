@@ -1,13 +1,15 @@
 //! The commands on files of the host: which files they open, and how.
+use crate::heard::Heard;
 use crate::host_file::HostFile;
 use crate::outcome::Failure;
-use crate::remarks::{self, Remark, Which, Why};
+use crate::refusals::{self, NO_SUCH_ENTRY, of_finding, of_making};
+use crate::remarks::{self, Remark, Why};
 use crate::{judged, opened};
 use f11_commands::f11_flx::CopyMode;
 use f11_commands::f11_rad50::Name;
 use f11_commands::{
-    Answer, FileAnswer, FoundFile, PutFailure, Putting, Served, print_put, read_name, refuse_names,
-    seek_file, to_last_block, write_file,
+    Answer, FileAnswer, FoundFile, PutFailure, Putting, Served, print_ls, print_put, read_name,
+    refuse_names, seek_file, to_last_block, write_file,
 };
 use f11_dev::{CannotOpen, FileImage};
 use std::fs::{self, File};
@@ -44,21 +46,50 @@ pub fn get<'a, W: Write>(
         return Ok(refuse_names(writer)?);
     };
     let device = opened(FileImage::open_to_read(rt, file.image), file.image, remark)?;
-    let served = match seek_file(rt.alloc(), device, writer, &file.directory, &name) {
+    let served = match seek(rt, file, &name, device, writer) {
         Ok(Ok(found)) => {
             if !found.is_in_use() {
-                remarks::tell_unused(rt, file.image);
+                remarks::tell(rt, file.image, Why::UNUSED);
             }
             if found.was_left_open() && !taking.all_blocks {
-                remarks::tell_left_open(rt, file.image);
+                remarks::tell(rt, file.image, Why::LEFT_OPEN);
             }
+            let lacks_lines = taking.mode == CopyMode::Text && !found.has_lines();
             let found = as_far_as(found, taking.all_blocks)?;
-            take_out(rt, found, taking.mode, host, writer, remark)?
+            let served = take_out(rt, found, file.name, taking.mode, host, writer, remark)?;
+            if lacks_lines && served.answer == Answer::Done {
+                remarks::tell(rt, file.name, Why::NO_LINES);
+            }
+            served
         }
         Ok(Err((_device, served))) => served,
         Err((_device, failure)) => return Err(Failure::from(failure)),
     };
     Ok(judged(rt, file.image, served, remark))
+}
+
+/// The file of a volume that was found, or why none was, which is told.
+type Sought = Result<
+    Result<FoundFile<FileImage<File>>, (FileImage<File>, Served)>,
+    (FileImage<File>, f11_commands::Failure),
+>;
+
+/// Seeks a file on a volume.
+fn seek<W: Write>(
+    rt: &HostRuntime,
+    file: &Named<'_>,
+    name: &Name,
+    device: FileImage<File>,
+    writer: &mut W,
+) -> Sought {
+    let mut heard = Heard::new(writer, None);
+    let sought = seek_file(rt.alloc(), device, &mut heard, &file.directory, name);
+    if let Some(line) = heard.refusal() {
+        if !is_directory_missing(rt, file, line) {
+            refusals::tell(rt, of_finding(line, file.name));
+        }
+    }
+    sought
 }
 
 /// The file up to the end that it states, or up to its last block.
@@ -79,12 +110,13 @@ fn as_far_as(
 fn take_out<'a, W: Write>(
     rt: &HostRuntime,
     found: FoundFile<FileImage<File>>,
+    name: &str,
     mode: CopyMode,
     host: &'a str,
     writer: &mut W,
     remark: &mut Option<Remark<'a>>,
 ) -> Result<Served, Failure> {
-    let mut file = opened(HostFile::new(rt, host), host, remark)?;
+    let mut file = made(rt, host, remark)?;
     let (_, served) = write_file(found, mode, &mut file, writer);
     if !matches!(
         served,
@@ -93,9 +125,52 @@ fn take_out<'a, W: Write>(
             ..
         },)
     ) {
-        file.give_up(rt, host);
+        if let Some(error) = file.failure() {
+            *remark = Some(remarks::of_unwritten(host, error));
+        }
+        let stays = file.give_up(rt, host);
+        if served.is_ok() && mode == CopyMode::Text {
+            remarks::tell(rt, name, Why::NO_RECORDS);
+            if stays {
+                remarks::tell(rt, host, Why::BEGINNING);
+            }
+        }
     }
     Ok(served?)
+}
+
+/// A file of the host that is made for one of a volume.
+pub fn made<'a>(
+    rt: &HostRuntime,
+    host: &'a str,
+    remark: &mut Option<Remark<'a>>,
+) -> Result<HostFile, Failure> {
+    match HostFile::new(rt, host) {
+        Err(CannotOpen::Missing) => {
+            *remark = Some(Remark::of(host, Why::NO_FOLDER));
+            Err(Failure::CannotOpen)
+        }
+        file => opened(file, host, remark),
+    }
+}
+
+/// A file of the host that is read for one of a volume, and counts the bytes of 0 in it.
+#[derive(Drop)]
+struct Counted {
+    file: File,
+    nuls: u64,
+}
+
+impl Read for Counted {
+    fn read(&mut self, piece: &mut [u8]) -> io::Result<usize> {
+        let count = self.file.read(piece)?;
+        for byte in &piece[..count] {
+            if *byte == 0 {
+                self.nuls = self.nuls.saturating_add(1);
+            }
+        }
+        Ok(count)
+    }
 }
 
 /// Makes a file on a volume with the bytes or the lines of a file of the host, which is opened first, twice: a text is read to its end before
@@ -117,10 +192,11 @@ pub fn put<'a, W: Write>(
         name,
         mode,
     };
-    let (mut first, bytes) = opened(with_length(rt, host), host, remark)?;
-    let again = File::open(rt, host).map_err(CannotOpen::from);
-    let mut again = opened(again, host, remark)?;
+    let (first, bytes) = opened(with_length(rt, host), host, remark)?;
+    let again = opened(File::open(rt, host).map_err(CannotOpen::from), host, remark)?;
+    let (mut first, mut again) = (with_count(first), with_count(again));
     let device = opened(FileImage::open(rt, file.image), file.image, remark)?;
+    let mut heard = Heard::new(writer, None);
     let (_, told) = print_put(
         rt.alloc(),
         device,
@@ -128,9 +204,67 @@ pub fn put<'a, W: Write>(
         &mut first,
         &mut again,
         bytes,
-        writer,
+        &mut heard,
     );
+    if told == Ok(FileAnswer::Done) && mode == CopyMode::Text && first.nuls != 0 {
+        remarks::tell(rt, host, Why::NulsDropped(first.nuls));
+    }
+    if let Some(line) = heard.refusal() {
+        tell_unmade(rt, file, mode, host, bytes, line);
+    }
     put_answer(rt, file.image, host, told, remark)
+}
+
+/// Says why no file was made of one of the host with so many bytes, by the line that was written.
+fn tell_unmade(
+    rt: &HostRuntime,
+    file: &Named<'_>,
+    mode: CopyMode,
+    host: &str,
+    bytes: u64,
+    line: &str,
+) {
+    if line == "no NoHeader" && mode == CopyMode::Image {
+        remarks::tell(rt, file.image, Why::FewHeaders(headers_of(bytes)));
+    } else if !is_directory_missing(rt, file, line) {
+        refusals::tell(rt, of_making(line, file.image, file.name, host));
+    }
+}
+
+fn with_count(file: File) -> Counted {
+    Counted { file, nuls: 0 }
+}
+
+/// How many headers are asked for a file of so many bytes, as it is: one for each 102 blocks, and one of a file without blocks.
+fn headers_of(bytes: u64) -> u64 {
+    bytes.div_ceil(512 * 102).max(1)
+}
+
+/// Whether it is the directory of a file that wasn't found where this line was written: then it says so.
+fn is_directory_missing(rt: &HostRuntime, file: &Named<'_>, line: &str) -> bool {
+    let is_missing = line == NO_SUCH_ENTRY && lacks_directory(rt, file.image, file.directory);
+    if is_missing {
+        tell_no_directory(rt, file.directory);
+    }
+    is_missing
+}
+
+/// Says that there is no directory of this name.
+pub fn tell_no_directory(rt: &HostRuntime, directory: Name) {
+    let why =
+        "the master file directory has no such directory; docs/RECIPES.md tells how one is made";
+    let _ = eprintln!(rt; "{directory}: {why}");
+}
+
+/// Whether the master file directory of a volume doesn't name this directory, as listing it tells.
+fn lacks_directory(rt: &HostRuntime, image: &str, directory: Name) -> bool {
+    let Ok(device) = FileImage::open_to_read(rt, image) else {
+        return false;
+    };
+    let mut nowhere = io::sink();
+    let mut heard = Heard::new(&mut nowhere, None);
+    let _ = print_ls(rt.alloc(), device, &mut heard, Some(directory));
+    heard.refusal() == Some(NO_SUCH_ENTRY)
 }
 
 /// The answer of a command that puts a file of the host on a volume, and a remark on the image, or on the host's file where that couldn't
@@ -146,10 +280,7 @@ pub fn put_answer<'a>(
         Ok(answer) => Ok(ended(rt, image, answer, remark)),
         Err(failure) => {
             if failure == PutFailure::Unread {
-                *remark = Some(Remark {
-                    word: Which::Text(host),
-                    why: Why::Unread,
-                });
+                *remark = Some(Remark::of(host, Why::UNREAD));
             }
             Err(failure.into())
         }
@@ -163,7 +294,7 @@ const MOST_COUNTED: u64 = 264_241_153;
 /// it has none, as the files of /proc do, is read to its end to count them, and opened again.
 pub fn with_length(rt: &HostRuntime, path: &str) -> Result<(File, u64), CannotOpen> {
     if !fs::metadata(rt, path)?.is_file() {
-        return Err(CannotOpen::Refused);
+        return Err(CannotOpen::NoImage);
     }
     let file = File::open(rt, path)?;
     let stated = file.metadata()?.len();
@@ -181,10 +312,9 @@ pub fn ended<'a>(
     answer: FileAnswer,
     remark: &mut Option<Remark<'a>>,
 ) -> Answer {
-    let fault = match answer {
-        FileAnswer::Faulty(system) => Some(system),
-        FileAnswer::Done | FileAnswer::Refused => None,
+    *remark = match answer {
+        FileAnswer::Faulty(system) => Some(remarks::of_unserved(rt, image, system)),
+        FileAnswer::Done | FileAnswer::Refused => remarks::of_image(rt, image, None),
     };
-    *remark = remarks::of_image(rt, image, fault);
     answer.answer()
 }

@@ -5,31 +5,38 @@
 //! spell, and on [`clap`], for the words.
 #![tactic(auto)]
 
+mod copies;
 mod directory;
 mod folder;
+mod heard;
 mod help;
 mod host_file;
 mod host_files;
 mod outcome;
+mod refusals;
 mod remarks;
 mod rt_files;
 mod rt_folder;
+mod script;
 mod words;
 
-use f11_commands::f11_flx::CopyMode;
+use copies::{Asked, copy};
 use f11_commands::f11_rad50::Name;
 use f11_commands::f11_vfy::{InitParams, MOST_BLOCKS};
 use f11_commands::{
-    Answer, Copying, Direction, FileAnswer, Served, System, print_copy, print_header, print_home,
-    print_init, print_ls, print_name, print_rights, print_rt_init, print_rt_list, print_rt_ls,
-    print_rt_vfy, print_run, print_vfy, print_vfy_update, read_names, refuse_init, refuse_names,
+    Answer, Direction, Served, System, directory_name, print_header, print_home, print_init,
+    print_ls, print_name, print_rights, print_rt_init, print_rt_list, print_rt_ls, print_rt_vfy,
+    print_vfy, print_vfy_update, refuse_init,
 };
 use f11_dev::{CannotOpen, FileImage};
 use f11_store::Uic;
 use folder::get_all;
-use host_files::{Named, Taking};
+use heard::Heard;
+use host_files::{Named, Taking, tell_no_directory};
 use outcome::{Failure, status};
-use remarks::{Remark, Which, Why};
+use refusals::{NO_SUCH_ENTRY, not_found};
+use remarks::{Remark, Why};
+use script::serve;
 use std::env;
 use std::fs::File;
 use std::io::{self, BufWriter, ErrorKind, Write};
@@ -40,6 +47,12 @@ use words::Words;
 const OWNER: Uic = Uic {
     group: 1,
     member: 1,
+};
+
+/// The user whose directory is the master file directory.
+const MASTER: Uic = Uic {
+    group: 0,
+    member: 0,
 };
 
 fn main(rt: HostRuntime) -> ExitCode {
@@ -87,7 +100,7 @@ fn told(
 ) -> Result<Answer, Failure> {
     if let Err(failure) = outcome {
         let _ = eprintln!(rt; "{failure}");
-        if failure == Failure::Usage && !help::is_asked(words) {
+        if failure == Failure::Usage && remark.is_none() {
             tell_usage(rt, words);
         }
     }
@@ -97,12 +110,25 @@ fn told(
     outcome
 }
 
-/// Says on standard error the words of the command that was meant, or that there is no such command.
+/// Says on standard error the words of the command that was meant, and which of those that were given can't be read; or that there is no
+/// such command.
 fn tell_usage(rt: &HostRuntime, words: &[String]) {
-    if let Some(meant) = help::meant(words) {
+    if help::is_asked(words) {
+        if let Some(remark) = remarks::of_unknown(help::asked_for(words)) {
+            let _ = eprintln!(rt; "{remark}");
+        }
+    } else if let Some(meant) = help::meant(words) {
         let _ = eprintln!(rt; "{meant}");
+        match words::misread(rt.alloc(), words) {
+            Some(remark) => {
+                let _ = eprintln!(rt; "{remark}");
+            }
+            None => words::tell_refused(rt, words),
+        }
     } else if let Some(remark) = remarks::of_command(words) {
         let _ = eprintln!(rt; "{remark}");
+    } else {
+        let _ = eprintln!(rt; "f11_pip help lists the commands");
     }
 }
 
@@ -129,6 +155,9 @@ fn answer<'a>(
         }
     };
     let written = writer.flush();
+    if written.is_err() {
+        remarks::tell(rt, "standard output", Why::UNWRITTEN);
+    }
     match outcome {
         Ok(_) | Err(Failure::Usage) => {
             written?;
@@ -297,13 +326,11 @@ fn run<'a, W: Write>(
             let (_, answer) = print_rt_vfy(rt.alloc(), device, writer);
             Ok(looked(rt, image, System::Rt11, answer?, remark))
         }
-        Words::Run { image, script } => {
-            let device = opened(FileImage::open(rt, image), image, remark)?;
-            let reader = File::open(rt, script).map_err(CannotOpen::from);
-            let reader = opened(reader, script, remark)?;
-            let (_, answer) = print_run(rt.alloc(), device, reader, writer);
-            Ok(looked(rt, image, System::Files11, answer?, remark))
-        }
+        Words::Run {
+            image,
+            script,
+            is_quiet,
+        } => serve(rt, image, script, is_quiet, writer, remark),
         Words::Vfy { image, update } => vfy(rt, image, update, writer, remark),
     }
 }
@@ -317,8 +344,21 @@ fn ls<'a, W: Write>(
     remark: &mut Option<Remark<'a>>,
 ) -> Result<Answer, Failure> {
     let device = opened(FileImage::open_to_read(rt, image), image, remark)?;
-    let (_, served) = print_ls(rt.alloc(), device, writer, directory);
+    let mut heard = Heard::new(writer, None);
+    let (_, served) = print_ls(rt.alloc(), device, &mut heard, directory);
+    if let Some(line) = heard.refusal() {
+        tell_unlisted(rt, directory.unwrap_or(directory_name(MASTER)), line);
+    }
     Ok(judged(rt, image, served?, remark))
+}
+
+/// Says why a directory can't be listed, by the line that was written.
+fn tell_unlisted(rt: &HostRuntime, directory: Name, line: &str) {
+    if line == NO_SUCH_ENTRY {
+        tell_no_directory(rt, directory);
+    } else if let Some(why) = not_found(line) {
+        let _ = eprintln!(rt; "{directory}: {why}");
+    }
 }
 
 /// Verifies a volume, and gives back what lies idle on it where that is asked: then alone is the image opened to be written.
@@ -332,13 +372,27 @@ fn vfy<'a, W: Write>(
     let answer = if update {
         let device = opened(FileImage::open(rt, image), image, remark)?;
         let (_, answer) = print_vfy_update(rt.alloc(), device, writer);
-        answer?
+        written(rt, image, answer?, remark)
     } else {
         let device = opened(FileImage::open_to_read(rt, image), image, remark)?;
         let (_, answer) = print_vfy(rt.alloc(), device, writer);
-        answer?
+        looked(rt, image, System::Files11, answer?, remark)
     };
-    Ok(looked(rt, image, System::Files11, answer, remark))
+    Ok(answer)
+}
+
+/// The answer of a command that writes on an accepted Files-11 volume alone, and a remark on its image where there is one.
+fn written<'a>(
+    rt: &HostRuntime,
+    image: &'a str,
+    answer: Answer,
+    remark: &mut Option<Remark<'a>>,
+) -> Answer {
+    *remark = match answer {
+        Answer::Fault => Some(remarks::of_unserved(rt, image, System::Files11)),
+        Answer::Done => remarks::of_image(rt, image, None),
+    };
+    answer
 }
 
 /// The answer of a command that serves any volume, and what there is to say of its image.
@@ -356,96 +410,6 @@ fn judged<'a>(
     }
 }
 
-/// What a command that copies is asked.
-#[derive(Clone, Copy)]
-struct Asked<'a> {
-    direction: Direction,
-    mode: CopyMode,
-    directory: Uic,
-    image: &'a str,
-    name: &'a str,
-    rt_image: &'a str,
-    rt_name: &'a str,
-}
-
-/// Copies a file between two volumes. The image that is copied from is opened to be read alone.
-fn copy<'a, W: Write>(
-    rt: &HostRuntime,
-    asked: &Asked<'a>,
-    writer: &mut W,
-    remark: &mut Option<Remark<'a>>,
-) -> Result<Answer, Failure> {
-    let Some((name, rt_name)) = read_names(asked.name, asked.rt_name) else {
-        *remark = Some(bad_name(asked));
-        return Ok(refuse_names(writer)?);
-    };
-    let copying = Copying {
-        direction: asked.direction,
-        mode: asked.mode,
-        directory: asked.directory,
-        name,
-        rt_name,
-    };
-    let (files, rt_volume) = opened_both(rt, asked, remark)?;
-    let (_, _, answer) = print_copy(rt.alloc(), files, rt_volume, &copying, writer);
-    Ok(copied(rt, asked, answer?, remark))
-}
-
-/// Which of the names of a copy, of which one is none, is the first.
-fn bad_name<'a>(asked: &Asked<'a>) -> Remark<'a> {
-    if Name::parse(asked.name.as_bytes()).is_err() {
-        remarks::of_name(asked.name)
-    } else {
-        remarks::of_rt_name(asked.rt_name)
-    }
-}
-
-/// The images of a copy, which are opened in the order of the words: the one that is copied from first, and to be read alone.
-fn opened_both<'a>(
-    rt: &HostRuntime,
-    asked: &Asked<'a>,
-    remark: &mut Option<Remark<'a>>,
-) -> Result<(FileImage<File>, FileImage<File>), Failure> {
-    let (image, rt_image) = (asked.image, asked.rt_image);
-    match asked.direction {
-        Direction::ToRt => {
-            let files = opened(FileImage::open_to_read(rt, image), image, remark)?;
-            let target = opened(FileImage::open(rt, rt_image), rt_image, remark)?;
-            Ok((files, target))
-        }
-        Direction::FromRt => {
-            let source = opened(FileImage::open_to_read(rt, rt_image), rt_image, remark)?;
-            let files = opened(FileImage::open(rt, image), image, remark)?;
-            Ok((files, source))
-        }
-    }
-}
-
-/// The answer of a copy, and a remark on the file of the volume that has a fault, or of either where there is one.
-fn copied<'a>(
-    rt: &HostRuntime,
-    asked: &Asked<'a>,
-    answer: FileAnswer,
-    remark: &mut Option<Remark<'a>>,
-) -> Answer {
-    *remark = match answer {
-        FileAnswer::Faulty(System::Files11) => remarks::of_image(
-            rt,
-            asked.image,
-            Some(System::Files11),
-        ),
-        FileAnswer::Faulty(System::Rt11) => remarks::of_image(
-            rt,
-            asked.rt_image,
-            Some(System::Rt11),
-        ),
-        FileAnswer::Done | FileAnswer::Refused => {
-            remarks::of_image(rt, asked.image, None).or(remarks::of_image(rt, asked.rt_image, None))
-        }
-    };
-    answer.answer()
-}
-
 /// What was opened under a word, and where nothing could be, a remark why.
 fn opened<'a, T>(
     file: Result<T, CannotOpen>,
@@ -455,10 +419,7 @@ fn opened<'a, T>(
     match file {
         Ok(file) => Ok(file),
         Err(why) => {
-            *remark = Some(Remark {
-                word: Which::Text(word),
-                why: Why::CannotOpen(why),
-            });
+            *remark = Some(Remark::of(word, Why::CannotOpen(why)));
             Err(Failure::CannotOpen)
         }
     }
@@ -513,10 +474,7 @@ fn told_zeros<'a>(
     remark: &mut Option<Remark<'a>>,
 ) {
     let _ = eprintln!(rt; "{limit}");
-    *remark = Some(Remark {
-        word: Which::Text(image),
-        why: Why::Zeros,
-    });
+    *remark = Some(Remark::of(image, Why::ZEROS));
 }
 
 /// Why the words, or room for output, can't be had: a word is no text, or no memory is left.

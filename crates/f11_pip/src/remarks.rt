@@ -1,7 +1,11 @@
 //! What is said on standard error beside the lines that are fixed: which word is meant, and why.
+use crate::rt_folder;
 use f11_commands::f11_layout::{InitParams, MOST_BLOCKS, is_label};
-use f11_commands::{Answer, RtState, System, blocks_wanted, print_home, print_rt_vfy};
-use f11_dev::{CannotOpen, FileImage, MAX_BLOCKS};
+use f11_commands::{
+    Answer, FileAnswer, RtServed, RtState, System, blocks_wanted, print_home, print_rt_ls,
+    print_rt_vfy,
+};
+use f11_dev::{BLOCK_SIZE, CannotOpen, Device, FileImage, MAX_BLOCKS};
 use std::env::{Env, FillError};
 use std::fs::{self, File};
 use std::io::{self, Read};
@@ -16,6 +20,16 @@ const LONGEST: usize = 4096;
 pub struct Remark<'a> {
     pub word: Which<'a>,
     pub why: Why,
+}
+
+impl<'a> Remark<'a> {
+    /// That there is this to say of this word.
+    pub fn of(word: &'a str, why: Why) -> Remark<'a> {
+        Remark {
+            word: Which::Text(word),
+            why,
+        }
+    }
 }
 
 /// Which word of the command line is meant.
@@ -35,63 +49,138 @@ pub enum Which<'a> {
 /// What there is to say of a word.
 #[derive(Clone, Copy, Debug, Error)]
 pub enum Why {
+    /// This.
+    #[error("{0}")]
+    Said(&'static str),
     /// No file can be opened, or made, under it.
     #[error("{0}")]
     CannotOpen(CannotOpen),
-    /// Its file couldn't be read to its length.
-    #[error("cannot be read to its end")]
-    Unread,
-    /// It isn't text.
-    #[error("not UTF-8")]
-    NotText,
-    /// No volume can be made with it: within which limits it has to be.
-    #[error("{0}")]
-    Limit(&'static str),
-    /// It is the name of no file on a Files-11 volume.
-    #[error("no name; one is as LOGIN.CMD;1: up to 9 of A to Z, 0 to 9 and $, a dot, up to 3 more, and an octal version")]
-    NoName,
-    /// It is the name of no file on an RT-11 volume.
-    #[error("no name; one is as LOGIN.CMD: up to 6 of A to Z, 0 to 9 and $, a dot and up to 3 more")]
-    NoRtName,
-    /// It is no command.
-    #[error("no command; f11_pip help lists them")]
-    NoCommand,
-    /// Its file was made, and no volume in it: it stays.
-    #[error("stays, all zeros; remove it first")]
-    Zeros,
+    /// Its file, which was made, took no more, and why.
+    #[error("not written to its end: {0}")]
+    NotWritten(io::Error),
+    /// It is no number that can be given under this name, at most so great.
+    #[error("{0} takes a decimal number, at most {1}")]
+    NoNumber(&'static str, u32),
+    /// It stands with words that it doesn't go with.
+    #[error("goes with {0} alone")]
+    Alone(&'static str),
+    /// Fewer file headers are free on the volume in it than may be needed.
+    #[error("the file may need {0} file headers, fewer are free, and no more could be made: a volume that init makes with --slots so many more has them")]
+    FewHeaders(u64),
     /// Its file begins as that of another program does, which packs what it keeps.
     #[error("{0}, not a raw image: unpack it first")]
     NotRaw(&'static str),
-    /// A Files-11 volume was looked for, and it is an RT-11 volume.
-    #[error("an RT-11 volume: rt-vfy, rt-ls and rt-get serve it")]
-    OfRt11,
-    /// An RT-11 volume was looked for, and it is a Files-11 volume.
-    #[error("a Files-11 volume: vfy, ls and get serve it")]
-    OfFiles11,
-    /// The volume in it has faults.
-    #[error("the volume has faults, which vfy tells")]
-    Faulty,
     /// The image of the volume in it ends early: how many blocks it should have, and how many bytes these are.
     #[error("the volume has faults, which vfy tells: its image ends early and should have {0} blocks; take out its files first: truncate -s {1} puts zeros for what is missing")]
     CutShort(u32, u64),
-    /// The bit of the slot of the file in it that is taken out is lost.
-    #[error("the file's slot is out of use: if the volume was written since, its blocks may be another file's")]
-    Unused,
-    /// The file in it that is taken out was open when the system stopped, and states no bytes.
-    #[error("the file was open when the system stopped, and states that it has no bytes: --blocks takes what blocks it has")]
-    LeftOpen,
-    /// The RT-11 volume in it has faults.
-    #[error("the volume has faults, which rt-vfy tells")]
-    RtFaulty,
+    /// The same where its faults are told already.
+    #[error("the image ends early and should have {0} blocks; take out its files first: truncate -s {1} puts zeros for what is missing")]
+    EndsEarly(u32, u64),
+    /// So many bytes of 0 of its file aren't in the text that was made of it.
+    #[error("{0} bytes of 0 were dropped, since they mean nothing in a text; --mode image takes all bytes as they are")]
+    NulsDropped(u64),
+    /// The RT-11 volume in it has faults, and its image ends early: how many blocks it should have, and how many bytes these are.
+    #[error("the volume has faults, which rt-vfy tells: if the first blocks and lengths in its directory are right, its image ends early and should have {0} blocks; take out its files first: truncate -s {1} puts zeros for what is missing")]
+    RtCutShort(u32, u64),
     /// The RT-11 volume in it ends within its last empty area: how many blocks it should have, and how many bytes these are.
     #[error("it ends within its last empty area, so that no file is cut if the lengths in its directory are right: it should have {0} blocks, as truncate -s {1} makes it")]
     Short(u32, u64),
     /// Its file has so many bytes behind the last whole block.
     #[error("length not a multiple of 512 bytes, the rest of {0} is left out")]
     Remainder(u64),
+}
+
+impl Why {
+    /// Its file couldn't be read to its length.
+    pub const UNREAD: Why = Why::Said("cannot be read to its end");
+    /// Its file, which was made, took no more.
+    pub const UNWRITTEN: Why = Why::Said("not written to its end");
+    /// It isn't text.
+    pub const NOT_TEXT: Why = Why::Said("not UTF-8");
+    /// It is the name of no file on a Files-11 volume.
+    pub const NO_NAME: Why = Why::Said(
+        "no name; one is as LOGIN.CMD;1: up to 9 of A to Z, 0 to 9 and $, a dot, up to 3 more, and an octal version, 1 to 77777",
+    );
+    /// It is the name of no file on an RT-11 volume.
+    pub const NO_RT_NAME: Why = Why::Said(
+        "no name; one is as LOGIN.CMD: up to 6 of A to Z, 0 to 9 and $, a dot and up to 3 more",
+    );
+    /// It is no user's code.
+    pub const NO_USER: Why = Why::Said(
+        "no user's code; one is two octal numbers of 0 to 377, as 200,1",
+    );
+    /// It names no directory.
+    pub const NO_DIRECTORY: Why = Why::Said(
+        "no directory; one is a user's code, two octal numbers of 0 to 377 as 200,1, or a name of up to 9 of A to Z, 0 to 9 and $, in brackets or without",
+    );
+    /// It has to be there, and isn't.
+    pub const MISSING: Why = Why::Said("missing");
+    /// It is no mode of a copy.
+    pub const NO_MODE: Why = Why::Said("no mode; one is image or text");
+    /// It is no protection word.
+    pub const NO_PROTECTION: Why = Why::Said(
+        "no protection word; one is up to 6 octal digits, at most 177777",
+    );
+    /// It is no command.
+    pub const NO_COMMAND: Why = Why::Said("no command; f11_pip help lists them");
+    /// Its file was made, and no volume in it: it stays.
+    pub const ZEROS: Why = Why::Said("stays, all zeros; remove it first");
+    /// A Files-11 volume was looked for, and it is an RT-11 volume.
+    pub const OF_RT11: Why = Why::Said("an RT-11 volume: rt-vfy, rt-ls and rt-get serve it");
+    /// An RT-11 volume was looked for, and it is a Files-11 volume.
+    pub const OF_FILES11: Why = Why::Said("a Files-11 volume: vfy, ls and get serve it");
+    /// It has no bytes.
+    pub const EMPTY: Why = Why::Said("empty");
+    /// No home block is in it, and it is no RT-11 volume either.
+    pub const NO_HOME: Why = Why::Said(
+        "no home block: no Files-11 volume, or one whose home block is bad, of which docs/VFY.md tells at F1",
+    );
+    /// Neither, but block 1 has what each home block has.
+    pub const BAD_HOME: Why = Why::Said(
+        "block 1 has the mark of a home block and isn't valid as one: its words are bad, or the image is cut; docs/VFY.md tells more at F1",
+    );
+    /// No directory of an RT-11 volume is in it, and no home block either.
+    pub const NO_RT_DIRECTORY: Why = Why::Said(
+        "block 6 doesn't begin a directory: no RT-11 volume, or one whose directory is bad, of which docs/VFY.md tells at R1",
+    );
+    /// The volume in it has faults.
+    pub const FAULTY: Why = Why::Said(
+        "the volume has faults: vfy tells them, and docs/VFY.md what to do",
+    );
+    /// The same, so that a command that writes, or asks for an accepted volume, did nothing.
+    pub const UNSERVED: Why = Why::Said(
+        "the volume has faults, so nothing was done: get --all takes out what can be read of its files, and docs/VFY.md tells what to do",
+    );
+    /// The same of an RT-11 volume.
+    pub const RT_UNSERVED: Why = Why::Said(
+        "the volume has faults, so nothing was done: rt-get --all takes out what can be read of its files, and docs/VFY.md tells what to do",
+    );
+    /// The file of the volume under this name has no records that can be read.
+    pub const NO_RECORDS: Why = Why::Said(
+        "its records can't be read as lines; --mode image takes all its bytes",
+    );
+    /// The records of the file in it that became lines have no carriage control.
+    pub const NO_LINES: Why = Why::Said(
+        "its records have no carriage control, so they may be no lines; each got an LF, and --mode image takes all bytes as they are",
+    );
+    /// Its file, which was made, has the text of the records before the one that can't be read.
+    pub const BEGINNING: Why = Why::Said("has the lines of the records before that, and stays");
+    /// The folder of its file isn't there.
+    pub const NO_FOLDER: Why = Why::Said("no such folder");
+    /// The bit of the slot of the file in it that is taken out is lost.
+    pub const UNUSED: Why = Why::Said(
+        "the file's slot is out of use: if the volume was written since, its blocks may be another file's",
+    );
+    /// The file in it that is taken out was open when the system stopped, and states no bytes.
+    pub const LEFT_OPEN: Why = Why::Said(
+        "the file was open when the system stopped, and states that it has no bytes: --blocks takes what blocks it has",
+    );
+    /// The RT-11 volume in it has faults.
+    pub const RT_FAULTY: Why = Why::Said(
+        "the volume has faults: rt-vfy tells them, and docs/VFY.md what to do",
+    );
     /// Its file is longer than an image can be.
-    #[error("longer than 16777216 blocks, the rest is left out")]
-    TooLong,
+    pub const TOO_LONG: Why = Why::Said("longer than 16777216 blocks, the rest is left out");
 }
 
 /// What is said where the words can't be read, since one isn't text: the first such one.
@@ -102,7 +191,7 @@ pub fn of_words(rt: &HostRuntime) -> Remark<'static> {
     };
     Remark {
         word,
-        why: Why::NotText,
+        why: Why::NOT_TEXT,
     }
 }
 
@@ -126,7 +215,10 @@ pub fn passed_by(blocks: u32, params: &InitParams<'_>) -> Remark<'static> {
     } else if params.slots < 16 || params.slots > 16_000 {
         limit("--slots", "16 to 16000")
     } else if params.max_files < params.slots || params.max_files > 65_500 {
-        limit("--max", "as many as slots, to 65500")
+        limit(
+            "--max",
+            "as many as slots, to 65500; 4000 where it isn't given",
+        )
     } else if !is_label(params.label) {
         limit("--label", "1 to 12 characters A to Z and 0 to 9")
     } else {
@@ -144,67 +236,73 @@ pub fn passed_by_segments(segments: u16) -> Remark<'static> {
 }
 
 fn limit(word: &'static str, limit: &'static str) -> Remark<'static> {
-    Remark {
-        word: Which::Text(word),
-        why: Why::Limit(limit),
-    }
+    Remark::of(word, Why::Said(limit))
 }
 
 /// What there is to say of the image of a volume that is served whether it has faults or not: that it has some, or is no raw image; and
 /// where it has none, that not all of its file is read.
 pub fn of_volume<'a>(rt: &HostRuntime, word: &'a str, is_faulty: bool) -> Option<Remark<'a>> {
     if is_faulty {
-        let why = of_other(rt, word, System::Files11).unwrap_or(of_faults(rt, word));
-        Some(Remark {
-            word: Which::Text(word),
-            why,
-        })
+        let why = match of_other(rt, word, System::Files11) {
+            Some(why) => why,
+            None => match of_no_home(rt, word) {
+                Some(why) => why,
+                None => of_faults(rt, word),
+            },
+        };
+        Some(Remark::of(word, why))
     } else {
         of_image(rt, word, None)
     }
 }
 
-/// Tells of the file of a volume that is taken out that its slot is out of use.
-pub fn tell_unused(rt: &HostRuntime, word: &str) {
-    let remark = Remark {
-        word: Which::Text(word),
-        why: Why::Unused,
-    };
-    let _ = eprintln!(rt; "{remark}");
+/// That the file of the host under this name, which was made, took no more, and why.
+pub fn of_unwritten(word: &str, error: io::Error) -> Remark<'_> {
+    Remark::of(word, Why::NotWritten(error))
 }
 
-/// Tells of the file of a volume that is taken out up to its end that it was open when the system stopped, so that it states none.
-pub fn tell_left_open(rt: &HostRuntime, word: &str) {
-    let remark = Remark {
-        word: Which::Text(word),
-        why: Why::LeftOpen,
-    };
+/// Says this of a word at once, where the command goes on.
+pub fn tell(rt: &HostRuntime, word: &str, why: Why) {
+    let remark = Remark::of(word, why);
     let _ = eprintln!(rt; "{remark}");
 }
 
 /// What there is to say of a volume that has faults: where its image ends early, how long it should be.
 fn of_faults(rt: &HostRuntime, word: &str) -> Why {
-    let Ok(mut device) = FileImage::open_to_read(rt, word) else {
-        return Why::Faulty;
-    };
-    match blocks_wanted(rt.alloc(), &mut device) {
-        Ok(Some(blocks)) => Why::CutShort(blocks, 512 * u64::from(blocks)),
-        Ok(None) | Err(_) => Why::Faulty,
+    match wanted(rt, word) {
+        Some(blocks) => Why::CutShort(blocks, bytes_of(blocks)),
+        None => Why::FAULTY,
     }
+}
+
+/// How many blocks the image of a volume should have that ends early, if it does, as far as that can be read.
+fn wanted(rt: &HostRuntime, word: &str) -> Option<u32> {
+    let mut device = FileImage::open_to_read(rt, word).ok()?;
+    blocks_wanted(rt.alloc(), &mut device).ok()?
+}
+
+/// How many bytes so many blocks are.
+fn bytes_of(blocks: u32) -> u64 {
+    BLOCK_SIZE as u64 * u64::from(blocks)
 }
 
 /// The same of the image of an RT-11 volume, by how that is.
 pub fn of_rt_volume<'a>(rt: &HostRuntime, word: &'a str, state: RtState) -> Option<Remark<'a>> {
     match state {
         RtState::Sound => of_image(rt, word, None),
-        RtState::Short(blocks) => Some(Remark {
-            word: Which::Text(word),
-            why: Why::Short(blocks, 512 * u64::from(blocks)),
-        }),
-        RtState::Faulty => Some(Remark {
-            word: Which::Text(word),
-            why: of_other(rt, word, System::Rt11).unwrap_or(Why::RtFaulty),
-        }),
+        RtState::Short(blocks) => Some(Remark::of(word, Why::Short(blocks, bytes_of(blocks)))),
+        RtState::Faulty => Some(Remark::of(word, of_rt_faults(rt, word))),
+    }
+}
+
+/// What there is to say of an RT-11 volume that has faults: where its image ends early, how long it should be.
+fn of_rt_faults(rt: &HostRuntime, word: &str) -> Why {
+    match of_other(rt, word, System::Rt11) {
+        Some(why) => why,
+        None => match rt_folder::blocks_wanted(rt, word) {
+            Some(blocks) => Why::RtCutShort(blocks, bytes_of(blocks)),
+            None => Why::RT_FAULTY,
+        },
     }
 }
 
@@ -221,18 +319,47 @@ pub fn of_image<'a>(rt: &HostRuntime, word: &'a str, fault: Option<System>) -> O
     };
     let why = match other {
         Some(why) => Some(why),
-        None => of_length(metadata.len()),
+        None => match of_frame(rt, word, fault) {
+            Some(why) => Some(why),
+            None => of_length(metadata.len()),
+        },
     };
-    why.map(|why| Remark {
-        word: Which::Text(word),
-        why,
-    })
+    why.map(|why| Remark::of(word, why))
 }
 
-/// What the file of an image is, if it is no volume of this system, but no raw image, or a volume of the other system.
+/// What there is to say of an image in which a fault of this system's volume was found: that it has no home block, or directory, or how long
+/// it should be.
+fn of_frame(rt: &HostRuntime, word: &str, fault: Option<System>) -> Option<Why> {
+    match fault {
+        Some(System::Files11) => match of_no_home(rt, word) {
+            Some(why) => Some(why),
+            None => wanted(rt, word).map(|blocks| Why::EndsEarly(blocks, bytes_of(blocks))),
+        },
+        Some(System::Rt11) => of_no_directory(rt, word),
+        None => None,
+    }
+}
+
+/// What there is to say of an image whose volume has faults, so that a command for accepted volumes did nothing.
+pub fn of_unserved<'a>(rt: &HostRuntime, word: &'a str, system: System) -> Remark<'a> {
+    let why = match of_other(rt, word, system) {
+        Some(why) => why,
+        None => match system {
+            System::Files11 => of_no_home(rt, word).unwrap_or(Why::UNSERVED),
+            System::Rt11 => of_no_directory(rt, word).unwrap_or(Why::RT_UNSERVED),
+        },
+    };
+    Remark::of(word, why)
+}
+
+/// What the file of an image is, if it is no volume of this system, but empty, no raw image, or a volume of the other system.
 fn of_other(rt: &HostRuntime, word: &str, system: System) -> Option<Why> {
-    if !fs::metadata(rt, word).ok()?.is_file() {
+    let metadata = fs::metadata(rt, word).ok()?;
+    if !metadata.is_file() {
         return None;
+    }
+    if metadata.len() == 0 {
+        return Some(Why::EMPTY);
     }
     if let Some(what) = packed(beginning(rt, word)) {
         return Some(Why::NotRaw(what));
@@ -240,13 +367,48 @@ fn of_other(rt: &HostRuntime, word: &str, system: System) -> Option<Why> {
     let mut device = FileImage::open_to_read(rt, word).ok()?;
     match system {
         System::Files11 => match print_rt_vfy(rt.alloc(), device, &mut io::sink()) {
-            (_, Ok(Answer::Done)) => Some(Why::OfRt11),
+            (_, Ok(Answer::Done)) => Some(Why::OF_RT11),
             _ => None,
         },
         System::Rt11 => match print_home(&mut device, &mut io::sink()) {
-            Ok(Answer::Done) => Some(Why::OfFiles11),
+            Ok(Answer::Done) => Some(Why::OF_FILES11),
             _ => None,
         },
+    }
+}
+
+/// That no home block is in an image, if none is.
+fn of_no_home(rt: &HostRuntime, word: &str) -> Option<Why> {
+    let mut device = FileImage::open_to_read(rt, word).ok()?;
+    match print_home(&mut device, &mut io::sink()) {
+        Ok(Answer::Fault) if has_mark(&mut device) => Some(Why::BAD_HOME),
+        Ok(Answer::Fault) => Some(Why::NO_HOME),
+        _ => None,
+    }
+}
+
+/// Whether block 1 says that its volume is a Files-11 one, as a home block does at H.INDF.
+fn has_mark(device: &mut FileImage<File>) -> bool {
+    let mut block = [0; BLOCK_SIZE];
+    device.blocks() > 1
+        && device.read(1, &mut block).is_ok()
+        && block[496..506].starts_with(b"DECFILE11A")
+}
+
+/// That no directory of an RT-11 volume is in an image, if none is.
+fn of_no_directory(rt: &HostRuntime, word: &str) -> Option<Why> {
+    let device = FileImage::open_to_read(rt, word).ok()?;
+    match print_rt_ls(rt.alloc(), device, &mut io::sink()) {
+        (
+            _,
+            Ok(
+                RtServed {
+                    answer: FileAnswer::Faulty(_),
+                    ..
+                },
+            ),
+        ) => Some(Why::NO_RT_DIRECTORY),
+        _ => None,
     }
 }
 
@@ -277,7 +439,7 @@ fn packed(bytes: [u8; 8]) -> Option<&'static str> {
 /// What there is to say of a file of so many bytes.
 fn of_length(bytes: u64) -> Option<Why> {
     if bytes / 512 > u64::from(MAX_BLOCKS) {
-        Some(Why::TooLong)
+        Some(Why::TOO_LONG)
     } else if bytes % 512 != 0 {
         Some(Why::Remainder(bytes % 512))
     } else {
@@ -287,25 +449,20 @@ fn of_length(bytes: u64) -> Option<Why> {
 
 /// That a word names no file on a Files-11 volume.
 pub fn of_name(word: &str) -> Remark<'_> {
-    Remark {
-        word: Which::Text(word),
-        why: Why::NoName,
-    }
+    Remark::of(word, Why::NO_NAME)
 }
 
 /// That a word names no file on an RT-11 volume.
 pub fn of_rt_name(word: &str) -> Remark<'_> {
-    Remark {
-        word: Which::Text(word),
-        why: Why::NoRtName,
-    }
+    Remark::of(word, Why::NO_RT_NAME)
 }
 
 /// That the first word behind the program's name is no command, where there is one.
 pub fn of_command(words: &[String]) -> Option<Remark<'_>> {
-    let word = words.get(1)?;
-    Some(Remark {
-        word: Which::Text(word.as_str()),
-        why: Why::NoCommand,
-    })
+    of_unknown(words.get(1))
+}
+
+/// That a word is no command, where there is one.
+pub fn of_unknown(word: Option<&String>) -> Option<Remark<'_>> {
+    Some(Remark::of(word?.as_str(), Why::NO_COMMAND))
 }

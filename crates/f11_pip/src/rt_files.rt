@@ -1,8 +1,9 @@
 //! The commands on files of an RT-11 volume: which files they open, and how.
-use crate::host_file::HostFile;
-use crate::host_files::{ended, put_answer, with_length};
+use crate::heard::Heard;
+use crate::host_files::{ended, made, put_answer, with_length};
 use crate::opened;
 use crate::outcome::Failure;
+use crate::refusals::{self, of_rt};
 use crate::remarks::{self, Remark};
 use f11_commands::{
     Answer, FileAnswer, RtServed, RtState, find_rt_file, print_rt_delete, print_rt_put,
@@ -19,8 +20,9 @@ pub fn judged<'a>(
     served: RtServed,
     remark: &mut Option<Remark<'a>>,
 ) -> Answer {
-    if let FileAnswer::Faulty(_) = served.answer {
-        return ended(rt, image, served.answer, remark);
+    if let FileAnswer::Faulty(system) = served.answer {
+        *remark = remarks::of_image(rt, image, Some(system));
+        return Answer::Fault;
     }
     *remark = remarks::of_rt_volume(rt, image, served.state);
     match served.state {
@@ -44,12 +46,16 @@ pub fn get<'a, W: Write>(
         return Ok(refuse_names(writer)?);
     };
     let device = opened(FileImage::open_to_read(rt, image), image, remark)?;
-    let file = match find_rt_file(rt.alloc(), device, &name, writer) {
+    let mut heard = Heard::new(writer, None);
+    let file = match find_rt_file(rt.alloc(), device, &name, &mut heard) {
         Ok(file) => file,
-        Err((_, served)) => return Ok(judged(rt, image, served?, remark)),
+        Err((_, served)) => {
+            tell_refused(rt, &heard, image, word);
+            return Ok(judged(rt, image, served?, remark));
+        }
     };
-    let mut made = opened(HostFile::new(rt, host), host, remark)?;
-    let (_, served) = write_rt_file(file, &mut made, writer);
+    let mut made = made(rt, host, remark)?;
+    let (_, served) = write_rt_file(file, &mut made, &mut heard);
     if !matches!(
         served,
         Ok(RtServed {
@@ -57,7 +63,10 @@ pub fn get<'a, W: Write>(
             ..
         },)
     ) {
-        made.give_up(rt, host);
+        if let Some(error) = made.failure() {
+            *remark = Some(remarks::of_unwritten(host, error));
+        }
+        let _ = made.give_up(rt, host);
     }
     Ok(judged(rt, image, served?, remark))
 }
@@ -77,7 +86,9 @@ pub fn put<'a, W: Write>(
     };
     let (mut file, bytes) = opened(with_length(rt, host), host, remark)?;
     let device = opened(FileImage::open(rt, image), image, remark)?;
-    let (_, told) = print_rt_put(rt.alloc(), device, &name, &mut file, bytes, writer);
+    let mut heard = Heard::new(writer, None);
+    let (_, told) = print_rt_put(rt.alloc(), device, &name, &mut file, bytes, &mut heard);
+    tell_refused(rt, &heard, image, word);
     put_answer(rt, image, host, told, remark)
 }
 
@@ -94,6 +105,15 @@ pub fn delete<'a, W: Write>(
         return Ok(refuse_names(writer)?);
     };
     let device = opened(FileImage::open(rt, image), image, remark)?;
-    let (_, told) = print_rt_delete(rt.alloc(), device, &name, writer);
+    let mut heard = Heard::new(writer, None);
+    let (_, told) = print_rt_delete(rt.alloc(), device, &name, &mut heard);
+    tell_refused(rt, &heard, image, word);
     Ok(ended(rt, image, told?, remark))
+}
+
+/// Says what the last line means, where it refuses something that was asked of a file of this name.
+fn tell_refused<W: Write>(rt: &HostRuntime, heard: &Heard<'_, '_, W>, image: &str, name: &str) {
+    if let Some(line) = heard.refusal() {
+        refusals::tell(rt, of_rt(line, image, name));
+    }
 }

@@ -2,12 +2,12 @@
 use crate::host_file::HostFile;
 use crate::opened;
 use crate::outcome::Failure;
-use crate::remarks::{Remark, Which, Why};
+use crate::remarks::{self, Remark, Why};
 use crate::rt_files::judged;
-use f11_commands::{Answer, RtFate, RtPlace, TakingAllRt, begin_all_rt};
-use f11_dev::{CannotOpen, FileImage};
+use f11_commands::{Answer, RtFate, RtFileAt, RtPlace, TakingAllRt, begin_all_rt};
+use f11_dev::{CannotOpen, Device, FileImage};
 use std::fs::{self, File};
-use std::io::Write;
+use std::io::{self, Write};
 
 /// Takes all files out of an RT-11 volume, into a folder that is made: each under its name, and those that have none, or aren't the first of
 /// theirs, into the folder `lost` in it, under the number of their segment and their own in it.
@@ -30,10 +30,15 @@ pub fn get_all<'a, W: Write>(
     };
     let new = fs::create_dir(rt, folder).map_err(CannotOpen::from);
     opened(new, folder, remark)?;
-    let complete = take_all(rt, &mut all, folder, writer)?;
-    let (_device, served) = all.end(writer);
+    let taken = take_all(rt, &mut all, folder, writer);
+    // where it stopped the last line would count what was never tried as done
+    let (_device, served) = if taken.is_ok() {
+        all.end(writer)
+    } else {
+        all.end(&mut io::sink())
+    };
     let answer = judged(rt, image, served?, remark);
-    if complete {
+    if taken? {
         Ok(answer)
     } else {
         Err(Failure::CannotOpen)
@@ -55,11 +60,10 @@ fn take_all<W: Write>(
             RtFate::NotCopied(_) => all.refuse(&found, writer)?,
             RtFate::Copied => match file_at(rt, folder, &found.place)? {
                 Some(mut file) => {
-                    if let Err(failure) = all.write(&found, &mut file, writer) {
-                        let place = found.place;
-                        let _ = writeln!(writer, "{place} not written to its end");
-                        let _ = eprintln!(rt; "{folder}/{place}: not written to its end");
-                        return Err(Failure::from(failure));
+                    let written = all.write(&found, &mut file, writer);
+                    if written.is_err() || file.end().is_err() {
+                        tell_unwritten(rt, folder, &found.place, &file, writer);
+                        return Err(Failure::CannotWrite);
                     }
                 }
                 None => {
@@ -72,6 +76,20 @@ fn take_all<W: Write>(
     Ok(complete)
 }
 
+/// Tells of the file of the host for one in this place that it took no more, and why, if it was that.
+fn tell_unwritten<W: Write>(
+    rt: &HostRuntime,
+    folder: &str,
+    place: &RtPlace,
+    file: &HostFile,
+    writer: &mut W,
+) {
+    if let Some(error) = file.failure() {
+        let _ = writeln!(writer, "{place} not written to its end");
+        let _ = eprintln!(rt; "{folder}/{place}: not written to its end: {error}");
+    }
+}
+
 /// The file of the host that is made for one in this place; `None` where it can't be, which is told.
 fn file_at(rt: &HostRuntime, folder: &str, place: &RtPlace) -> Result<Option<HostFile>, Failure> {
     let path = format!(in rt.alloc(); "{folder}/{place}")?;
@@ -82,12 +100,31 @@ fn file_at(rt: &HostRuntime, folder: &str, place: &RtPlace) -> Result<Option<Hos
     match HostFile::new(rt, path.as_str()) {
         Ok(file) => Ok(Some(file)),
         Err(why) => {
-            let remark = Remark {
-                word: Which::Text(path.as_str()),
-                why: Why::CannotOpen(why),
-            };
-            let _ = eprintln!(rt; "{remark}");
+            remarks::tell(rt, path.as_str(), Why::CannotOpen(why));
             Ok(None)
         }
+    }
+}
+
+/// How many blocks the image of an RT-11 volume should have, by its directory, where it ends before the last area does; else `None`.
+pub fn blocks_wanted(rt: &HostRuntime, image: &str) -> Option<u32> {
+    let device = FileImage::open_to_read(rt, image).ok()?;
+    let size = device.blocks();
+    let mut all = begin_all_rt(rt.alloc(), device, &mut io::sink()).ok()?;
+    let mut end = size;
+    while let Some(found) = all.next() {
+        end = end.max(end_of(&found));
+    }
+    let _ = all.end(&mut io::sink());
+    if end > size { Some(end) } else { None }
+}
+
+/// Behind which block the area of an entry ends, and 0 where no directory may give that away.
+fn end_of(found: &RtFileAt) -> u32 {
+    let entry = &found.entry;
+    if entry.fits() {
+        entry.first.saturating_add(u32::from(entry.blocks))
+    } else {
+        0
     }
 }

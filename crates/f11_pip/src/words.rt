@@ -1,10 +1,9 @@
 //! The words of the command line.
-ghost use Rattle.std.specs.Prelude.{◌≡◌, ◌≤◌, ◌⊎◌, length, ℕ, Bool, true, false, List, codes, map, Option, None, Some, IfOk, IfErr, IsErr, IsOkAnd, MatchResult};
+ghost use Rattle.std.specs.Prelude.{◌≡◌, ◌≤◌, ◌⊎◌, length, ℕ, List, map, Option, None, IfOk, IfErr, IsErr, MatchResult};
 ghost use Rattle.clap.specs.Words.{app_of, subcommand_rows_of};
-ghost use Rattle.f11_pip.specs.Directory.{IsNoDirectory};
-ghost use Rattle.f11_pip.specs.Words.{Asks, AsksDump, AsksFromRt, AsksGet, AsksGetAll, AsksHome, AsksInit, AsksLs, AsksName, AsksPut, AsksRights, AsksRtDel, AsksRtGet, AsksRtGetAll, AsksRtInit, AsksRtList, AsksRtLs, AsksRtPut, AsksRtVfy, AsksRun, AsksToRt, AsksVfy, CommandLine, FailsToAsk, IsLineOf, IsNoCopy, IsNoInit, IsNoMove, IsNoOne, IsUnreadable, rights_line, rt_init_line};
-ghost use Rattle.f11_pip.specs.Commands.{MeetsCopy, MeetsDump, MeetsGet, MeetsInit, MeetsLs, MeetsPut, MeetsRights, MeetsRtFile, MeetsRtGet, MeetsRtHost, MeetsRtInit, MeetsRun, MeetsVfy, MeetsWord, files_app, program_app, volumes_app};
-ghost use Rattle.f11_numbers.specs.Decimal.{IsNumber};
+ghost use Rattle.f11_pip.specs.Commands.{MeetsInit, files_app, program_app, volumes_app};
+ghost use Rattle.f11_pip.specs.Subcommands.{AsksBy, Meets};
+ghost use Rattle.f11_pip.specs.Words.{Asks, AsksInit, CommandLine, FailsToAsk, IsLineOf, IsNoInit, IsUnreadable};
 
 mod args;
 mod copies;
@@ -12,14 +11,18 @@ mod host_files;
 mod rt_files;
 mod rt_volumes;
 mod spelled;
+mod subcommand;
+mod unread;
 mod volumes;
 
 use crate::outcome::Failure;
-use crate::words::copies::{from_rt, to_rt};
-use crate::words::host_files::{get_of, with_host_files};
-use crate::words::rt_files::{moving_of, with_rt_files};
+use crate::remarks::Remark;
+use crate::words::copies::{from_rt, from_rt_of, to_rt, to_rt_of};
+use crate::words::host_files::{get_of, put_of, with_host_files};
+use crate::words::rt_files::{rt_del_of, rt_get_of, rt_ls_of, rt_put_of, with_rt_files};
 use crate::words::rt_volumes::{rt_init, rt_init_of, rt_list, rt_list_of, rt_vfy, rt_vfy_of};
 use crate::words::spelled::{name, name_of, rights, rights_of};
+use crate::words::subcommand::Subcommand;
 use crate::words::volumes::{
     dump, dump_of, home, home_of, init, init_of, ls, ls_of, run, run_of, vfy, vfy_of,
 };
@@ -150,10 +153,11 @@ pub enum Words<'a> {
     RtVfy {
         image: &'a str,
     },
-    /// `run IMAGE SCRIPT`
+    /// `run [--quiet] IMAGE SCRIPT`: whether nothing is said of lines that aren't done
     Run {
         image: &'a str,
         script: &'a str,
+        is_quiet: bool,
     },
     /// `vfy [--update] IMAGE`
     Vfy {
@@ -176,6 +180,31 @@ pub fn parse<'a, S: AsStr>(alloc: Global, words: &'a [S]) -> Result<Words<'a>, F
 {
     let matches = program(alloc)?.try_get_matches_from(words)?;
     command_of(&matches)
+}
+
+/// The first word that can't be read, of words that clap takes, and what such a word is; for words that don't parse.
+pub fn misread<'a>(alloc: Global, words: &'a [String]) -> Option<Remark<'a>> {
+    let matches = program(alloc).ok()?.try_get_matches_from(words).ok()?;
+    let (name, given) = matches.subcommand()?;
+    unread::unread(Subcommand::named(name)?, given)
+}
+
+/// Says on standard error why words aren't taken that don't parse, where it is clap that doesn't take them: what stands before the first
+/// empty line of what it says.
+pub fn tell_refused(rt: &HostRuntime, words: &[String]) {
+    if let Some(text) = refusal(rt.alloc(), words) {
+        let all = text.as_str();
+        let first = match all.split_once("\n\n") {
+            Some((first, _)) => first,
+            None => all,
+        };
+        let _ = eprintln!(rt; "{first}");
+    }
+}
+
+fn refusal(alloc: Global, words: &[String]) -> Option<String> {
+    let error = program(alloc).ok()?.try_get_matches_from(words).err()?;
+    format!(in alloc; "{error}").ok()
 }
 
 /// The program's commands.
@@ -214,95 +243,48 @@ fn files<'a>(alloc: Global) -> Result<Command<'a>, AllocError>
 
 /// The command that the words named.
 fn command_of<'a>(matches: &ArgMatches<'a>) -> Result<Words<'a>, Failure>
-    ensures dump { (image number : List ℕ)
-        → MeetsDump image number (subcommand_rows_of matches.now)
-        → MatchResult result (AsksDump image number) (λ _. ¬ IsNumber number) }
-    ensures from_rt { (mode rt rt_name image uic name : List ℕ)
-        → MeetsCopy (codes "flx-from-rt") mode image uic name rt rt_name
-        (subcommand_rows_of matches.now)
-        → MatchResult result (AsksFromRt mode rt rt_name image uic name)
-        (λ _. IsNoCopy mode uic) }
-    ensures to_rt { (mode image uic name rt rt_name : List ℕ)
-        → MeetsCopy (codes "flx-to-rt") mode image uic name rt rt_name
-        (subcommand_rows_of matches.now)
-        → MatchResult result (AsksToRt mode image uic name rt rt_name)
-        (λ _. IsNoCopy mode uic) }
-    ensures get { (mode : Option (List ℕ)) → (image uic name host : List ℕ)
-        → MeetsGet false false mode image uic (Some name) (Some host) (subcommand_rows_of matches.now)
-        → MatchResult result (AsksGet false mode image uic name host) (λ _. IsNoMove mode uic) }
-    ensures get_whole { (image uic name host : List ℕ)
-        → MeetsGet false true None image uic (Some name) (Some host) (subcommand_rows_of matches.now)
-        → MatchResult result (AsksGet true None image uic name host) (λ _. IsNoDirectory uic) }
-    ensures get_all { (image folder : List ℕ)
-        → MeetsGet true false None image folder None None (subcommand_rows_of matches.now)
-        → IsOkAnd result (AsksGetAll image folder) }
-    ensures put { (mode : Option (List ℕ)) → (image uic name host : List ℕ)
-        → MeetsPut mode image uic name host (subcommand_rows_of matches.now)
-        → MatchResult result (AsksPut mode image uic name host) (λ _. IsNoMove mode uic) }
-    ensures home { (image : List ℕ)
-        → MeetsWord (codes "home") (codes "image") image (subcommand_rows_of matches.now)
-        → IsOkAnd result (AsksHome image) }
-    ensures ls { (image : List ℕ) → (uic : Option (List ℕ))
-        → MeetsLs image uic (subcommand_rows_of matches.now)
-        → MatchResult result (AsksLs image uic) (λ _. IsNoOne uic) }
-    ensures name { (text : List ℕ)
-        → MeetsWord (codes "name") (codes "text") text (subcommand_rows_of matches.now)
-        → IsOkAnd result (AsksName text) }
-    ensures rights { (caller owner word : List ℕ)
-        → MeetsRights caller owner word (subcommand_rows_of matches.now)
-        → MatchResult result (AsksRights caller owner word)
-        (λ _. IsUnreadable (rights_line caller owner word)) }
+    ensures asks { (command : CommandLine) → Meets command (subcommand_rows_of matches.now)
+        → MatchResult result (Asks command) (λ _. IsUnreadable command) }
     ensures init { (blocks slots label image : List ℕ) → (max : Option (List ℕ))
         → MeetsInit blocks slots label max image (subcommand_rows_of matches.now)
         → MatchResult result (AsksInit blocks slots label max image)
         (λ _. IsNoInit blocks slots max) }
-    ensures rt_init { (blocks segments image : List ℕ)
-        → MeetsRtInit blocks segments image (subcommand_rows_of matches.now)
-        → MatchResult result (AsksRtInit blocks segments image)
-        (λ _. IsUnreadable (rt_init_line blocks segments image)) }
-    ensures rt_list { (image : List ℕ)
-        → MeetsWord (codes "rt-list") (codes "image") image (subcommand_rows_of matches.now)
-        → IsOkAnd result (AsksRtList image) }
-    ensures rt_vfy { (image : List ℕ)
-        → MeetsWord (codes "rt-vfy") (codes "image") image (subcommand_rows_of matches.now)
-        → IsOkAnd result (AsksRtVfy image) }
-    ensures rt_del { (rt name : List ℕ)
-        → MeetsRtFile (codes "rt-del") rt name (subcommand_rows_of matches.now)
-        → IsOkAnd result (AsksRtDel rt name) }
-    ensures rt_get { (rt name host : List ℕ)
-        → MeetsRtGet false rt name (Some host) (subcommand_rows_of matches.now)
-        → IsOkAnd result (AsksRtGet rt name host) }
-    ensures rt_get_all { (rt folder : List ℕ)
-        → MeetsRtGet true rt folder None (subcommand_rows_of matches.now)
-        → IsOkAnd result (AsksRtGetAll rt folder) }
-    ensures rt_ls { (rt : List ℕ)
-        → MeetsWord (codes "rt-ls") (codes "rt") rt (subcommand_rows_of matches.now)
-        → IsOkAnd result (AsksRtLs rt) }
-    ensures rt_put { (rt name host : List ℕ)
-        → MeetsRtHost (codes "rt-put") rt name host (subcommand_rows_of matches.now)
-        → IsOkAnd result (AsksRtPut rt name host) }
-    ensures run { (image script : List ℕ)
-        → MeetsRun image script (subcommand_rows_of matches.now)
-        → IsOkAnd result (AsksRun image script) }
-    ensures vfy { (update : Bool) → (image : List ℕ)
-        → MeetsVfy update image (subcommand_rows_of matches.now)
-        → IsOkAnd result (AsksVfy update image) }
     ensures none { subcommand_rows_of matches.now ≡ None → IsErr result }
     ensures usage { IfErr result (λ failure. failure ≡ Failure.Usage) }
 {
-    match matches.subcommand() {
-        Some(("dump", given)) => dump_of(given),
-        Some(("get", given)) => get_of(given),
-        Some(("home", given)) => home_of(given),
-        Some(("init", given)) => init_of(given),
-        Some(("ls", given)) => ls_of(given),
-        Some(("name", given)) => name_of(given),
-        Some(("rights", given)) => rights_of(given),
-        Some(("rt-init", given)) => rt_init_of(given),
-        Some(("rt-list", given)) => rt_list_of(given),
-        Some(("rt-vfy", given)) => rt_vfy_of(given),
-        Some(("run", given)) => run_of(given),
-        Some(("vfy", given)) => vfy_of(given),
-        _ => moving_of(matches),
+    let Some((name, given)) = matches.subcommand() else {
+        return Err(Failure::Usage);
+    };
+    match Subcommand::named(name) {
+        Some(command) => words_of(command, given),
+        None => Err(Failure::Usage),
+    }
+}
+
+/// What the words of a command ask for.
+fn words_of<'a>(command: Subcommand, given: &ArgMatches<'a>) -> Result<Words<'a>, Failure>
+    ensures asks { AsksBy command given.now result }
+    ensures usage { IfErr result (λ failure. failure ≡ Failure.Usage) }
+{
+    match command {
+        Subcommand::Dump => dump_of(given),
+        Subcommand::FlxFromRt => from_rt_of(given),
+        Subcommand::FlxToRt => to_rt_of(given),
+        Subcommand::Get => get_of(given),
+        Subcommand::Home => home_of(given),
+        Subcommand::Init => init_of(given),
+        Subcommand::Ls => ls_of(given),
+        Subcommand::Name => name_of(given),
+        Subcommand::Put => put_of(given),
+        Subcommand::Rights => rights_of(given),
+        Subcommand::RtDel => rt_del_of(given),
+        Subcommand::RtGet => rt_get_of(given),
+        Subcommand::RtInit => rt_init_of(given),
+        Subcommand::RtList => rt_list_of(given),
+        Subcommand::RtLs => rt_ls_of(given),
+        Subcommand::RtPut => rt_put_of(given),
+        Subcommand::RtVfy => rt_vfy_of(given),
+        Subcommand::Run => run_of(given),
+        Subcommand::Vfy => vfy_of(given),
     }
 }

@@ -1,21 +1,13 @@
-//! Tests of the structures of a Files-11 disk: the storage bitmap, the index file, headers, their chains, retrieval pointers and
-//! directory records.
+//! Tests of what stands below the commands on Files-11 volumes: the structures of a disk, volumes as wholes, and the file processor.
 //!
-//! They are of calls that no command reaches: kernels, lent blocks, devices that stop, fail or lie, and consumers, which do under a
-//! contract what a layer above does first. Devices themselves are in `refused_memory_tests`, since they take memory.
+//! They are of calls and requests that no command reaches, or that only a device reaches that stops, fails or lies. What the program can
+//! show is a case under `cases/`; calls and requests whose memory is refused are in `refused_memory_tests`, and so are devices themselves,
+//! since they take memory.
 #![tactic(auto)]
 
 #[cfg(test)]
-mod bitmap;
+mod requests;
 #[cfg(test)]
-mod chains;
+mod structures;
 #[cfg(test)]
-mod directories;
-#[cfg(test)]
-mod headers;
-#[cfg(test)]
-mod index;
-#[cfg(test)]
-mod pointers;
-#[cfg(test)]
-mod readers;
+mod volumes;

@@ -88,7 +88,7 @@ impl AllFiles {
     /// Begins with all files of a volume whose master file directory has this identification, and is found by `wide`, which
     /// takes each slot as in use, where its slot's bit is lost. What directories name is gone over for those to which they lead, and again
     /// each time that led on. It tells whether a transfer failed before all of these were found: then they may be left out. It takes
-    /// 320 KiB of memory, of which a walk keeps 192 KiB and takes no more.
+    /// 384 KiB of memory, of which a walk keeps 192 KiB and takes no more.
     ///
     /// # Errors
     ///

@@ -1,9 +1,9 @@
 //! To which directories others lead whose slots aren't in use.
-ghost use Rattle.std.specs.Prelude.{◌≡◌, IfErr, IfOk, IfSome, OnErr, length};
+ghost use Rattle.std.specs.Prelude.{◌≡◌, IfOk, IfSome, OnErr, length};
 ghost use Rattle.f11_index.specs.Kept.{index_kept, IndexLiesWithin};
 ghost use Rattle.f11_catalog.specs.Records.{Reads};
 ghost use Rattle.f11_catalog.specs.Steps.{is_met};
-ghost use Rattle.f11_catalog.specs.Walking.{FailsToBegin, FindsAllLed, FollowsEntered};
+ghost use Rattle.f11_catalog.specs.Walking.{FindsAllLed, FollowsEntered};
 
 use crate::fault::WalkFault;
 use crate::walk::content::open_content;
@@ -44,18 +44,19 @@ pub(crate) fn find_led<D: Device>(
     }
     loop {
         match follow_entered(alloc, device, index, wide, master, &led) {
-            Ok(seen) => {
-                if !led.meet_all(&seen) {
-                    return Ok((led, false));
+            Ok((seen, failed)) => {
+                let leads_on = led.meet_all(&seen);
+                if failed || !leads_on {
+                    return Ok((led, failed));
                 }
             }
-            Err(WalkFault::DeviceFault) => return Ok((led, true)),
-            Err(WalkFault::NoMemory) => return Err(NoMemory),
+            Err(NoMemory) => return Err(NoMemory),
         }
     }
 }
 
-/// The numbers to which directories lead, where these are those of directories to which others lead.
+/// The numbers to which directories lead, where these are those of directories to which others lead; and whether a transfer failed: then it
+/// has those that were met before.
 fn follow_entered<D: Device>(
     alloc: Global,
     device: &mut D,
@@ -63,19 +64,18 @@ fn follow_entered<D: Device>(
     wide: &IndexFile,
     master: FileId,
     led: &Numbers,
-) -> Result<Numbers, WalkFault>
+) -> Result<(Numbers, bool), NoMemory>
     requires within { IndexLiesWithin (index_kept index.now) (length (D.disk device.old).image) }
     requires wide { IndexLiesWithin (index_kept wide.now) (length (D.disk device.old).image) }
-    ensures follows { IfOk result (λ seen.
-        FollowsEntered (index_kept index.now) (index_kept wide.now) master (is_met led.now) seen
-        (D.disk device.old) (D.disk device.new)) }
-    ensures failed { IfErr result (λ fault. FailsToBegin fault (D.disk device.old) (D.disk device.new)) }
+    ensures follows { IfOk result (λ found. FollowsEntered (index_kept index.now) (index_kept wide.now)
+        master (is_met led.now) found.0 found.1 (D.disk device.old) (D.disk device.new)) }
+    ensures failed { OnErr result (Reads (D.disk device.old) (D.disk device.new) 0) }
 {
     let Some(copy) = Numbers::begin(alloc) else {
-        return Err(WalkFault::NoMemory);
+        return Err(NoMemory);
     };
     let Some(seen) = Numbers::begin(alloc) else {
-        return Err(WalkFault::NoMemory);
+        return Err(NoMemory);
     };
     let mut copy = copy;
     let mut seen = seen;
@@ -84,18 +84,19 @@ fn follow_entered<D: Device>(
         Ok(entered) => {
             let mut entered = entered;
             match entered.follow(device, index, wide, &mut seen) {
-                Ok(()) => Ok(seen),
-                Err(DeviceFault) => Err(WalkFault::DeviceFault),
+                Ok(()) => Ok((seen, false)),
+                Err(DeviceFault) => Ok((seen, true)),
             }
         }
-        Err(fault) => Err(fault),
+        Err(WalkFault::DeviceFault) => Ok((seen, true)),
+        Err(WalkFault::NoMemory) => Err(NoMemory),
     }
 }
 
 impl EnteredFiles {
-    ghost use Rattle.f11_catalog.specs.Walking.{FollowsAll, IsWalkingDirectories};
+    ghost use Rattle.f11_catalog.specs.Walking.{FollowsAll, FollowsPart, IsWalkingDirectories};
 
-    /// Goes over all that is still to come: the numbers to which it leads are met.
+    /// Goes over all that is still to come: the numbers to which it leads are met; some of them, where a transfer failed.
     ///
     /// # Errors
     ///
@@ -112,7 +113,8 @@ impl EnteredFiles {
         requires walking { IsWalkingDirectories (index_kept index.now) (index_kept wide.now) self.old (D.disk device.old) }
         ensures follows { IfOk result (λ _. FollowsAll (index_kept index.now) (index_kept wide.now) self.old
             seen.old seen.new (D.disk device.old) (D.disk device.new)) }
-        ensures failed { OnErr result (Reads (D.disk device.old) (D.disk device.new) 1) }
+        ensures failed { OnErr result (FollowsPart (index_kept index.now) (index_kept wide.now) self.old
+            seen.old seen.new (D.disk device.old) (D.disk device.new)) }
     {
         loop {
             match self.next(device, index, wide) {

@@ -1,10 +1,10 @@
 //! A file that was found, on its device.
 ghost use Rattle.std.specs.Prelude.{◌≡◌, length};
-ghost use Rattle.f11_commands.specs.OpenEnd.{has_open_end as is_left_open};
+ghost use Rattle.f11_commands.specs.OpenEnd.{has_lines as is_of_lines, has_open_end as is_left_open};
 ghost use Rattle.f11_index.specs.Kept.{index_kept, IndexLiesWithin};
 ghost use Rattle.f11_reader.specs.Reading.{IsReading};
 
-use crate::get::open::has_open_end;
+use crate::get::open::{has_lines, has_open_end};
 use f11_dev::Device;
 use f11_index::IndexFile;
 use f11_reader::FileReader;
@@ -47,5 +47,13 @@ impl<D: Device> FoundFile<D> {
         ensures { result ≡ is_left_open self.now.file }
     {
         has_open_end(&self.file)
+    }
+
+    /// Whether its record attributes say how a printer goes on to the next line (FD.FTN, FD.CR or FD.PRN), as those of a text do: then its
+    /// records are lines.
+    pub fn has_lines(&self) -> bool
+        ensures { result ≡ is_of_lines self.now.file }
+    {
+        has_lines(&self.file)
     }
 }

@@ -7,7 +7,7 @@ ghost use Rattle.f11_reader.specs.Reading.{header_in_hand};
 ghost use Rattle.f11_store.specs.File.{stated_end};
 ghost use Rattle.f11_commands.specs.GetCommand.{LacksSought, OpensSought};
 ghost use Rattle.f11_commands.specs.GetCommand.{file_identified};
-ghost use Rattle.f11_commands.specs.OpenEnd.{has_open_end};
+ghost use Rattle.f11_commands.specs.OpenEnd.{has_lines, has_open_end};
 
 use crate::get::sought::Sought;
 use f11_catalog::stated_end;
@@ -62,4 +62,15 @@ pub(crate) fn has_open_end(file: &FileReader) -> bool
 {
     let header = Header::new(file.header());
     stated_end(&header.attributes()) == 0 && header.characteristics() >> 6 & 1 == 1
+}
+
+/// The byte of record attributes (F.RATT).
+const RECORD_ATTRIBUTES: usize = 1;
+
+/// Whether its record attributes say how a printer goes on to the next line, so that its records are lines.
+pub(crate) fn has_lines(file: &FileReader) -> bool
+    ensures { result ≡ has_lines file.now }
+{
+    let attributes = Header::new(file.header()).attributes();
+    attributes[RECORD_ATTRIBUTES] % 8 != 0
 }

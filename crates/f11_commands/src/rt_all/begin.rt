@@ -1,7 +1,7 @@
 //! The beginning of `rt-get --all`.
 ghost use Rattle.std.specs.Prelude.{◌≡◌, false, IfErr, IfOk};
-ghost use Rattle.f11_commands.specs.RtAll.{CannotServe, bad_of, counts_of, device_of, entries_of, has_failed, next_of, no_counts, state_of};
-ghost use Rattle.f11_commands.specs.RtAny.{ReadsVolume};
+ghost use Rattle.f11_commands.specs.RtAll.{bad_of, counts_of, device_of, entries_of, has_failed, next_of, no_counts, state_of};
+ghost use Rattle.f11_commands.specs.RtAny.{CannotServe, ReadsVolume};
 
 use crate::outcome::Failure;
 use crate::rt_all::state::{RtCounts, TakingAllRt};

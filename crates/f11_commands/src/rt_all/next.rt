@@ -1,5 +1,5 @@
 //! The steps of `rt-get --all`.
-ghost use Rattle.std.specs.Prelude.{◌≡◌, IfErr, IfNone, IfSome, OnOk};
+ghost use Rattle.std.specs.Prelude.{◌≡◌, IfErr, IfNone, IfOk, IfSome, OnErr, OnOk};
 ghost use Rattle.f11_commands.specs.Output.{WriterTakes};
 ghost use Rattle.f11_commands.specs.RtAll.{copied_at_line, copied_text, counted_copied, counted_refused, counts_answer, counts_line, not_copied_line, one_more, one_more_if};
 
@@ -114,7 +114,8 @@ fn write_counts<W: Write>(writer: &mut W, counts: &RtCounts) -> io::Result<()>
 
 impl<D: Device> TakingAllRt<D> {
     ghost use Rattle.f11_commands.specs.RtAll.{device_of};
-    ghost use Rattle.f11_commands.specs.RtAll.{EndsAll, FailsToTake, GivesNext, HasNoNext, RefusesNext, TakesNext};
+    ghost use Rattle.f11_commands.specs.RtAll.{EndsAll, FailsToRefuse, FailsToTake, FillsHost, GivesNext, HasNoNext, RefusesNext};
+    ghost use Rattle.f11_commands.specs.RtAll.{TakesNext, TakesOut};
 
     /// The next entry of the directory, where it stands, and what becomes of it; `None` behind the last.
     pub fn next(&mut self) -> Option<RtFileAt>
@@ -138,7 +139,8 @@ impl<D: Device> TakingAllRt<D> {
     ///
     /// # Errors
     ///
-    /// [`Failure::CannotWrite`] where the host takes no more, which may hold a part then, or the writer.
+    /// [`Failure::CannotWrite`] where the host takes no more, which may hold a part then, and nothing of the line is written; or where the
+    /// writer takes no more, which may hold a part of the line, and the host has the blocks that it tells.
     pub fn write<H: Write, W: Write>(
         &mut self,
         found: &RtFileAt,
@@ -148,18 +150,30 @@ impl<D: Device> TakingAllRt<D> {
         ensures takes { OnOk result (TakesNext found.now D.disk self.old self.new
             H.contents host.old host.new W.contents writer.old writer.new) }
         ensures failed { IfErr result (λ failure. FailsToTake failure found.now D.disk
-            self.old self.new) }
+            self.old self.new H.contents host.old host.new writer.old writer.new) }
+    {
+        match self.take(found, host) {
+            Ok(taken) => match write_copied(writer, found, &taken, self.bad.as_slice()) {
+                Ok(()) => Ok(()),
+                Err(_) => Err(Failure::CannotWrite),
+            },
+            Err(HostFull) => Err(Failure::CannotWrite),
+        }
+    }
+
+    /// Writes a file's blocks to the host, and counts it.
+    fn take<H: Write>(&mut self, found: &RtFileAt, host: &mut H) -> Result<RtTaken, HostFull>
+        ensures takes { IfOk result (λ taken. TakesOut found.now taken D.disk self.old self.new
+            H.contents host.old host.new) }
+        ensures full { OnErr result (FillsHost found.now D.disk self.old self.new) }
     {
         match take_out(&mut self.device, &found.entry, host) {
             Ok(taken) => {
                 self.failed = self.failed || taken.failed;
                 self.counts = counted_copied(&found.place, taken.missing, &self.counts);
-                match write_copied(writer, found, &taken, self.bad.as_slice()) {
-                    Ok(()) => Ok(()),
-                    Err(_) => Err(Failure::CannotWrite),
-                }
+                Ok(taken)
             }
-            Err(HostFull) => Err(Failure::CannotWrite),
+            Err(HostFull) => Err(HostFull),
         }
     }
 
@@ -172,8 +186,7 @@ impl<D: Device> TakingAllRt<D> {
     pub fn refuse<W: Write>(&mut self, found: &RtFileAt, writer: &mut W) -> Result<(), Failure>
         ensures refuses { OnOk result (RefusesNext found.now self.old self.new
             W.contents writer.old writer.new) }
-        ensures failed { IfErr result (λ failure. failure ≡ Failure.CannotWrite) }
-        ensures device { device_of self.new ≡ device_of self.old }
+        ensures failed { IfErr result (λ failure. FailsToRefuse failure self.old self.new) }
     {
         self.counts = counted_refused(&self.counts);
         match write_not_copied(writer, &found.place, why_of(&found.fate)) {
@@ -187,11 +200,12 @@ impl<D: Device> TakingAllRt<D> {
     ///
     /// # Errors
     ///
-    /// Within: [`Failure::CannotWrite`] where the writer takes no more, else [`Failure::DeviceFault`] where a transfer failed.
+    /// Within: [`Failure::DeviceFault`] where a transfer failed; else [`Failure::CannotWrite`] where the writer takes no more.
     pub fn end<W: Write>(self, writer: &mut W) -> (D, Result<RtServed, Failure>)
         ensures device { result.0 ≡ device_of self }
-        ensures ends { EndsAll result.1 self W.contents writer.old writer.new }
+        ensures ends { EndsAll self result.1 W.contents writer.old writer.new }
     {
+        let written = write_counts(writer, &self.counts);
         let TakingAllRt {
             device,
             state,
@@ -199,14 +213,13 @@ impl<D: Device> TakingAllRt<D> {
             failed,
             ..
         } = self;
-        match write_counts(writer, &counts) {
-            Ok(()) => {}
-            Err(_) => return (device, Err(Failure::CannotWrite)),
-        }
         if failed {
             return (device, Err(Failure::DeviceFault));
         }
         let answer = counts_answer(&counts);
-        (device, Ok(RtServed { answer, state }))
+        match written {
+            Ok(()) => (device, Ok(RtServed { answer, state })),
+            Err(_) => (device, Err(Failure::CannotWrite)),
+        }
     }
 }

@@ -1,8 +1,8 @@
 //! The words of the commands that copy between two volumes.
-ghost use Rattle.std.specs.Prelude.{◌≡◌, ℕ, List, codes, None, IfOk, IfErr, IsErr, MatchResult};
-ghost use Rattle.clap.specs.Words.{app_of, subcommand_rows_of};
+ghost use Rattle.std.specs.Prelude.{◌≡◌, ℕ, List, codes, IfOk, IfErr, MatchResult};
+ghost use Rattle.clap.specs.Words.{app_of};
 ghost use Rattle.f11_pip.specs.Words.{AsksFromRt, AsksToRt, IsMode, IsNoCopy, SpellsMode};
-ghost use Rattle.f11_pip.specs.Commands.{HasCopyWords, HasWord, MeetsCopy, copy_app, from_rt_app, to_rt_app, with_file_words, with_rt_words};
+ghost use Rattle.f11_pip.specs.Commands.{HasCopyWords, HasWord, copy_app, from_rt_app, to_rt_app, with_file_words, with_rt_words};
 
 use crate::outcome::Failure;
 use crate::words::Words;
@@ -11,35 +11,13 @@ use clap::{ArgMatches, Command};
 use f11_commands::f11_flx::CopyMode;
 use std::alloc::{AllocError, Global};
 
-/// The copy that the words named.
-pub fn copy_of<'a>(matches: &ArgMatches<'a>) -> Result<Words<'a>, Failure>
-    ensures from_rt { (mode rt rt_name image uic name : List ℕ)
-        → MeetsCopy (codes "flx-from-rt") mode image uic name rt rt_name
-        (subcommand_rows_of matches.now)
-        → MatchResult result (AsksFromRt mode rt rt_name image uic name)
-        (λ _. IsNoCopy mode uic) }
-    ensures to_rt { (mode image uic name rt rt_name : List ℕ)
-        → MeetsCopy (codes "flx-to-rt") mode image uic name rt rt_name
-        (subcommand_rows_of matches.now)
-        → MatchResult result (AsksToRt mode image uic name rt rt_name)
-        (λ _. IsNoCopy mode uic) }
-    ensures none { subcommand_rows_of matches.now ≡ None → IsErr result }
-    ensures usage { IfErr result (λ failure. failure ≡ Failure.Usage) }
-{
-    match matches.subcommand() {
-        Some(("flx-from-rt", given)) => from_rt_of(given),
-        Some(("flx-to-rt", given)) => to_rt_of(given),
-        _ => Err(Failure::Usage),
-    }
-}
-
 pub fn from_rt<'a>(alloc: Global) -> Result<Command<'a>, AllocError>
     ensures { IfOk result (λ command. app_of command ≡ from_rt_app) }
 {
     with_file(alloc, with_rt_file(alloc, copy(alloc, "flx-from-rt")?)?)
 }
 
-fn from_rt_of<'a>(given: &ArgMatches<'a>) -> Result<Words<'a>, Failure>
+pub fn from_rt_of<'a>(given: &ArgMatches<'a>) -> Result<Words<'a>, Failure>
     ensures from_rt { (mode rt rt_name image uic name : List ℕ)
         → HasCopyWords mode image uic name rt rt_name given.now
         → MatchResult result (AsksFromRt mode rt rt_name image uic name)
@@ -62,7 +40,7 @@ pub fn to_rt<'a>(alloc: Global) -> Result<Command<'a>, AllocError>
     with_rt_file(alloc, with_file(alloc, copy(alloc, "flx-to-rt")?)?)
 }
 
-fn to_rt_of<'a>(given: &ArgMatches<'a>) -> Result<Words<'a>, Failure>
+pub fn to_rt_of<'a>(given: &ArgMatches<'a>) -> Result<Words<'a>, Failure>
     ensures to_rt { (mode image uic name rt rt_name : List ℕ)
         → HasCopyWords mode image uic name rt rt_name given.now
         → MatchResult result (AsksToRt mode image uic name rt rt_name)

@@ -145,18 +145,20 @@ pub fn run<'a>(alloc: Global) -> Result<Command<'a>, AllocError>
     ensures { IfOk result (λ command. app_of command ≡ run_app) }
 {
     Command::new(alloc, "run")
+        .arg(flag(alloc, "quiet"))?
         .arg(needed(alloc, "image"))?
         .arg(needed(alloc, "script"))
 }
 
 pub fn run_of<'a>(given: &ArgMatches<'a>) -> Result<Words<'a>, Failure>
-    ensures run { (image script : List ℕ) → HasRunWords image script given.now
-        → IsOkAnd result (AsksRun image script) }
+    ensures run { (quiet : Bool) → (image script : List ℕ) → HasRunWords quiet image script given.now
+        → IsOkAnd result (AsksRun quiet image script) }
     ensures usage { IfErr result (λ failure. failure ≡ Failure.Usage) }
 {
     Ok(Words::Run {
         image: word_of(given, "image")?,
         script: word_of(given, "script")?,
+        is_quiet: given.get_flag("quiet"),
     })
 }
 

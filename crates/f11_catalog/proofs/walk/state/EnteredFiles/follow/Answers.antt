@@ -2,8 +2,7 @@ use Rattle.std.proofs.Common.{◌||◌, ◌&&◌, ◌==◌, Bool, ap, ◌∙◌}
 use Rattle.f11_store.specs.declared.files.FileId.{FileId}
 use Rattle.f11_catalog.specs.Contents.{is_unused_directory}
 use Rattle.f11_catalog.specs.Steps.{is_met}
-use Rattle.f11_catalog.proofs.FollowingLemmas.{followed-all, followed-on}
-use Rattle.f11_catalog.proofs.ListingLemmas.{reads-then}
+use Rattle.f11_catalog.proofs.FollowingLemmas.{followed-all, followed-on, followed-part}
 use Rattle.f11_catalog.proofs.walk.state.EnteredFiles.follow.Goals as goal
 
 pub loop-found-preserved : goal.loop-found-preserved
@@ -19,4 +18,4 @@ returns-in-Ok-None-clause-follows g c =
     followed-all _ _ _ _ _ _ _ _ c.loop-found.invariant _ _ (rw c.in-Ok-None.field-0-is at c.in-Ok-None.ensures.ended)
 
 pub returns-in-Err-clause-failed : goal.returns-in-Err-clause-failed
-returns-in-Err-clause-failed g c = reads-then c.loop-found.invariant.reads c.in-Err.ensures.failed
+returns-in-Err-clause-failed g c = followed-part _ _ _ _ _ _ _ _ c.loop-found.invariant _ c.in-Err.ensures.failed

@@ -1,0 +1,130 @@
+//! The commands that copy a file between the two file systems: which files they open, and what they say.
+use crate::heard::Heard;
+use crate::host_files::tell_no_directory;
+use crate::opened;
+use crate::outcome::Failure;
+use crate::refusals::{self, NO_SUCH_ENTRY, of_finding, of_making, of_rt};
+use crate::remarks::{self, Remark};
+use f11_commands::f11_flx::CopyMode;
+use f11_commands::f11_rad50::Name;
+use f11_commands::{
+    Answer, Copying, Direction, FileAnswer, System, directory_name, print_copy, read_names,
+    refuse_names,
+};
+use f11_dev::FileImage;
+use f11_store::Uic;
+use std::fs::File;
+use std::io::Write;
+
+/// What a command that copies is asked.
+#[derive(Clone, Copy)]
+pub struct Asked<'a> {
+    pub direction: Direction,
+    pub mode: CopyMode,
+    pub directory: Uic,
+    pub image: &'a str,
+    pub name: &'a str,
+    pub rt_image: &'a str,
+    pub rt_name: &'a str,
+}
+
+/// Copies a file between two volumes. The image that is copied from is opened to be read alone.
+pub fn copy<'a, W: Write>(
+    rt: &HostRuntime,
+    asked: &Asked<'a>,
+    writer: &mut W,
+    remark: &mut Option<Remark<'a>>,
+) -> Result<Answer, Failure> {
+    let Some((name, rt_name)) = read_names(asked.name, asked.rt_name) else {
+        *remark = Some(bad_name(asked));
+        return Ok(refuse_names(writer)?);
+    };
+    let copying = Copying {
+        direction: asked.direction,
+        mode: asked.mode,
+        directory: asked.directory,
+        name,
+        rt_name,
+    };
+    let (files, rt_volume) = opened_both(rt, asked, remark)?;
+    let mut heard = Heard::new(writer, None);
+    let (_, _, answer) = print_copy(rt.alloc(), files, rt_volume, &copying, &mut heard);
+    if let Some(line) = heard.refusal() {
+        match asked.direction {
+            Direction::FromRt if line == NO_SUCH_ENTRY => {
+                tell_no_directory(rt, directory_name(asked.directory));
+            }
+            _ => refusals::tell(rt, uncopied(asked, line)),
+        }
+    }
+    Ok(copied(rt, asked, answer?, remark))
+}
+
+/// What there is to say of a copy that this line refuses.
+fn uncopied<'a>(asked: &Asked<'a>, line: &str) -> Option<Remark<'a>> {
+    let of_rt = of_rt(line, asked.rt_image, asked.rt_name);
+    match asked.direction {
+        Direction::FromRt if line == "no DuplicateName" => of_copied(asked, line),
+        Direction::FromRt => of_rt.or(of_copied(asked, line)),
+        Direction::ToRt => of_finding(line, asked.name).or(of_rt),
+    }
+}
+
+fn of_copied<'a>(asked: &Asked<'a>, line: &str) -> Option<Remark<'a>> {
+    of_making(line, asked.image, asked.name, asked.rt_name)
+}
+
+/// Which of the names of a copy, of which one is none, is the first.
+fn bad_name<'a>(asked: &Asked<'a>) -> Remark<'a> {
+    if Name::parse(asked.name.as_bytes()).is_err() {
+        remarks::of_name(asked.name)
+    } else {
+        remarks::of_rt_name(asked.rt_name)
+    }
+}
+
+/// The images of a copy, which are opened in the order of the words: the one that is copied from first, and to be read alone.
+fn opened_both<'a>(
+    rt: &HostRuntime,
+    asked: &Asked<'a>,
+    remark: &mut Option<Remark<'a>>,
+) -> Result<(FileImage<File>, FileImage<File>), Failure> {
+    let (image, rt_image) = (asked.image, asked.rt_image);
+    match asked.direction {
+        Direction::ToRt => {
+            let files = opened(FileImage::open_to_read(rt, image), image, remark)?;
+            let target = opened(FileImage::open(rt, rt_image), rt_image, remark)?;
+            Ok((files, target))
+        }
+        Direction::FromRt => {
+            let source = opened(FileImage::open_to_read(rt, rt_image), rt_image, remark)?;
+            let files = opened(FileImage::open(rt, image), image, remark)?;
+            Ok((files, source))
+        }
+    }
+}
+
+/// The answer of a copy, and a remark on the file of the volume that has a fault, or of either where there is one.
+fn copied<'a>(
+    rt: &HostRuntime,
+    asked: &Asked<'a>,
+    answer: FileAnswer,
+    remark: &mut Option<Remark<'a>>,
+) -> Answer {
+    *remark = match answer {
+        FileAnswer::Faulty(System::Files11) => Some(remarks::of_unserved(
+            rt,
+            asked.image,
+            System::Files11,
+        )),
+        FileAnswer::Faulty(System::Rt11) => Some(remarks::of_unserved(
+            rt,
+            asked.rt_image,
+            System::Rt11,
+        )),
+        FileAnswer::Done | FileAnswer::Refused => {
+            remarks::of_image(rt, asked.image, None).or(remarks::of_image(rt, asked.rt_image, None))
+        }
+    };
+    answer.answer()
+}

@@ -1,0 +1,141 @@
+//! What a refusal means to whoever asked for it, and which word of the command it is about.
+use crate::remarks::{Remark, Why};
+
+/// The line that says that a directory has no record of a name.
+pub const NO_SUCH_ENTRY: &str = "no NoSuchEntry";
+
+/// Why a file on a Files-11 volume isn't found, or its directory, or its records can't be read, by the line that was written.
+pub fn not_found(line: &str) -> Option<&'static str> {
+    let why = match line {
+        "no NoSuchEntry" => "no such file in that directory, or no such directory; ls lists them",
+        "no NoSuchFile" => {
+            "the record of that name, or its directory's, leads to no valid file header; vfy and get --all tell more"
+        }
+        "no NotDirectory" => {
+            "what the master file directory has under the directory's name is no directory"
+        }
+        "no EndOfFile" => "it states an end past its last block; get takes out what is there",
+        "no SystemFile" =>
+            "files 1 to 3 are the volume's own and aren't copied; get takes them out",
+        "no Marked" => "it, or its directory, is marked for delete; get takes it out",
+        "no NoPrivilege" => {
+            "its protection word, or its directory's, denies it to [1,1]; get takes it out"
+        }
+        "no BadRecord" => "its records can't be read as lines; --mode image takes all its bytes",
+        "no LineTooLong" => "a record has more than 2048 bytes; --mode image takes all its bytes",
+        _ => return None,
+    };
+    Some(why)
+}
+
+/// The same of the file of this name.
+pub fn of_finding<'a>(line: &str, name: &'a str) -> Option<Remark<'a>> {
+    not_found(line).map(|why| refused(name, why))
+}
+
+/// What there is to say of a refusal to make a file on the Files-11 volume of this image, under this name, of this source.
+pub fn of_making<'a>(
+    line: &str,
+    image: &'a str,
+    name: &'a str,
+    source: &'a str,
+) -> Option<Remark<'a>> {
+    let (word, why) = match line {
+        "no NoSuchEntry" => (
+            image,
+            "no such directory; docs/RECIPES.md tells how one is made",
+        ),
+        "no NoSuchFile" | "no Marked" | "no NotDirectory" | "no SystemFile" => (
+            image,
+            "what the master file directory has under the directory's name is no directory to write in",
+        ),
+        "no NoPrivilege" => (
+            image,
+            "the protection word of the directory denies it to [1,1]",
+        ),
+        "no DuplicateName" => (name, "the directory has a record of that name and version"),
+        "no TooManySegments" => (
+            source,
+            "a file can't have more than 256 headers, each of which may take no more than 102 blocks",
+        ),
+        "no DeviceFull" => (image, "fewer blocks are free than the file needs"),
+        "no NoHeader" => (
+            image,
+            "too few file headers are free, and no more could be made: one for each 102 blocks of the file, or part of that, has to be",
+        ),
+        "no LineTooLong" => {
+            (
+                source,
+                "a line has more than 2048 bytes; --mode image takes all its bytes",
+            )
+        }
+        _ => return None,
+    };
+    Some(refused(word, why))
+}
+
+/// What there is to say of a refusal of the RT-11 volume of this image, where a file of this name was looked for, or to be made.
+pub fn of_rt<'a>(line: &str, image: &'a str, name: &'a str) -> Option<Remark<'a>> {
+    let (word, why) = match line {
+        "no NoSuchFile" => (
+            name,
+            "no file of that name; rt-ls lists those that there are",
+        ),
+        "no DuplicateName" => (name, "the volume has a file of that name"),
+        "no Protected" => (name, "protected, so that it isn't deleted"),
+        "no NoSpace" => (
+            image,
+            "no empty area is as long as the file; rt-list lists them",
+        ),
+        "no DirectoryFull" => (
+            image,
+            "its directory has no room for one file more; rt-del makes some, and rt-init more with --segments",
+        ),
+        _ => return None,
+    };
+    Some(refused(word, why))
+}
+
+/// What it means that a line of a script is answered so.
+pub fn of_request(line: &str) -> Option<&'static str> {
+    let why = match line {
+        "bad line" => {
+            "a line is a task, 0 to 7, a user's code as [200,1], a verb in capitals and its arguments, with single spaces between them"
+        }
+        "no VolumeFailed" => "an earlier request met a device fault, or damage",
+        "no BadArgument" => "a file number, a VBN, or a number of blocks or slots is 0",
+        "no NoSuchAccess" => "the task has no access by that lun, or none that writes",
+        "no LunInUse" => "the task has an access by that lun already",
+        "no SystemFile" => "files 1 to 3 are the volume's own, and 4 and 5 aren't deleted",
+        "no NoSuchFile" => "no file has that number and sequence number",
+        "no Marked" => "the file is marked for delete",
+        "no NoPrivilege" => "the protection word, or the owner, denies it to that user",
+        "no Conflict" => "an access stands against it",
+        "no NotDirectory" => "the file is no directory",
+        "no EndOfFile" => "the file has fewer blocks",
+        "no NoSuchEntry" => "the directory has no record of that name",
+        "no DuplicateName" => "the directory has a record of that name and version",
+        "no NotEmpty" => "the file has blocks already",
+        "no IndexLimit" => "there would be more slots than the volume may have; home shows its max",
+        "no TooManySegments" => "a file would have more than 256 headers",
+        "no DeviceFull" => "fewer blocks are free than are needed",
+        "no NoHeader" => "fewer file headers are free than are needed, and no more could be made",
+        "no NoRun" => "nowhere so many free blocks follow one another",
+        "no NoMemory" => "no memory was left",
+        "no DeviceFault" => "a transfer of a block failed",
+        "no Damaged" => "the volume's structure was met broken",
+        _ => return None,
+    };
+    Some(why)
+}
+
+fn refused<'a>(word: &'a str, why: &'static str) -> Remark<'a> {
+    Remark::of(word, Why::Said(why))
+}
+
+/// Says it on standard error, if there is something to say.
+pub fn tell(rt: &HostRuntime, remark: Option<Remark<'_>>) {
+    if let Some(remark) = remark {
+        let _ = eprintln!(rt; "{remark}");
+    }
+}
