@@ -109,6 +109,7 @@ module _ {D E : Type 0} {met : Ghosts D} {met' : Ghosts E} (rt-disk : E → Disk
       accepted = λ is. answers.fares.accepted (answers.fares.honest ∙ mounts.looked.honest ∙ is);
       meanwhile = stands-accepted old first last mounts image files-accepted answers.fares.ordered;
       rt_broken = λ is. answers.rt_broken (sound-rt is);
+      rt_front = λ is. answers.fares_rt.front (sound-rt is);
       rt_accepted = λ is none. (answers.sound_rt (sound-rt is) none).accepted;
     }
 

@@ -8,6 +8,7 @@ use Rattle.f11_serving.specs.fcp.Lists.{failures_of, is_sound, store_of_volume}
 use Rattle.f11_serving.specs.fcp.Serving.{is_spent, state_in}
 use Rattle.f11_serving.specs.fcp.declared.volume.Volume.{Volume}
 use Rattle.f11_serving.specs.files.Answers.{is_fatal, is_fault}
+use Rattle.f11_flx.proofs.FrontLemmas.{front-same}
 use Rattle.f11_flx.proofs.KeptLemmas.{denied-live, rt-apart, same-refusal}
 use Rattle.f11_flx.proofs.VolumeLemmas.{IsFared, denied-fared, granted-fared, volume-seen}
 use Rattle.f11_flx.proofs.TriedLemmas.{asked-for-one}
@@ -81,6 +82,7 @@ untouched disk e rt = record {
   quiet = λ fault. absurd (cc);
   honest = refl;
   next = sym (or-false (has_failed rt));
+  front = λ s. front-same (disk (volume_device rt)) (disk (volume_device rt)) refl refl;
 }
 
 -- it has the files that it had

@@ -12,6 +12,7 @@ use Rattle.f11_dev.proofs.WentLemmas.{went_looked, went_more, went_weaker, went_
 use Rattle.f11_flx.specs.Filling.{Took}
 use Rattle.f11_flx.specs.Target.{FailsPutting, HasRtBlocks, Puts, rt_disk, rt_store}
 use Rattle.f11_flx.specs.ToRt.{rt_takes}
+use Rattle.f11_flx.proofs.FrontLemmas.{front-then}
 use Rattle.f11_flx.proofs.PourLemmas.{took-one}
 use Rattle.f11_flx.proofs.RtCopyLemmas.{has-written, took-puts}
 use Rattle.f11_flx.proofs.SmallLemmas.{or-false}
@@ -93,6 +94,9 @@ module _ {E : Type 0} {met : Ghosts E} (disk : E → Disk) (name : List ℕ) (by
       stops-filling blocks e new fresh file inside fails went = record {
         fresh = fails.refused.alive (still-fresh fresh);
         fault = λ s. by s (is_fault e) refl;
+        front = λ s.
+            front-then (rt_disk disk old) (rt_disk disk now) (rt_disk disk new) (puts-so-far.fares.front s)
+            (fails.refused.fares.front (puts-so-far.sound s));
         went = transfers-within (transfers-more filled.went went) (omega (arith, inside));
       }
         where

@@ -4,7 +4,8 @@ use Rattle.std.proofs.Common.{[], if◌then◌else◌, refl, sym, ap, ◌∙◌,
 use Rattle.f11_dev.specs.Disk.{Disk}
 use Rattle.f11_dev.specs.declared.device.Device.{Ghosts}
 use Rattle.f11_flx.specs.CopyToRt.{HasCopy}
-use Rattle.f11_flx.specs.Target.{DeletesRtFile, FailsDeleting, Makes, rt_disk, rt_store}
+use Rattle.f11_flx.specs.Target.{DeletesRtFile, FailsDeleting, Makes, SparesFront, rt_disk, rt_store}
+use Rattle.f11_flx.proofs.FrontLemmas.{front-then}
 use Rattle.f11_flx.proofs.RtCopyLemmas.{has-copy, has-gone, has-written, still-lies}
 use Rattle.f11_flx.proofs.SmallLemmas.{or-false}
 use Rattle.rt11_volume.specs.Calls.{has_failed}
@@ -31,6 +32,11 @@ module _ {E : Type 0} {met : Ghosts E} (disk : E → Disk) (name : List ℕ) (by
       made-fresh : has_failed made ≡ false
       made-fresh = makes.fares.next ∙ or-false (has_failed old) ∙ makes.alive
 
+      -- blocks 0 to 5 of what was made, and then went on so
+      front-on : (new : Disk) → (IsSoundDisk (rt_disk disk made) → SparesFront (rt_disk disk made) new) → IsSoundDisk (rt_disk disk old)
+          → SparesFront (rt_disk disk old) new
+      front-on new more s = front-then (rt_disk disk old) (rt_disk disk made) new (makes.fares.front s) (more (makes.sound s))
+
       pub stored : (blocks : ℕ) (unread' : Option (List ℕ)) (new : RtAccepted E met) → blocks ≡ blocks_for bytes
           → FillsNamed disk name bytes blocks unread unread' made new
           → IsStored name bytes blocks unread unread' (rt_disk disk old) (rt_disk disk new)
@@ -45,6 +51,7 @@ module _ {E : Type 0} {met : Ghosts E} (disk : E → Disk) (name : List ℕ) (by
             subst (λ (c : List ℕ). HasCopy name c blocks 0 (rt_store disk old) (rt_store disk new)) fills.content
             (has-copy name blocks 0 fills.pieces (rt_store disk old) (rt_store disk made) (rt_store disk new) (makes'.made s)
             (fills.puts.replaced (makes.sound s)) (makes'.lies s) (fills.puts.directory (makes.sound s)) fills.count);
+        front = λ s. front-on (rt_disk disk new) (λ made-sound. fills.puts.fares.front made-sound) s;
         went = transfers-within (transfers-more went fills.went) (omega arith);
       }
 
@@ -54,6 +61,7 @@ module _ {E : Type 0} {met : Ghosts E} (disk : E → Disk) (name : List ℕ) (by
         fresh = stops.fresh;
         why = λ none s. absurd (never (sym (stops.fault (makes.sound s)) ∙ none));
         stays = λ none s. absurd (never (sym (stops.fault (makes.sound s)) ∙ none));
+        front = λ s. front-on (rt_disk disk new) (λ made-sound. stops.front made-sound) s;
         went = transfers-within (transfers-more went stops.went) (omega arith);
       }
 
@@ -61,6 +69,13 @@ module _ {E : Type 0} {met : Ghosts E} (disk : E → Disk) (name : List ℕ) (by
         all : {faults : ℕ} → MakesTransfers (rt_disk disk left) (rt_disk disk new) delete_transfers faults
             → MakesTransfers (rt_disk disk old) (rt_disk disk new) (put_transfers (blocks_for bytes)) faults
         all last = transfers-within (transfers-more (transfers-more went lacks.went) last) (omega arith)
+
+        -- behind the blocks that were written
+        front-all : (IsSoundDisk (rt_disk disk left) → SparesFront (rt_disk disk left) (rt_disk disk new)) → IsSoundDisk (rt_disk disk old)
+            → SparesFront (rt_disk disk old) (rt_disk disk new)
+        front-all last =
+            front-on (rt_disk disk new) (λ s. front-then (rt_disk disk made) (rt_disk disk left) (rt_disk disk new)
+            (lacks.puts.fares.front s) (last (lacks.puts.sound s)))
 
         more-than-none : 0 < bytes
         more-than-none = omega (arith, lacks.some)
@@ -75,6 +90,7 @@ module _ {E : Type 0} {met : Ghosts E} (disk : E → Disk) (name : List ℕ) (by
               (makes.made s) (lacks.puts.replaced (makes.sound s)) (rt_store disk new)
               (deleted.gone (lacks.puts.sound (makes.sound s))) in
               record { named = g.0; others = g.1 };
+          front = front-all (λ s. deleted.fares.front s);
           undone = λ s. record {
             none = (makes.made s).none;
             made = rt_store disk left;
@@ -113,6 +129,7 @@ module _ {E : Type 0} {met : Ghosts E} (disk : E → Disk) (name : List ℕ) (by
                       (lacks.puts.fares.next ∙ or-false (has_failed made) ∙ made-fresh);
                   why = λ none s. absurd (never (sym is ∙ none));
                   stays = λ none s. absurd (never (sym is ∙ none));
+                  front = front-all (λ s. g.refused.refused.fares.front s);
                   went = all g.went;
                 })
             by false is =
@@ -122,6 +139,7 @@ module _ {E : Type 0} {met : Ghosts E} (disk : E → Disk) (name : List ℕ) (by
                   some = more-than-none;
                   sound = λ s. absurd (kept-never g.e g.refused is s);
                   same = λ s. absurd (kept-never g.e g.refused is s);
+                  front = λ s. absurd (kept-never g.e g.refused is s);
                   undone = λ s. absurd (kept-never g.e g.refused is s);
                   went = all (subst (λ n. MakesTransfers (rt_disk disk left) (rt_disk disk new) delete_transfers n) no-faults g.went);
                 })

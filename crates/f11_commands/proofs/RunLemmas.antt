@@ -16,12 +16,13 @@ use Rattle.f11_serving.specs.fcp.declared.volume.Volume.{Volume}
 use Rattle.f11_catalog.specs.image_store.StoreOf.{store_of}
 use Rattle.f11_runs.specs.Each.{Steps}
 use Rattle.f11_script.specs.declared.errors.ScriptError.{ScriptError}
+use Rattle.f11_serving.specs.Answering.{Answering, AnswersScript, StepsOrFails, answering}
 use Rattle.f11_serving.specs.Scripts.{ServesScriptRun}
 use Rattle.f11_serving.specs.Serving.{RunsScript}
 use Rattle.f11_serving.proofs.VolumeLemmas.{KeepsVolume, script-keeps-volume}
 use Rattle.f11_store.specs.Store.{Store}
 use Rattle.f11_volume.specs.Verdict.{IsAccepted}
-use Rattle.f11_serving.proofs.writes.InOrderLemmas.{order-looked, order-then}
+use Rattle.f11_serving.proofs.writes.MomentLemmas.{stands-before, stands-behind}
 use Rattle.f11_serving.specs.writes.Order.{WritesInOrder}
 use Rattle.f11_commands.proofs.CopyLemmas.{first-is, last-is, sound-first, stands-accepted}
 use Rattle.f11_commands.specs.RunCommand.{EndsRun, EndsServing, EndsSyncing, HasFaults, ServesImage, SyncedIf, WritesNothing, outcome_of}
@@ -37,6 +38,7 @@ module _ {D W : Type 0} {met : Ghosts D} (disk : Disk) (first last : Volume D me
     (contents : W → Option (List ℕ)) (before after : W)
     (result : Result ℕ ScriptError) (mounts : Mounts disk first)
     (runs : RunsScript ServesCall remaining first last (contents before) (contents after) result)
+    (answers : AnswersScript first last remaining (contents before) (contents after) result)
     (run : ServesScriptRun first last remaining (contents before) (contents after) result) (accepted : StaysAccepted (state_in last))
     (ordered : WritesInOrder (state_in first).disk (state_in last).disk) (image : IsImage disk.image)
     (whole : IsTrue disk.honest → IsAccepted disk.image)
@@ -44,13 +46,49 @@ module _ {D W : Type 0} {met : Ghosts D} (disk : Disk) (first last : Volume D me
     kept : KeepsVolume first last
     kept = script-keeps-volume remaining (contents before) (contents after) first last result runs
 
+    -- what it answered, told of the stores of the two images
+    answers-images : RunsScript (StepsOrFails disk.honest) remaining
+        (record { store = held_in no_entries (store_of disk.image (state_in first).home); failed = false })
+        (record {
+          store = held_in (state_in last).table (store_of (state_in last).disk.image (state_in first).home);
+          failed = is_spent last;
+        })
+        (contents before) (contents after) result
+    answers-images =
+        subst (λ (h : Bool). RunsScript (StepsOrFails h) remaining begun ended (contents before) (contents after) result)
+        mounts.looked.honest
+        (subst (λ (x : Answering). RunsScript (StepsOrFails (state_in first).disk.honest) remaining x ended (contents before)
+        (contents after) result) (λ i. record { store = first-is disk first last mounts kept.home i; failed = mounts.fresh i })
+        (subst (λ (x : Answering). RunsScript (StepsOrFails (state_in first).disk.honest) remaining (answering first) x (contents before)
+        (contents after) result) (λ i. record { store = last-is disk first last mounts kept.home i; failed = is_spent last }) answers))
+      where
+        begun : Answering
+        begun = record { store = held_in no_entries (store_of disk.image (state_in first).home); failed = false }
+
+        ended : Answering
+        ended = record {
+          store = held_in (state_in last).table (store_of (state_in last).disk.image (state_in first).home);
+          failed = is_spent last;
+        }
+
+    more-failures : is_spent last ≡ true → IsTrue disk.honest → disk.failures < (state_in last).disk.failures
+    more-failures is honest =
+        let more = kept.more (mounts.looked.honest ∙ honest) mounts.fresh is in omega (arith, more, mounts.looked.failures)
+
+    same-failures : is_spent last ≡ false → (state_in last).disk.failures ≡ disk.failures
+    same-failures is = omega (arith, kept.same is, mounts.looked.failures)
+
     pub serves-image : ServesImage result remaining disk (state_in last).disk contents before after
     serves-image = record {
       home = (state_in first).home;
       held = (state_in last).table;
       home_is = mounts.home;
+      verified = whole;
       accepted = λ is. accepted (kept.honest ∙ mounts.looked.honest ∙ is);
       meanwhile = stands-accepted disk first last mounts image whole ordered;
+      failed = is_spent last;
+      failed_is = λ is. (λ dead. more-failures dead is, λ alive. same-failures alive);
+      answers = answers-images;
       run = λ is none.
           let sound = sound-first disk first last mounts kept.home is in
           let same : failures_of last ≡ failures_of first = omega (arith, mounts.looked.failures, none) in
@@ -61,13 +99,6 @@ module _ {D W : Type 0} {met : Ghosts D} (disk : Disk) (first last : Volume D me
           (last-is disk first last mounts kept.home) (run sound same));
     }
 
-    more-failures : is_spent last ≡ true → IsTrue disk.honest → disk.failures < (state_in last).disk.failures
-    more-failures is honest =
-        let more = kept.more (mounts.looked.honest ∙ honest) mounts.fresh is in omega (arith, more, mounts.looked.failures)
-
-    same-failures : is_spent last ≡ false → (state_in last).disk.failures ≡ disk.failures
-    same-failures is = omega (arith, kept.same is, mounts.looked.failures)
-
     -- a sync that failed behind a transfer that did
     serves-failed : (r : Result ℕ ScriptError) → ServesImage r remaining disk (state_in last).disk contents before after
         → is_spent last ≡ true → ServesImage r remaining disk (with_transfer false (state_in last).disk) contents before after
@@ -75,13 +106,18 @@ module _ {D W : Type 0} {met : Ghosts D} (disk : Disk) (first last : Volume D me
       home = s.home;
       held = s.held;
       home_is = s.home_is;
+      verified = s.verified;
       accepted = s.accepted;
-      meanwhile = record {
-        accepted = s.meanwhile.accepted;
-        ordered = order-then disk (state_in last).disk (with_transfer false (state_in last).disk) s.meanwhile.ordered
-            (order-looked (state_in last).disk (with_transfer false (state_in last).disk) 1 1
-            (looked_failed_read (state_in last).disk (with_transfer false (state_in last).disk) refl));
-      };
+      meanwhile =
+          stands-before disk (state_in last).disk (with_transfer false (state_in last).disk) 1 1 s.meanwhile
+          (looked_failed_read (state_in last).disk (with_transfer false (state_in last).disk) refl);
+      failed = s.failed;
+      failed_is = λ honest.
+          let more = more-failures is honest in (
+            λ dead. omega (arith, more),
+            λ alive. let same = (s.failed_is honest).1 alive in absurd (omega (arith, more, same)),
+          );
+      answers = s.answers;
       run = λ honest none.
           let more = more-failures is honest in
           let one : (state_in last).disk.failures + 1 ≡ disk.failures = none in
@@ -118,12 +154,24 @@ module _ {W : Type 0} (remaining : Option (List ℕ)) (contents : W → Option (
     home = s.home;
     held = s.held;
     home_is = λ is. subst (λ (i : Image). IsHomeOf i s.home) looked.image (s.home_is (looked.honest ∙ is));
+    verified = λ is. subst IsAccepted looked.image (s.verified (looked.honest ∙ is));
     accepted = λ is. s.accepted (looked.honest ∙ is);
-    meanwhile = record {
-      accepted = λ is since history.
-          s.meanwhile.accepted (looked.honest ∙ is) since (history ∙ ap (λ (h : List Image). since ++ h) (sym looked.history));
-      ordered = order-then old mid new (order-looked old mid n 0 looked) s.meanwhile.ordered;
-    };
+    meanwhile = stands-behind old mid new n 0 looked s.meanwhile;
+    failed = s.failed;
+    failed_is = λ is.
+        let fared = s.failed_is (looked.honest ∙ is) in (
+          λ dead. let more = fared.0 dead in omega (arith, more, looked.failures),
+          λ alive. let same = fared.1 alive in omega (arith, same, looked.failures),
+        );
+    answers =
+        subst (λ (h : Bool). RunsScript (StepsOrFails h) remaining
+        (record { store = held_in no_entries (store_of old.image s.home); failed = false })
+        (record { store = held_in s.held (store_of new.image s.home); failed = s.failed }) (contents before) (contents after) result)
+        looked.honest
+        (subst (λ (i : Image). RunsScript (StepsOrFails mid.honest) remaining
+        (record { store = held_in no_entries (store_of i s.home); failed = false })
+        (record { store = held_in s.held (store_of new.image s.home); failed = s.failed }) (contents before) (contents after) result)
+        looked.image s.answers);
     run = λ is none.
         let same : new.failures ≡ mid.failures = omega (arith, looked.failures, none) in
         subst (λ (i : Image). RunsScript Steps remaining (held_in no_entries (store_of i s.home))

@@ -7,6 +7,7 @@ use Rattle.f11_dev.specs.Disk.{Disk, with_transfer}
 use Rattle.f11_serving.specs.fcp.Accesses.{AccessTable, held_in, no_entries}
 use Rattle.f11_serving.specs.files.Answers.{is_fatal, is_fault as is_files_fault}
 use Rattle.f11_findings.specs.declared.finding.Finding.{Finding}
+use Rattle.f11_flx.specs.Target.{SparesFront}
 use Rattle.f11_flx.specs.Copying.{is_whole, of_files, of_rt}
 use Rattle.f11_flx.specs.Refusal.{flx_refusal_name}
 use Rattle.f11_flx.specs.declared.refusal.FlxRefusal.{FlxRefusal}
@@ -31,7 +32,7 @@ use Rattle.f11_commands.specs.RunCommand.{HasFaults, WritesNothing}
 use Rattle.f11_commands.specs.Stopping.{StopsCopy}
 use Rattle.f11_commands.specs.VfyCommand.{FailsToPrintReport, PrintsReport}
 use Rattle.f11_commands.specs.declared.copy.FileAnswer.{FileAnswer}
-use Rattle.f11_commands.specs.declared.copy.FileAnswer.TheVariants.{Done, Refused, Faulty}
+use Rattle.f11_commands.specs.declared.copy.FileAnswer.TheVariants.{Done, Refused, Faulty, BothFaulty}
 use Rattle.f11_commands.specs.declared.copy.Copying.{Copying}
 use Rattle.f11_commands.specs.declared.copy.Direction.{Direction}
 use Rattle.f11_commands.specs.declared.copy.Direction.TheVariants.{ToRt, FromRt}
@@ -89,7 +90,8 @@ pub record FaresBoth (result : Result ℕ FlxRefusal) (files files' rt rt' : Dis
 -- says of the plain stores, from those of the images, in which nobody holds an access; and the images have no fault then, that of the RT-11
 -- volume unless a transfer of it failed; nor has any that stood meanwhile on the Files-11 one. Where a transfer of either failed nothing is
 -- undone on the other; where that was one of the Files-11 volume, all its files are as they were if it is copied from, and else what was
--- asked last was stopped, and no file is changed but the copy, its directory and the index file. An RT-11 source is only read.
+-- asked last was stopped, and no file is changed but the copy, its directory and the index file. An RT-11 source is only read, and of any
+-- RT-11 volume blocks 0 to 5 are spared.
 pub record CopiesImages (c : Copying) (result : Result ℕ FlxRefusal) (files files' rt rt' : Disk) : Type 0 where
   pub home : HomeFields
   pub held : AccessTable
@@ -107,6 +109,7 @@ pub record CopiesImages (c : Copying) (result : Result ℕ FlxRefusal) (files fi
       LeavesBegun c.rt_name (rt_store_of rt.image) (rt_store_of rt'.image)
   pub accepted : IsTrue files.honest → IsAccepted files'.image
   pub meanwhile : StandsAccepted files files'
+  pub rt_front : IsTrue rt.honest → SparesFront rt rt'
   pub rt_accepted : IsTrue rt.honest → of_rt is_rt_fault result ≡ false → IsRtAccepted rt'.image
 
 -- the sync of the disk that was copied to failed, and nothing was done to the other one
@@ -152,6 +155,7 @@ EndsFiles (Ok (Faulty Files11)) old new contents before after = PrintsReport fal
 EndsFiles (Ok (Faulty Rt11)) old new contents before after = ⊥
 EndsFiles (Ok Done) old new contents before after = ⊥
 EndsFiles (Ok Refused) old new contents before after = ⊥
+EndsFiles (Ok BothFaulty) old new contents before after = ⊥
 EndsFiles (Err CannotWrite) old new contents before after = HasFaults old new
 EndsFiles (Err DeviceFault) old new contents before after = FailsToPrintReport DeviceFault old new contents before after
 EndsFiles (Err NoMemory) old new contents before after = FailsToPrintReport NoMemory old new contents before after
@@ -162,6 +166,7 @@ EndsRt (Ok (Faulty Files11)) old new contents before after = ⊥
 EndsRt (Ok (Faulty Rt11)) old new contents before after = PrintsFaulty old new contents before after
 EndsRt (Ok Done) old new contents before after = ⊥
 EndsRt (Ok Refused) old new contents before after = ⊥
+EndsRt (Ok BothFaulty) old new contents before after = ⊥
 EndsRt (Err CannotWrite) old new contents before after = (faults : List Finding) × (notes : List Finding) × Rejects faults notes old new
 EndsRt (Err DeviceFault) old new contents before after = FailsToPrintRt most_transfers DeviceFault old new contents before after
 EndsRt (Err NoMemory) old new contents before after = FailsToPrintRt most_transfers NoMemory old new contents before after
@@ -190,17 +195,45 @@ pub record EndsVerified {W : Type 0} (c : Copying) (told : Result FileAnswer Fai
   pub rt_verified : VerifiesRt rt rt_read
   pub ends : EndsBetween c told files_read files' rt_read rt' contents before after
 
--- the volume that is copied from is verified first
+-- what is told of two volumes of which the one has faults, by how it ended with the other
+abbrev pub told_of_both : Result FileAnswer Failure → Result FileAnswer Failure
+told_of_both (Ok answer) = Ok BothFaulty
+told_of_both (Err failure) = Err failure
+
+-- behind a volume that couldn't be verified, or whose report couldn't be written, nothing is done; behind one that has faults the other one
+-- was verified: it has none, and nothing more was written; or it isn't accepted either
+abbrev pub EndsFilesBehind : {W : Type 0} → Result FileAnswer Failure → Result FileAnswer Failure → Disk → Disk →
+    (W → Option (List ℕ)) → W → W → Type 0
+EndsFilesBehind (Err failure) told old new contents before after = (told ≡ Err failure) × (new ≡ old) × (after ≡ before)
+EndsFilesBehind (Ok first) told old new contents before after =
+    ((told ≡ Ok first) × VerifiesFiles old new × (after ≡ before))
+    ⊎ ((end : Result FileAnswer Failure) × (told ≡ told_of_both end) × EndsFiles end old new contents before after)
+
+abbrev pub EndsRtBehind : {W : Type 0} → Result FileAnswer Failure → Result FileAnswer Failure → Disk → Disk →
+    (W → Option (List ℕ)) → W → W → Type 0
+EndsRtBehind (Err failure) told old new contents before after = (told ≡ Err failure) × (new ≡ old) × (after ≡ before)
+EndsRtBehind (Ok first) told old new contents before after =
+    ((told ≡ Ok first) × VerifiesRt old new × (after ≡ before))
+    ⊎ ((end : Result FileAnswer Failure) × (told ≡ told_of_both end) × EndsRt end old new contents before after)
+
+-- The volume that is copied from isn't accepted: it ended so, and then with the other one so.
+pub record EndsWithFirst {W : Type 0} (First Then : Result FileAnswer Failure → W → W → Type 0) (before after : W) : Type 0 where
+  pub end : Result FileAnswer Failure
+  pub between : W
+  pub ends : First end before between
+  pub goes_on : Then end between after
+
+-- how verifying both volumes ends where one isn't accepted: the one that is copied from comes first
 abbrev pub EndsVerifying : {W : Type 0} → Direction → Result FileAnswer Failure → Disk → Disk → Disk → Disk →
     (W → Option (List ℕ)) → W → W → Type 0
 EndsVerifying ToRt told files files' rt rt' contents before after =
-    (EndsFiles told files files' contents before after × (rt' ≡ rt))
+    (EndsWithFirst (λ end. EndsFiles end files files' contents) (λ end. EndsRtBehind end told rt rt' contents) before after)
     ⊎ (VerifiesFiles files files' × EndsRt told rt rt' contents before after)
 EndsVerifying FromRt told files files' rt rt' contents before after =
-    (EndsRt told rt rt' contents before after × (files' ≡ files))
+    (EndsWithFirst (λ end. EndsRt end rt rt' contents) (λ end. EndsFilesBehind end told files files' contents) before after)
     ⊎ (VerifiesRt rt rt' × EndsFiles told files files' contents before after)
 
--- how a command that copies ends: with the first volume that isn't accepted, or behind both
+-- how a command that copies ends: with a volume that isn't accepted, or behind both
 abbrev pub EndsCopy : {W : Type 0} → Direction → Copying → Result FileAnswer Failure → Disk → Disk → Disk → Disk →
     (W → Option (List ℕ)) → W → W → Type 0
 EndsCopy direction c told files files' rt rt' contents before after =

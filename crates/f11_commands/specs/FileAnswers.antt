@@ -9,3 +9,4 @@ abbrev pub plain_answer : FileAnswer → Answer
 plain_answer file.Done = Done
 plain_answer file.Refused = Fault
 plain_answer (file.Faulty system) = Fault
+plain_answer file.BothFaulty = Fault

@@ -4,7 +4,7 @@ use Rattle.std.specs.Io.KnownBytes.{Consumes}
 use Rattle.std.specs.List.{concat}
 use Rattle.f11_dev.specs.Disk.{Disk}
 use Rattle.f11_dev.specs.declared.device.Device.{Ghosts}
-use Rattle.f11_flx.specs.Target.{DeletesRtFile, FailsDeleting, Puts, rt_disk}
+use Rattle.f11_flx.specs.Target.{DeletesRtFile, FailsDeleting, Puts, SparesFront, rt_disk}
 use Rattle.f11_host.specs.Pieces.{filled_up}
 use Rattle.rt11_volume.specs.Files.{faults_in, is_fault}
 use Rattle.rt11_volume.specs.Verifying.Verdict.{IsSoundDisk}
@@ -34,6 +34,7 @@ pub record StopsFilling {E : Type 0} {met : Ghosts E} (disk : E → Disk) (block
     : Type 0 where
   pub fresh : e ≢ Failed
   pub fault : IsSoundDisk (rt_disk disk old) → is_fault e ≡ true
+  pub front : IsSoundDisk (rt_disk disk old) → SparesFront (rt_disk disk old) (rt_disk disk new)
   pub went : MakesTransfers (rt_disk disk old) (rt_disk disk new) (block_transfers * blocks) (faults_in {T = Unit} (Err e))
 
 -- The host's file gave no more: some blocks were written, and one more is to be.

@@ -7,6 +7,7 @@ use Rattle.f11_dev.specs.Image.{Image}
 use Rattle.f11_dev.specs.Went.{Went}
 use Rattle.f11_flx.specs.CopyToRt.{FailsToMake, HasCopy, HasEmptied, LiesInFirstArea}
 use Rattle.f11_flx.specs.RtOutcome.{HasSameFiles}
+use Rattle.f11_flx.specs.Target.{SparesFront}
 use Rattle.f11_host.specs.Pieces.{blocks_for, filled_up}
 use Rattle.rt11_volume.specs.Files.{faults_in, is_fault}
 use Rattle.rt11_volume.specs.Named.{files_named}
@@ -38,7 +39,7 @@ abbrev pub put_transfers : ℕ → ℕ
 put_transfers blocks = create_transfers + block_transfers * blocks + delete_transfers
 
 -- The file was made, the only one of its name, and its blocks hold the bytes that were read, filled up. On a sound disk nothing else is
--- another.
+-- another, and blocks 0 to 5 are spared.
 pub record IsStored (name : List ℕ) (bytes blocks : ℕ) (unread unread' : Option (List ℕ)) (old new : Disk) : Type 0 where
   pub taken : List ℕ
   pub size : length taken ≡ bytes
@@ -46,6 +47,7 @@ pub record IsStored (name : List ℕ) (bytes blocks : ℕ) (unread unread' : Opt
   pub count : blocks ≡ blocks_for bytes
   pub sound : IsSoundDisk old → IsSoundDisk new
   pub stored : IsSoundDisk old → HasCopy name (filled_up taken blocks) blocks 0 (rt_store_of old.image) (rt_store_of new.image)
+  pub front : IsSoundDisk old → SparesFront old new
   pub went : MakesTransfers old new (put_transfers blocks) 0
 
 -- It was refused. On a sound disk no file of so many blocks can be made, and nothing was written, unless a transfer failed.
@@ -53,6 +55,7 @@ pub record IsNotStored (name : List ℕ) (bytes : ℕ) (e : RtRefusal) (old new 
   pub fresh : e ≢ Failed
   pub why : is_fault e ≡ false → IsSoundDisk old → FailsToMake e name (blocks_for bytes) old
   pub stays : is_fault e ≡ false → IsSoundDisk old → new.image ≡ old.image
+  pub front : IsSoundDisk old → SparesFront old new
   pub went : MakesTransfers old new (put_transfers (blocks_for bytes)) (faults_in {T = Unit} (Err e))
 
 -- A file of so many blocks was made, the only one of its name, in the front of the first empty area that is as long, and that area was
@@ -69,6 +72,7 @@ pub record IsUnstored (name : List ℕ) (bytes : ℕ) (old new : Disk) : Type 0 
   pub some : 0 < bytes
   pub sound : IsSoundDisk old → IsSoundDisk new
   pub same : IsSoundDisk old → HasSameFiles name (rt_store_of old.image) (rt_store_of new.image)
+  pub front : IsSoundDisk old → SparesFront old new
   pub undone : IsSoundDisk old → IsMadeAndDeleted name (blocks_for bytes) (rt_store_of old.image) (rt_store_of new.image)
   pub went : MakesTransfers old new (put_transfers (blocks_for bytes)) 0
 

@@ -8,6 +8,7 @@ use Rattle.f11_serving.specs.fcp.Accesses.{AccessTable, held_in, no_entries}
 use Rattle.f11_catalog.specs.image_store.StoreOf.{store_of}
 use Rattle.f11_runs.specs.Each.{Steps}
 use Rattle.f11_script.specs.declared.errors.ScriptError.{ScriptError}
+use Rattle.f11_serving.specs.Answering.{StepsOrFails}
 use Rattle.f11_serving.specs.Serving.{RunsScript}
 use Rattle.f11_commands.specs.VfyCommand.{PrintsReport}
 use Rattle.f11_commands.specs.declared.outcome.Answer.{Answer}
@@ -19,16 +20,23 @@ use Rattle.f11_volume.specs.Verdict.{IsAccepted}
 use Rattle.f11_serving.specs.writes.Moments.{StandsAccepted}
 use Rattle.f11_serving.specs.vfy.Verify.{Examines}
 
--- A script was served on an image. Where the disk is honest the image is accepted then, so was each that stood meanwhile, and blocks were
--- written in order; and where no transfer failed, it was served by steps of the plain store, from that of the image, in which nobody holds
--- an access, to that of the image then, with what tasks held at the end.
+-- A script was served on an image. Where the disk is honest the image was accepted before, is then, and so was each that stood meanwhile,
+-- and blocks were written in order. What was written are the answers of its requests, from the store of the image, in which nobody holds
+-- an access, to that of the image then, with what tasks held at the end. On an honest disk one of them failed the volume exactly where a
+-- transfer failed; where none did, they are steps of the plain store.
 pub record ServesImage {W : Type 0} (result : Result ℕ ScriptError) (remaining : Option (List ℕ)) (old new : Disk)
     (contents : W → Option (List ℕ)) (before after : W) : Type 0 where
   pub home : HomeFields
   pub held : AccessTable
   pub home_is : IsTrue old.honest → IsHomeOf old.image home
+  pub verified : IsTrue old.honest → IsAccepted old.image
   pub accepted : IsTrue old.honest → IsAccepted new.image
   pub meanwhile : StandsAccepted old new
+  pub failed : Bool
+  pub failed_is : IsTrue old.honest → (failed ≡ true → old.failures < new.failures) × (failed ≡ false → new.failures ≡ old.failures)
+  pub answers : RunsScript (StepsOrFails old.honest) remaining
+      (record { store = held_in no_entries (store_of old.image home); failed = false })
+      (record { store = held_in held (store_of new.image home); failed = failed }) (contents before) (contents after) result
   pub run : IsTrue old.honest → new.failures ≡ old.failures →
       RunsScript Steps remaining (held_in no_entries (store_of old.image home))
       (held_in held (store_of new.image home)) (contents before) (contents after) result

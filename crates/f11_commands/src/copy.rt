@@ -12,7 +12,7 @@ ghost use Rattle.f11_commands.specs.FileAnswers.{plain_answer};
 ghost use Rattle.f11_commands.specs.declared.copy.Direction.TheVariants as direction;
 
 use crate::copy::serving::serve;
-use crate::copy::verifying::{accept_files, accept_rt};
+use crate::copy::verifying::{accept_files, accept_rt, files_behind, rt_behind};
 use crate::outcome::{Answer, Failure};
 use crate::report::System;
 use f11_dev::Device;
@@ -56,6 +56,8 @@ pub enum FileAnswer {
     Refused,
     /// The volume of this file system has a fault, and its report was written.
     Faulty(System),
+    /// Both volumes of a copy have, and their reports were written.
+    BothFaulty,
 }
 
 impl FileAnswer {
@@ -67,6 +69,7 @@ impl FileAnswer {
             FileAnswer::Done => Answer::Done,
             FileAnswer::Refused => Answer::Fault,
             FileAnswer::Faulty(_) => Answer::Fault,
+            FileAnswer::BothFaulty => Answer::Fault,
         }
     }
 }
@@ -74,7 +77,8 @@ impl FileAnswer {
 /// Verifies a Files-11 volume and an RT-11 volume, the one that is copied from first, and copies a file from the one to the other, as
 /// [`copy_to_rt`](f11_flx::copy_to_rt) and [`copy_from_rt`](f11_flx::copy_from_rt) do. Then it syncs the one that was copied to, and writes
 /// the line `copied N`, N being how many blocks the copy has, or `no` and the refusal's name. Where a volume has a fault nothing is copied,
-/// and its report is written, as `vfy` and `rt-vfy` have it. Both devices come back.
+/// and its report is written, as `vfy` and `rt-vfy` have it; where both have, both reports are, that of the one that is copied from first.
+/// Both devices come back.
 ///
 /// The directory on the Files-11 volume is the one that [4,4]'s file has under the name of the user's code, as `200001.DIR;1`. The operator, [1,1],
 /// asks; the copy has the protection 0, or the date 0.
@@ -110,13 +114,15 @@ fn copy_to_rt<D: Device, E: Device, W: Write>(
     ensures ends { EndsCopy direction.ToRt copy.now result.2 (D.disk files) (D.disk result.0)
         (E.disk rt) (E.disk result.1) W.contents writer.old writer.new }
 {
-    let accepted = match accept_files(alloc, files, writer) {
-        Ok(accepted) => accepted,
-        Err((files, answer)) => return (files, rt, answer),
-    };
-    match accept_rt(alloc, rt, writer) {
-        Ok(volume) => serve(alloc, accepted, volume, copy, writer),
-        Err((rt, answer)) => (accepted.device(), rt, answer),
+    match accept_files(alloc, files, writer) {
+        Ok(accepted) => match accept_rt(alloc, rt, writer) {
+            Ok(volume) => serve(alloc, accepted, volume, copy, writer),
+            Err((rt, told)) => (accepted.device(), rt, told),
+        },
+        Err((files, first)) => {
+            let (rt, told) = rt_behind(alloc, rt, first, writer);
+            (files, rt, told)
+        }
     }
 }
 
@@ -131,12 +137,14 @@ fn copy_from_rt<D: Device, E: Device, W: Write>(
     ensures ends { EndsCopy direction.FromRt copy.now result.2 (D.disk files) (D.disk result.0)
         (E.disk rt) (E.disk result.1) W.contents writer.old writer.new }
 {
-    let volume = match accept_rt(alloc, rt, writer) {
-        Ok(volume) => volume,
-        Err((rt, answer)) => return (files, rt, answer),
-    };
-    match accept_files(alloc, files, writer) {
-        Ok(accepted) => serve(alloc, accepted, volume, copy, writer),
-        Err((files, answer)) => (files, volume.device(), answer),
+    match accept_rt(alloc, rt, writer) {
+        Ok(volume) => match accept_files(alloc, files, writer) {
+            Ok(accepted) => serve(alloc, accepted, volume, copy, writer),
+            Err((files, told)) => (files, volume.device(), told),
+        },
+        Err((rt, first)) => {
+            let (files, told) = files_behind(alloc, files, first, writer);
+            (files, rt, told)
+        }
     }
 }

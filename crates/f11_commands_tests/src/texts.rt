@@ -6,6 +6,8 @@
 #[cfg(test)]
 mod counting;
 #[cfg(test)]
+mod failing;
+#[cfg(test)]
 mod faults;
 #[cfg(test)]
 mod lines;

@@ -3,6 +3,7 @@ use Rattle.std.proofs.Common.{◌≡◌, ◌≢◌, ◌⊎◌, inl, inr, ℕ, �
 use Rattle.std.proofs.Common.{◌∙◌, ap, subst, arith}
 use Rattle.f11_dev.specs.Disk.{Disk}
 use Rattle.f11_dev.specs.Image.{Image}
+use Rattle.f11_dev.specs.Looked.{Looked}
 use Rattle.f11_dev.specs.Went.{Went}
 use Rattle.f11_dev.proofs.WentLemmas.{went_looked, went_more, went_weaker}
 use Rattle.f11_home.specs.Home.{HomeFields}
@@ -24,7 +25,7 @@ use Rattle.f11_files.proofs.AnswerLemmas.{reads-more, reads-looked}
 use Rattle.f11_dev.proofs.LookedLemmas.{looked_none}
 use Rattle.f11_files.specs.volume.Volume.{Volume}
 use Rattle.f11_fcp.specs.Accesses.{AccessTable, held_in, accesses}
-use Rattle.f11_fcp.specs.Handles.{State, store_at, WhileServing, is_failed, is_damage, own_causes, Handles}
+use Rattle.f11_fcp.specs.Handles.{State, store_at, WhileServing, is_failed, is_damage, own_causes, Handles, IsUnwritten}
 use Rattle.f11_store.proofs.HeldLaws.{lags-held}
 
 -- a refusal that doesn't fail the volume, of one that hasn't failed, is that of a cause
@@ -106,6 +107,14 @@ same-store old new image home table =
     ∙ ap (λ (h : HomeFields). held_in new.table (store_of old.disk.image h)) home
     ∙ ap (λ (t : AccessTable). held_in t (store_of old.disk.image old.home)) table
 
+-- calls that only read wrote no block
+pub unwritten-looked : {old new : Disk} {most faults : ℕ} → Looked old new most faults → IsUnwritten old new
+unwritten-looked looked = record { image = looked.image; history = looked.history }
+
+-- nor did none
+pub unwritten-none : (disk : Disk) → IsUnwritten disk disk
+unwritten-none disk = record { image = refl; history = refl }
+
 -- fewer than may be on an honest disk
 pub within-when : {old new : Disk} {m n faults : ℕ} → (IsTrue old.honest → m ≤ n) → ReadsAtMost m old new faults
     → ReadsAtMost n old new faults
@@ -143,7 +152,7 @@ module _ (task : ℕ) (caller : Uic) (r : Request) (block : List ℕ) (old : Sta
           went = subst (λ (n : ℕ). Went P old.disk new.disk reads.reads n) (sym (no-fault e clean)) (went_looked P reads.looked);
           few = reads.few;
         };
-        left = λ _. record { image = reads.looked.image; table = table; counts = counts; lent = refl };
+        left = λ _. record { unwritten = unwritten-looked reads.looked; table = table; counts = counts; lent = refl };
         among = λ _. own;
         unfailed = tests.2;
         home = home;

@@ -66,7 +66,7 @@ pub windows-after : {D : Type 0} {met : Ghosts D} (t : AccessTable) (old new : F
 windows-after t old new task caller r (Ok reply) block block' is handles clean windows = windows
 windows-after t old new task caller r (Err e) block block' is handles clean windows =
     windows-on t old new is handles.writes handles.home
-    (λ _. rows-same (home_in old) (disk_in old).image (disk_in new).image (handles.left (clean-of e clean)).image)
+    (λ _. rows-same (home_in old) (disk_in old).image (disk_in new).image (handles.left (clean-of e clean)).unwritten.image)
 
 -- so all stays open where a request left the table as it was
 pub stays-open : {D : Type 0} {met : Ghosts D} (t : AccessTable) (old new : Files D met) (task : ℕ) (caller : Uic) (r : Request)
@@ -127,7 +127,7 @@ handles-block task caller r result old new block is h = record {
         }) h.writes.went;
     few = h.writes.few;
   };
-  left = λ clean. let u = h.left clean in record { image = u.image; table = u.table; counts = u.counts; lent = refl };
+  left = λ clean. let u = h.left clean in record { unwritten = u.unwritten; table = u.table; counts = u.counts; lent = refl };
   among = h.among;
   unfailed = h.unfailed;
   home = h.home;

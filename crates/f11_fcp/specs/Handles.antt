@@ -81,16 +81,21 @@ own_causes s task caller (request.GrowIndex n) = causes_of s task caller (reques
 own_causes s task caller (request.Contiguous lun n) = causes_of s task caller (request.Contiguous lun n) ++ run_cause
 own_causes s task caller r = causes_of s task caller r
 
--- Nothing was changed: not the image, what tasks hold, the counts, nor the block that was lent.
+-- No block was written.
+pub record IsUnwritten (old new : Disk) : Type 0 where
+  pub image : new.image ≡ old.image
+  pub history : new.history ≡ old.history
+
+-- Nothing was changed: no block was written, and what tasks hold, the counts, and the block that was lent are as they were.
 pub record IsLeft (old : State) (block : List ℕ) (new : State) (block' : List ℕ) : Type 0 where
-  pub image : new.disk.image ≡ old.disk.image
+  pub unwritten : IsUnwritten old.disk new.disk
   pub table : new.table ≡ old.table
   pub counts : new.counts ≡ old.counts
   pub lent : block' ≡ block
 
 -- A request was handled. On an honest disk it was a step of the plain store, and no structural fault was met; each image that stood
 -- meanwhile is sound, and lags. Its transfers are within its cost, and of them none failed but where that is the answer. A refusal for
--- a cause is for one of the request's own, and leaves all.
+-- a cause is for one of the request's own, and leaves all, at each moment.
 pub record Handles (task : ℕ) (caller : Uic) (r : Request) (result : Result Reply Refusal) (old : State)
     (block : List ℕ) (new : State) (block' : List ℕ) : Type 0 where
   pub step : IsTrue old.disk.honest → is_refused is_fatal result ≡ false →

@@ -11,7 +11,7 @@ use Rattle.f11_files.specs.Answers.{is_fatal, is_refused}
 use Rattle.f11_files.specs.Open as files
 use Rattle.f11_files.specs.volume.Verdict.{IsAccepted}
 use Rattle.f11_files.specs.writes.Order.{WritesInOrder}
-use Rattle.f11_fcp.specs.Handles.{State, state_of, Handles}
+use Rattle.f11_fcp.specs.Handles.{State, state_of, Handles, IsUnwritten}
 use Rattle.f11_fcp.specs.InOneRun.{InOneRun}
 use Rattle.f11_fcp.specs.Places.{access_table_of}
 use Rattle.f11_fcp.specs.declared.volume.Volume.{Volume}
@@ -20,6 +20,14 @@ use Rattle.f11_fcp.specs.declared.volume.Volume.{Volume}
 abbrev pub fills_block : Request → Bool
 fills_block (request.ReadBlock _ _) = true
 fills_block _ = false
+
+-- one that changes no block: it reads a block, what a header says, the counts, or a directory
+abbrev pub only_reads : Request → Bool
+only_reads (request.ReadBlock _ _) = true
+only_reads (request.ReadAttr _) = true
+only_reads request.Space = true
+only_reads (request.Find _ _) = true
+only_reads _ = false
 
 -- what contracts know of a volume
 abbrev pub state_in : {D : Type 0} {met : Ghosts D} → Volume D met → State
@@ -39,7 +47,8 @@ is_spent v = v.failed
 
 -- A request was served. Once one has failed the volume each is refused as VolumeFailed, and nothing is done; before that it is handled.
 -- It fails the volume where it answers DeviceFault or Damaged, and no other way. Where it asks for blocks in one run, these
--- lie in the image as it asks. Blocks are written in order, whatever is answered. The block that is lent is changed by ReadBlock alone.
+-- lie in the image as it asks. Blocks are written in order, whatever is answered, and by a request that only reads none is. The block that
+-- is lent is changed by ReadBlock alone.
 pub record Serving {D : Type 0} {met : Ghosts D} (task : ℕ) (caller : Uic) (r : Request)
     (result : Result Reply Refusal) (old new : Volume D met) (block block' : List ℕ) : Type 0 where
   pub refused : is_spent old ≡ true → IsErrOf result VolumeFailed
@@ -47,5 +56,6 @@ pub record Serving {D : Type 0} {met : Ghosts D} (task : ℕ) (caller : Uic) (r 
   pub handled : is_spent old ≡ false → Handles task caller r result (state_in old) block (state_in new) block'
   pub in_run : is_spent old ≡ false → InOneRun task caller r result (state_in old) (state_in new)
   pub ordered : WritesInOrder (state_in old).disk (state_in new).disk
+  pub unwritten : only_reads r ≡ true → IsUnwritten (state_in old).disk (state_in new).disk
   pub spared : fills_block r ≡ false → block' ≡ block
   pub next : is_spent new ≡ (is_spent old || is_refused is_fatal result)

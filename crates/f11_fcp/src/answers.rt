@@ -1,10 +1,10 @@
 //! Each request's answer.
-ghost use Rattle.std.specs.Prelude.{◌≡◌, false, OnOk};
+ghost use Rattle.std.specs.Prelude.{◌≡◌, false, true, OnOk};
 ghost use Rattle.f11_fcp.specs.ByWindow.{WindowsAfter, TakesOneTransfer};
-ghost use Rattle.f11_fcp.specs.Handles.{Handles, IsOpen, StaysOpen, state_of};
+ghost use Rattle.f11_fcp.specs.Handles.{Handles, IsOpen, IsUnwritten, StaysOpen, state_of};
 ghost use Rattle.f11_fcp.specs.InOneRun.{InOneRun};
 ghost use Rattle.f11_fcp.specs.Places.{access_table_of};
-ghost use Rattle.f11_fcp.specs.Serving.{fills_block};
+ghost use Rattle.f11_fcp.specs.Serving.{fills_block, only_reads};
 ghost use Rattle.f11_files.specs.Open.{disk_in};
 ghost use Rattle.f11_files.specs.writes.Order.{WritesInOrder};
 
@@ -36,6 +36,7 @@ impl Accesses {
             (state_of (access_table_of self.old) files.old) (state_of (access_table_of self.new) files.new) }
         ensures spared { fills_block request.now ≡ false → block.new ≡ block.old }
         ensures ordered { WritesInOrder (disk_in files.old) (disk_in files.new) }
+        ensures unwritten { only_reads request.now ≡ true → IsUnwritten (disk_in files.old) (disk_in files.new) }
     {
         match request {
             Request::Create {

@@ -1,6 +1,6 @@
 //! The file that a directory names.
 ghost use Rattle.std.specs.Prelude.{[]};
-ghost use Rattle.f11_fcp.specs.Handles.{Handles, IsOpen, StaysOpen, state_of};
+ghost use Rattle.f11_fcp.specs.Handles.{Handles, IsOpen, IsUnwritten, StaysOpen, state_of};
 ghost use Rattle.f11_fcp.specs.Places.{access_table_of};
 ghost use Rattle.f11_store.specs.declared.requests.Request.TheVariants as asked;
 ghost use Rattle.f11_files.specs.Open.{disk_in};
@@ -34,6 +34,7 @@ impl Accesses {
             (state_of (access_table_of self.now) files.old) [] (state_of (access_table_of self.now) files.new) [] }
         ensures open { StaysOpen result (access_table_of self.now) files.new }
         ensures ordered { WritesInOrder (disk_in files.old) (disk_in files.new) }
+        ensures unwritten { IsUnwritten (disk_in files.old) (disk_in files.new) }
     {
         if is_bad(directory) {
             return Err(Refusal::BadArgument);

@@ -1,6 +1,6 @@
 //! The counts of the volume.
 ghost use Rattle.std.specs.Prelude.{[]};
-ghost use Rattle.f11_fcp.specs.Handles.{Handles, IsOpen, StaysOpen, state_of};
+ghost use Rattle.f11_fcp.specs.Handles.{Handles, IsOpen, IsUnwritten, StaysOpen, state_of};
 ghost use Rattle.f11_fcp.specs.Places.{access_table_of};
 ghost use Rattle.f11_store.specs.declared.requests.Request.TheVariants as asked;
 ghost use Rattle.f11_files.specs.Open.{disk_in};
@@ -24,6 +24,7 @@ impl Accesses {
             (state_of (access_table_of self.now) files.new) [] }
         ensures open { StaysOpen result (access_table_of self.now) files.new }
         ensures ordered { WritesInOrder (disk_in files.old) (disk_in files.new) }
+        ensures unwritten { IsUnwritten (disk_in files.old) (disk_in files.new) }
     {
         let (free, headers, slots) = files.space();
         Ok(Reply::Space {

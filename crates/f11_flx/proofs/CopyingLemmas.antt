@@ -46,7 +46,7 @@ fault-is LineTooLong = refl
 -- What a copy's answer tells of the RT-11 volume.
 module _ {E : Type 0} {met : Ghosts E} (disk : E → Disk) (name : List ℕ) (old new : RtAccepted E met) where
   fares-rt : (r : as-result ℕ) → Fares disk (of_rt is_fault r) old new → FaresRt disk r old new
-  fares-rt r f = record { failures = f.failures; quiet = f.quiet; honest = f.honest; next = f.next }
+  fares-rt r f = record { failures = f.failures; quiet = f.quiet; honest = f.honest; next = f.next; front = f.front }
 
   target-made : (x : ℕ) → Fares disk false old new → (IsSoundDisk (rt_disk disk old) → IsSoundDisk (rt_disk disk new))
       → KeepsFailed disk (let r : as-result ℕ = Ok x in r) old new → (has_failed old ≡ true → ⊥) →

@@ -49,7 +49,13 @@ module _ {E : Type 0} {met : Ghosts E} (disk : E → Disk) where
   reads-rt r b old new is h kept dead =
       let k = subst (λ x. Looks disk x old new) (sym is) h in
       record {
-        fares = record { failures = k.fares.failures; quiet = k.fares.quiet; honest = k.fares.honest; next = k.fares.next };
+        fares = record {
+          failures = k.fares.failures;
+          quiet = k.fares.quiet;
+          honest = k.fares.honest;
+          next = k.fares.next;
+          front = k.fares.front;
+        };
         keeps = kept;
         failed = dead;
         image = k.image;

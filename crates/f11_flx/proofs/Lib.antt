@@ -7,6 +7,7 @@ pub mod PassedLemmas
 pub mod PlanLemmas
 pub mod PourLemmas
 pub mod StatingLemmas
+pub mod FrontLemmas
 pub mod TargetLemmas
 pub mod ConvertLemmas
 pub mod ConvertedLemmas

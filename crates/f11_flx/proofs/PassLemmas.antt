@@ -21,6 +21,7 @@ use Rattle.f11_flx.specs.Asking.{Denies, Granted, FilesService, Who, writes, wri
 use Rattle.f11_flx.specs.Filling.{Out, pending}
 use Rattle.f11_flx.specs.Lines.{in_whole_blocks, lines_of, without_zeros}
 use Rattle.f11_flx.specs.Passes.{BeginsLines, EndsLines, FailsToEnd, FailsToFlush, FailsToReadLines, Flushes, ReadsLines, StopsAtEnd}
+use Rattle.f11_flx.proofs.FrontLemmas.{front-same}
 use Rattle.f11_flx.specs.RtSource.{FailsToReadPlace, HasContents, Looks, ReadsRtBlocks, ReadsPlace, StopsReadingRt}
 use Rattle.f11_flx.specs.Spelled.{variable_records}
 use Rattle.f11_flx.specs.Target.{rt_disk, rt_store}
@@ -46,7 +47,13 @@ take-one n xs x is =
 module _ {E : Type 0} {met : Ghosts E} (disk : E → Disk) where
   pub looks-none : (v : RtAccepted E met) → Looks disk false v v
   looks-none v = record {
-    fares = record { failures = omega arith; quiet = λ fault. absurd (cc); honest = refl; next = sym (or-false (has_failed v)) };
+    fares = record {
+      failures = omega arith;
+      quiet = λ fault. absurd (cc);
+      honest = refl;
+      next = sym (or-false (has_failed v));
+      front = λ s. front-same (rt_disk disk v) (rt_disk disk v) refl refl;
+    };
     image = refl;
     history = refl;
   }
@@ -58,6 +65,7 @@ module _ {E : Type 0} {met : Ghosts E} (disk : E → Disk) where
       quiet = k.fares.quiet;
       honest = k.fares.honest ∙ h.fares.honest;
       next = k.fares.next ∙ ap (λ f. f || fault) (h.fares.next ∙ or-false (has_failed a));
+      front = λ s. front-same (rt_disk disk a) (rt_disk disk c) (k.image ∙ h.image) (k.history ∙ h.history);
     };
     image = k.image ∙ h.image;
     history = k.history ∙ h.history;

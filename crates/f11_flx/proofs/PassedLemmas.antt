@@ -11,13 +11,14 @@ use Rattle.f11_dev.specs.Disk.{Disk}
 use Rattle.f11_dev.specs.declared.device.Device.{Ghosts}
 use Rattle.rt11_volume.specs.declared.volume.RtAccepted.{RtAccepted}
 use Rattle.f11_store.specs.declared.refusals.Refusal.{Refusal}
+use Rattle.rt11_volume.specs.declared.refusal.RtRefusal.{RtRefusal}
 use Rattle.f11_flx.specs.Asking.{Denies, Granted, Grants, FilesService, Who, writes, writes_of}
 use Rattle.f11_flx.specs.Conversion.{Copy, copied_lines}
 use Rattle.f11_flx.specs.Filling.{Out, pending}
 use Rattle.f11_flx.specs.Lines.{has_long_line, in_whole_blocks, lines_of, without_zeros}
 use Rattle.f11_flx.specs.Passes.{BeginsLines, CopiesFile, CopiesImage, EndsLines, FailsToCopyFile, FailsToEnd, FailsToReadLines, HasNoCopy}
-use Rattle.f11_flx.specs.Passes.{IsCopied, ReadsLines, StopsAtBlock, StopsAtLine, StopsCopying}
-use Rattle.f11_flx.specs.RtSource.{ReadsPlace}
+use Rattle.f11_flx.specs.Passes.{IsCopied, ReadsLines, StopsAtBlock, StopsAtLine, StopsAtPlace, StopsCopying}
+use Rattle.f11_flx.specs.RtSource.{FailsToReadPlace, ReadsPlace}
 use Rattle.f11_flx.specs.Spelled.{image_attributes, longest_of, text_attributes, variable_records}
 use Rattle.f11_flx.specs.ToRecords.{bytes_to_come, is_too_long, longest_with}
 use Rattle.f11_flx.specs.Writing.{out_bytes}
@@ -25,7 +26,7 @@ use Rattle.f11_flx.specs.declared.mode.CopyMode.TheVariants.{Image, Text}
 use Rattle.f11_flx.specs.declared.refusal.FlxRefusal.{FlxRefusal}
 use Rattle.f11_flx.specs.declared.refusal.FlxRefusal.TheVariants.{BadRecord, Files, LineTooLong, Rt}
 use Rattle.f11_flx.specs.declared.to_records.ToRecords.{ToRecords}
-use Rattle.f11_flx.proofs.PassLemmas.{few-to-come, granted-writes, in-whole-behind, reads-more, to-come}
+use Rattle.f11_flx.proofs.PassLemmas.{few-to-come, granted-writes, in-whole-behind, reads-more, stops-reading, to-come}
 use Rattle.f11_flx.proofs.PourLemmas.{whole-length}
 use Rattle.f11_flx.proofs.WritingLemmas.{is-whole}
 
@@ -314,6 +315,14 @@ module _ {V E : Type 0} {met : Ghosts E} (S : FilesService V) (disk : E → Disk
   }
 
 module _ {V E : Type 0} {met : Ghosts E} (S : FilesService V) (disk : E → Disk) (who : Who) (lun : ℕ) (name : List ℕ) where
+  pub image-stops : (many place : ℕ) (e : RtRefusal) (a b c : RtAccepted E met) (v w : V) → CopiesImage S disk who lun name place a b v w
+      → FailsToReadPlace disk name place e b c → place < many → StopsAtPlace S disk who lun name many e a c v w
+  image-stops many place e a b c v w h k low = record {
+    pieces = h.blocks;
+    granted = h.granted;
+    stops = stops-reading disk name h.blocks place many e a b c h.reads k low;
+  }
+
   pub image-more : (place vbn : ℕ) (block : List ℕ) (a b c : RtAccepted E met) (v w x : V) → CopiesImage S disk who lun name place a b v w
       → ReadsPlace disk name place block b c → vbn ≡ place + 1 →
       Grants S who (writes lun vbn block) w x → CopiesImage S disk who lun name (place + 1) a c v x

@@ -17,6 +17,7 @@ use Rattle.f11_flx.specs.CopyToRt.{HasCopy, HasSameDirectory, LiesInFirstArea}
 use Rattle.f11_flx.specs.Filling.{Took}
 use Rattle.f11_flx.specs.Target.{Fares, HasRtBlocks, Puts, ReplacesRtBlocks, rt_disk, rt_store}
 use Rattle.f11_flx.specs.ToRt.{rt_takes}
+use Rattle.f11_flx.proofs.FrontLemmas.{front-same, front-then}
 use Rattle.f11_flx.proofs.SmallLemmas.{or-false}
 
 -- What stands then in the file's contents, of which blocks were replaced from a place on.
@@ -132,14 +133,22 @@ module _ (name : List ℕ) (count day : ℕ) (pieces : List (List ℕ)) (t t1 t2
 
 module _ {E : Type 0} {met : Ghosts E} (disk : E → Disk) where
   pub fares-none : (v : RtAccepted E met) → Fares disk false v v
-  fares-none v = record { failures = omega arith; quiet = λ h. absurd (cc); honest = refl; next = sym (or-false (has_failed v)) }
+  fares-none v = record {
+    failures = omega arith;
+    quiet = λ h. absurd (cc);
+    honest = refl;
+    next = sym (or-false (has_failed v));
+    front = λ s. front-same (rt_disk disk v) (rt_disk disk v) refl refl;
+  }
 
-  pub fares-then : (b : Bool) (u v w : RtAccepted E met) → Fares disk false u v → Fares disk b v w → Fares disk b u w
-  fares-then b u v w f g = record {
+  pub fares-then : (b : Bool) (u v w : RtAccepted E met) → (IsSoundDisk (rt_disk disk u) → IsSoundDisk (rt_disk disk v))
+      → Fares disk false u v → Fares disk b v w → Fares disk b u w
+  fares-then b u v w sound f g = record {
     failures = g.failures ∙ ap (λ n. n + (if b then 1 else 0)) (omega (arith, f.failures));
     quiet = g.quiet;
     honest = g.honest ∙ f.honest;
     next = g.next ∙ ap (λ (x : Bool). x || b) (f.next ∙ or-false (has_failed u));
+    front = λ s. front-then (rt_disk disk u) (rt_disk disk v) (rt_disk disk w) (f.front s) (g.front (sound s));
   }
 
   pub took-puts : (name : List ℕ) (place : ℕ) (pieces : List (List ℕ)) (old new : RtAccepted E met)
@@ -154,7 +163,7 @@ module _ {E : Type 0} {met : Ghosts E} (disk : E → Disk) where
       let one = h.1 in
       let rest = took-puts name (suc place) pieces h.0 new h.2 in
       record {
-        fares = fares-then false old h.0 new one.fares rest.fares;
+        fares = fares-then false old h.0 new one.sound one.fares rest.fares;
         sound = λ s. rest.sound (one.sound s);
         replaced = λ s.
             let r = one.replaced s in (

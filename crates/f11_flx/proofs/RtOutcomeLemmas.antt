@@ -94,7 +94,7 @@ module _ {E : Type 0} {met : Ghosts E} (disk : E → Disk) (name : List ℕ) whe
       record {
         pieces = pieces;
         fares = fares-as (is_fault r.refusal) (is_rt_fault e) old new (fault-of e (refusal.Rt r.refusal) (is_fault r.refusal) r.is refl)
-            (fares-then disk (is_fault r.refusal) old between new puts.fares r.refused.fares);
+            (fares-then disk (is_fault r.refusal) old between new puts.sound puts.fares r.refused.fares);
         sound = λ c s. stays-sound between new (is_fault r.refusal) r.refused.fares (kept c) (puts.sound s);
         replaced = λ c s. subst (λ (t : RtStore). ReplacesRtBlocks name 0 pieces (rt_store disk old) t) (ap rt_store_of (sym (kept c)))
             (puts.replaced s);
@@ -144,7 +144,7 @@ module _ {E : Type 0} {met : Ghosts E} (disk : E → Disk) (name : List ℕ) whe
       let lethal = h.lethal in
       leaves-as e x old new h.same (record {
         fares = subst (λ v. Fares disk (is_rt_fault x) old v) (sym h.stays)
-            (fares-then disk (is_rt_fault x) old made stopped m.fares p.fares);
+            (fares-then disk (is_rt_fault x) old made stopped m.sound m.fares p.fares);
         sound = λ c s. absurd (no-truth (sym lethal ∙ c));
         same = λ c s. absurd (no-truth (sym lethal ∙ c));
         directory = λ c s. absurd (no-truth (sym lethal ∙ c));
@@ -154,7 +154,8 @@ module _ {E : Type 0} {met : Ghosts E} (disk : E → Disk) (name : List ℕ) whe
       let put = fares-as (is_rt_fault x) false made stopped none p.fares in
       leaves-as e x old new h.same (record {
         fares = fares-as false (is_rt_fault x) old new (sym none)
-            (fares-then disk false old made new m.fares (fares-then disk false made stopped new put h.deleted.fares));
+            (fares-then disk false old made new m.sound m.fares
+            (fares-then disk false made stopped new (p.sound h.clean) put h.deleted.fares));
         sound = λ c s. h.deleted.sound (p.sound h.clean (m.sound s));
         same = λ c s.
             let gone = has-gone name count day p.pieces (rt_store disk old) (rt_store disk made) (rt_store disk stopped) (m.made s)
@@ -176,8 +177,8 @@ module _ {E : Type 0} {met : Ghosts E} (disk : E → Disk) (name : List ℕ) whe
 
       all : Fares disk (is_fault h.refusal) old new
       all =
-          fares-then disk (is_fault h.refusal) old made new m.fares
-          (fares-then disk (is_fault h.refusal) made stopped new put h.refused.refused.fares)
+          fares-then disk (is_fault h.refusal) old made new m.sound m.fares
+          (fares-then disk (is_fault h.refusal) made stopped new (p.sound h.clean) put h.refused.refused.fares)
 
       alive : has_failed stopped ≡ false
       alive = put.next ∙ or-false (has_failed made) ∙ m.fares.next ∙ or-false (has_failed old) ∙ m.alive
@@ -269,5 +270,8 @@ module _ {E : Type 0} {met : Ghosts E} (disk : E → Disk) (name : List ℕ) whe
     file-made m count v w old new h =
         let l = h.copies in
         let some = copies-some S who lun m l.attr l.blocks l.fills.taken l.walked h.left l.fills.made new l.fills.copies in
-        let puts = took-puts disk name 0 some.0 l.fills.made new some.1 in
-        (fares-then disk false old l.fills.made new l.fills.makes.fares puts.fares, λ s. puts.sound (l.fills.makes.sound s))
+        let puts = took-puts disk name 0 some.0 l.fills.made new some.1 in (
+          fares-then disk false old l.fills.made new l.fills.makes.sound l.fills.makes.fares puts.fares,
+          λ s.
+              puts.sound (l.fills.makes.sound s),
+        )

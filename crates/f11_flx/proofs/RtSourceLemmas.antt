@@ -18,6 +18,7 @@ use Rattle.rt11_volume.proofs.Verifying.Sound.{sound_from}
 use Rattle.f11_flx.specs.RtSource.{FailsToReadPlace, FindsRtFile, FindsNoRtFile, HasContents, Looks, ReadsPlace}
 use Rattle.f11_flx.specs.Target.{rt_disk, rt_store}
 use Rattle.f11_flx.proofs.RtBlockLemmas.{contents-whole}
+use Rattle.f11_flx.proofs.FrontLemmas.{front-same}
 use Rattle.f11_flx.proofs.TargetLemmas.{alive-of, area-length, as-err, dead-of, unfailed-of}
 
 -- the file of a name is one
@@ -41,6 +42,7 @@ module _ {E : Type 0} {met : Ghosts E} (disk : E → Disk) where
       quiet = λ fault. w.quiet (subst (λ b. 0 < (if b then 1 else 0)) (sym fault) (omega arith));
       honest = w.honest;
       next = a.next;
+      front = λ s. front-same (rt_disk disk old) (rt_disk disk new) w.image w.history;
     };
     image = w.image;
     history = w.history;

@@ -1,6 +1,7 @@
 -- What the calls on an RT-11 volume tell of a file that is made.
 use Rattle.std.proofs.Common.{◌≡◌, ◌≢◌, ℕ, ◌+◌, ◌<◌, ◌≤◌, Bool, true, false, if◌then◌else◌, List, [], ◌∷◌, length, slice_index_or, Result}
 use Rattle.std.proofs.Common.{Ok, Err, OnOk, OnErr, IfErr, refl, sym, ◌∙◌, ap, subst, arith}
+use Rattle.std.proofs.lemmas.Bool.{le-ltb}
 use Rattle.std.proofs.lemmas.List.{length-map}
 use Rattle.std.proofs.lemmas.List.FromFn.{length-range_with_len}
 use Rattle.f11_dev.specs.Disk.{Disk}
@@ -9,7 +10,9 @@ use Rattle.f11_dev.specs.Looked.{Looked}
 use Rattle.f11_dev.specs.Went.{Went}
 use Rattle.f11_dev.specs.declared.device.Device.{Ghosts}
 use Rattle.rt11_volume.specs.Calls.{has_failed}
-use Rattle.rt11_volume.specs.Files.{AnswersRt, CreatesFile, DeletesFile, FailsToDelete, FailsToReach, HasBlockWritten, faults_in, file_area}
+use Rattle.rt11_volume.specs.Files.{AnswersRt, CreatesFile, DeletesFile, FailsToCreate, FailsToDelete, FailsToReach, HasBlockWritten}
+use Rattle.rt11_volume.specs.Files.{KeepsFiles}
+use Rattle.rt11_volume.specs.Files.{faults_in, file_area}
 use Rattle.rt11_volume.specs.Files.{is_device_fault, is_fault}
 use Rattle.rt11_volume.specs.Named.{files_named}
 use Rattle.rt11_volume.specs.Operations.{with_block, with_new_file}
@@ -21,8 +24,11 @@ use Rattle.rt11_volume.specs.declared.refusal.RtRefusal.{RtRefusal}
 use Rattle.rt11_volume.specs.declared.refusal.RtRefusal.TheVariants as rt
 use Rattle.rt11_volume.specs.declared.volume.RtAccepted.{RtAccepted}
 use Rattle.rt11_volume.proofs.Named.Laws.{created-made, deleted-gone, written-replaced, file-first, no-file}
-use Rattle.f11_flx.specs.CopyToRt.{HasSameDirectory}
-use Rattle.f11_flx.specs.Target.{DeletesRtFile, FailsDeleting, FailsPutting, Fares, HasRtBlocks, Makes, Puts, Refused, rt_disk, rt_store}
+use Rattle.f11_flx.specs.CopyToRt.{FailsToMake, FailsToMakeIf, HasSameDirectory}
+use Rattle.f11_flx.specs.Target.{DeletesRtFile, FailsDeleting, FailsMaking, FailsPutting, Fares, HasRtBlocks, KeepsFront, Makes, Puts}
+use Rattle.f11_flx.specs.Target.{Refused}
+use Rattle.f11_flx.specs.Target.{rt_disk, rt_store}
+use Rattle.f11_flx.proofs.FrontLemmas.{block-front, files-front, front-went}
 
 abbrev pub as-ok : {T : Type 0} → T → Result T RtRefusal
 as-ok x = Ok x
@@ -45,13 +51,16 @@ block-written t t' lbn block is = subst (λ (x : RtStore). x ≡ record t { bloc
 
 module _ {E : Type 0} {met : Ghosts E} (disk : E → Disk) (old new : RtAccepted E met) where
   -- a disk that is sound stays so where its image is accepted
-  pub fares-of : {T : Type 0} (P : Image → Type 0) (most : ℕ) (result : Result T RtRefusal) → AnswersRt disk result old new →
+  pub fares-of : {T : Type 0} (P : Image → Type 0)
+      → (IsSoundDisk (rt_disk disk old) → (image : Image) → P image → KeepsFront (rt_disk disk old).image image)
+      → (most : ℕ) (result : Result T RtRefusal) → AnswersRt disk result old new →
       Went P (rt_disk disk old) (rt_disk disk new) most (faults_in result) → Fares disk (is_device_fault result) old new
-  fares-of P most result a w = record {
+  fares-of P keeps most result a w = record {
     failures = w.failures;
     quiet = λ fault. w.quiet (subst (λ b. 0 < (if b then 1 else 0)) (sym fault) (omega arith));
     honest = w.honest;
     next = a.next;
+    front = λ s. front-went P (rt_disk disk old) (rt_disk disk new) (keeps s) w;
   }
 
   pub alive-of : {T : Type 0} (x : T) → AnswersRt disk (Ok x) old new → has_failed old ≡ false
@@ -72,34 +81,36 @@ module _ {E : Type 0} {met : Ghosts E} (disk : E → Disk) (old new : RtAccepted
       same : as-err {T = T} e ≡ as-err rt.Failed → e ≡ rt.Failed
       same is = cc
 
-  pub deletes : (name : List ℕ) (P : Image → Type 0) (most : ℕ) (result : Result Unit RtRefusal) → AnswersRt disk result old new →
-      Went P (rt_disk disk old) (rt_disk disk new) most (faults_in result) →
+  pub deletes : (name : List ℕ) (most : ℕ) (result : Result Unit RtRefusal) → AnswersRt disk result old new →
+      Went (KeepsFiles (rt_disk disk old)) (rt_disk disk old) (rt_disk disk new) most (faults_in result) →
       OnOk result (IsSoundDisk (rt_disk disk old) → DeletesFile name (rt_disk disk old).image (rt_disk disk new).image) →
       OnOk result (DeletesRtFile disk name old new)
-  deletes name P most (Ok x) a w made = record {
-    fares = fares-of P most (Ok x) a w;
+  deletes name most (Ok x) a w made = record {
+    fares = fares-of (KeepsFiles (rt_disk disk old)) (files-front (rt_disk disk old)) most (Ok x) a w;
     sound = λ s. record { honest = w.honest ∙ s.honest; accepted = (made s).accepted };
     gone = λ s. deleted-gone name (rt_disk disk old).image (rt_disk disk new).image (made s);
     emptied = λ s. record { file = (made s).file; store_is = (made s).store_is };
   }
-  deletes name P most (Err e) a w made = tt
+  deletes name most (Err e) a w made = tt
 
-  pub refused-of : {T : Type 0} (P : Image → Type 0) (most few : ℕ) (e : RtRefusal) → AnswersRt {T = T} disk (Err e) old new →
+  pub refused-of : {T : Type 0} (P : Image → Type 0)
+      → (IsSoundDisk (rt_disk disk old) → (image : Image) → P image → KeepsFront (rt_disk disk old).image image)
+      → (most few : ℕ) (e : RtRefusal) → AnswersRt {T = T} disk (Err e) old new →
       Went P (rt_disk disk old) (rt_disk disk new) most (faults_in (as-err {T = T} e)) →
       (is_fault e ≡ false → Looked (rt_disk disk old) (rt_disk disk new) few 0) → Refused disk e old new
-  refused-of P most few e a w kept = record {
-    fares = fares-of P most (Err e) a w;
+  refused-of P keeps most few e a w kept = record {
+    fares = fares-of P keeps most (Err e) a w;
     stays = λ none. (kept none).image;
     alive = unfailed-of e a;
   }
 
-  pub makes : (name : List ℕ) (blocks day : ℕ) (P : Image → Type 0) (most : ℕ) (result : Result Unit RtRefusal) → IsRtName name
-      → blocks ≤ 65535 →
-      AnswersRt disk result old new → Went P (rt_disk disk old) (rt_disk disk new) most (faults_in result) →
+  pub makes : (name : List ℕ) (blocks day : ℕ) (most : ℕ) (result : Result Unit RtRefusal) → IsRtName name
+      → blocks ≤ 65535 → AnswersRt disk result old new →
+      Went (KeepsFiles (rt_disk disk old)) (rt_disk disk old) (rt_disk disk new) most (faults_in result) →
       OnOk result (IsSoundDisk (rt_disk disk old) → CreatesFile name blocks day (rt_disk disk old).image (rt_disk disk new).image) →
       OnOk result (Makes disk name blocks day old new)
-  makes name blocks day P most (Ok x) named few a w made = record {
-    fares = fares-of P most (Ok x) a w;
+  makes name blocks day most (Ok x) named few a w made = record {
+    fares = fares-of (KeepsFiles (rt_disk disk old)) (files-front (rt_disk disk old)) most (Ok x) a w;
     alive = alive-of x a;
     few = few;
     sound = λ s. record { honest = w.honest ∙ s.honest; accepted = (made s).accepted };
@@ -111,14 +122,16 @@ module _ {E : Type 0} {met : Ghosts E} (disk : E → Disk) (old new : RtAccepted
           (made s).store_is;
     };
   }
-  makes name blocks day P most (Err e) named few a w made = tt
+  makes name blocks day most (Err e) named few a w made = tt
 
-  pub puts : (name : List ℕ) (place : ℕ) (block : List ℕ) (P : Image → Type 0) (most : ℕ) (result : Result Unit RtRefusal) →
-      AnswersRt disk result old new → Went P (rt_disk disk old) (rt_disk disk new) most (faults_in result) →
+  pub puts : (name : List ℕ) (place : ℕ) (block : List ℕ) (most : ℕ) (result : Result Unit RtRefusal) →
+      AnswersRt disk result old new →
+      Went (HasBlockWritten name place block (rt_disk disk old)) (rt_disk disk old) (rt_disk disk new) most (faults_in result) →
       OnOk result (HasBlockWritten name place block (rt_disk disk old) (rt_disk disk new).image) →
       OnOk result (Puts disk name place (block ∷ []) old new)
-  puts name place block P most (Ok x) a w written = record {
-    fares = fares-of P most (Ok x) a w;
+  puts name place block most (Ok x) a w written = record {
+    fares = fares-of (HasBlockWritten name place block (rt_disk disk old)) (block-front name place block (rt_disk disk old)) most (Ok x) a
+        w;
     sound = λ s. record { honest = w.honest ∙ s.honest; accepted = (written s).accepted };
     replaced = λ s. (
       rt_store disk new,
@@ -128,7 +141,26 @@ module _ {E : Type 0} {met : Ghosts E} (disk : E → Disk) (old new : RtAccepted
     directory = λ s.
         block-written (rt_store disk old) (rt_store disk new) ((file_area (written s).file).start + place) block (written s).store_is;
   }
-  puts name place block P most (Err e) a w written = tt
+  puts name place block most (Err e) a w written = tt
+
+  -- no file is made of so many blocks, since there may be files of so many
+  fails-as : (name : List ℕ) (blocks : ℕ) (e : RtRefusal) → blocks ≤ 65535 → FailsToCreate e name blocks (rt_disk disk old)
+      → FailsToMake e name blocks (rt_disk disk old)
+  fails-as name blocks e few why =
+      subst (λ b. FailsToMakeIf b e name blocks (rt_disk disk old)) (sym (le-ltb 65535 blocks few)) why
+
+  pub fails-making : (name : List ℕ) (blocks : ℕ) (most less : ℕ) (result : Result Unit RtRefusal) → blocks ≤ 65535 →
+      AnswersRt disk result old new →
+      Went (KeepsFiles (rt_disk disk old)) (rt_disk disk old) (rt_disk disk new) most (faults_in result) →
+      IfErr result (λ e. FailsToCreate e name blocks (rt_disk disk old)) →
+      (is_device_fault result ≡ false → OnErr result (Looked (rt_disk disk old) (rt_disk disk new) less 0)) →
+      IfErr result (λ e. FailsMaking disk name blocks e old new)
+  fails-making name blocks most less (Ok x) few a w why kept = tt
+  fails-making name blocks most less (Err e) few a w why kept = record {
+    refused = refused-of (KeepsFiles (rt_disk disk old)) (files-front (rt_disk disk old)) most less e a w kept;
+    dead = dead-of e a;
+    why = fails-as name blocks e few why;
+  }
 
   -- on a sound volume a block that is refused is none of the file's
   past-of : (name : List ℕ) (place blocks : ℕ) (e : RtRefusal) → FailsToReach e name place (rt_disk disk old)
@@ -151,14 +183,17 @@ module _ {E : Type 0} {met : Ghosts E} (disk : E → Disk) (old new : RtAccepted
   past-of name place blocks rt.DirectoryFull h s unfailed none has = absurd h
   past-of name place blocks rt.NoMemory h s unfailed none has = absurd h
 
-  pub fails-putting : (name : List ℕ) (place : ℕ) (P : Image → Type 0) (most few : ℕ) (result : Result Unit RtRefusal) →
-      AnswersRt disk result old new → Went P (rt_disk disk old) (rt_disk disk new) most (faults_in result) →
+  pub fails-putting : (name : List ℕ) (place : ℕ) (block : List ℕ) (most few : ℕ) (result : Result Unit RtRefusal) →
+      AnswersRt disk result old new →
+      Went (HasBlockWritten name place block (rt_disk disk old)) (rt_disk disk old) (rt_disk disk new) most (faults_in result) →
       IfErr result (λ e. FailsToReach e name place (rt_disk disk old)) →
       (is_device_fault result ≡ false → OnErr result (Looked (rt_disk disk old) (rt_disk disk new) few 0)) →
       IfErr result (λ e. FailsPutting disk name place e old new)
-  fails-putting name place P most few (Ok x) a w why kept = tt
-  fails-putting name place P most few (Err e) a w why kept = record {
-    refused = refused-of P most few e a w kept;
+  fails-putting name place block most few (Ok x) a w why kept = tt
+  fails-putting name place block most few (Err e) a w why kept = record {
+    refused =
+        refused-of (HasBlockWritten name place block (rt_disk disk old)) (block-front name place block (rt_disk disk old)) most few e a w
+        kept;
     past = λ s alive none blocks has. past-of name place blocks e why s (unfailed-of e a alive) none has;
   }
 
@@ -180,13 +215,14 @@ module _ {E : Type 0} {met : Ghosts E} (disk : E → Disk) (old new : RtAccepted
   protected-of name rt.DirectoryFull h s unfailed none file more is = absurd h
   protected-of name rt.NoMemory h s unfailed none file more is = absurd h
 
-  pub fails-deleting : (name : List ℕ) (P : Image → Type 0) (most few : ℕ) (result : Result Unit RtRefusal) →
-      AnswersRt disk result old new → Went P (rt_disk disk old) (rt_disk disk new) most (faults_in result) →
+  pub fails-deleting : (name : List ℕ) (most few : ℕ) (result : Result Unit RtRefusal) →
+      AnswersRt disk result old new →
+      Went (KeepsFiles (rt_disk disk old)) (rt_disk disk old) (rt_disk disk new) most (faults_in result) →
       IfErr result (λ e. FailsToDelete e name (rt_disk disk old)) →
       (is_device_fault result ≡ false → OnErr result (Looked (rt_disk disk old) (rt_disk disk new) few 0)) →
       IfErr result (λ e. FailsDeleting disk name e old new)
-  fails-deleting name P most few (Ok x) a w why kept = tt
-  fails-deleting name P most few (Err e) a w why kept = record {
-    refused = refused-of P most few e a w kept;
+  fails-deleting name most few (Ok x) a w why kept = tt
+  fails-deleting name most few (Err e) a w why kept = record {
+    refused = refused-of (KeepsFiles (rt_disk disk old)) (files-front (rt_disk disk old)) most few e a w kept;
     protected = λ s alive none file more is. protected-of name e why s (unfailed-of e a alive) none file more is;
   }

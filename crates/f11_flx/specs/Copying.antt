@@ -26,6 +26,7 @@ use Rattle.rt11_volume.specs.Verifying.Verdict.{IsSoundDisk}
 use Rattle.rt11_volume.specs.declared.refusal.RtRefusal.{RtRefusal}
 use Rattle.rt11_volume.specs.declared.refusal.RtRefusal.TheVariants.{Failed}
 use Rattle.rt11_volume.specs.declared.volume.RtAccepted.{RtAccepted}
+use Rattle.f11_flx.specs.Target.{SparesFront}
 use Rattle.f11_flx.specs.Asking.{Asking, FilesService, Grants, Tried, Who, asks, counts, reads, told, writes}
 use Rattle.f11_flx.specs.CopyFromRt.{IsAsBefore}
 use Rattle.f11_flx.specs.Refusal.{is_lethal}
@@ -83,13 +84,14 @@ pub record FaresFiles {D T : Type 0} {met : Ghosts D} (result : Result T FlxRefu
   pub accepted : StaysAccepted (state_in new)
   pub ordered : WritesInOrder (state_in old).disk (state_in new).disk
 
--- What it tells of the RT-11 volume.
+-- What it tells of the RT-11 volume, of which blocks 0 to 5 are spared where the disk is sound.
 pub record FaresRt {E T : Type 0} {met : Ghosts E} (disk : E → Disk) (result : Result T FlxRefusal)
     (old new : RtAccepted E met) : Type 0 where
   pub failures : (disk (volume_device new)).failures ≡ (disk (volume_device old)).failures + (if of_rt is_rt_fault result then 1 else 0)
   pub quiet : of_rt is_rt_fault result ≡ true → (disk (volume_device new)).calm ≡ 0
   pub honest : (disk (volume_device new)).honest ≡ (disk (volume_device old)).honest
   pub next : has_failed new ≡ (has_failed old || of_rt is_rt_fault result)
+  pub front : IsSoundDisk (disk (volume_device old)) → SparesFront (disk (volume_device old)) (disk (volume_device new))
 
 -- only such things were asked of the volume, one after another, whatever it answered
 pub record AsksOnly {D : Type 0} {met : Ghosts D} (is_one : Asking → Bool) (who : Who) (old new : Volume D met) : Type 0 where

@@ -1,6 +1,7 @@
 -- What making, writing and deleting a file tells of an RT-11 volume (profile).
-use Rattle.std.specs.Prelude.{◌≡◌, ◌≢◌, ℕ, ◌+◌, ◌≤◌, suc, ◌||◌, Bool, true, false, if◌then◌else◌, List, [], ◌∷◌, length}
+use Rattle.std.specs.Prelude.{◌≡◌, ◌≢◌, ℕ, ◌+◌, ◌<◌, ◌≤◌, suc, ◌||◌, Bool, true, false, if◌then◌else◌, List, [], ◌∷◌, ◌++◌, All, length}
 use Rattle.f11_dev.specs.Disk.{Disk}
+use Rattle.f11_dev.specs.Image.{Image, image_block}
 use Rattle.f11_dev.specs.declared.device.Device.{Ghosts}
 use Rattle.rt11_volume.specs.Calls.{has_failed, volume_device}
 use Rattle.rt11_volume.specs.Files.{is_fault}
@@ -22,12 +23,25 @@ rt_disk disk v = disk (volume_device v)
 abbrev pub rt_store : {E : Type 0} {met : Ghosts E} → (E → Disk) → RtAccepted E met → RtStore
 rt_store disk v = rt_store_of (rt_disk disk v).image
 
--- Calls were made of the volume, and whether the last of them met a device fault: then none followed, and the volume has failed.
+-- blocks 0 to 5, which lie before the directory, are as they were
+abbrev pub KeepsFront : Image → Image → Type 0
+KeepsFront old new = (lbn : ℕ) → lbn < 6 → image_block new lbn ≡ image_block old lbn
+
+-- They are in each image that stood meanwhile, and in the last.
+pub record SparesFront (old new : Disk) : Type 0 where
+  pub since : List Image
+  pub history : new.history ≡ since ++ old.history
+  pub each : All (KeepsFront old.image) since
+  pub last : KeepsFront old.image new.image
+
+-- Calls were made of the volume, and whether the last of them met a device fault: then none followed, and the volume has failed. Of a
+-- sound disk blocks 0 to 5 are spared.
 pub record Fares {E : Type 0} {met : Ghosts E} (disk : E → Disk) (fault : Bool) (old new : RtAccepted E met) : Type 0 where
   pub failures : (rt_disk disk new).failures ≡ (rt_disk disk old).failures + (if fault then 1 else 0)
   pub quiet : fault ≡ true → (rt_disk disk new).calm ≡ 0
   pub honest : (rt_disk disk new).honest ≡ (rt_disk disk old).honest
   pub next : has_failed new ≡ (has_failed old || fault)
+  pub front : IsSoundDisk (rt_disk disk old) → SparesFront (rt_disk disk old) (rt_disk disk new)
 
 -- Blocks of the file of a name were written one after another, from this place on.
 abbrev pub ReplacesRtBlocks : List ℕ → ℕ → List (List ℕ) → RtStore → RtStore → Type 0

@@ -104,7 +104,16 @@ fn opened_both<'a>(
     }
 }
 
-/// The answer of a copy, and a remark on the file of the volume that has a fault, or of either where there is one.
+/// What there is to say of the image of the volume of this system, which has faults.
+fn unserved<'a>(rt: &HostRuntime, asked: &Asked<'a>, system: System) -> Remark<'a> {
+    let image = match system {
+        System::Files11 => asked.image,
+        System::Rt11 => asked.rt_image,
+    };
+    remarks::of_unserved(rt, image, system)
+}
+
+/// The answer of a copy, and a remark on the file of each volume that has a fault, or of either where there is one.
 fn copied<'a>(
     rt: &HostRuntime,
     asked: &Asked<'a>,
@@ -112,16 +121,15 @@ fn copied<'a>(
     remark: &mut Option<Remark<'a>>,
 ) -> Answer {
     *remark = match answer {
-        FileAnswer::Faulty(System::Files11) => Some(remarks::of_unserved(
-            rt,
-            asked.image,
-            System::Files11,
-        )),
-        FileAnswer::Faulty(System::Rt11) => Some(remarks::of_unserved(
-            rt,
-            asked.rt_image,
-            System::Rt11,
-        )),
+        FileAnswer::Faulty(system) => Some(unserved(rt, asked, system)),
+        FileAnswer::BothFaulty => {
+            let (source, target) = match asked.direction {
+                Direction::ToRt => (System::Files11, System::Rt11),
+                Direction::FromRt => (System::Rt11, System::Files11),
+            };
+            refusals::tell(rt, Some(unserved(rt, asked, source)));
+            Some(unserved(rt, asked, target))
+        }
         FileAnswer::Done | FileAnswer::Refused => {
             remarks::of_image(rt, asked.image, None).or(remarks::of_image(rt, asked.rt_image, None))
         }

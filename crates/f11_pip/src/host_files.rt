@@ -314,7 +314,9 @@ pub fn ended<'a>(
 ) -> Answer {
     *remark = match answer {
         FileAnswer::Faulty(system) => Some(remarks::of_unserved(rt, image, system)),
-        FileAnswer::Done | FileAnswer::Refused => remarks::of_image(rt, image, None),
+        FileAnswer::Done | FileAnswer::Refused | FileAnswer::BothFaulty => {
+            remarks::of_image(rt, image, None)
+        }
     };
     answer.answer()
 }

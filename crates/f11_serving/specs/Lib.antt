@@ -2,6 +2,7 @@
 pub mod Served
 pub mod Serving
 pub mod Scripts
+pub mod Answering
 pub mod Laws
 pub use Rattle.f11_fcp.specs.files as files
 pub use Rattle.f11_fcp.specs as fcp

@@ -1,6 +1,7 @@
 //! A volume that serves scripts.
 ghost use Rattle.f11_fcp.specs.Lists.{ServesCall};
 ghost use Rattle.f11_fcp.specs.Serving.{StaysAccepted, state_in};
+ghost use Rattle.f11_serving.specs.Answering.{AnswersScript};
 ghost use Rattle.f11_serving.specs.Scripts.{KeepsScriptCosts, ServesScriptRun};
 ghost use Rattle.f11_serving.specs.Serving.{RunsScript};
 ghost use Rattle.f11_fcp.specs.writes.Order.{WritesInOrder};
@@ -48,6 +49,8 @@ pub fn run_script<D: Device, R: Read + Drop, W: Write>(
     volume: &mut Volume<D>,
 ) -> Result<u32, ScriptError>
     ensures serves { RunsScript ServesCall (R.remaining reader) volume.old volume.new
+        (W.contents writer.old) (W.contents writer.new) result }
+    ensures answers { AnswersScript volume.old volume.new (R.remaining reader)
         (W.contents writer.old) (W.contents writer.new) result }
     ensures run { ServesScriptRun volume.old volume.new (R.remaining reader)
         (W.contents writer.old) (W.contents writer.new) result }

@@ -15,6 +15,7 @@ pub mod SlotLemmas
 pub mod StepFates
 pub mod StepLaws
 pub mod StoreLemmas
+mod WorkedCostLemmas
 mod WorkedLagLemmas
 mod WorkedRunLemmas
 mod WorkedLemmas

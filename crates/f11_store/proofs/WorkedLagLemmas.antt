@@ -1,15 +1,17 @@
 -- What is no lag, computed.
-use Rattle.std.proofs.Common.{◌≡◌, ℕ, zero, suc, ◌+◌, ◌≤◌, List, [], length, Some, None, take, refl, ap, arith}
+use Rattle.std.proofs.Common.{◌≡◌, ◌⊎◌, ℕ, zero, suc, ◌+◌, ◌≤◌, List, [], length, Some, None, take, refl, sym, ◌∙◌, ap, inl, inr, arith}
 use Rattle.f11_store.specs.declared.requests.Request.TheVariants as request
-use Rattle.f11_store.specs.File.{File, zero_blocks}
+use Rattle.f11_store.specs.File.{File, stated_end, zero_blocks}
+use Rattle.f11_store.specs.Directory.{is_directory, record_at, entries_of, has_name, record_bytes, with_end}
 use Rattle.f11_store.specs.Headroom.{lacks_headers, slots_first}
-use Rattle.f11_store.specs.Store.{free_slots, is_held}
+use Rattle.f11_store.specs.Store.{Store, free_slots, is_held}
 use Rattle.f11_store.specs.Changes.{with_delete_mark}
-use Rattle.f11_store.specs.Lags.{Part, LagsBy, AreLike, IsLike, work_of, with_parts, extend_parts, grow_parts, grow_work}
-use Rattle.f11_store.specs.Worked.{first_user, crowded_volume, create}
+use Rattle.f11_store.specs.Lags.{Part, Lags, LagsBy, AreLike, IsLike, work_of, with_parts, extend_parts, grow_parts, grow_work}
+use Rattle.f11_store.specs.Worked.{first_user, crowded_volume, create, mfd_block, own_records}
 use Rattle.f11_store.specs.WorkedLags.{CreateTakesOneHeader, ExtendTakesWhatItAsks, GrowIndexClearsFirst, DeleteLeavesOthers}
 use Rattle.f11_store.specs.WorkedLags.{ReleaseFreesOnce, CreateGetsSlotFirst, ExtendGetsSlotFirst, a_file, contiguous_index}
-use Rattle.f11_store.specs.WorkedLags.{file_without_slot, block_without_slot}
+use Rattle.f11_store.specs.WorkedLags.{file_without_slot, block_without_slot, empty_volume, given_to_7}
+use Rattle.f11_store.specs.WorkedLags.{EnteredAtTheEnd, LimitsStay, SequencesStay, TruncateAddsNoPointer, WorkTakesHeaders}
 
 -- pointers that differ in two files said to be one
 pub no_pointers : {f g : File} → Some f ≡ Some g → f.pointers ≡ g.pointers
@@ -109,3 +111,42 @@ extend_gets_slot_first = record {
   others = λ lags. let same : 1 ≡ 0 = no_pointers (lags.others 5 refl) in omega (arith, same);
   order = λ lags. no_block_yet lags;
 }
+
+pub limits_stay : LimitsStay
+limits_stay = record {
+  bitmap = λ lags. let same : 2 ≡ 1 = lags.limits.bitmap_blocks in omega (arith, same);
+  index_bitmap = λ lags. let same : 2 ≡ 1 = lags.limits.index_bitmap_blocks in omega (arith, same);
+  slots = λ lags. let same : 4001 ≡ 4000 = lags.limits.limit in omega (arith, same);
+}
+
+-- a slot that gets a header
+given_twice : Lags (given_to_7 2) empty_volume 0 first_user create [] → ⊥
+unfolding free_slots is_held zero_blocks lacks_headers slots_first
+given_twice lags = by 2 refl (lags.last 7 (omega arith) (λ k. tt))
+  where
+    by : (last : ℕ) → last ≡ 2 → (last ≡ 0) ⊎ (last ≡ 1) → ⊥
+    by last is (inl same) = omega (arith, is, same)
+    by last is (inr next) = omega (arith, is, next)
+
+pub sequences_stay : SequencesStay
+sequences_stay = record {
+  next_but_one = λ lags. given_twice lags;
+  untaken = λ lags. let same : 1 ≡ 0 = lags.no_header refl 7 (omega arith) in omega (arith, same);
+}
+
+pub truncate_adds_no_pointer : TruncateAddsNoPointer
+truncate_adds_no_pointer s is cut =
+    let now : 1 ≡ cut.pointers = no_pointers (sym is ∙ ap (λ (t : Store). t.file 6) cut.store_is) in
+    let was : 0 ≡ cut.before.pointers = no_pointers cut.was in
+    omega (arith, now, was, cut.no_more_pointers)
+
+pub work_takes_headers : WorkTakesHeaders
+unfolding free_slots is_held zero_blocks lacks_headers slots_first
+work_takes_headers =
+    record { within = refl; behind = refl; slots_within = refl; slots_behind = refl; slot_first = refl; blocks = refl }
+
+pub entered_at_the_end : EnteredAtTheEnd
+unfolding free_slots is_held zero_blocks lacks_headers slots_first stated_end is_directory record_at entries_of has_name record_bytes
+    with_end
+    own_records mfd_block
+entered_at_the_end = refl

@@ -11,7 +11,8 @@ use Rattle.f11_store.specs.Causes.{first_refusal}
 use Rattle.f11_store.specs.Changes.{Changes, MayGrow, Grows, with_grown_file}
 use Rattle.f11_store.specs.Step.{MayRefuse, Refuses, Serves, reply_of, block_after}
 use Rattle.f11_store.specs.Worked.{own_records, mfd_block, crowded_block, SequenceNumbers, FullVolume, TooLong, DeferredDelete}
-use Rattle.f11_store.specs.Worked.{TruncatedUnderAReader, Conflicts, EnteredAndRemoved, EnteredInNewBlock, EnteredBehindSlot, EndMoves}
+use Rattle.f11_store.specs.Worked.{TruncatedUnderAReader, Conflicts, OtherVolumes, EnteredAndRemoved, EnteredInNewBlock, EnteredBehindSlot}
+use Rattle.f11_store.specs.Worked.{EndMoves}
 use Rattle.f11_store.specs.Worked.{HeadersRunOut, SlotsRunOut, RefusedForSlotsAlone, Bounds, BoundsBehindSlots}
 use Rattle.f11_store.specs.Changes.{AfterSlots, GetsSlots, GrowsIndex, with_more_slots}
 use Rattle.f11_store.specs.Headroom.{lacks_headers, slots_first}
@@ -244,6 +245,9 @@ conflicts = (
     ),
   ),
 )
+
+pub other_volumes : OtherVolumes
+other_volumes = (_, (_, refused refl, (_, refused refl, (_, refused refl, (_, refused refl, refl)))))
 
 pub headers_run_out : HeadersRunOut
 unfolding free_slots is_held zero_blocks lacks_headers slots_first

@@ -17,6 +17,7 @@ pub mod Step
 pub mod Store
 pub mod Text
 pub mod Worked
+pub mod WorkedCosts
 pub mod WorkedLags
 pub mod WorkedRuns
 pub mod Pieces

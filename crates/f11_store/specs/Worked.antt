@@ -3,6 +3,7 @@ use Rattle.std.specs.Prelude.{◌≡◌, ℕ, ◌+◌, ◌-◌, ◌*◌, ◌==�
 use Rattle.std.specs.Prelude.{Some, None, Ok, Err, if◌then◌else◌, replicate}
 use Rattle.std.specs.List.{flat_map, range_with_len}
 use Rattle.f11_store.specs.declared.callers.Uic.{Uic}
+use Rattle.f11_store.specs.declared.files.Change.TheVariants as change
 use Rattle.f11_store.specs.declared.files.FileId.{FileId}
 use Rattle.f11_store.specs.declared.files.Mode.TheVariants as mode
 use Rattle.f11_store.specs.declared.refusals.Refusal.{Refusal}
@@ -208,6 +209,18 @@ Conflicts =
     ∷ gets reply.Done ∷ gets reply.Done
     ∷ no refusal.Conflict ∷ no refusal.LunInUse
     ∷ no refusal.NoSuchAccess ∷ no refusal.SystemFile ∷ [])
+
+-- a file of another relative volume than 0 is none that there may be
+abbrev pub elsewhere : FileId
+elsewhere = record { number = 4; sequence = 4; volume = 1 }
+
+abbrev pub OtherVolumes : Type 0
+OtherVolumes =
+    MayAnswer small_volume
+    (asks 0 (request.Access elsewhere mode.Read 0) ∷ asks 0 (request.Delete elsewhere) ∷ asks 0 (request.ReadAttr elsewhere)
+    ∷ asks 0 (request.WriteAttr elsewhere (change.Protect 0)) ∷ [])
+    (no refusal.BadArgument ∷ no refusal.BadArgument ∷ no refusal.BadArgument
+    ∷ no refusal.BadArgument ∷ [])
 
 -- a name that is entered is found, and one that is removed isn't
 abbrev pub EnteredAndRemoved : Type 0

@@ -5,8 +5,9 @@ use Rattle.f11_store.specs.declared.requests.Request.{Request}
 use Rattle.f11_store.specs.declared.requests.Request.TheVariants as request
 use Rattle.f11_store.specs.File.{File}
 use Rattle.f11_store.specs.Store.{Store}
-use Rattle.f11_store.specs.Changes.{new_file, with_delete_mark}
-use Rattle.f11_store.specs.Lags.{Lags, file_goes, with_zero_block, work_of}
+use Rattle.f11_store.specs.Changes.{Changes, new_file, with_delete_mark, with_end_after, with_entry}
+use Rattle.f11_store.specs.Directory.{record_bytes}
+use Rattle.f11_store.specs.Lags.{Lags, Work, file_changes, file_goes, with_zero_block, work_of}
 use Rattle.f11_store.specs.Worked.{first_user, id, a_txt, corimg, indexf, ident_of, no_attr, empty_attr, full_attr}
 use Rattle.f11_store.specs.Worked.{own_file, own_files, small_volume, crowded_volume, create}
 
@@ -118,3 +119,46 @@ pub record ExtendGetsSlotFirst : Type 0 where
   pub blocks : IsNoLag (record crowded_volume { free = 171 }) crowded_volume (request.Extend 0 1)
   pub others : IsNoLag (with_other_changed crowded_volume) crowded_volume (request.Extend 0 1)
   pub order : IsNoLag block_without_slot crowded_volume (request.Extend 0 1)
+
+-- the limits of a volume stay
+pub record LimitsStay : Type 0 where
+  pub bitmap : IsNoLag (record volume_with_a { bitmap_blocks = 2 }) volume_with_a request.Space
+  pub index_bitmap : IsNoLag (record volume_with_a { index_bitmap_blocks = 2 }) volume_with_a request.Space
+  pub slots : IsNoLag (record volume_with_a { limit = 4001 }) volume_with_a request.Space
+
+-- the small volume without files, and with slot 7 as last given this sequence number
+abbrev pub empty_volume : Store
+empty_volume = record small_volume { file = λ n. None }
+
+abbrev pub given_to_7 : ℕ → Store
+given_to_7 sequence = record empty_volume { last = λ n. if n == 7 then sequence else small_volume.last n }
+
+-- a slot without a file keeps its sequence number, or gets the next one where headers are taken
+pub record SequencesStay : Type 0 where
+  pub next_but_one : IsNoLag (given_to_7 2) empty_volume create
+  pub untaken : IsNoLag (given_to_7 1) empty_volume request.Space
+
+-- Truncate leaves no pointer more than there was
+abbrev pub TruncateAddsNoPointer : Type 0
+TruncateAddsNoPointer =
+    (s : Store) → s.file 6 ≡ Some (record a_file { pointers = 1; room = 101 }) → Changes writing_a 0 first_user (request.Truncate 0 0) [] s
+    → ⊥
+
+-- the first user's work as task 0
+abbrev pub works : Store → Request → Work
+works s r = work_of s 0 first_user r []
+
+-- Extend and GrowIndex take the headers that their blocks may need, 102 in each, and that of a slot that comes first
+pub record WorkTakesHeaders : Type 0 where
+  pub within : (works writing_a (request.Extend 0 102)).headers ≡ 0
+  pub behind : (works writing_a (request.Extend 0 103)).headers ≡ 1
+  pub slots_within : (works small_volume (request.GrowIndex 101)).headers ≡ 0
+  pub slots_behind : (works small_volume (request.GrowIndex 102)).headers ≡ 1
+  pub slot_first : (works crowded_volume (request.Extend 0 1)).headers ≡ 1
+  pub blocks : (works crowded_volume (request.Extend 0 1)).blocks ≡ 2
+
+-- a record at a directory's end is written before the end moves past it
+abbrev pub EnteredAtTheEnd : Type 0
+EnteredAtTheEnd =
+    (works small_volume (request.Enter (id 4 4) a_txt (id 6 1))).parts
+    ≡ file_changes 4 (with_entry 5 (record_bytes (id 6 1) a_txt)) ∷ file_changes 4 (with_end_after 5) ∷ []

@@ -1,6 +1,7 @@
 //! Worked examples of the plain store, the contract of a function that does nothing.
 
 ghost use Rattle.f11_store.specs.Worked as worked;
+ghost use Rattle.f11_store.specs.WorkedCosts as costs;
 ghost use Rattle.f11_store.specs.WorkedLags as lags;
 ghost use Rattle.f11_store.specs.WorkedRuns as runs;
 
@@ -11,6 +12,7 @@ pub fn files()
     ensures deferred_delete { worked.DeferredDelete }
     ensures truncated_under_a_reader { worked.TruncatedUnderAReader }
     ensures conflicts { worked.Conflicts }
+    ensures other_volumes { worked.OtherVolumes }
 {}
 
 /// What they are answered where headers, or slots, run out.
@@ -33,6 +35,11 @@ pub fn directories()
 pub fn transfers()
     ensures bounds { worked.Bounds }
     ensures bounds_behind_slots { worked.BoundsBehindSlots }
+    ensures lengths { costs.WideLengths }
+    ensures directories { costs.WideDirectories }
+    ensures small { costs.SmallBounds }
+    ensures long { costs.LongFileBounds }
+    ensures giving_up { costs.GivingUpBounds }
 {}
 
 /// What no request on a small volume may leave behind.
@@ -42,6 +49,19 @@ pub fn no_lags()
     ensures grow_index { lags.GrowIndexClearsFirst }
     ensures delete { lags.DeleteLeavesOthers }
     ensures release { lags.ReleaseFreesOnce }
+{}
+
+/// What no request changes, and what of the numbers of slots.
+pub fn still_counts()
+    ensures limits { lags.LimitsStay }
+    ensures sequences { lags.SequencesStay }
+    ensures pointers { lags.TruncateAddsNoPointer }
+{}
+
+/// What requests may take, and in which order directories are written.
+pub fn work()
+    ensures headers { lags.WorkTakesHeaders }
+    ensures entered { lags.EnteredAtTheEnd }
 {}
 
 /// What a file is that is laid out in one run, what stands against it, and what it takes.

@@ -3,6 +3,7 @@ use Rattle.std.proofs.Common.{◌≡◌, ◌⊎◌, ℕ, zero, suc, ◌<◌, ◌
 use Rattle.std.proofs.Common.{subst, ◌∙◌, append_assoc, inl, inr, set, arith}
 use Rattle.std.proofs.lemmas.List.{append_cancel_right}
 use Rattle.std.proofs.lemmas.List.Elements.{All-cons, All-nil}
+use Rattle.std.specs.List.{slice_get}
 use Rattle.f11_dev.specs.Disk.{Disk, with_transfer, with_block_at}
 use Rattle.f11_dev.specs.Image.{Image, IsImage}
 use Rattle.f11_dev.specs.Looked.{Looked}
@@ -16,6 +17,7 @@ use Rattle.f11_volume.proofs.AcceptedLemmas.{accepted-from, accepted-sound}
 use Rattle.f11_volume.specs.Space.{storage_bitmap}
 use Rattle.f11_volume.specs.Verdict.{IsAccepted}
 use Rattle.f11_volume.specs.Volume.{volume_of, IsNamed}
+use Rattle.f11_writes.specs.Fixed.{IsFixed, KeepsFixed}
 use Rattle.f11_writes.specs.Kept.{WritesSlotBit}
 use Rattle.f11_writes.specs.Moments.{StandsAccepted}
 use Rattle.f11_writes.proofs.BitmapLemmas.{bitmap-keeps}
@@ -130,15 +132,43 @@ each-accepted home old (image ∷ earlier) sound each =
     (accepted-from image (record { home = home; volume = each-sound home old (image ∷ earlier) sound each }))
     (each-accepted home old earlier sound (earlier-written each))
 
+-- and keeps the fixed blocks of the first, which are fixed in it, too
+fixed-still : (home : HomeFields) (old : Image) (since : List Image) → HasSoundVolume old home → AreInOrder home old since → (lbn : ℕ)
+    → IsFixed old home lbn → (slice_get (newest since old) lbn ≡ slice_get old lbn) × IsFixed (newest since old) home lbn
+fixed-still home old [] sound each lbn fixed = (refl, fixed)
+fixed-still home old (image ∷ earlier) sound each lbn fixed =
+    let before = fixed-still home old earlier sound (earlier-written each) lbn fixed in
+    let write = (each zero (omega arith)).orderly (each-sound home old earlier sound (earlier-written each)) in
+    let now = write.fixed lbn before.1 in
+    (now.0 ∙ before.0, now.1)
+
+pub each-fixed : (home : HomeFields) (old : Image) (since : List Image) → HasSoundVolume old home → AreInOrder home old since
+    → All (KeepsFixed home old) since
+each-fixed home old [] sound each = All-nil (KeepsFixed home old)
+each-fixed home old (image ∷ earlier) sound each =
+    All-cons (KeepsFixed home old) image earlier (λ lbn fixed. (fixed-still home old (image ∷ earlier) sound each lbn fixed).0)
+    (each-fixed home old earlier sound (earlier-written each))
+
+-- the images that were written are those which a history has more
+since-is : (old new : Disk) (made : MadeInOrder old new) (since : List Image) → new.history ≡ since ++ old.history → made.since ≡ since
+since-is old new made since history = append_cancel_right made.since since old.history (sym made.history ∙ history)
+
 pub order-accepted : (old new : Disk) → IsImage old.image → (IsTrue old.honest → IsAccepted old.image) → WritesInOrder old new
     → StandsAccepted old new
 order-accepted old new is_image accepted ordered = record {
   accepted = λ honest since history.
       let sound = (accepted-sound old.image is_image).0 (accepted honest) in
       let made = ordered.ordered honest in
-      let same : made.since ≡ since = append_cancel_right made.since since old.history (sym made.history ∙ history) in
-      subst (λ (images : List Image). All IsAccepted images) same
+      subst (λ (images : List Image). All IsAccepted images) (since-is old new made since history)
       (each-accepted sound.home old.image made.since sound.volume (made.each sound.home));
+  fixed = λ honest home sound since history.
+      let made = ordered.ordered honest in
+      subst (λ (images : List Image). All (KeepsFixed home old.image) images) (since-is old new made since history)
+      (each-fixed home old.image made.since sound (made.each home));
+  unchanged = λ honest home sound lbn fixed.
+      let made = ordered.ordered honest in
+      subst (λ (i : Image). slice_get i lbn ≡ slice_get old.image lbn) (sym made.image)
+      (fixed-still home old.image made.since sound (made.each home) lbn fixed).0;
   ordered = ordered;
 }
 

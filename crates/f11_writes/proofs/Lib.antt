@@ -5,6 +5,7 @@ pub mod ImageLemmas
 pub mod OwnerLemmas
 pub mod FrameLemmas
 pub mod ContentLemmas
+pub mod FixedLemmas
 pub mod OtherLemmas
 pub mod BitmapLemmas
 pub mod SlotLemmas
@@ -14,6 +15,7 @@ pub mod GrowLemmas
 pub mod NameLemmas
 pub mod OrderLemmas
 pub mod InOrderLemmas
+pub mod MomentLemmas
 pub mod AddedLemmas
 pub mod MadeLemmas
 pub mod LinkedLemmas

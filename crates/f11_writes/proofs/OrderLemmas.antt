@@ -26,6 +26,7 @@ use Rattle.f11_volume.specs.Sound.{HasSoundVolume}
 use Rattle.f11_volume.specs.Space.{storage_bitmap}
 use Rattle.f11_volume.specs.Volume.{volume_of, IsCell, IsNamed}
 use Rattle.f11_volume.proofs.FileLemmas.{index-apart, place-at}
+use Rattle.f11_writes.specs.Fixed.{IsFixed, KeepsFixed}
 use Rattle.f11_writes.specs.HeaderLaws.{SparesOwnFiles}
 use Rattle.f11_writes.specs.Kept.{KeepsButSlot, WritesGrowth, WritesSlotBit}
 use Rattle.f11_writes.specs.Order.{IsOrderlyWrite}
@@ -33,6 +34,7 @@ use Rattle.f11_writes.specs.OrderLaws.{NamesZeros}
 use Rattle.f11_writes.specs.Volumes.{MayBecome}
 use Rattle.f11_writes.proofs.BitLemmas.{set-keeps, clear-keeps}
 use Rattle.f11_writes.proofs.BitmapLemmas.{bitmap-keeps}
+use Rattle.f11_writes.proofs.FixedLemmas.{as-file-one, fixed-stays, one, two, unfixed, unnamed-unfixed}
 use Rattle.f11_writes.proofs.GrowLemmas.{names-keep, links-keep}
 use Rattle.f11_writes.proofs.HeaderLemmas.{unused-keeps, kill-keeps, rewrite-keeps, file-rewrite-keeps}
 use Rattle.f11_writes.proofs.NameLemmas.{cell-was}
@@ -57,6 +59,18 @@ module _ (old : Image) (home : HomeFields) (is : HasSoundVolume old home) where
   spares-used l block used lbn here =
       slice_get-set_other old l lbn block (λ same. false≢true (sym used ∙ ap free same ∙ here))
 
+  -- of one that isn't fixed
+  spares-fixed : (l : ℕ) (block : List ℕ) → ((lbn : ℕ) → IsFixed old home lbn → l ≢ lbn) → KeepsFixed home old (set old l block)
+  spares-fixed l block away lbn fixed = slice_get-set_other old l lbn block (away lbn fixed)
+
+  -- so of one of the index file behind its first two
+  index-fixed : (i l : ℕ) (block : List ℕ) → 2 ≤ i → slice_get (index_file_blocks old home) i ≡ Some l
+      → KeepsFixed home old (set old l block)
+  index-fixed i l block late at =
+      spares-fixed l block
+      (unfixed old home is 1 i l (one old home is) (as-file-one old home is i l at) (λ _. late) (λ same. omega (arith, same))
+      (λ same. omega (arith, same)))
+
   -- a block of the index file is one
   index-used : (i lbn : ℕ) → slice_get (index_file_blocks old home) i ≡ Some lbn → free lbn ≡ false
   index-used i lbn at = used-named lbn (named-of t 1 lbn (in-index-file old home is i lbn at))
@@ -66,11 +80,16 @@ module _ (old : Image) (home : HomeFields) (is : HasSoundVolume old home) where
     u = table_of new home
 
     -- the headers are as they were
-    same-orderly : HasSoundVolume new home → u ≡ t → ((lbn : ℕ) → free lbn ≡ true → slice_get new lbn ≡ slice_get old lbn)
+    same-orderly : HasSoundVolume new home → u ≡ t → (volume_of new home).size ≡ (volume_of old home).size → KeepsFixed home old new
+        → ((lbn : ℕ) → free lbn ≡ true → slice_get new lbn ≡ slice_get old lbn)
         → ((lbn : ℕ) → free lbn ≡ false → (volume_of new home).free lbn ≡ true → ¬ IsNamed t lbn) → IsOrderlyWrite home old new
-    same-orderly sound same spares freed = record {
+    same-orderly sound same size keeps spares freed = record {
       sound = sound;
       spares = spares;
+      fixed = λ lbn fixed. (
+        keeps lbn fixed,
+        fixed-stays old new home size (ap (λ (x : Table). file_blocks x 2) same) (ap (λ (x : Table). file_blocks x 3) same) lbn fixed,
+      );
       comes = λ n unused used. absurd (false≢true (sym unused ∙ sym (λ i. (same i).in_use n) ∙ used));
       leaves = λ n used unused. absurd (false≢true (sym unused ∙ (λ i. (same i).in_use n) ∙ used));
       lost = λ n m live gone. absurd (gone (subst (λ (x : Table). IsLive x n) (sym same) live));
@@ -80,7 +99,7 @@ module _ (old : Image) (home : HomeFields) (is : HasSoundVolume old home) where
 
     -- those of all slots but n are
     module _ (n : ℕ) (slot : KeepsButSlot n home old new)
-        (spares : (lbn : ℕ) → free lbn ≡ true → slice_get new lbn ≡ slice_get old lbn) where
+        (keeps : KeepsFixed home old new) (spares : (lbn : ℕ) → free lbn ≡ true → slice_get new lbn ≡ slice_get old lbn) where
       same-free : (lbn : ℕ) → (volume_of new home).free lbn ≡ free lbn
       unfolding volume_of
       same-free lbn = λ i. (slot.volume i).free lbn
@@ -99,6 +118,11 @@ module _ (old : Image) (home : HomeFields) (is : HasSoundVolume old home) where
       slot-orderly comes leaves lost names = record {
         sound = slot.sound;
         spares = spares;
+        fixed = λ lbn fixed. (
+          keeps lbn fixed,
+          fixed-stays old new home (λ i. (slot.volume i).size) (slot.own_blocks 2 (omega arith) (omega arith))
+              (slot.own_blocks 3 (omega arith) (omega arith)) lbn fixed,
+        );
         comes = λ m unused used. elim (cases_eq m n) [
           | inl here ↦ subst (λ (k : ℕ). t.in_use k ≡ false → u.in_use k ≡ true → IsHeader (t.header k) k) (sym here) comes unused used
           | inr away ↦ absurd (false≢true (sym unused ∙ sym (slot.others.in_use m away) ∙ used))
@@ -123,11 +147,13 @@ module _ (old : Image) (home : HomeFields) (is : HasSoundVolume old home) where
         freed = λ lbn used unused. absurd (false≢true (sym used ∙ sym (same-free lbn) ∙ unused));
       }
 
-  -- a used block that no header names
-  pub lost-orderly : (lbn : ℕ) (block : List ℕ) → free lbn ≡ false → ¬ IsNamed t lbn → IsOrderlyWrite home old (set old lbn block)
-  lost-orderly lbn block used none =
+  -- a used block of the volume that no header names
+  pub lost-orderly : (lbn : ℕ) (block : List ℕ) → lbn < (volume_of old home).size → free lbn ≡ false → ¬ IsNamed t lbn
+      → IsOrderlyWrite home old (set old lbn block)
+  lost-orderly lbn block inside used none =
       let kept = (unnamed-keeps old home is lbn block none).keeps in
-      same-orderly (set old lbn block) kept.sound kept.index_file.table (spares-used lbn block used)
+      same-orderly (set old lbn block) kept.sound kept.index_file.table (λ i. (kept.volume i).size)
+      (spares-fixed lbn block (unnamed-unfixed old home is lbn inside none)) (spares-used lbn block used)
       (λ l was now. absurd (false≢true (sym was ∙ sym (λ i. (kept.volume i).free l) ∙ now)))
 
   -- one of a file
@@ -135,7 +161,9 @@ module _ (old : Image) (home : HomeFields) (is : HasSoundVolume old home) where
       → IsOrderlyWrite home old (set old lbn block)
   file-orderly f vbn lbn block file late at =
       let kept = (file-keeps old home is lbn block f vbn file late at).keeps in
-      same-orderly (set old lbn block) kept.sound kept.index_file.table
+      same-orderly (set old lbn block) kept.sound kept.index_file.table (λ i. (kept.volume i).size)
+      (spares-fixed lbn block (unfixed old home is f (vbn - 1) lbn file at (λ same. omega (arith, same, late))
+      (λ same. omega (arith, same, late)) (λ same. omega (arith, same, late))))
       (spares-used lbn block (used-named lbn (named-of t f lbn (in-file old home is f (vbn - 1) lbn file at))))
       (λ l was now. absurd (false≢true (sym was ∙ sym (λ i. (kept.volume i).free l) ∙ now)))
 
@@ -146,7 +174,10 @@ module _ (old : Image) (home : HomeFields) (is : HasSoundVolume old home) where
   unfolding volume_of
   bitmap-orderly new others only =
       let kept = bitmap-keeps old new home is others only in
-      same-orderly new kept.sound kept.index_file.table
+      same-orderly new kept.sound kept.index_file.table (λ i. (kept.volume i).size)
+      (λ lbn fixed. others.others lbn (λ i within.
+      unfixed old home is 2 (1 + i) _ (two old home is) (place-at old home i within) (λ same. omega (arith, same)) (λ _. omega arith)
+      (λ same. omega (arith, same)) lbn fixed))
       (λ lbn here. others.others lbn (λ i within same.
       false≢true (sym (used-named lbn
       (named-of t 2 lbn (in-bitmap-file old home is (1 + i) lbn (place-at old home i within ∙ ap Some same))))
@@ -165,12 +196,16 @@ module _ (old : Image) (home : HomeFields) (is : HasSoundVolume old home) where
     header-spares some few =
         spares-used (header_lbn (index_of old home) n) block (index-used _ _ (header_at old home is.framed.indexed.file n some few))
 
+    header-fixed : 0 < n → n ≤ slots (index_of old home) → KeepsFixed home old written
+    header-fixed some few = index-fixed _ _ block (omega arith) (header_at old home is.framed.indexed.file n some few)
+
     pub unused-orderly : 0 < n → n ≤ slots (index_of old home) → is_in_use (index_of old home) n ≡ false → IsOrderlyWrite home old written
     unfolding table_in
     unused-orderly some few unused =
         let kept = unused-keeps old home is n block some few unused in
         let still : (table_of written home).in_use n ≡ false = (λ i. kept.in_use i n) ∙ unused in
-        slot-orderly written n kept.slot (header-spares some few) (λ _ used. absurd (false≢true (sym still ∙ used)))
+        slot-orderly written n kept.slot (header-fixed some few) (header-spares some few)
+        (λ _ used. absurd (false≢true (sym still ∙ used)))
         (λ used _. absurd (false≢true (sym unused ∙ used))) (λ live. absurd (false≢true (sym unused ∙ live.in_use)))
         (λ i lbn cell. absurd (false≢true (sym still ∙ cell.live.in_use)))
 
@@ -180,7 +215,8 @@ module _ (old : Image) (home : HomeFields) (is : HasSoundVolume old home) where
         let some : 0 < n = omega (arith, late) in
         let kept = kill-keeps old home is n block late few dead unlinked in
         let same : (table_of written home).in_use n ≡ t.in_use n = λ i. kept.in_use i n in
-        slot-orderly written n kept.slot (header-spares some few) (λ unused used. absurd (false≢true (sym unused ∙ sym same ∙ used)))
+        slot-orderly written n kept.slot (header-fixed some few) (header-spares some few)
+        (λ unused used. absurd (false≢true (sym unused ∙ sym same ∙ used)))
         (λ used unused. absurd (false≢true (sym unused ∙ same ∙ used))) (λ _ _. unlinked)
         (λ i lbn cell. absurd (let zero_is = sym cell.live.valid.number ∙ ap file_number kept.index_file.header ∙ dead in
         omega (arith, zero_is, some)))
@@ -193,7 +229,8 @@ module _ (old : Image) (home : HomeFields) (is : HasSoundVolume old home) where
         → IsOrderlyWrite home old written
     rewritten-orderly slot same header live valid names =
         let place = in_use-within old home n live.in_use in
-        slot-orderly written n slot (header-spares place.0 place.1) (λ unused used. absurd (false≢true (sym unused ∙ live.in_use)))
+        slot-orderly written n slot (header-fixed place.0 place.1) (header-spares place.0 place.1)
+        (λ unused used. absurd (false≢true (sym unused ∙ live.in_use)))
         (λ used unused. absurd (false≢true (sym unused ∙ same ∙ used)))
         (λ _ gone. absurd (gone (record {
           in_use = same ∙ live.in_use;
@@ -254,6 +291,11 @@ module _ (old : Image) (home : HomeFields) (is : HasSoundVolume old home) where
     bit-spares value some few bit =
         spares-used _ _ (index-used _ _ (block-at old home is.framed.indexed.file value n after (index-apart old home is) some few bit))
 
+    bit-fixed : (value : Bool) → 0 < n → n ≤ slots (index_of old home) → SetsBit value n (index_of old home) after
+        → KeepsFixed home old changed
+    bit-fixed value some few bit =
+        index-fixed _ _ _ (omega arith) (block-at old home is.framed.indexed.file value n after (index-apart old home is) some few bit)
+
     -- it was set, and the header names zeros
     pub entered-orderly : WritesSlotBit n after home old changed → 0 < n → n ≤ slots (index_of old home)
         → is_in_use (index_of old home) n ≡ false → IsHeader (t.header n) n
@@ -262,7 +304,8 @@ module _ (old : Image) (home : HomeFields) (is : HasSoundVolume old home) where
         → SetsBit true n (index_of old home) after → IsOrderlyWrite home old changed
     unfolding table_in
     entered-orderly kept some few unused valid names bit =
-        slot-orderly changed n kept.slot (bit-spares true some few bit) (λ _ _. valid) (λ used _. absurd (false≢true (sym unused ∙ used)))
+        slot-orderly changed n kept.slot (bit-fixed true some few bit) (bit-spares true some few bit) (λ _ _. valid)
+        (λ used _. absurd (false≢true (sym unused ∙ used)))
         (λ live. absurd (false≢true (sym unused ∙ live.in_use)))
         (λ i lbn cell none. elim (names i lbn
         (ap (λ (b : List ℕ). slice_get (blocks_named b) i) (sym (λ j. (kept.index_file.table j).header n)) ∙ cell.names))
@@ -282,7 +325,8 @@ module _ (old : Image) (home : HomeFields) (is : HasSoundVolume old home) where
         let kept = clear-keeps old home n after is dead bit in
         let off : (table_of changed home).in_use n ≡ false =
         (λ i. (kept.index_file.table i).in_use n) ∙ SetsBit-in_use false n (index_of old home) after place.0 place.1 bit in
-        slot-orderly changed n kept.slot (bit-spares false place.0 place.1 bit) (λ unused _. absurd (false≢true (sym unused ∙ dead.in_use)))
+        slot-orderly changed n kept.slot (bit-fixed false place.0 place.1 bit) (bit-spares false place.0 place.1 bit)
+        (λ unused _. absurd (false≢true (sym unused ∙ dead.in_use)))
         (λ _ _. dead.dead)
         (λ live. absurd (let zero_is = sym live.valid.number ∙ dead.dead in omega (arith, zero_is, live-some live)))
         (λ i lbn cell. absurd (false≢true (sym off ∙ cell.live.in_use)))
@@ -315,9 +359,21 @@ module _ (old : Image) (home : HomeFields) (is : HasSoundVolume old home) (value
   free-second : (lbn : ℕ) → (volume_of second home).free lbn ≡ (volume_of old home).free lbn
   free-second lbn = λ i. (still.slot.volume i).free lbn
 
+  -- a fixed block was one
+  fixed-first : (lbn : ℕ) → IsFixed first home lbn → IsFixed old home lbn
+  fixed-first =
+      fixed-stays first old home (sym (λ i. (kept.slot.volume i).size)) (sym (kept.slot.own_blocks 2 (omega arith) (omega arith)))
+      (sym (kept.slot.own_blocks 3 (omega arith) (omega arith)))
+
+  same-size : (volume_of second home).size ≡ (volume_of first home).size
+  same-size = (λ i. (still.slot.volume i).size) ∙ sym (λ i. (kept.slot.volume i).size)
+
   pub bit-again-orderly : IsOrderlyWrite home first second
   bit-again-orderly =
-      same-orderly first home kept.slot.sound second still.slot.sound same-table
+      same-orderly first home kept.slot.sound second still.slot.sound same-table same-size
+      (λ lbn here.
+      bit-fixed old home is n other value some few again lbn (fixed-first lbn here)
+      ∙ sym (bit-fixed old home is n one value some few bit lbn (fixed-first lbn here)))
       (λ lbn here.
       bit-spares old home is n other value some few again lbn (sym (free-first lbn) ∙ here)
       ∙ sym (bit-spares old home is n one value some few bit lbn (sym (free-first lbn) ∙ here)))

@@ -96,6 +96,14 @@ module _ (image : Image) (home : HomeFields) (is : HasSoundVolume image home) (l
     three-whole : IsWholeFile t 3
     three-whole = ((image-files image home is).each 3 (is.framed.own_files 3 (omega arith) (omega arith)).file).whole
 
+    own-blocks : (f : ℕ) → 2 ≤ f → f ≤ 3 → file_blocks u f ≡ file_blocks t f
+    own-blocks f low high = elim (cases_eq f 2) [
+      | inl is_two ↦ subst (λ (g : ℕ). file_blocks u g ≡ file_blocks t g) (sym is_two) file
+      | inr more ↦
+          let is_three : f ≡ 3 = omega (arith, low, high, more) in
+          subst (λ (g : ℕ). file_blocks u g ≡ file_blocks t g) (sym is_three) (blocks-kept t u n 3 spares.others three-whole spares.three)
+    ]
+
     own-files : (m : ℕ) → 2 ≤ m → m ≤ 4 → IsOwnFile u m
     own-files m low high = elim (cases_eq m 2) [
       | inl two ↦ subst (IsOwnFile u) (sym two)
@@ -161,6 +169,7 @@ module _ (image : Image) (home : HomeFields) (is : HasSoundVolume image home) (l
         bitmap_blocks = blocks;
         volume = volume-slot;
         others = spares.others;
+        own_blocks = own-blocks;
         files = λ f is_file other away. same-file f is_file away other;
         said = λ f is_file away. said f is_file away;
         contents = contents;

@@ -1,6 +1,6 @@
 -- What a write leaves of a sound volume, in a record for each kind of write. A law about the next write asks no more of the image than
 -- stands here.
-use Rattle.std.specs.Prelude.{◌≡◌, ◌≢◌, ℕ, List, [], map}
+use Rattle.std.specs.Prelude.{◌≡◌, ◌≢◌, ℕ, ◌≤◌, List, [], map}
 use Rattle.f11_bits.specs.Bitmap.{is_free, KeepsBitmap}
 use Rattle.f11_dev.specs.Image.{Image}
 use Rattle.f11_volume.specs.home.Home.{HomeFields}
@@ -54,13 +54,15 @@ pub record KeepsButFree (home : HomeFields) (old new : Image) : Type 0 where
   pub said : said_of home 2 new ≡ said_of home 2 old
 
 -- The block of header n or of its bit was written, and so one of the index file's. All else is as it was: where the storage bitmap is, its
--- blocks and which blocks are free, the other slots, and each other file. A file's blocks hold what they held.
+-- blocks and which blocks are free, the other slots, and each other file, of which files 2 and 3 have the same blocks. A file's blocks hold
+-- what they held.
 pub record KeepsButSlot (n : ℕ) (home : HomeFields) (old new : Image) : Type 0 where
   pub sound : HasSoundVolume new home
   pub bitmap : storage_bitmap new home ≡ storage_bitmap old home
   pub bitmap_blocks : KeepsBitmap (storage_bitmap old home) old new
   pub volume : volume_of new home ≡ record (volume_of old home) { table = table_of new home }
   pub others : KeepsOtherSlots n (table_of old home) (table_of new home)
+  pub own_blocks : (f : ℕ) → 2 ≤ f → f ≤ 3 → file_blocks (table_of new home) f ≡ file_blocks (table_of old home) f
   pub files : (f : ℕ) → IsFile (table_of new home) f → f ≢ 1 → ¬ IsHeaderOf (table_of new home) f n →
       file_in home f new ≡ file_in home f old
   pub said : (f : ℕ) → IsFile (table_of new home) f → ¬ IsHeaderOf (table_of new home) f n → said_of home f new ≡ said_of home f old

@@ -1,6 +1,7 @@
 pub mod OtherSlots
 pub mod Kept
 pub mod Volumes
+pub mod Fixed
 pub mod Laws
 pub mod HeaderLaws
 pub mod Order

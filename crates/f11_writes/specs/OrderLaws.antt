@@ -1,5 +1,5 @@
 -- Laws of the order of writes: each kind of write of one block is in order where these are met (profile).
-use Rattle.std.specs.Prelude.{◌≡◌, ◌≢◌, ◌⊎◌, ℕ, suc, ◌+◌, ◌<◌, ◌≤◌, true, false, IsTrue, List, length, Some, slice_set}
+use Rattle.std.specs.Prelude.{◌≡◌, ◌≢◌, ◌⊎◌, ℕ, suc, ◌+◌, ◌<◌, ◌≤◌, true, false, IsTrue, List, All, length, Some, slice_set}
 use Rattle.std.specs.List.{slice_get}
 use Rattle.f11_bits.specs.Bitmap.{is_free, KeepsOthers}
 use Rattle.f11_bytes.specs.Block.{zero_block}
@@ -18,6 +18,7 @@ use Rattle.f11_volume.specs.map.HeaderBlock.{blocks_named}
 use Rattle.f11_volume.specs.Sound.{HasSoundVolume}
 use Rattle.f11_volume.specs.Space.{storage_bitmap}
 use Rattle.f11_volume.specs.Volume.{volume_of, IsNamed}
+use Rattle.f11_writes.specs.Fixed.{IsFixed, KeepsFixed}
 use Rattle.f11_writes.specs.HeaderLaws.{SparesOwnFiles}
 use Rattle.f11_writes.specs.Order.{AreInOrder, IsOrderlyWrite, WritesInOrder, image_before}
 use Rattle.f11_writes.specs.Volumes.{MayBecome}
@@ -29,11 +30,12 @@ FileWriteIsOrderly =
     HasSoundVolume image home → IsFile (table_of image home) f → 4 ≤ f → block_by_vbn (table_of image home) f vbn ≡ Some lbn →
     IsOrderlyWrite home image (slice_set image lbn block)
 
--- so is one of a block that is used, and that no header names
+-- so is one of a block of the volume that is used, and that no header names
 abbrev pub LostWriteIsOrderly : Type 0
 LostWriteIsOrderly =
     (image : Image) (home : HomeFields) (lbn : ℕ) (block : List ℕ) →
-    HasSoundVolume image home → (volume_of image home).free lbn ≡ false → ¬ IsNamed (table_of image home) lbn →
+    HasSoundVolume image home → lbn < (volume_of image home).size → (volume_of image home).free lbn ≡ false →
+    ¬ IsNamed (table_of image home) lbn →
     IsOrderlyWrite home image (slice_set image lbn block)
 
 -- and one of the storage bitmap, where no block that a header names is free then that wasn't
@@ -136,12 +138,24 @@ OrderIsSound =
     (home : HomeFields) (old : Image) (since : List Image) → HasSoundVolume old home → AreInOrder home old since →
     (k : ℕ) → k < length since → IsOrderlyWrite home (image_before (suc k) since old) (image_before k since old)
 
+-- and keeps the fixed blocks of the first
+abbrev pub OrderKeepsFixed : Type 0
+OrderKeepsFixed =
+    (home : HomeFields) (old : Image) (since : List Image) → HasSoundVolume old home → AreInOrder home old since →
+    All (KeepsFixed home old) since
+
 -- What is out of order: a write of a free block that changes it,
 abbrev pub FreeBlocksAreSpared : Type 0
 FreeBlocksAreSpared =
     (image : Image) (home : HomeFields) (lbn : ℕ) (block : List ℕ) →
     (volume_of image home).free lbn ≡ true → slice_get (slice_set image lbn block) lbn ≢ slice_get image lbn →
     ¬ IsOrderlyWrite home image (slice_set image lbn block)
+
+-- one of a fixed block that does,
+abbrev pub FixedBlocksAreSpared : Type 0
+FixedBlocksAreSpared =
+    (image : Image) (home : HomeFields) (lbn : ℕ) (block : List ℕ) → IsFixed image home lbn →
+    slice_get (slice_set image lbn block) lbn ≢ slice_get image lbn → ¬ IsOrderlyWrite home image (slice_set image lbn block)
 
 -- a slot that comes into use before its header is there,
 abbrev pub SlotsComeWithHeaders : Type 0

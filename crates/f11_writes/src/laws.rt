@@ -114,12 +114,14 @@ pub fn ordered_calls()
     ensures failed { order.FailedWriteIsInOrder }
     ensures kept { order.OrderIsKept }
     ensures sound { order.OrderIsSound }
+    ensures fixed { order.OrderKeepsFixed }
     ensures accepted { moments.OrderIsAccepted }
 {}
 
 /// Writes that are not.
 pub fn out_of_order()
     ensures free { order.FreeBlocksAreSpared }
+    ensures fixed { order.FixedBlocksAreSpared }
     ensures comes { order.SlotsComeWithHeaders }
     ensures leaves { order.LiveSlotsStay }
     ensures linked { order.LinkedHeadersStay }

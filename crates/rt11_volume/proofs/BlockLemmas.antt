@@ -145,10 +145,12 @@ block-written : (name : List ℕ) (image : Image) (place lbn : ℕ) (block : Lis
     → IsBlockAt name (rt_store_of image) place lbn → lbn < length image
     → WritesBlock name place block image (slice_set image lbn block)
 block-written name image place lbn block sound at within =
-    let behind : data_start image ≤ lbn = omega (arith, (placed name image at.file sound).behind, at.lbn_is) in
+    let area = placed name image at.file sound in
+    let behind : data_start image ≤ lbn = omega (arith, area.behind, at.lbn_is) in
     record {
       file = at.file;
       inside = at.inside;
+      behind = area.behind;
       store_is = store-written image lbn block sound within behind ∙ ap (λ n. with_block (rt_store_of image) n block) at.lbn_is;
       image_is = ap (λ n. slice_set image n block) at.lbn_is;
       accepted = accepted_from (slice_set image lbn block) (sound-written image lbn block sound behind);

@@ -26,7 +26,7 @@ use Rattle.f11_dev.specs.Image.{Image}
 use Rattle.f11_dev.specs.declared.device.Device.{Ghosts}
 use Rattle.rt11_volume.specs.Calls.{volume_device, has_failed}
 use Rattle.rt11_volume.specs.Entry.{is_file_named}
-use Rattle.rt11_volume.specs.Directory.{count_of}
+use Rattle.rt11_volume.specs.Directory.{count_of, data_start}
 use Rattle.rt11_volume.specs.Fresh.{KeepsData}
 use Rattle.rt11_volume.specs.Operations.{needs_split, with_area_emptied, with_block, with_new_file}
 use Rattle.rt11_volume.specs.Searching.Search.{IsFirst, HasNone, is_empty_for}
@@ -137,10 +137,11 @@ FailsToReach DirectoryFull name place disk = ⊥
 FailsToReach NoMemory name place disk = ⊥
 FailsToReach DeviceFault name place disk = ⊤
 
--- The block at this place of the file was replaced, and nothing else; the image is accepted as it was.
+-- The block at this place of the file, which lies behind the directory, was replaced, and nothing else; the image is accepted as it was.
 pub record WritesBlock (name : List ℕ) (place : ℕ) (block : List ℕ) (old new : Image) : Type 0 where
   pub file : HasFile name (rt_store_of old)
   pub inside : place < (file_area file).length
+  pub behind : data_start old ≤ (file_area file).start
   pub store_is : rt_store_of new ≡ with_block (rt_store_of old) ((file_area file).start + place) block
   pub image_is : new ≡ slice_set old ((file_area file).start + place) block
   pub accepted : IsRtAccepted new

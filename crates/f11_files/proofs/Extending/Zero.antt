@@ -111,7 +111,8 @@ module _ (home : HomeFields) (lbn count : ℕ) (old : Disk) (within : lbn + coun
         let honest = sym so_far.went.honest ∙ sure in
         let before = (so_far.keeps honest).volume in
         let still = unreferenced-stay old.image now.image home lbn count before (unreferenced honest) in
-        lost-orderly now.image home before.sound (lbn + k) zero_block (still.used (lbn + k) (omega arith) (omega (arith, few)))
+        lost-orderly now.image home before.sound (lbn + k) zero_block (omega (arith, still.inside, few))
+        (still.used (lbn + k) (omega arith) (omega (arith, few)))
         (unnamed honest)
 
     pub zeroed-order : new ≡ with_transfer true (with_block_at (lbn + k) zero_block now) → WritesInOrder now new

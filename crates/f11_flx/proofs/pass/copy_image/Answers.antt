@@ -1,8 +1,15 @@
 use Rattle.std.proofs.Common.{arith, subst, ap, ◌≡◌, ◌+◌}
 use Rattle.f11_flx.specs.Asking.{Who, who_asks}
 use Rattle.f11_flx.specs.Passes.{CopiesImage}
-use Rattle.f11_flx.proofs.PassedLemmas.{image-copies, image-more, image-refused}
+use Rattle.f11_flx.proofs.PassedLemmas.{image-copies, image-more, image-refused, image-stops}
 use Rattle.f11_flx.proofs.pass.copy_image.Goals as goal
+
+pub returns-in-Err-clause-fails : goal.returns-in-Err-clause-fails
+returns-in-Err-clause-fails g c =
+    let l = c.loop-place in
+    let who : Who = who_asks c.args.by.now.task c.args.by.now.uic in
+    image-stops g.S.Asked.service g.E.Device.disk who c.args.by.now.lun c.args.name.now c.args.many l.place c.in-Err.refusal
+    c.args.rt.now l.rt c.read.new.rt c.args.service.now l.service l.invariant c.in-Err.ensures.refused c.loop-place-test.true
 
 pub returns-in-Err-write-clause-fails : goal.returns-in-Err-write-clause-fails
 returns-in-Err-write-clause-fails g c =

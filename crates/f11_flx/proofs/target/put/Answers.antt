@@ -3,7 +3,7 @@ use Rattle.f11_flx.proofs.target.put.Goals as goal
 
 pub returns-clause-put : goal.returns-clause-put
 returns-clause-put g c =
-    puts g.E.Device.disk c.args.rt.now c.write.new.self c.args.name.now c.args.place c.args.block.now _ _ c.write.result
+    puts g.E.Device.disk c.args.rt.now c.write.new.self c.args.name.now c.args.place c.args.block.now _ c.write.result
     c.write.ensures.answers
     c.write.ensures.went c.write.ensures.written
 

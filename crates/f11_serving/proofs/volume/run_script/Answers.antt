@@ -1,3 +1,4 @@
+use Rattle.f11_serving.proofs.AnsweringLemmas.{answers-script}
 use Rattle.f11_serving.proofs.VolumeLemmas.{keeps-script-costs, script-ordered, serves-script-run}
 use Rattle.f11_serving.proofs.volume.run_script.Goals as goal
 
@@ -9,3 +10,6 @@ returns-clause-costs g c = keeps-script-costs c.args.volume.now c.run_lines.new.
 
 pub returns-clause-ordered : goal.returns-clause-ordered
 returns-clause-ordered g c = script-ordered _ _ _ c.args.volume.now c.run_lines.new.service c.run_lines.result c.run_lines.ensures.runs
+
+pub returns-clause-answers : goal.returns-clause-answers
+returns-clause-answers g c = answers-script c.args.volume.now c.run_lines.new.service _ _ _ c.run_lines.result c.run_lines.ensures.runs

@@ -1,4 +1,5 @@
 use Rattle.f11_store.proofs.WorkedLemmas.{sequence_numbers, full_volume, deferred_delete, truncated_under_a_reader, conflicts}
+use Rattle.f11_store.proofs.WorkedLemmas.{other_volumes}
 use Rattle.f11_store.proofs.worked.files.Goals as goal
 
 pub returns : goal.returns
@@ -10,4 +11,5 @@ returns c =
       truncated_under_a_reader =
           truncated_under_a_reader;
       conflicts = conflicts;
+      other_volumes = other_volumes;
     }

@@ -1,4 +1,4 @@
-use Rattle.f11_writes.proofs.InOrderLemmas.{each-orderly, order-accepted, order-failed, order-looked, order-then, order-write}
+use Rattle.f11_writes.proofs.InOrderLemmas.{each-fixed, each-orderly, order-accepted, order-failed, order-looked, order-then, order-write}
 use Rattle.f11_writes.proofs.laws.ordered_calls.Goals as goal
 
 pub returns : goal.returns
@@ -8,5 +8,6 @@ returns c = record {
   failed = λ old new home lbn block sound orderly. order-failed old home sound lbn block orderly new;
   kept = order-then;
   sound = each-orderly;
+  fixed = each-fixed;
   accepted = order-accepted;
 }

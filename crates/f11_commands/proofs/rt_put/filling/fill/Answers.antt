@@ -33,7 +33,7 @@ loop-place-preserved g c =
       filled = filled-more g.D.Device.disk c.args.name.now c.args.bytes _ c.args.volume.now l.place l.left l.invariant.taken
           l.invariant.pieces _ l.volume l.invariant.filled c.min-count.result c.read_piece.new.block _
           c.write.new.self inside c.min-count.ensures c.in-Ok.ensures.read
-          (puts g.D.Device.disk l.volume c.write.new.self c.args.name.now l.place c.read_piece.new.block _ _ (Ok tt) e.answers e.went
+          (puts g.D.Device.disk l.volume c.write.new.self c.args.name.now l.place c.read_piece.new.block _ (Ok tt) e.answers e.went
           e.written)
           (transfers _ e.went);
     }

@@ -10,7 +10,7 @@ returns-in-Ok g c =
     record {
       undoes = inl (record {
         stop_is = refl;
-        deleted = deletes g.D.Device.disk c.args.volume.now c.delete.new.self c.args.name.now _ _ (Ok tt) e.answers e.went e.deleted;
+        deleted = deletes g.D.Device.disk c.args.volume.now c.delete.new.self c.args.name.now _ (Ok tt) e.answers e.went e.deleted;
         went = transfers _ e.went;
       });
     }
@@ -22,7 +22,7 @@ returns-then-is_fault g c =
       undoes = inr (record {
         e = c.in-Err.refusal;
         stop_is = ap (λ b. if b then Volume c.in-Err.refusal else Host) (sym (sym c.is_fault.ensures ∙ c.if-is_fault.true));
-        refused = fails-deleting g.D.Device.disk c.args.volume.now c.delete.new.self c.args.name.now _ _ _ (Err c.in-Err.refusal) e.answers
+        refused = fails-deleting g.D.Device.disk c.args.volume.now c.delete.new.self c.args.name.now _ _ (Err c.in-Err.refusal) e.answers
             e.went e.refused e.kept;
         went = transfers _ e.went;
       });
@@ -35,7 +35,7 @@ returns-else-is_fault g c =
       undoes = inr (record {
         e = c.in-Err.refusal;
         stop_is = ap (λ b. if b then Volume c.in-Err.refusal else Host) (sym (sym c.is_fault.ensures ∙ c.if-is_fault.false));
-        refused = fails-deleting g.D.Device.disk c.args.volume.now c.delete.new.self c.args.name.now _ _ _ (Err c.in-Err.refusal) e.answers
+        refused = fails-deleting g.D.Device.disk c.args.volume.now c.delete.new.self c.args.name.now _ _ (Err c.in-Err.refusal) e.answers
             e.went e.refused e.kept;
         went = transfers _ e.went;
       });

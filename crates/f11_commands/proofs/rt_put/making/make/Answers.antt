@@ -1,9 +1,15 @@
-use Rattle.std.proofs.Common.{Ok, arith}
-use Rattle.f11_flx.proofs.TargetLemmas.{makes}
+use Rattle.std.proofs.Common.{Ok, Err, arith}
+use Rattle.f11_flx.proofs.TargetLemmas.{fails-making, makes}
 use Rattle.f11_commands.proofs.rt_put.making.make.Goals as goal
 
 pub returns-in-Ok-clause-made : goal.returns-in-Ok-clause-made
 returns-in-Ok-clause-made g c =
     let e = c.in-Ok.ensures in
-    makes g.D.Device.disk c.args.volume.now c.create.new.self c.args.name.now c.args.blocks 0 _ _ (Ok tt) c.words.ensures.name
+    makes g.D.Device.disk c.args.volume.now c.create.new.self c.args.name.now c.args.blocks 0 _ (Ok tt) c.words.ensures.name
     (omega (arith, c.if-blocks-gt-MOST.false)) e.answers e.went e.created
+
+pub returns-in-Err-clause-refused : goal.returns-in-Err-clause-refused
+returns-in-Err-clause-refused g c =
+    let e = c.in-Err.ensures in
+    fails-making g.D.Device.disk c.args.volume.now c.create.new.self c.args.name.now c.args.blocks _ _ (Err c.in-Err.refusal)
+    (omega (arith, c.if-blocks-gt-MOST.false)) e.answers e.went e.refused e.kept

@@ -4,6 +4,7 @@ use Rattle.f11_fcp.specs.Places.{access_table_of}
 use Rattle.f11_fcp.proofs.WindowLemmas.{windows-read}
 use Rattle.f11_fcp.proofs.FindLemmas.{find-bad, find-refused, find-found, find-absent}
 use Rattle.f11_fcp.proofs.OpenLemmas.{stays-open}
+use Rattle.f11_fcp.proofs.HandleLemmas.{unwritten-looked, unwritten-none}
 use Rattle.f11_fcp.proofs.table.Accesses.find.Goals as goal
 
 pub returns-then-is_bad-clause-handles : goal.returns-then-is_bad-clause-handles
@@ -48,3 +49,15 @@ pub returns-in-Absent-clause-open : goal.returns-in-Absent-clause-open
 returns-in-Absent-clause-open g c =
     stays-open (access_table_of c.args.self.now) c.args.files.now c.search.new.files c.args.task c.args.caller _ _ [] [] c.requires.open
     (λ _. tt) (returns-in-Absent-clause-handles g c) (λ _. c.in-Ok.ensures.alive refl) tt
+
+pub returns-then-is_bad-clause-unwritten : goal.returns-then-is_bad-clause-unwritten
+returns-then-is_bad-clause-unwritten g c = unwritten-none _
+
+pub returns-in-Err-clause-unwritten : goal.returns-in-Err-clause-unwritten
+returns-in-Err-clause-unwritten g c = unwritten-looked c.in-Err.ensures.refused.reads.looked
+
+pub returns-in-Found-clause-unwritten : goal.returns-in-Found-clause-unwritten
+returns-in-Found-clause-unwritten g c = unwritten-looked c.in-Ok.ensures.searched.reads.looked
+
+pub returns-in-Absent-clause-unwritten : goal.returns-in-Absent-clause-unwritten
+returns-in-Absent-clause-unwritten g c = unwritten-looked c.in-Ok.ensures.searched.reads.looked

@@ -5,6 +5,7 @@ use Rattle.f11_fcp.specs.Places.{access_table_of}
 use Rattle.f11_fcp.proofs.WindowLemmas.{windows-read}
 use Rattle.f11_fcp.proofs.OpenLemmas.{stays-open}
 use Rattle.f11_fcp.proofs.AttributeLemmas.{attr-bad, attr-unread, attr-told}
+use Rattle.f11_fcp.proofs.HandleLemmas.{unwritten-looked, unwritten-none}
 use Rattle.f11_fcp.proofs.table.Accesses.read_attr.Goals as goal
 
 pub returns-then-is_bad-clause-handles : goal.returns-then-is_bad-clause-handles
@@ -39,3 +40,12 @@ returns-in-Err-clause-open g c =
     stays-open (access_table_of c.args.self.now) c.args.files.now c.read_attr.new.self c.args.task c.args.caller _ _ [] [] c.requires.open
     (λ _. tt) (returns-in-Err-clause-handles g c)
     (λ clean. c.in-Err.ensures.answers.next ∙ ap (λ b. b || is_fatal c.in-Err.refusal) c.requires.open.alive ∙ clean) tt
+
+pub returns-then-is_bad-clause-unwritten : goal.returns-then-is_bad-clause-unwritten
+returns-then-is_bad-clause-unwritten g c = unwritten-none _
+
+pub returns-in-Ok-clause-unwritten : goal.returns-in-Ok-clause-unwritten
+returns-in-Ok-clause-unwritten g c = unwritten-looked c.in-Ok.ensures.read.reads.looked
+
+pub returns-in-Err-clause-unwritten : goal.returns-in-Err-clause-unwritten
+returns-in-Err-clause-unwritten g c = unwritten-looked c.in-Err.ensures.refused.reads.looked

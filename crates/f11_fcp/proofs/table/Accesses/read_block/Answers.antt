@@ -12,6 +12,7 @@ use Rattle.f11_fcp.proofs.ByWindowLemmas.{none-made, one-transfer}
 use Rattle.f11_fcp.proofs.WindowLemmas.{accesses-with, handled-on, kept-with, windows-with, windows-read}
 use Rattle.f11_fcp.proofs.OpenLemmas.{stays-open, kept-after}
 use Rattle.f11_fcp.proofs.AccessedLemmas.{read-zero, read-none, read-done, read-refused, of-accessed-clean, there-held}
+use Rattle.f11_fcp.proofs.HandleLemmas.{unwritten-looked, unwritten-none}
 use Rattle.f11_fcp.proofs.table.Accesses.read_block.Goals as goal
 
 pub returns-then-vbn-eq0-clause-handles : goal.returns-then-vbn-eq0-clause-handles
@@ -113,3 +114,15 @@ returns-then-vbn-eq0-clause-once g c =
 pub returns-in-None-clause-once : goal.returns-in-None-clause-once
 returns-in-None-clause-once g c =
     none-made c.args.task (request.ReadBlock c.args.lun c.args.vbn) (state_of (access_table_of c.args.self.now) c.args.files.now)
+
+pub returns-then-vbn-eq0-clause-unwritten : goal.returns-then-vbn-eq0-clause-unwritten
+returns-then-vbn-eq0-clause-unwritten g c = unwritten-none _
+
+pub returns-in-None-clause-unwritten : goal.returns-in-None-clause-unwritten
+returns-in-None-clause-unwritten g c = unwritten-none _
+
+pub returns-in-Ok-clause-unwritten : goal.returns-in-Ok-clause-unwritten
+returns-in-Ok-clause-unwritten g c = unwritten-looked c.in-Ok.ensures.read.reads.looked
+
+pub returns-in-Err-clause-unwritten : goal.returns-in-Err-clause-unwritten
+returns-in-Err-clause-unwritten g c = unwritten-looked c.in-Err.ensures.refused.reads.looked

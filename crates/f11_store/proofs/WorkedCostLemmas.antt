@@ -1,0 +1,40 @@
+-- The worked examples of costs, computed.
+use Rattle.std.proofs.Common.{refl}
+use Rattle.f11_store.specs.Store.{free_slots, is_held}
+use Rattle.f11_store.specs.File.{stated_end}
+use Rattle.f11_store.specs.Directory.{is_directory, record_at, entries_of, has_name, record_bytes, with_end}
+use Rattle.f11_store.specs.Headroom.{lacks_headers, slots_first}
+use Rattle.f11_store.specs.Worked.{own_records, mfd_block, crowded_block}
+use Rattle.f11_store.specs.WorkedCosts.{GivingUpBounds, LongFileBounds, SmallBounds, WideDirectories, WideLengths}
+
+pub wide-lengths : WideLengths
+unfolding free_slots is_held lacks_headers slots_first
+wide-lengths = record {
+  made = refl;
+  made_behind_slot = refl;
+  extend = refl;
+  extend_behind_slot = refl;
+  grow = refl;
+  grow_by_header = refl;
+  contiguous = refl;
+  contiguous_by_header = refl;
+  truncate = refl;
+  delete = refl;
+}
+
+pub wide-directories : WideDirectories
+unfolding free_slots is_held lacks_headers slots_first stated_end is_directory record_at entries_of has_name record_bytes with_end
+    own_records mfd_block crowded_block
+wide-directories = record { find = refl; enter = refl; enter_behind_slot = refl; remove = refl }
+
+pub small-bounds : SmallBounds
+unfolding free_slots is_held
+small-bounds = record { access = refl; read = refl; write = refl; read_attr = refl; write_attr = refl; space = refl }
+
+pub long-file-bounds : LongFileBounds
+unfolding free_slots is_held lacks_headers slots_first
+long-file-bounds = record { read = refl; write = refl; extend = refl; contiguous = refl; truncate = refl }
+
+pub giving-up-bounds : GivingUpBounds
+unfolding free_slots is_held
+giving-up-bounds = record { held_still = refl; goes = refl; none = refl; all = refl; other_task = refl }
