@@ -1,5 +1,7 @@
 -- Facts about free slots.
-use Rattle.std.proofs.Common.{◌≡◌, inl, inr, ℕ, zero, suc, ◌+◌, ◌-◌, ◌*◌, ◌/◌, ◌%◌, ◌<◌, ◌≤◌, min, max, Bool, true, false, not, List, []}
+use Rattle.std.proofs.Common.{◌≡◌, inl, inr, ℕ, zero, suc, ◌+◌, ◌-◌, ◌*◌, ◌/◌, ◌%◌, ◌^◌, ◌<◌, ◌≤◌, ◌==◌, min, max, Bool, true, false, not}
+use Rattle.std.proofs.Common.{List, []}
+use Rattle.std.proofs.Common.{count_ones, mod-lt}
 use Rattle.std.proofs.Common.{◌∷◌, ◌++◌, length, get_or, filter, cond, Some, None, refl, sym, ap, ◌∙◌, arith}
 use Rattle.std.specs.List.{slice_get, range_with_len}
 use Rattle.std.proofs.lemmas.Bool.{cases_lt, cases_Bool, cond-true, cond-false}
@@ -10,7 +12,9 @@ use Rattle.std.proofs.lemmas.List.Sums.{count_by-le-length, length-filter}
 use Rattle.std.proofs.lemmas.List.FromFn.{length-range_with_len}
 use Rattle.std.specs.Prelude.{nat_eq}
 use Rattle.std.specs.Int.{bit_at}
-use Rattle.std.proofs.lemmas.Nat.Bits.{bit_at_ones}
+use Rattle.std.specs.Int.Count.{ones}
+use Rattle.std.proofs.lemmas.Nat.{ones_cat, mod-pow-add, pow_pos}
+use Rattle.std.proofs.lemmas.Nat.Bits.{bit_at-lt, bit_at_cat_high, bit_at_cat_low, bit_at_ones}
 use Rattle.f11_bytes.specs.Bits.{bit}
 use Rattle.f11_bytes.specs.Words.{word}
 use Rattle.f11_index.specs.IndexFile.{Index, slots, is_in_use, bit_of_slot, free_slots_in}
@@ -23,6 +27,19 @@ use Rattle.f11_map.proofs.store.RangeLemmas.{range_with_len-append}
 no-first : (xs : List ℕ) → None ≡ slice_get xs 0 → xs ≡ []
 no-first [] is = refl
 no-first (x ∷ xs) is = cc
+
+-- how many ones a digit in base 2 has
+digit-one : (d : ℕ) → d < 2 → (d == 1) ≡ true → count_ones d ≡ 1
+unfolding ones
+digit-one zero few is = absurd (let none : false ≡ true = is in cc)
+digit-one (suc zero) few is = refl
+digit-one (suc (suc d)) few is = absurd (omega (arith, few))
+
+digit-none : (d : ℕ) → d < 2 → (d == 1) ≡ false → count_ones d ≡ 0
+unfolding ones
+digit-none zero few is = refl
+digit-none (suc zero) few is = absurd (let none : true ≡ false = is in cc)
+digit-none (suc (suc d)) few is = absurd (omega (arith, few))
 
 module _ (index : Index) where
   abbrev free : ℕ → Bool
@@ -79,21 +96,40 @@ module _ (index : Index) where
       ∙ between-used from (from + count) (omega arith) (omega arith) (omega arith) (bits (from + count) (omega arith) (omega arith))
       ∙ between-full count from some (omega arith) (λ n low high. bits n low (omega arith))
 
-  -- slots whose bits are all 0
-  pub between-empty : (count from : ℕ) → 0 < from → from + count ≤ slots index + 1
-      → ((n : ℕ) → from ≤ n → n < from + count → bit_of_slot index.bitmap n ≡ false)
-      → length (free_between index from (from + count)) ≡ count
-  between-empty zero from some within bits = ap length (between-none from (from + 0) (omega arith))
-  between-empty (suc count) from some within bits =
-      let next : from + suc count ≡ from + count + 1 = omega arith in
-      let more = ap (free_between index from) next
-      ∙ between-free from (from + count) (omega arith) (omega arith) (omega arith) (bits (from + count) (omega arith) (omega arith)) in
-      omega (
-        arith,
-        ap length more,
-        length-append (free_between index from (from + count)) ((from + count) ∷ []),
-        between-empty count from some (omega arith) (λ n low high. bits n low (omega arith)),
-      )
+  -- slots whose bits are the first of a number: those are free whose digits are 0
+  pub between-number : (x n from : ℕ) → 0 < from → from + n ≤ slots index + 1
+      → ((j : ℕ) → j < n → bit_of_slot index.bitmap (from + j) ≡ (bit_at x j == 1))
+      → length (free_between index from (from + n)) + count_ones (x % 2 ^ n) ≡ n
+  between-number x zero from some within bits =
+      let none : count_ones (x % 2 ^ zero) ≡ 0 = ap count_ones (omega arith) ∙ digit-none 0 (omega arith) refl in
+      omega (arith, ap length (between-none from (from + 0) (omega arith)), none)
+  between-number x (suc n) from some within bits =
+      let digit : ℕ = bit_at x n in
+      let parts : x % 2 ^ (1 + n) ≡ digit * 2 ^ n + x % 2 ^ n = mod-pow-add x 1 n in
+      let next : count_ones (x % 2 ^ suc n) ≡ count_ones (x % 2 ^ (1 + n)) = ap (λ (m : ℕ). count_ones (x % 2 ^ m)) (omega arith) in
+      let both = ones_cat n digit (x % 2 ^ n) (mod-lt x (pow_pos n)) in
+      let place : from + suc n ≡ from + n + 1 = omega arith in
+      let earlier = between-number x n from some (omega arith) (λ j below. bits j (omega (arith, below))) in
+      let bit-is = bits n (omega arith) in
+      elim (cases_Bool (digit == 1)) [
+        | inl one ↦
+            let more = ap (free_between index from) place
+            ∙ between-used from (from + n) (omega arith) (omega arith) (omega arith) (bit-is ∙ one) in
+            omega (arith, ap length more, earlier, next, ap count_ones parts, both, digit-one digit (bit_at-lt x n) one)
+        | inr none ↦
+            let more = ap (free_between index from) place
+            ∙ between-free from (from + n) (omega arith) (omega arith) (omega arith) (bit-is ∙ none) in
+            omega (
+              arith,
+              ap length more,
+              length-append (free_between index from (from + n)) ((from + n) ∷ []),
+              earlier,
+              next,
+              ap count_ones parts,
+              both,
+              digit-none digit (bit_at-lt x n) none,
+            )
+      ]
 
   -- the slots of one word more
   pub between-next : (word : ℕ) → 16 ≤ slots index → 16 * word < slots index
@@ -155,7 +191,7 @@ module _ (index : Index) where
   abbrev end : ℕ → ℕ
   end word = min (slots index + 1) (16 * word + 17)
 
-  -- the slots of a word whose bits are all 1, or all 0
+  -- the slots of a word whose bits are all 1
   pub word-full : (word : ℕ) → ((n : ℕ) → 16 * word < n → n < 16 * word + 17 → bit_of_slot index.bitmap n ≡ true)
       → free_between index (start word) (end word) ≡ []
   word-full word bits = elim (cases_lt (end word) (start word)) [
@@ -167,12 +203,18 @@ module _ (index : Index) where
         (λ n low high. bits n (omega arith) (omega arith))
   ]
 
-  pub word-empty : (word : ℕ) → start word ≤ end word → ((n : ℕ) → 16 * word < n → n < 16 * word + 17 → bit_of_slot index.bitmap n ≡ false)
-      → end word - start word ≡ length (free_between index (start word) (end word))
-  word-empty word some bits =
-      let sum : end word ≡ start word + (end word - start word) = omega arith in
-      sym (ap (λ (n : ℕ). length (free_between index (start word) n)) sum ∙ between-empty (end word - start word) (start word) (omega arith)
-      (omega arith) (λ n low high. bits n (omega arith) (omega arith)))
+  -- a word of which each slot is there, by the number that its bits are
+  pub word-number : (word x : ℕ) → 16 ≤ end word - start word → x < 65536
+      → ((j : ℕ) → j < 16 → bit_of_slot index.bitmap (16 * word + 1 + j) ≡ (bit_at x j == 1))
+      → 16 - count_ones x ≡ length (free_between index (start word) (end word))
+  word-number word x whole few bits =
+      let first : start word ≡ 16 * word + 1 = omega (arith, whole) in
+      let last : end word ≡ 16 * word + 1 + 16 = omega (arith, whole) in
+      let all = between-number x 16 (16 * word + 1) (omega arith) (omega (arith, whole)) bits in
+      let same : x % 2 ^ 16 ≡ x = omega (arith, few) in
+      let here = ap (λ (n : ℕ). length (free_between index n (end word))) first
+      ∙ ap (λ (n : ℕ). length (free_between index (16 * word + 1) n)) last in
+      omega (arith, all, ap count_ones same, here)
 
   -- no more are free than there are
   pub between-few : (from end : ℕ) → length (free_between index from end) ≤ end - from
@@ -222,6 +264,38 @@ bit_of_slot-word bitmap block word value is bits n low high =
     let place : (n - 1) / 4096 ≡ word / 256 = omega arith in
     ap (λ (p : ℕ). bit (get_or bitmap p []) ((n - 1) % 4096)) place ∙ ap (λ (b : List ℕ). bit b ((n - 1) % 4096)) is
     ∙ bits ((n - 1) % 4096) (omega arith) (omega arith)
+
+-- the bit of a slot of a word of the bitmap
+pub bit_of_slot-at : (bitmap : List (List ℕ)) (block : List ℕ) (word j : ℕ) → get_or bitmap (word / 256) [] ≡ block → j < 16
+    → bit_of_slot bitmap (16 * word + 1 + j) ≡ bit block (16 * (word % 256) + j)
+unfolding bit_of_slot
+bit_of_slot-at bitmap block word j is below =
+    let place : (16 * word + 1 + j - 1) / 4096 ≡ word / 256 = omega (arith, below) in
+    let digit : (16 * word + 1 + j - 1) % 4096 ≡ 16 * (word % 256) + j = omega (arith, below) in
+    ap (λ (p : ℕ). bit (get_or bitmap p []) ((16 * word + 1 + j - 1) % 4096)) place
+    ∙ ap (λ (b : List ℕ). bit b ((16 * word + 1 + j - 1) % 4096)) is ∙ ap (bit block) digit
+
+-- the bits of a word are those of its two bytes
+pub word-bits : (b : List ℕ) (i : ℕ) → get_or b (2 * i) 0 < 256 → get_or b (2 * i + 1) 0 < 256 → (k : ℕ) → k < 16
+    → bit b (16 * i + k) ≡ (bit_at (word b (2 * i)) k == 1)
+word-bits b i low high k below =
+    let value : word b (2 * i) ≡ get_or b (2 * i + 1) 0 * 2 ^ 8 + get_or b (2 * i) 0 = omega arith in
+    elim (cases_lt k 8) [
+      | inl first ↦
+          let place : (16 * i + k) / 8 ≡ 2 * i = omega (arith, first) in
+          let digit : (16 * i + k) % 8 ≡ k = omega (arith, first) in
+          ap (λ (n : ℕ). bit_at (get_or b n 0) ((16 * i + k) % 8) == 1) place
+          ∙ ap (λ (n : ℕ). bit_at (get_or b (2 * i) 0) n == 1) digit
+          ∙ ap (λ (n : ℕ). n == 1) (sym (ap (λ (x : ℕ). bit_at x k) value
+          ∙ bit_at_cat_low (get_or b (2 * i + 1) 0) 8 (get_or b (2 * i) 0) k first))
+      | inr second ↦
+          let place : (16 * i + k) / 8 ≡ 2 * i + 1 = omega (arith, below, second) in
+          let digit : (16 * i + k) % 8 ≡ k - 8 = omega (arith, below, second) in
+          ap (λ (n : ℕ). bit_at (get_or b n 0) ((16 * i + k) % 8) == 1) place
+          ∙ ap (λ (n : ℕ). bit_at (get_or b (2 * i + 1) 0) n == 1) digit
+          ∙ ap (λ (n : ℕ). n == 1) (sym (ap (λ (x : ℕ). bit_at x k) value
+          ∙ bit_at_cat_high (get_or b (2 * i + 1) 0) 8 (get_or b (2 * i) 0) k (omega (arith, low)) (omega (arith, second))))
+    ]
 
 -- a word whose bits are all 1
 pub bit-full : (b : List ℕ) (i : ℕ) → word b (2 * i) ≡ 65535 → get_or b (2 * i) 0 < 256 → get_or b (2 * i + 1) 0 < 256 → (k : ℕ)

@@ -1,5 +1,6 @@
 //! Free slots.
-ghost use Rattle.std.specs.Prelude.{◌≡◌, ℕ, ◌+◌, ◌*◌, ◌<◌, ◌≤◌, ◌^◌, min, max, true, false, [], length, IsOk, OnOk, MatchOption};
+ghost use Rattle.std.specs.Prelude.{◌≡◌, ℕ, ◌+◌, ◌*◌, ◌<◌, ◌≤◌, ◌^◌, ◌==◌, min, max, true, [], length, IsOk, OnOk, MatchOption};
+ghost use Rattle.std.specs.Int.{bit_at};
 ghost use Rattle.std.specs.List.{slice_get};
 ghost use Rattle.f11_bytes.specs.Bits.{bit};
 
@@ -94,11 +95,11 @@ impl IndexFile {
             (min (slots (index_kept self.now) + 1) (16 * word + 17))) }
     {
         let (start, end) = (IndexFile::start(word), self.end(word));
-        match word_of(&self.bitmap[(word / WORDS) as usize], word % WORDS) {
-            u16::MAX => 0,
-            0 => end - start,
-            _ => self.count_free(start, end),
+        if end - start < WORD {
+            return self.count_free(start, end);
         }
+        let bits = word_of(&self.bitmap[(word / WORDS) as usize], word % WORDS);
+        WORD - bits.count_ones()
     }
 
     /// The least free slot of this word.
@@ -148,7 +149,7 @@ impl IndexFile {
 fn word_of(block: &Block, i: u32) -> u16
     requires { i < 256 }
     ensures all { result ≡ 65535 → (k : ℕ) → 16 * i ≤ k → k < 16 * i + 16 → bit block.now k ≡ true }
-    ensures none { result ≡ 0 → (k : ℕ) → 16 * i ≤ k → k < 16 * i + 16 → bit block.now k ≡ false }
+    ensures bits { (k : ℕ) → k < 16 → bit block.now (16 * i + k) ≡ (bit_at result k == 1) }
 {
     read_word(block, 2 * i as usize)
 }

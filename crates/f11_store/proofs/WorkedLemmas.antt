@@ -247,7 +247,22 @@ conflicts = (
 )
 
 pub other_volumes : OtherVolumes
-other_volumes = (_, (_, refused refl, (_, refused refl, (_, refused refl, (_, refused refl, refl)))))
+other_volumes = (
+  _,
+  (
+    _,
+    refused refl,
+    (
+      _,
+      refused refl,
+      (
+        _,
+        refused refl,
+        (_, refused refl, (_, refused refl, (_, refused refl, (_, refused refl, (_, refused refl, refl))))),
+      ),
+    ),
+  ),
+)
 
 pub headers_run_out : HeadersRunOut
 unfolding free_slots is_held zero_blocks lacks_headers slots_first

@@ -210,7 +210,7 @@ Conflicts =
     ∷ no refusal.Conflict ∷ no refusal.LunInUse
     ∷ no refusal.NoSuchAccess ∷ no refusal.SystemFile ∷ [])
 
--- a file of another relative volume than 0 is none that there may be
+-- a file of another relative volume than 0 is none that there may be, nor is a directory, nor a file that is entered
 abbrev pub elsewhere : FileId
 elsewhere = record { number = 4; sequence = 4; volume = 1 }
 
@@ -218,8 +218,12 @@ abbrev pub OtherVolumes : Type 0
 OtherVolumes =
     MayAnswer small_volume
     (asks 0 (request.Access elsewhere mode.Read 0) ∷ asks 0 (request.Delete elsewhere) ∷ asks 0 (request.ReadAttr elsewhere)
-    ∷ asks 0 (request.WriteAttr elsewhere (change.Protect 0)) ∷ [])
+    ∷ asks 0 (request.WriteAttr elsewhere (change.Protect 0)) ∷ asks 0 (request.Find elsewhere indexf)
+    ∷ asks 0 (request.Enter elsewhere a_txt (id 5 5)) ∷ asks 0 (request.Enter (id 4 4) a_txt elsewhere)
+    ∷ asks 0 (request.Remove elsewhere indexf) ∷ [])
     (no refusal.BadArgument ∷ no refusal.BadArgument ∷ no refusal.BadArgument
+    ∷ no refusal.BadArgument ∷ no refusal.BadArgument
+    ∷ no refusal.BadArgument ∷ no refusal.BadArgument
     ∷ no refusal.BadArgument ∷ [])
 
 -- a name that is entered is found, and one that is removed isn't

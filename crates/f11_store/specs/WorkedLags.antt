@@ -148,7 +148,8 @@ TruncateAddsNoPointer =
 abbrev pub works : Store → Request → Work
 works s r = work_of s 0 first_user r []
 
--- Extend and GrowIndex take the headers that their blocks may need, 102 in each, and that of a slot that comes first
+-- Extend and GrowIndex take the headers that their blocks may need: one for each 102 past the places of the file's last header, and none
+-- within them. A slot that comes first has a place in the index file's last header: it takes a block, and no header.
 pub record WorkTakesHeaders : Type 0 where
   pub within : (works writing_a (request.Extend 0 102)).headers ≡ 0
   pub behind : (works writing_a (request.Extend 0 103)).headers ≡ 1

@@ -38,7 +38,10 @@ pub fn transfers()
     ensures lengths { costs.WideLengths }
     ensures directories { costs.WideDirectories }
     ensures small { costs.SmallBounds }
+    ensures no_file { costs.NoFileBounds }
     ensures long { costs.LongFileBounds }
+    ensures several_headers { costs.SeveralHeaderBounds }
+    ensures wide_index { costs.WideIndexBounds }
     ensures giving_up { costs.GivingUpBounds }
 {}
 
