@@ -20,6 +20,7 @@ mod StoppingLemmas
 mod LeavingLemmas
 mod WholeLemmas
 mod MomentsLemmas
+mod PutSlotsLemmas
 mod PutLemmas
 mod RtAnyLemmas
 mod RtTakingLemmas

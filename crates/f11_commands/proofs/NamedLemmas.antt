@@ -120,23 +120,26 @@ module _ {D : Type 0} {met : Ghosts D} where
       let same = fares.failures ∙ ap (λ r. failures_of v + (if of_files is_fault r then 1 else 0)) is in
       absurd (omega (arith, more, same))
 
+  -- behind something that failed nothing
+  pub alone-onward : (result : Result ℕ FlxRefusal) (v u w : Volume D met) → IsFared false false v u
+      → (state_in u).home ≡ (state_in v).home → FaresAlone result u w → FaresAlone result v w
+  alone-onward result v u w fared home a = record {
+    fares = fares-behind result v u w fared a.fares;
+    alive = λ alive. a.alive (fared.next ∙ ap (λ b. b || false) alive);
+    home = a.home ∙ home;
+    undamaged = λ alive honest. a.undamaged (fared.next ∙ ap (λ b. b || false) alive) (fared.honest ∙ honest);
+  }
+
   -- behind something that was granted
   pub alone-behind : (result : Result ℕ FlxRefusal) (x : Asking) (v u w : Volume D met) → Grants of_volume operator x v u
       → FaresAlone result u w → FaresAlone result v w
   alone-behind result x v u w grants a =
-      let fared = granted-fared operator x v u grants in
-      record {
-        fares = fares-behind result v u w fared a.fares;
-        alive = λ alive. a.alive (fared.next ∙ ap (λ b. b || false) alive);
-        home = a.home ∙ granted-home operator x v u grants;
-        undamaged = λ alive honest. a.undamaged (fared.next ∙ ap (λ b. b || false) alive) (fared.honest ∙ honest);
-      }
+      alone-onward result v u w (granted-fared operator x v u grants) (granted-home operator x v u grants) a
 
-  -- a find that is refused
-  pub alone-not-found : (dir : FileId) (name : List ℕ) (e : Refusal) (v w : Volume D met)
-      → Fails of_volume operator is_found (request.Find dir name) e v w → FaresAlone (Err (Files e)) v w
-  alone-not-found dir name e v w (inl denies) =
-      let fared = denied-fared operator (asks (request.Find dir name)) e v w denies in
+  -- something that was refused
+  pub alone-denied : (x : Asking) (e : Refusal) (v w : Volume D met) → Denies of_volume operator x e v w → FaresAlone (Err (Files e)) v w
+  alone-denied x e v w denies =
+      let fared = denied-fared operator x e v w denies in
       record {
         fares = record {
           failures = fared.failures;
@@ -147,12 +150,15 @@ module _ {D : Type 0} {met : Ghosts D} where
           accepted = fared.accepted;
           ordered = fared.ordered;
         };
-        alive = λ alive is. (denied-live operator (asks (request.Find dir name)) e v w alive denies).other
-            (same-refusal (Files e) (Files VolumeFailed) is);
-        home = denied-home operator (asks (request.Find dir name)) e v w denies;
-        undamaged = λ alive honest is. denied-undamaged operator (asks (request.Find dir name)) e v w alive honest denies
-            (let same = is in cc);
+        alive = λ alive is. (denied-live operator x e v w alive denies).other (same-refusal (Files e) (Files VolumeFailed) is);
+        home = denied-home operator x e v w denies;
+        undamaged = λ alive honest is. denied-undamaged operator x e v w alive honest denies (let same = is in cc);
       }
+
+  -- a find that is refused
+  pub alone-not-found : (dir : FileId) (name : List ℕ) (e : Refusal) (v w : Volume D met)
+      → Fails of_volume operator is_found (request.Find dir name) e v w → FaresAlone (Err (Files e)) v w
+  alone-not-found dir name e v w (inl denies) = alone-denied (asks (request.Find dir name)) e v w denies
   alone-not-found dir name e v w (inr wrong) =
       let fared = granted-fared operator (told (request.Find dir name) wrong.0) v w wrong.3 in
       let dishonest : IsTrue (state_in v).disk.honest → ⊥ = λ honest. never (found-reply dir name wrong.0 v w wrong.3 honest) wrong.1 in

@@ -1,5 +1,6 @@
 -- A file of the host that is put on a volume by its name.
-use Rattle.std.proofs.Common.{◌≡◌, ◌⊎◌, inl, inr, ℕ, true, IsTrue, List, [], Option, Some, Result, Ok, Err, IfOk, IfErr, refl}
+use Rattle.std.proofs.Common.{◌≡◌, ◌⊎◌, inl, inr, ℕ, zero, suc, true, false, not, IsTrue, List, [], Option, Some, Result, Ok, Err, IfOk}
+use Rattle.std.proofs.Common.{IfErr, refl}
 use Rattle.std.proofs.Common.{sym, ap, ◌∙◌, subst, arith}
 use Rattle.std.proofs.KnownBytes.{Consumes-nil}
 use Rattle.f11_dev.specs.Disk.{Disk}
@@ -10,10 +11,11 @@ use Rattle.f11_serving.specs.fcp.Accesses.{held_in, no_entries}
 use Rattle.f11_serving.specs.fcp.Mounting.{Mounts}
 use Rattle.f11_serving.specs.fcp.Serving.{is_spent, state_in}
 use Rattle.f11_serving.specs.fcp.declared.volume.Volume.{Volume}
+use Rattle.f11_serving.specs.files.Answers.{is_fatal, is_fault}
 use Rattle.f11_flx.proofs.CopyLemmas.{stated_end-image, stated_end-text}
-use Rattle.f11_flx.proofs.VolumeLemmas.{volume-seen}
+use Rattle.f11_flx.proofs.VolumeLemmas.{IsFared, denied-fared, granted-fared, volume-seen}
 use Rattle.f11_flx.proofs.TriedLemmas.{asked-for-one}
-use Rattle.f11_flx.specs.Asking.{Asking, Fails, Grants, Tried, Who, asks, told, who_asks}
+use Rattle.f11_flx.specs.Asking.{Asking, Denies, Fails, Grants, Tried, Who, asks, plain, told, who_asks}
 use Rattle.f11_flx.specs.Copying.{MayMake, MayMakeStated, is_whole, of_volume}
 use Rattle.f11_home.specs.Home.{HomeFields}
 use Rattle.f11_flx.specs.declared.lines.Extent.{Extent}
@@ -36,21 +38,23 @@ use Rattle.f11_store.specs.declared.requests.Reply.TheVariants as reply
 use Rattle.f11_store.specs.declared.requests.Request.{Request}
 use Rattle.f11_store.specs.declared.requests.Request.TheVariants as request
 use Rattle.f11_volume.specs.Verdict.{IsAccepted}
-use Rattle.f11_commands.proofs.AskedLemmas.{granted-home, never, tried-home}
+use Rattle.f11_commands.proofs.AskedLemmas.{denied-home, granted-home, never, tried-home}
 use Rattle.f11_commands.proofs.CopyLemmas.{first-is, last-is, sound-first, stands-accepted}
-use Rattle.f11_commands.proofs.StoppingLemmas.{alive-of, failed-by, find-leaves, find-stopped, stops-by, stored}
+use Rattle.f11_commands.proofs.StoppingLemmas.{alive-of, failed-by, find-leaves, find-stopped, honest-of, request-stopped, stops-by, stored}
 use Rattle.f11_commands.proofs.MomentsLemmas.{asked-alone, asked-stood, at, disk, file-stood, stood-both, stood-looked, stood-none}
 use Rattle.f11_commands.proofs.MomentsLemmas.{stood-then, stood-weaker, whole-stood}
 use Rattle.f11_commands.proofs.WholeLemmas.{ends-whole}
-use Rattle.f11_commands.proofs.NamedLemmas.{alone-behind, alone-not-found, not-found-seen, undamaged-asked}
+use Rattle.f11_commands.proofs.NamedLemmas.{alone-denied, alone-not-found, alone-onward, not-found-seen, undamaged-asked}
+use Rattle.f11_commands.proofs.PutSlotsLemmas.{growth-keeps, growth-unheld, no-fault}
 use Rattle.f11_commands.specs.CopyCommand.{VerifiesFiles}
 use Rattle.f11_commands.specs.Copying.{master_directory, operator}
 use Rattle.f11_commands.specs.Finding.{is_found}
 use Rattle.f11_commands.specs.PutCommand.{FailsFor, HoldFor, Hosts, MakesFor, ReadsFor}
-use Rattle.f11_commands.specs.PutCommand.{EndsAccepted, EndsPutting, PutsByName, PutsInto, PutsNamed, PutsOnImage}
+use Rattle.f11_commands.specs.PutCommand.{EndsAccepted, EndsPutting, PutsBehindSlots, PutsByName, PutsInto, PutsNamed, PutsOnImage}
+use Rattle.f11_commands.specs.PutSlots.{AsksForSlots, slots_before}
 use Rattle.f11_commands.specs.PutCommand.{TellsKeptFile}
-use Rattle.f11_commands.specs.Stopping.{EndsWhole, IsStopped, IsUnheld, Stood, StopsFile, StopsPut, StopsPutting, WhereUnheld, making}
-use Rattle.f11_commands.specs.Stopping.{seeking}
+use Rattle.f11_commands.specs.Stopping.{EndsWhole, IsStopped, IsUnheld, Stood, StopsBehindSlots, StopsFile, StopsInto, StopsPut}
+use Rattle.f11_commands.specs.Stopping.{StopsPutting, WhereUnheld, growing, grown, making, seeking}
 use Rattle.f11_commands.specs.declared.copy.FileAnswer.{FileAnswer}
 use Rattle.f11_commands.specs.declared.put.Putting.{Putting}
 use Rattle.f11_commands.specs.declared.rt_put.PutFailure.{PutFailure}
@@ -76,7 +80,7 @@ unread-for bytes u mode.Text e = inl refl
 -- the look for the directory was stopped
 sought : (p : Putting) (bytes : ℕ) (h h' : Hosts) (a : Reply) (s t : Store)
     → IsStopped (told (request.Find master_directory p.directory) a) s t
-    → StopsPut p.directory p.name (HoldFor p.mode bytes h h') s t
+    → StopsPut p (HoldFor p.mode bytes h h') s t
 sought p bytes h h' a s t stopped =
     let r : Request = request.Find master_directory p.directory in
     let alone : IsStopped (asks r) s t = asked-alone r a s t stopped in
@@ -224,55 +228,175 @@ module _ {D : Type 0} {met : Ghosts D} (p : Putting) (bytes : ℕ) (u : Hosts) w
       → FailsToCopyTextFromHost e bytes u.first u'.first u.again u'.again who l dir p.name 0 (store_of_volume v) (store_of_volume w)))
       refused))
 
+  -- the same, said of less
+  put-weaker : (result : Result ℕ HostRefusal) (u' : Hosts) (Holds Holds' Stops Stops' : Store → Store → Type 0) (v w : Volume D met)
+      → PutsNamed p.mode bytes result u u' Holds (WhereUnheld Stops) v w
+      → (is_sound v ≡ true → Holds (store_of_volume v) (store_of_volume w) → Holds' (store_of_volume v) (store_of_volume w))
+      → (is_sound v ≡ true → (t : Store) → Stops (store_of_volume v) t → Stops' (store_of_volume v) t)
+      → PutsNamed p.mode bytes result u u' Holds' (WhereUnheld Stops') v w
+  put-weaker result u' Holds Holds' Stops Stops' v w a hold on = record {
+    fares = a.fares;
+    host = a.host;
+    outcome = λ sound whole. hold sound (a.outcome sound whole);
+    stops = λ sound fault unheld. on sound (stored w) (a.stops sound fault unheld);
+    moments = λ sound unheld.
+        stood-weaker (λ image. WhereUnheld Stops (store_of_volume v) (at v image))
+        (λ image. WhereUnheld Stops' (store_of_volume v) (at v image))
+        (disk v) (disk w) (λ image is. λ unheld. on sound (at v image) (is unheld)) (a.moments sound unheld);
+  }
+
+  -- behind something that was asked, and failed nothing
+  module _ (x : Asking) (Seen : Type 0) (v m : Volume D met) (fared : IsFared false false v m)
+      (answered : (Grants of_volume operator x v m) ⊎ ((e : Refusal) × Denies of_volume operator x e v m))
+      (home : (state_in m).home ≡ (state_in v).home) (seen : is_sound v ≡ true → Seen × (is_sound m ≡ true))
+      (free : Seen → IsUnheld (store_of_volume v) → IsUnheld (store_of_volume m))
+    where
+      put-behind : (result : Result ℕ HostRefusal) (u' : Hosts) (Holds Holds' Stops Stops' : Store → Store → Type 0) (w : Volume D met)
+          → PutsNamed p.mode bytes result u u' Holds (WhereUnheld Stops) m w
+          → (Seen → Holds (store_of_volume m) (store_of_volume w) → Holds' (store_of_volume v) (store_of_volume w))
+          → (Seen → (t : Store) → Stops (store_of_volume m) t → Stops' (store_of_volume v) t)
+          → (Seen → (t : Store) → IsStopped x (store_of_volume v) t → Stops' (store_of_volume v) t)
+          → PutsNamed p.mode bytes result u u' Holds' (WhereUnheld Stops') v w
+      put-behind result u' Holds Holds' Stops Stops' w a hold on stop = record {
+        fares = alone-onward (copy_result result) v m w fared home a.fares;
+        host = a.host;
+        outcome = λ sound whole. let is = seen sound in hold is.0 (a.outcome is.1 whole);
+        stops = λ sound fault unheld. let is = seen sound in on is.0 (stored w) (a.stops is.1 fault (free is.0 unheld));
+        moments = λ sound unheld.
+            let is = seen sound in
+            stood-then (λ image. WhereUnheld Stops' (store_of_volume v) (at v image)) (disk v) (disk m) (disk w)
+            (stood-weaker (λ image. IsStopped x (store_of_volume v) (at v image))
+            (λ image. WhereUnheld Stops' (store_of_volume v) (at v image)) (disk v) (disk m)
+            (λ image stopped. λ unheld. stop is.0 (at v image) stopped) (asked-stood x v m sound answered))
+            (stood-weaker (λ image. WhereUnheld Stops (store_of_volume m) (at m image))
+            (λ image. WhereUnheld Stops' (store_of_volume v) (at v image)) (disk m) (disk w)
+            (λ image stands. λ unheld. subst (λ (h : HomeFields). Stops' (store_of_volume v) (store_of image h)) home
+            (on is.0 (at m image) (stands (free is.0 unheld)))) (a.moments is.1 (free is.0 unheld)));
+      }
+
+  -- slots were asked for that the file may need
+  module _ (dir : FileId) (v : Volume D met) where
+    -- as many as it may
+    abbrev AreSlots : ℕ → Type 0
+    AreSlots n = IsTrue (state_in v).disk.honest → is_spent v ≡ false → n ≡ slots_before p.blocks (store_of_volume v)
+
+    slots-are : (n : ℕ) → AreSlots n → is_sound v ≡ true → n ≡ slots_before p.blocks (store_of_volume v)
+    slots-are n are sound =
+        are (honest-of (state_in v).disk.honest (is_spent v) sound) (alive-of (state_in v).disk.honest (is_spent v) sound)
+
+    stops-growing : (u' : Hosts) (n : ℕ) → n ≡ slots_before p.blocks (store_of_volume v) → (t : Store)
+        → IsStopped (asks (request.GrowIndex n)) (store_of_volume v) t
+        → StopsInto p (HoldFor p.mode bytes u u') dir (store_of_volume v) t
+    stops-growing u' n are t stopped =
+        subst (λ k. StopsBehindSlots k (StopsPutting dir p.name (HoldFor p.mode bytes u u')) (store_of_volume v) t) are
+        (growing stopped (growth-keeps n (store_of_volume v) t stopped))
+
+    stops-grown : (u' : Hosts) (n : ℕ) → n ≡ slots_before p.blocks (store_of_volume v) → (s t : Store)
+        → AsksForSlots plain n (store_of_volume v) s → StopsPutting dir p.name (HoldFor p.mode bytes u u') s t
+        → StopsInto p (HoldFor p.mode bytes u u') dir (store_of_volume v) t
+    stops-grown u' n are s t asked stopped =
+        subst (λ k. StopsBehindSlots k (StopsPutting dir p.name (HoldFor p.mode bytes u u')) (store_of_volume v) t) are
+        (grown s asked stopped)
+
+    puts-grown : (result : Result ℕ HostRefusal) (u' : Hosts) (n : ℕ) → n ≡ slots_before p.blocks (store_of_volume v) → (s t : Store)
+        → AsksForSlots plain n (store_of_volume v) s → PutsInto p bytes dir result u u' s t
+        → PutsBehindSlots p bytes dir result u u' (store_of_volume v) t
+    puts-grown result u' n are s t asked puts =
+        record { ready = s; readies = subst (λ k. AsksForSlots plain k (store_of_volume v) s) are asked; puts = puts }
+
+    -- they were granted, or refused, and the file was to be made
+    pub put-ready : (result : Result ℕ HostRefusal) (u' : Hosts) (n : ℕ) (m w : Volume D met) → AreSlots n
+        → AsksForSlots of_volume n v m
+        → PutsNamed p.mode bytes result u u' (PutsInto p bytes dir result u u')
+        (WhereUnheld (StopsPutting dir p.name (HoldFor p.mode bytes u u'))) m w
+        → PutsNamed p.mode bytes result u u' (PutsBehindSlots p bytes dir result u u')
+        (WhereUnheld (StopsInto p (HoldFor p.mode bytes u u') dir)) v w
+    put-ready result u' zero m w are same a =
+        put-weaker result u' (PutsInto p bytes dir result u u') (PutsBehindSlots p bytes dir result u u')
+        (StopsPutting dir p.name (HoldFor p.mode bytes u u')) (StopsInto p (HoldFor p.mode bytes u u') dir) v w
+        (subst (λ (y : Volume D met). PutsNamed p.mode bytes result u u' (PutsInto p bytes dir result u u')
+        (WhereUnheld (StopsPutting dir p.name (HoldFor p.mode bytes u u'))) y w) same a)
+        (λ sound puts. puts-grown result u' zero (slots-are zero are sound) (store_of_volume v) (store_of_volume w) refl puts)
+        (λ sound t stopped. stops-grown u' zero (slots-are zero are sound) (store_of_volume v) t refl stopped)
+    put-ready result u' (suc n) m w are (inl granted) a =
+        put-behind (asks (request.GrowIndex (suc n)))
+        ((suc n ≡ slots_before p.blocks (store_of_volume v)) × AsksForSlots plain (suc n) (store_of_volume v) (store_of_volume m)) v m
+        (granted-fared operator (asks (request.GrowIndex (suc n))) v m granted) (inl granted)
+        (granted-home operator (asks (request.GrowIndex (suc n))) v m granted)
+        (λ sound. let is = volume-seen.granted operator (asks (request.GrowIndex (suc n))) v m granted sound in
+        ((slots-are (suc n) are sound, inl is.0), is.1))
+        (λ is unheld. growth-unheld n (store_of_volume v) (store_of_volume m) is.1 unheld)
+        result u' (PutsInto p bytes dir result u u') (PutsBehindSlots p bytes dir result u u')
+        (StopsPutting dir p.name (HoldFor p.mode bytes u u')) (StopsInto p (HoldFor p.mode bytes u u') dir) w a
+        (λ is puts. puts-grown result u' (suc n) is.0 (store_of_volume m) (store_of_volume w) is.1 puts)
+        (λ is t stopped. stops-grown u' (suc n) is.0 (store_of_volume m) t is.1 stopped)
+        (λ is t stopped. stops-growing u' (suc n) is.0 t stopped)
+    put-ready result u' (suc n) m w are (inr denied) a =
+        put-behind (asks (request.GrowIndex (suc n)))
+        ((suc n ≡ slots_before p.blocks (store_of_volume v)) × AsksForSlots plain (suc n) (store_of_volume v) (store_of_volume m)) v m
+        (subst (λ b. IsFared b false v m) (no-fault denied.0 denied.1)
+        (subst (λ b. IsFared (is_fault denied.0) b v m) denied.1
+        (denied-fared operator (asks (request.GrowIndex (suc n))) denied.0 v m denied.2)))
+        (inr (denied.0, denied.2))
+        (denied-home operator (asks (request.GrowIndex (suc n))) denied.0 v m denied.2)
+        (λ sound. let is = volume-seen.denied operator (asks (request.GrowIndex (suc n))) denied.0 v m denied.2 sound denied.1 in
+        ((slots-are (suc n) are sound, inr (denied.0, denied.1, is.0)), is.1))
+        (λ is unheld. growth-unheld n (store_of_volume v) (store_of_volume m) is.1 unheld)
+        result u' (PutsInto p bytes dir result u u') (PutsBehindSlots p bytes dir result u u')
+        (StopsPutting dir p.name (HoldFor p.mode bytes u u')) (StopsInto p (HoldFor p.mode bytes u u') dir) w a
+        (λ is puts. puts-grown result u' (suc n) is.0 (store_of_volume m) (store_of_volume w) is.1 puts)
+        (λ is t stopped. stops-grown u' (suc n) is.0 (store_of_volume m) t is.1 stopped)
+        (λ is t stopped. stops-growing u' (suc n) is.0 t stopped)
+
+    -- a device fault or Damaged was met there
+    pub put-unready : (n : ℕ) (e : Refusal) (w : Volume D met) → AreSlots n → is_fatal e ≡ true
+        → Denies of_volume operator (asks (request.GrowIndex n)) e v w
+        → PutsNamed p.mode bytes (Err (Files e)) u u (PutsBehindSlots p bytes dir (Err (Files e)) u u)
+        (WhereUnheld (StopsInto p (HoldFor p.mode bytes u u) dir)) v w
+    put-unready n e w are fatal denies = record {
+      fares = alone-denied (asks (request.GrowIndex n)) e v w denies;
+      host = unread-for bytes u p.mode e;
+      outcome = λ sound whole. absurd (let no : not (is_fatal e) ≡ true = whole in cc);
+      stops = λ sound fault unheld.
+          stops-growing u n (slots-are n are sound) (stored w) (request-stopped (request.GrowIndex n) e v w denies sound);
+      moments = λ sound unheld.
+          stood-weaker (λ image. IsStopped (asks (request.GrowIndex n)) (store_of_volume v) (at v image))
+          (λ image. WhereUnheld (StopsInto p (HoldFor p.mode bytes u u) dir) (store_of_volume v) (at v image)) (disk v) (disk w)
+          (λ image stopped. λ unheld. stops-growing u n (slots-are n are sound) (at v image) stopped)
+          (asked-stood (asks (request.GrowIndex n)) v w sound (inr (e, denies)));
+    }
+
   -- the directory was found
   pub put-found : (dir : FileId) (result : Result ℕ HostRefusal)
       (u' : Hosts) (v m w : Volume D met)
       → Grants of_volume operator (told (request.Find master_directory p.directory) (reply.Found dir)) v m
-      → PutsNamed p.mode bytes result u u' (PutsInto p bytes dir result u u')
-      (WhereUnheld (StopsPutting dir p.name (HoldFor p.mode bytes u u'))) m w
+      → PutsNamed p.mode bytes result u u' (PutsBehindSlots p bytes dir result u u')
+      (WhereUnheld (StopsInto p (HoldFor p.mode bytes u u') dir)) m w
       → PutsNamed p.mode bytes result u u' (PutsByName p bytes result u u')
-      (WhereUnheld (StopsPut p.directory p.name (HoldFor p.mode bytes u u'))) v w
-  put-found dir result u' v m w grants a = record {
-    fares = alone-behind (copy_result result) (told (request.Find master_directory p.directory) (reply.Found dir)) v m w
-        grants a.fares;
-    host = a.host;
-    outcome = λ sound whole.
-        let seen = volume-seen.granted operator (told (request.Find master_directory p.directory) (reply.Found dir)) v m
-        grants sound in
-        inl (record {
-          dir = dir;
-          found = store_of_volume m;
-          finds = (store_of_volume m, seen.0, refl);
-          puts = a.outcome seen.1 whole;
-        });
-    stops = λ sound fault unheld.
-        let seen = volume-seen.granted operator (told (request.Find master_directory p.directory) (reply.Found dir)) v m
-        grants sound in
-        making dir (store_of_volume m) (store_of_volume m, seen.0, refl)
-        (a.stops seen.1 fault (subst IsUnheld (sym seen.0.2.changes) unheld));
-    moments = λ sound unheld.
-        let x : Asking = told (request.Find master_directory p.directory) (reply.Found dir) in
-        let seen = volume-seen.granted operator x v m grants sound in
-        stood-then (λ image. WhereUnheld (StopsPut p.directory p.name (HoldFor p.mode bytes u u')) (store_of_volume v) (at v image))
-        (disk v) (disk m) (disk w)
-        (stood-weaker (λ image. IsStopped x (store_of_volume v) (at v image))
-        (λ image. WhereUnheld (StopsPut p.directory p.name (HoldFor p.mode bytes u u')) (store_of_volume v) (at v image))
-        (disk v) (disk m) (λ image stopped. λ unheld. sought p bytes u u' (reply.Found dir) (store_of_volume v) (at v image) stopped)
-        (asked-stood x v m sound (inl grants)))
-        (stood-weaker (λ image. WhereUnheld (StopsPutting dir p.name (HoldFor p.mode bytes u u')) (store_of_volume m) (at m image))
-        (λ image. WhereUnheld (StopsPut p.directory p.name (HoldFor p.mode bytes u u')) (store_of_volume v) (at v image))
-        (disk m) (disk w) (λ image is. λ unheld.
-        subst (λ (h : HomeFields). StopsPut p.directory p.name (HoldFor p.mode bytes u u') (store_of_volume v) (store_of image h))
-        (granted-home operator x v m grants)
-        (making dir (store_of_volume m) (store_of_volume m, seen.0, refl) (is (subst IsUnheld (sym seen.0.2.changes) unheld))))
-        (a.moments seen.1 (subst IsUnheld (sym seen.0.2.changes) unheld)));
-  }
+      (WhereUnheld (StopsPut p (HoldFor p.mode bytes u u'))) v w
+  put-found dir result u' v m w grants a =
+      put-behind x (Grants plain operator x (store_of_volume v) (store_of_volume m)) v m (granted-fared operator x v m grants) (inl grants)
+      (granted-home operator x v m grants) (λ sound. volume-seen.granted operator x v m grants sound)
+      (λ seen unheld. subst IsUnheld (sym seen.2.changes) unheld)
+      result u' (PutsBehindSlots p bytes dir result u u') (PutsByName p bytes result u u')
+      (StopsInto p (HoldFor p.mode bytes u u') dir) (StopsPut p (HoldFor p.mode bytes u u')) w a
+      (λ seen puts. inl (record {
+        dir = dir;
+        found = store_of_volume m;
+        finds = (store_of_volume m, seen, refl);
+        puts = puts;
+      }))
+      (λ seen t stopped. making dir (store_of_volume m) (store_of_volume m, seen, refl) stopped)
+      (λ seen t stopped. sought p bytes u u' (reply.Found dir) (store_of_volume v) t stopped)
+    where
+      x : Asking
+      x = told (request.Find master_directory p.directory) (reply.Found dir)
 
   -- it isn't there
   pub put-nowhere : (e : Refusal) (v w : Volume D met)
       → Fails of_volume operator is_found (request.Find master_directory p.directory) e v w
       → PutsNamed p.mode bytes (Err (Files e)) u u (PutsByName p bytes (Err (Files e)) u u)
-      (WhereUnheld (StopsPut p.directory p.name (HoldFor p.mode bytes u u))) v
+      (WhereUnheld (StopsPut p (HoldFor p.mode bytes u u))) v
       w
   put-nowhere e v w fails = record {
     fares = alone-not-found master_directory p.directory e v w fails;
@@ -293,17 +417,17 @@ module _ {D : Type 0} {met : Ghosts D} (p : Putting) (bytes : ℕ) (u : Hosts) w
       r = request.Find master_directory p.directory
 
       missed : is_sound v ≡ true → Fails of_volume operator is_found r e v w
-          → Stood (λ image. WhereUnheld (StopsPut p.directory p.name (HoldFor p.mode bytes u u)) (store_of_volume v) (at v image))
+          → Stood (λ image. WhereUnheld (StopsPut p (HoldFor p.mode bytes u u)) (store_of_volume v) (at v image))
           (disk v) (disk w)
       missed sound (inl d) =
           stood-weaker (λ image. IsStopped (asks r) (store_of_volume v) (at v image))
-          (λ image. WhereUnheld (StopsPut p.directory p.name (HoldFor p.mode bytes u u)) (store_of_volume v) (at v image))
+          (λ image. WhereUnheld (StopsPut p (HoldFor p.mode bytes u u)) (store_of_volume v) (at v image))
           (disk v) (disk w) (λ image stopped. λ unheld. seeking stopped
           (find-leaves master_directory p.directory (store_of_volume v) (at v image) stopped))
           (asked-stood (asks r) v w sound (inr (e, d)))
       missed sound (inr g) =
           stood-weaker (λ image. IsStopped (told r g.0) (store_of_volume v) (at v image))
-          (λ image. WhereUnheld (StopsPut p.directory p.name (HoldFor p.mode bytes u u)) (store_of_volume v) (at v image))
+          (λ image. WhereUnheld (StopsPut p (HoldFor p.mode bytes u u)) (store_of_volume v) (at v image))
           (disk v) (disk w) (λ image stopped. λ unheld. sought p bytes u u g.0 (store_of_volume v) (at v image) stopped)
           (asked-stood (told r g.0) v w sound (inl g.3))
 
@@ -311,7 +435,7 @@ module _ {D : Type 0} {met : Ghosts D} (p : Putting) (bytes : ℕ) (u : Hosts) w
   module _ (result : Result ℕ HostRefusal) (u' : Hosts) (old : Disk) (first last : Volume D met) (mounts : Mounts old first)
       (image : IsImage old.image) (accepted : IsTrue old.honest → IsAccepted old.image)
       (puts : PutsNamed p.mode bytes result u u' (PutsByName p bytes result u u')
-      (WhereUnheld (StopsPut p.directory p.name (HoldFor p.mode bytes u u'))) first last)
+      (WhereUnheld (StopsPut p (HoldFor p.mode bytes u u'))) first last)
     where
       pub puts-on-image : PutsOnImage p bytes result u u' old (state_in last).disk
       puts-on-image = record {
@@ -326,27 +450,27 @@ module _ {D : Type 0} {met : Ghosts D} (p : Putting) (bytes : ℕ) (u : Hosts) w
             (last-is old first last mounts puts.fares.home)
             (puts.outcome (sound-first old first last mounts puts.fares.home is) whole));
         stops = λ is fault.
-            subst (λ (s : Store). WhereUnheld (StopsPut p.directory p.name (HoldFor p.mode bytes u u')) s
+            subst (λ (s : Store). WhereUnheld (StopsPut p (HoldFor p.mode bytes u u')) s
             (store_of (state_in last).disk.image (state_in first).home))
             (first-is old first last mounts puts.fares.home)
-            (subst (λ (h : HomeFields). WhereUnheld (StopsPut p.directory p.name (HoldFor p.mode bytes u u')) (store_of_volume first)
+            (subst (λ (h : HomeFields). WhereUnheld (StopsPut p (HoldFor p.mode bytes u u')) (store_of_volume first)
             (store_of (state_in last).disk.image h))
             puts.fares.home (puts.stops (sound-first old first last mounts puts.fares.home is) fault)) (λ task lun. refl);
         moments = λ is.
             let start : store_of_volume first ≡ held_in no_entries (store_of old.image (state_in first).home) =
             first-is old first last mounts puts.fares.home in
-            stood-then (λ image. StopsPut p.directory p.name (HoldFor p.mode bytes u u')
+            stood-then (λ image. StopsPut p (HoldFor p.mode bytes u u')
             (held_in no_entries (store_of old.image (state_in first).home)) (store_of image (state_in first).home)) old
             (state_in first).disk (state_in last).disk
-            (stood-looked (λ image. StopsPut p.directory p.name (HoldFor p.mode bytes u u')
+            (stood-looked (λ image. StopsPut p (HoldFor p.mode bytes u u')
             (held_in no_entries (store_of old.image (state_in first).home)) (store_of image (state_in first).home)) old
             (state_in first).disk mounts.looked)
-            (stood-weaker (λ image. WhereUnheld (StopsPut p.directory p.name (HoldFor p.mode bytes u u')) (store_of_volume first)
+            (stood-weaker (λ image. WhereUnheld (StopsPut p (HoldFor p.mode bytes u u')) (store_of_volume first)
             (at first image))
-            (λ image. StopsPut p.directory p.name (HoldFor p.mode bytes u u')
+            (λ image. StopsPut p (HoldFor p.mode bytes u u')
             (held_in no_entries (store_of old.image (state_in first).home)) (store_of image (state_in first).home))
             (state_in first).disk (state_in last).disk
-            (λ image stops. subst (λ (s : Store). WhereUnheld (StopsPut p.directory p.name (HoldFor p.mode bytes u u')) s
+            (λ image stops. subst (λ (s : Store). WhereUnheld (StopsPut p (HoldFor p.mode bytes u u')) s
             (at first image)) start stops (λ task lun. refl))
             (puts.moments (sound-first old first last mounts puts.fares.home is) (subst IsUnheld (sym start) (λ task lun. refl))));
         host = puts.host;

@@ -159,7 +159,7 @@ module _ {D : Type 0} {met : Ghosts D} where
       by (inl p) = not_begun p.0 p.1
       by (inr l) = lags l
 
-  request-stopped : (r : Request) (e : Refusal) (v w : Volume D met) → Denies of_volume operator (asks r) e v w → is_sound v ≡ true
+  pub request-stopped : (r : Request) (e : Refusal) (v w : Volume D met) → Denies of_volume operator (asks r) e v w → is_sound v ≡ true
       → IsStopped (asks r) (store_of_volume v) (stored w)
   request-stopped r e v w d sound = served-stopped r (asks r) v w d.0 _ d.2 sound (λ l. in_part (d.0, l))
 

@@ -30,6 +30,7 @@ use Rattle.f11_serving.specs.writes.Moments.{StandsAccepted}
 use Rattle.f11_commands.specs.CopyCommand.{EndsFiles, FailsToMount, TellsCopy, VerifiesFiles}
 use Rattle.f11_commands.specs.Copying.{FindsName, FindsNoName, master_directory, operator}
 use Rattle.f11_commands.specs.Finding.{FaresAlone}
+use Rattle.f11_commands.specs.PutSlots.{GetsSlotsFor}
 use Rattle.f11_commands.specs.RtPut.{put_told}
 use Rattle.f11_commands.specs.Stopping.{IsUnheld, Stood, StopsPut}
 use Rattle.f11_commands.specs.declared.copy.FileAnswer.{FileAnswer}
@@ -82,13 +83,20 @@ abbrev pub PutsInto : Putting → ℕ → FileId → Result ℕ HostRefusal → 
 PutsInto p bytes dir (Ok blocks) h h' s s' = MakesFor p.mode bytes blocks h h' dir p.name s s'
 PutsInto p bytes dir (Err e) h h' s s' = LeavesAll p bytes dir e h h' s s'
 
+-- Slots were asked for that the file may need, and then it is so.
+pub record PutsBehindSlots (p : Putting) (bytes : ℕ) (dir : FileId) (result : Result ℕ HostRefusal) (h h' : Hosts) (s s' : Store)
+    : Type 0 where
+  pub ready : Store
+  pub readies : GetsSlotsFor p.blocks s ready
+  pub puts : PutsInto p bytes dir result h h' ready s'
+
 -- The directory was found, and then it is so.
 pub record FindsAndPuts (p : Putting) (bytes : ℕ) (result : Result ℕ HostRefusal) (h h' : Hosts) (s s' : Store)
     : Type 0 where
   pub dir : FileId
   pub found : Store
   pub finds : FindsName master_directory p.directory dir s found
-  pub puts : PutsInto p bytes dir result h h' found s'
+  pub puts : PutsBehindSlots p bytes dir result h h' found s'
 
 -- It isn't there, and nothing was read of the host's file.
 pub record HasNoDirectory (p : Putting) (result : Result ℕ HostRefusal) (h h' : Hosts) (s s' : Store) : Type 0 where
@@ -126,9 +134,9 @@ pub record PutsOnImage (p : Putting) (bytes : ℕ) (result : Result ℕ HostRefu
   pub outcome : IsTrue old.honest → is_whole (copy_result result) ≡ true →
       PutsByName p bytes result h h' (held_in no_entries (store_of old.image home)) (held_in held (store_of new.image home))
   pub stops : IsTrue old.honest → of_files is_fault (copy_result result) ≡ true →
-      StopsPut p.directory p.name (HoldFor p.mode bytes h h') (held_in no_entries (store_of old.image home)) (store_of new.image home)
+      StopsPut p (HoldFor p.mode bytes h h') (held_in no_entries (store_of old.image home)) (store_of new.image home)
   pub moments : IsTrue old.honest →
-      Stood (λ image. StopsPut p.directory p.name (HoldFor p.mode bytes h h') (held_in no_entries (store_of old.image home))
+      Stood (λ image. StopsPut p (HoldFor p.mode bytes h h') (held_in no_entries (store_of old.image home))
       (store_of image home)) old new
   pub host : ReadsFor p.mode bytes result h h'
   pub failures : new.failures ≡ old.failures + (if of_files is_fault (copy_result result) then 1 else 0)

@@ -16,8 +16,10 @@ use Rattle.f11_store.specs.declared.requests.Reply.TheVariants as reply
 use Rattle.f11_store.specs.declared.requests.Request.{Request}
 use Rattle.f11_store.specs.declared.requests.Request.TheVariants as request
 use Rattle.f11_commands.specs.Copying.{FindsName, directory_name, master_directory, operator}
+use Rattle.f11_commands.specs.PutSlots.{AsksForSlots, slots_before}
 use Rattle.f11_commands.specs.declared.copy.Direction.{Direction}
 use Rattle.f11_commands.specs.declared.copy.Direction.TheVariants.{ToRt, FromRt}
+use Rattle.f11_commands.specs.declared.put.Putting.{Putting}
 
 -- a store lags the one before by a request, with some block lent,
 abbrev pub LagsRequest : Request → Store → Store → Type 0
@@ -103,9 +105,22 @@ pub data StopsBelow (directory : List ℕ) (Stops : FileId → Store → Store �
 abbrev pub StopsNamed : List ℕ → List ℕ → Store → Store → Type 0
 StopsNamed directory name s t = StopsBelow directory (λ dir. StopsMaking dir name) s t
 
--- and of a file of the host
-abbrev pub StopsPut : List ℕ → List ℕ → (List (List ℕ) → Type 0) → Store → Store → Type 0
-StopsPut directory name AreSuch s t = StopsBelow directory (λ dir. StopsPutting dir name AreSuch) s t
+-- all files are as they were, but the index file
+abbrev pub KeepsButIndex : Store → Store → Type 0
+KeepsButIndex s t = (n : ℕ) → (n == 1) ≡ false → t.file n ≡ s.file n
+
+-- So many slots were asked for first: that was stopped, and no file is changed but the index file; or what followed was.
+pub data StopsBehindSlots (n : ℕ) (Stops : Store → Store → Type 0) (s t : Store) : Type 0 where
+  growing : IsStopped (asks (request.GrowIndex n)) s t → KeepsButIndex s t → StopsBehindSlots n Stops s t
+  grown : (ready : Store) → AsksForSlots plain n s ready → Stops ready t → StopsBehindSlots n Stops s t
+
+-- so of a file of the host that is made in a directory, and gets slots first,
+abbrev pub StopsInto : Putting → (List (List ℕ) → Type 0) → FileId → Store → Store → Type 0
+StopsInto p AreSuch dir s t = StopsBehindSlots (slots_before p.blocks s) (StopsPutting dir p.name AreSuch) s t
+
+-- and where the directory is looked for
+abbrev pub StopsPut : Putting → (List (List ℕ) → Type 0) → Store → Store → Type 0
+StopsPut p AreSuch s t = StopsBelow p.directory (StopsInto p AreSuch) s t
 
 -- nobody holds an access
 abbrev pub IsUnheld : Store → Type 0

@@ -40,6 +40,7 @@ mod update;
 mod vfy;
 mod volume;
 mod volume_dump;
+pub mod worked;
 
 pub use copy::finding::directory_name;
 pub use copy::names::{read_names, refuse_names};

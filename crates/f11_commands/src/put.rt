@@ -1,9 +1,11 @@
 //! The command `put`.
 
 ghost use Rattle.f11_serving.specs.vfy.Accepted.{device_of};
-ghost use Rattle.f11_commands.specs.PutCommand.{EndsAccepted, EndsPutting, HoldFor, PutsByName, PutsInto, PutsNamed};
+ghost use Rattle.f11_commands.specs.PutCommand.{EndsAccepted, EndsPutting, HoldFor, PutsBehindSlots, PutsByName, PutsInto, PutsNamed};
 ghost use Rattle.f11_commands.specs.PutCommand.{TellsKeptFile, TellsPutting, hosts};
-ghost use Rattle.f11_commands.specs.Stopping.{StopsPut, StopsPutting, WhereUnheld};
+ghost use Rattle.f11_commands.specs.Stopping.{StopsInto, StopsPut, StopsPutting, WhereUnheld};
+
+mod slots;
 
 use crate::copy::FileAnswer;
 use crate::copy::finding::{MASTER_DIRECTORY, OPERATOR, find, first_lun, first_task};
@@ -11,6 +13,7 @@ use crate::copy::serving::dismount;
 use crate::copy::telling::tell;
 use crate::copy::verifying::accept_files;
 use crate::outcome::Failure;
+use crate::put::slots::{ask_for_slots, slots_before};
 use crate::rt_put::{PutFailure, as_put};
 use crate::sync::synced;
 use f11_dev::Device;
@@ -33,6 +36,8 @@ pub struct Putting {
     pub name: Name,
     /// As it is, or as a text's records.
     pub mode: CopyMode,
+    /// How many blocks it may take: by them the index file gets slots first, where too few headers are free. 0 where that isn't known.
+    pub blocks: u64,
 }
 
 /// Verifies the Files-11 volume on a device, and makes a file of so many bytes that `host` gives, as
@@ -41,7 +46,9 @@ pub struct Putting {
 /// synced. It writes the line `copied N`, N being how many blocks the file has, or `no` and the refusal's name; where the volume has faults
 /// nothing is read of either, and it writes the lines of `vfy`. The device comes back.
 ///
-/// The directory is the one that file 4,4 has under that name. The operator, [1,1], asks; the file has the protection 0.
+/// The directory is the one that file 4,4 has under that name. The operator, [1,1], asks; the file has the protection 0. Where fewer headers
+/// are free than the file may take, the index file gets slots first, by one `GrowIndex`: as many as lack, and 16 at least. These stay. It
+/// isn't asked for where not more blocks are free than it and the file take, and the file is tried all the same where it is refused.
 ///
 /// # Errors
 ///
@@ -132,7 +139,7 @@ fn put_by_name<D: Device, R: Read>(
         (hosts (R.remaining host.new) (R.remaining again.new))
         (PutsByName put.now bytes result (hosts (R.remaining host.old) (R.remaining again.old))
         (hosts (R.remaining host.new) (R.remaining again.new)))
-        (WhereUnheld (StopsPut put.now.directory put.now.name (HoldFor put.now.mode bytes
+        (WhereUnheld (StopsPut put.now (HoldFor put.now.mode bytes
         (hosts (R.remaining host.old) (R.remaining again.old))
         (hosts (R.remaining host.new) (R.remaining again.new))))) volume.old volume.new }
 {
@@ -142,8 +149,33 @@ fn put_by_name<D: Device, R: Read>(
     }
 }
 
-/// Makes the file, and enters it into a directory.
+/// Asks for the slots that the file may need, and makes it in a directory.
 fn put_into<D: Device, R: Read>(
+    volume: &mut Volume<D>,
+    dir: FileId,
+    put: &Putting,
+    host: &mut R,
+    again: &mut R,
+    bytes: u64,
+) -> Result<u32, HostRefusal>
+    ensures puts { PutsNamed put.now.mode bytes result
+        (hosts (R.remaining host.old) (R.remaining again.old))
+        (hosts (R.remaining host.new) (R.remaining again.new))
+        (PutsBehindSlots put.now bytes dir result (hosts (R.remaining host.old) (R.remaining again.old))
+        (hosts (R.remaining host.new) (R.remaining again.new)))
+        (WhereUnheld (StopsInto put.now (HoldFor put.now.mode bytes
+        (hosts (R.remaining host.old) (R.remaining again.old))
+        (hosts (R.remaining host.new) (R.remaining again.new))) dir)) volume.old volume.new }
+{
+    let slots = slots_before(volume, put.blocks);
+    match ask_for_slots(volume, slots) {
+        Ok(()) => make_file(volume, dir, put, host, again, bytes),
+        Err(refusal) => Err(HostRefusal::Files(refusal)),
+    }
+}
+
+/// Makes the file, and enters it into a directory.
+fn make_file<D: Device, R: Read>(
     volume: &mut Volume<D>,
     dir: FileId,
     put: &Putting,

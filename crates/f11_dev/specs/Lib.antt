@@ -6,6 +6,7 @@ pub mod Outcomes
 pub mod Memory
 pub mod Written
 mod FileDisk
+pub mod Fault
 pub mod FileImage
 pub mod Fuse
 pub mod FailOnce

@@ -22,7 +22,7 @@ pub use device::{Device, DeviceFault};
 pub use f11_bytes;
 pub use f11_bytes::{BLOCK_SIZE, Block, NoMemory};
 pub use fail_once::FailOnce;
-pub use file_image::{CannotOpen, FileImage, MAX_BLOCKS};
+pub use file_image::{CannotOpen, Fault, FileImage, MAX_BLOCKS};
 pub use fuse::Fuse;
 pub use liar::Liar;
 pub use memory::Memory;

@@ -1,5 +1,5 @@
 //! The counts of the volume.
-ghost use Rattle.std.specs.Prelude.{[]};
+ghost use Rattle.std.specs.Prelude.{◌≡◌, [], false, IsTrue};
 ghost use Rattle.f11_fcp.specs.Handles.{Handles, IsOpen, IsUnwritten, StaysOpen, state_of};
 ghost use Rattle.f11_fcp.specs.Places.{access_table_of};
 ghost use Rattle.f11_store.specs.declared.requests.Request.TheVariants as asked;
@@ -7,6 +7,7 @@ ghost use Rattle.f11_files.specs.Open.{disk_in};
 ghost use Rattle.f11_files.specs.writes.Order.{WritesInOrder};
 
 use crate::table::Accesses;
+use crate::volume::Volume;
 use f11_dev::Device;
 use f11_files::Files;
 use f11_store::{Refusal, Reply, Task, Uic};
@@ -32,5 +33,23 @@ impl Accesses {
             headers,
             slots,
         })
+    }
+}
+
+impl<D: Device> Volume<D> {
+    ghost use Rattle.f11_store.specs.Store.{free_headers};
+    ghost use Rattle.f11_fcp.specs.Lists.{store_of_volume};
+    ghost use Rattle.f11_fcp.specs.Serving.{is_spent, state_in};
+
+    /// How many blocks are free, and how many headers: no request, but what a command asks that makes room for headers first. No transfer is
+    /// made. Behind a request that was answered `DeviceFault` or `Damaged` it may be any numbers.
+    pub fn free(&self) -> (u32, u32)
+        ensures blocks { IsTrue (state_in self.now).disk.honest → is_spent self.now ≡ false
+            → result.0 ≡ (store_of_volume self.now).free }
+        ensures headers { IsTrue (state_in self.now).disk.honest → is_spent self.now ≡ false
+            → result.1 ≡ free_headers (store_of_volume self.now) }
+    {
+        let (blocks, headers, _) = self.files.space();
+        (blocks, headers)
     }
 }

@@ -56,6 +56,23 @@ pub fn keep(device: &mut impl Device, lbn: u32, block: &Block) -> Result<(), Dev
     put(device, lbn, block)
 }
 
+/// Whether two devices have the same blocks.
+///
+/// # Errors
+///
+/// `DeviceFault` where a read failed.
+pub fn are_alike(mut one: Memory, mut other: Memory) -> Result<bool, DeviceFault> {
+    if one.blocks() != other.blocks() {
+        return Ok(false);
+    }
+    for lbn in 0..one.blocks() {
+        if get(&mut one, lbn)? != get(&mut other, lbn)? {
+            return Ok(false);
+        }
+    }
+    Ok(true)
+}
+
 /// Writes words into a block of a device, each at its byte, where there is one.
 ///
 /// # Errors

@@ -1,7 +1,7 @@
 //! What tests start from: blocks and words of devices in memory, headers, and volumes of both systems. It holds no test itself.
 //!
 //! [`memory`] is a device, [`get`], [`put`], [`keep`] and [`put_words`] read and write its blocks, and [`has_words`] and
-//! [`has_front`] and [`has_written`] look at them. [`linked`] is a header with retrieval pointers, [`directory_header`] that of a master file directory. [`volumes`] has Files-11 volumes, and
+//! [`has_front`], [`has_written`] and [`are_alike`] look at them. [`linked`] is a header with retrieval pointers, [`directory_header`] that of a master file directory. [`volumes`] has Files-11 volumes, and
 //! [`rt_volumes`] those of RT-11. What takes memory asks again where it was refused once, so that tests with refused memory
 //! can start from it too.
 #![tactic(auto)]
@@ -13,7 +13,8 @@ mod text;
 pub mod volumes;
 
 pub use blocks::{
-    SEVENS, ZEROS, get, has_front, has_words, has_written, keep, memory, put, put_words, sevens,
+    SEVENS, ZEROS, are_alike, get, has_front, has_words, has_written, keep, memory, put, put_words,
+    sevens,
 };
 pub use f11_vfy;
 pub use headers::{SYSTEM, blank_of, directory_header, file, linked};

@@ -4,7 +4,7 @@ use crate::host_files::tell_no_directory;
 use crate::opened;
 use crate::outcome::Failure;
 use crate::refusals::{self, NO_SUCH_ENTRY, of_finding, of_making, of_rt};
-use crate::remarks::{self, Remark};
+use crate::remarks::{self, Remark, Why, tell_fault};
 use f11_commands::f11_flx::CopyMode;
 use f11_commands::f11_rad50::Name;
 use f11_commands::{
@@ -48,7 +48,9 @@ pub fn copy<'a, W: Write>(
     };
     let (files, rt_volume) = opened_both(rt, asked, remark)?;
     let mut heard = Heard::new(writer, None);
-    let (_, _, answer) = print_copy(rt.alloc(), files, rt_volume, &copying, &mut heard);
+    let (files, rt_volume, answer) = print_copy(rt.alloc(), files, rt_volume, &copying, &mut heard);
+    tell_fault(rt, asked.image, files);
+    tell_fault(rt, asked.rt_image, rt_volume);
     if let Some(line) = heard.refusal() {
         match asked.direction {
             Direction::FromRt if line == NO_SUCH_ENTRY => {
@@ -71,6 +73,9 @@ fn uncopied<'a>(asked: &Asked<'a>, line: &str) -> Option<Remark<'a>> {
 }
 
 fn of_copied<'a>(asked: &Asked<'a>, line: &str) -> Option<Remark<'a>> {
+    if line == "no LineTooLong" {
+        return Some(Remark::of(asked.rt_name, Why::LONG_RT_LINE));
+    }
     of_making(line, asked.image, asked.name, asked.rt_name)
 }
 

@@ -1,7 +1,7 @@
 //! The command `get --all`: the files of the host that it makes, in a folder.
 use crate::host_file::HostFile;
 use crate::outcome::Failure;
-use crate::remarks::{self, Remark, Why};
+use crate::remarks::{self, Remark, Why, tell_fault};
 use crate::{judged, opened};
 use f11_commands::f11_catalog::{Content, DirectoryName, Place};
 use f11_commands::{Answer, LeftOut, TakingAll, begin_all};
@@ -31,17 +31,21 @@ pub fn get_all<'a, W: Write>(
     let device = opened(FileImage::open_to_read(rt, image), image, remark)?;
     let mut all = match begin_all(rt.alloc(), device, writer) {
         Ok(all) => all,
-        Err((_device, served)) => return Ok(judged(rt, image, served?, remark)),
+        Err((device, served)) => {
+            tell_fault(rt, image, device);
+            return Ok(judged(rt, image, served?, remark));
+        }
     };
     let new = fs::create_dir(rt, folder).map_err(CannotOpen::from);
     opened(new, folder, remark)?;
     let taken = take_all(rt, &mut all, folder, writer);
     // where it stopped the last line would count what was never tried as done
-    let (_device, served) = if taken.is_ok() {
+    let (device, served) = if taken.is_ok() {
         all.end(writer)
     } else {
         all.end(&mut io::sink())
     };
+    tell_fault(rt, image, device);
     let answer = judged(rt, image, served?, remark);
     if taken? {
         Ok(answer)
@@ -65,7 +69,8 @@ fn take_all<W: Write>(
             _ => match host_of(rt, folder, &found.place)? {
                 Host::File(mut made) => {
                     let written = all.write(&found, made.beside, &mut made.file, writer);
-                    if written.is_err() || made.file.end().is_err() {
+                    let ended = made.file.end();
+                    if written.is_err() || ended.is_err() {
                         tell_unwritten(rt, &found.place, &made, writer);
                         return Err(Failure::CannotWrite);
                     }
@@ -128,10 +133,10 @@ fn in_directory(
 ) -> Result<Host, Failure> {
     let part = folder_of(rt, folder, directory)?;
     let path = format!(in rt.alloc(); "{part}/{name}")?;
-    match made_in(rt, part.as_str(), path.as_str()) {
+    match made_in(rt, part.as_str(), path.as_str())? {
         Err(CannotOpen::Exists) => {
             let path = format!(in rt.alloc(); "{part}/{name} ({id})")?;
-            let file = made_in(rt, part.as_str(), path.as_str());
+            let file = made_in(rt, part.as_str(), path.as_str())?;
             Ok(or_told(rt, path, file, Some(id)))
         }
         file => Ok(or_told(rt, path, file, None)),
@@ -156,22 +161,24 @@ fn lost(rt: &HostRuntime, folder: &str, id: FileId, name: Option<Name>) -> Resul
         Some(name) => format!(in rt.alloc(); "{part}/{id} {name}")?,
         None => format!(in rt.alloc(); "{part}/{id}")?,
     };
-    let file = made_in(rt, part.as_str(), path.as_str());
+    let file = made_in(rt, part.as_str(), path.as_str())?;
     Ok(or_told(rt, path, file, None))
 }
 
-/// A new file in a folder, which is made where there is none.
-fn made_in(rt: &HostRuntime, part: &str, path: &str) -> Result<HostFile, CannotOpen> {
-    match fs::create_dir(rt, part) {
-        Ok(()) => {}
-        Err(error) => {
-            let why = CannotOpen::from(error);
-            if why != CannotOpen::Exists {
-                return Err(why);
-            }
-        }
+/// A new file in a folder, which is made where there is none; or why none could be made.
+pub fn made_in(
+    rt: &HostRuntime,
+    part: &str,
+    path: &str,
+) -> Result<Result<HostFile, CannotOpen>, Failure> {
+    match HostFile::new(rt, path)? {
+        Err(CannotOpen::Missing) => {}
+        made => return Ok(made),
     }
-    HostFile::new(rt, path)
+    match fs::create_dir(rt, part).map_err(CannotOpen::from) {
+        Ok(()) | Err(CannotOpen::Exists) => HostFile::new(rt, path),
+        Err(why) => Ok(Err(why)),
+    }
 }
 
 /// The file that was made, if one was; that it was there before; or else why it wasn't made is told on standard error.

@@ -1,16 +1,21 @@
 //! A file of the host that is made.
 ghost use Rattle.std.specs.Prelude.{◌≤◌, IfOk, length};
 
+use crate::outcome::Failure;
 use f11_dev::CannotOpen;
 use std::fs::{self, File, OpenOptions};
-use std::io::{self, Seek, SeekFrom, Write};
+use std::io::{self, BufWriter, Seek, SeekFrom, Write};
 
-/// A file of the host that was made, to be written once, from its beginning. Blocks of zeros aren't written: the file is made longer, so that
-/// zeros for what an image lacks take no room. Its `flush` gives it its length and syncs it, so that what the system tells only then, as
-/// where a disk of the network is full or a quota is used up, is an error: the end of a [`File`] tells nothing.
+/// How many bytes of a file of the host are read, or written, at once.
+pub const PIECE: usize = 65_536;
+
+/// A file of the host that was made, to be written once, from its beginning, in pieces of [`PIECE`] bytes. Blocks of zeros aren't written:
+/// the file is made longer, so that zeros for what an image lacks take no room. Its `flush` gives it its length and syncs it, so that what
+/// the system tells only then, as where a disk of the network is full or a quota is used up, is an error: the end of a [`File`] tells
+/// nothing.
 #[derive(Drop)]
 pub struct HostFile {
-    file: File,
+    file: BufWriter<File>,
     /// How many bytes it was given.
     length: u64,
     /// Whether the last of them were zeros that were passed over, so that the file is shorter yet.
@@ -22,19 +27,30 @@ pub struct HostFile {
 }
 
 impl HostFile {
-    /// A new one, where none is yet.
-    pub fn new(rt: &HostRuntime, path: &str) -> Result<HostFile, CannotOpen> {
-        let file = OpenOptions::new()
-            .write(true)
-            .create_new(true)
-            .open(rt, path)?;
-        Ok(HostFile {
-            file,
-            length: 0,
-            is_short: false,
-            is_synced: false,
-            failure: None,
-        })
+    /// A new one, where none is yet; or why none could be made.
+    ///
+    /// # Errors
+    ///
+    /// [`Failure::NoMemory`] where there is no memory for a piece: then none is made.
+    pub fn new(rt: &HostRuntime, path: &str) -> Result<Result<HostFile, CannotOpen>, Failure> {
+        let mut options = OpenOptions::new();
+        let file = match options.write(true).create_new(true).open(rt, path) {
+            Ok(file) => file,
+            Err(error) => return Ok(Err(CannotOpen::from(error))),
+        };
+        match BufWriter::with_capacity(rt.alloc(), PIECE, file) {
+            Ok(file) => Ok(Ok(HostFile {
+                file,
+                length: 0,
+                is_short: false,
+                is_synced: false,
+                failure: None,
+            })),
+            Err(_) => {
+                let _ = fs::remove_file(rt, path);
+                Err(Failure::NoMemory)
+            }
+        }
     }
 
     /// Why it took no more when it was last asked, if it didn't: a write that was interrupted and then done again is no failure.
@@ -45,8 +61,11 @@ impl HostFile {
     /// Gives it up: where no byte was written to it, it is removed again. Whether it stays.
     pub fn give_up(self, rt: &HostRuntime, path: &str) -> bool {
         let mut file = self;
-        let _ = file.lengthen();
-        let is_empty = file.length == 0;
+        let _ = file.settle();
+        let is_empty = match file.file.get_ref().metadata() {
+            Ok(metadata) => metadata.len() == 0,
+            Err(_) => false,
+        };
         drop(file);
         if is_empty {
             let _ = fs::remove_file(rt, path);
@@ -63,10 +82,11 @@ impl HostFile {
         Ok(())
     }
 
-    /// Gives it its length, where zeros at its end were passed over.
-    fn lengthen(&mut self) -> io::Result<()> {
+    /// Writes what is still to be written, and gives it its length, where zeros at its end were passed over.
+    fn settle(&mut self) -> io::Result<()> {
+        self.file.flush()?;
         if self.is_short {
-            self.file.set_len(self.length)?;
+            self.file.get_ref().set_len(self.length)?;
             self.is_short = false;
         }
         Ok(())
@@ -96,8 +116,8 @@ impl HostFile {
     }
 
     fn sync(&mut self) -> io::Result<()> {
-        self.lengthen()?;
-        self.file.sync_all()?;
+        self.settle()?;
+        self.file.get_ref().sync_all()?;
         self.is_synced = true;
         Ok(())
     }

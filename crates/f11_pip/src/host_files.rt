@@ -1,11 +1,11 @@
 //! The commands on files of the host: which files they open, and how.
 use crate::heard::Heard;
-use crate::host_file::HostFile;
+use crate::host_file::{HostFile, PIECE};
 use crate::outcome::Failure;
 use crate::refusals::{self, NO_SUCH_ENTRY, of_finding, of_making};
-use crate::remarks::{self, Remark, Why};
+use crate::remarks::{self, Remark, Why, tell_fault};
 use crate::{judged, opened};
-use f11_commands::f11_flx::CopyMode;
+use f11_commands::f11_flx::{CopyMode, LONGEST_LINE};
 use f11_commands::f11_rad50::Name;
 use f11_commands::{
     Answer, FileAnswer, FoundFile, PutFailure, Putting, Served, print_ls, print_put, read_name,
@@ -13,7 +13,7 @@ use f11_commands::{
 };
 use f11_dev::{CannotOpen, FileImage};
 use std::fs::{self, File};
-use std::io::{self, Read, Write};
+use std::io::{self, BufReader, Read, Write};
 
 /// A file of a volume, as the words name it: its image, its directory, and its name.
 #[derive(Clone, Copy)]
@@ -55,15 +55,18 @@ pub fn get<'a, W: Write>(
                 remarks::tell(rt, file.image, Why::LEFT_OPEN);
             }
             let lacks_lines = taking.mode == CopyMode::Text && !found.has_lines();
-            let found = as_far_as(found, taking.all_blocks)?;
-            let served = take_out(rt, found, file.name, taking.mode, host, writer, remark)?;
+            let found = as_far_as(rt, file.image, found, taking.all_blocks)?;
+            let served = take_out(rt, found, file, taking.mode, host, writer, remark)?;
             if lacks_lines && served.answer == Answer::Done {
                 remarks::tell(rt, file.name, Why::NO_LINES);
             }
             served
         }
         Ok(Err((_device, served))) => served,
-        Err((_device, failure)) => return Err(Failure::from(failure)),
+        Err((device, failure)) => {
+            tell_fault(rt, file.image, device);
+            return Err(Failure::from(failure));
+        }
     };
     Ok(judged(rt, file.image, served, remark))
 }
@@ -86,7 +89,11 @@ fn seek<W: Write>(
     let sought = seek_file(rt.alloc(), device, &mut heard, &file.directory, name);
     if let Some(line) = heard.refusal() {
         if !is_directory_missing(rt, file, line) {
-            refusals::tell(rt, of_finding(line, file.name));
+            if line == NO_SUCH_ENTRY {
+                remarks::tell(rt, file.name, Why::NOT_THERE);
+            } else {
+                refusals::tell(rt, of_finding(line, file.name));
+            }
         }
     }
     sought
@@ -94,6 +101,8 @@ fn seek<W: Write>(
 
 /// The file up to the end that it states, or up to its last block.
 fn as_far_as(
+    rt: &HostRuntime,
+    image: &str,
     found: FoundFile<FileImage<File>>,
     all_blocks: bool,
 ) -> Result<FoundFile<FileImage<File>>, Failure> {
@@ -102,7 +111,10 @@ fn as_far_as(
     }
     match to_last_block(found) {
         Ok(found) => Ok(found),
-        Err(_device) => Err(Failure::DeviceFault),
+        Err(device) => {
+            tell_fault(rt, image, device);
+            Err(Failure::DeviceFault)
+        }
     }
 }
 
@@ -110,14 +122,15 @@ fn as_far_as(
 fn take_out<'a, W: Write>(
     rt: &HostRuntime,
     found: FoundFile<FileImage<File>>,
-    name: &str,
+    from: &Named<'_>,
     mode: CopyMode,
     host: &'a str,
     writer: &mut W,
     remark: &mut Option<Remark<'a>>,
 ) -> Result<Served, Failure> {
     let mut file = made(rt, host, remark)?;
-    let (_, served) = write_file(found, mode, &mut file, writer);
+    let (device, served) = write_file(found, mode, &mut file, writer);
+    tell_fault(rt, from.image, device);
     if !matches!(
         served,
         Ok(Served {
@@ -125,12 +138,13 @@ fn take_out<'a, W: Write>(
             ..
         },)
     ) {
+        let _ = file.end();
         if let Some(error) = file.failure() {
             *remark = Some(remarks::of_unwritten(host, error));
         }
         let stays = file.give_up(rt, host);
         if served.is_ok() && mode == CopyMode::Text {
-            remarks::tell(rt, name, Why::NO_RECORDS);
+            remarks::tell(rt, from.name, Why::NO_RECORDS);
             if stays {
                 remarks::tell(rt, host, Why::BEGINNING);
             }
@@ -145,7 +159,7 @@ pub fn made<'a>(
     host: &'a str,
     remark: &mut Option<Remark<'a>>,
 ) -> Result<HostFile, Failure> {
-    match HostFile::new(rt, host) {
+    match HostFile::new(rt, host)? {
         Err(CannotOpen::Missing) => {
             *remark = Some(Remark::of(host, Why::NO_FOLDER));
             Err(Failure::CannotOpen)
@@ -157,7 +171,7 @@ pub fn made<'a>(
 /// A file of the host that is read for one of a volume, and counts the bytes of 0 in it.
 #[derive(Drop)]
 struct Counted {
-    file: File,
+    file: BufReader<File>,
     nuls: u64,
 }
 
@@ -187,17 +201,18 @@ pub fn put<'a, W: Write>(
         *remark = Some(remarks::of_name(file.name));
         return Ok(refuse_names(writer)?);
     };
+    let (first, bytes) = opened_host(rt, host, remark)?;
     let putting = Putting {
         directory: file.directory,
         name,
         mode,
+        blocks: most_blocks(rt, mode, bytes, host)?,
     };
-    let (first, bytes) = opened(with_length(rt, host), host, remark)?;
     let again = opened(File::open(rt, host).map_err(CannotOpen::from), host, remark)?;
-    let (mut first, mut again) = (with_count(first), with_count(again));
+    let (mut first, mut again) = (with_count(rt, first)?, with_count(rt, again)?);
     let device = opened(FileImage::open(rt, file.image), file.image, remark)?;
     let mut heard = Heard::new(writer, None);
-    let (_, told) = print_put(
+    let (device, told) = print_put(
         rt.alloc(),
         device,
         &putting,
@@ -206,6 +221,7 @@ pub fn put<'a, W: Write>(
         bytes,
         &mut heard,
     );
+    tell_fault(rt, file.image, device);
     if told == Ok(FileAnswer::Done) && mode == CopyMode::Text && first.nuls != 0 {
         remarks::tell(rt, host, Why::NulsDropped(first.nuls));
     }
@@ -213,6 +229,48 @@ pub fn put<'a, W: Write>(
         tell_unmade(rt, file, mode, host, bytes, line);
     }
     put_answer(rt, file.image, host, told, remark)
+}
+
+/// How many blocks a file of the host with so many bytes takes at most on a volume: as it is, or as the records of its lines. So many that no
+/// file has them where it is a text that can't be read, or has a line that is too long.
+fn most_blocks(rt: &HostRuntime, mode: CopyMode, bytes: u64, host: &str) -> Result<u64, Failure> {
+    if mode == CopyMode::Image {
+        return Ok(bytes.div_ceil(512));
+    }
+    let Ok(file) = File::open(rt, host) else {
+        return Ok(u64::MAX);
+    };
+    let mut text = in_pieces(rt, file)?;
+    match lines_of(&mut text, bytes) {
+        Some(lines) => Ok(bytes.saturating_add(lines.saturating_mul(2)).div_ceil(512)),
+        None => Ok(u64::MAX),
+    }
+}
+
+/// How many lines a text of so many bytes has, with the last, which may lack its end: none where it can't be read, or a line has over 2,048
+/// bytes, those of 0 and a CR before its end left out.
+fn lines_of<R: Read>(text: &mut R, bytes: u64) -> Option<u64> {
+    let longest = LONGEST_LINE as u64;
+    let (mut lines, mut length, mut last) = (1_u64, 0_u64, 0);
+    let mut byte = [0];
+    for _ in 0..bytes {
+        match text.read(&mut byte) {
+            Ok(0) => break,
+            Ok(_) => {}
+            Err(_) => return None,
+        }
+        match byte[0] {
+            0 => {}
+            b'\n' => {
+                if length > longest + u64::from(last == b'\r') {
+                    return None;
+                }
+                (lines, length, last) = (lines.saturating_add(1), 0, 0);
+            }
+            other => (length, last) = (length.saturating_add(1), other),
+        }
+    }
+    if length > longest { None } else { Some(lines) }
 }
 
 /// Says why no file was made of one of the host with so many bytes, by the line that was written.
@@ -225,15 +283,26 @@ fn tell_unmade(
     line: &str,
 ) {
     if line == "no NoHeader" && mode == CopyMode::Image {
-        remarks::tell(rt, file.image, Why::FewHeaders(headers_of(bytes)));
+        let headers = headers_of(bytes);
+        let slots = headers.saturating_add(OTHER_SLOTS).max(16);
+        remarks::tell(rt, file.image, Why::FewHeaders(headers, slots));
     } else if !is_directory_missing(rt, file, line) {
         refusals::tell(rt, of_making(line, file.image, file.name, host));
     }
 }
 
-fn with_count(file: File) -> Counted {
-    Counted { file, nuls: 0 }
+fn with_count(rt: &HostRuntime, file: File) -> Result<Counted, Failure> {
+    let file = in_pieces(rt, file)?;
+    Ok(Counted { file, nuls: 0 })
 }
+
+/// A file of the host that is read in pieces.
+pub fn in_pieces(rt: &HostRuntime, file: File) -> Result<BufReader<File>, Failure> {
+    BufReader::with_capacity(rt.alloc(), PIECE, file).map_err(|_| Failure::NoMemory)
+}
+
+/// How many slots beside those of a file a fresh volume has to have: the volume's own five, and one of a directory that grows.
+const OTHER_SLOTS: u64 = 6;
 
 /// How many headers are asked for a file of so many bytes, as it is: one for each 102 blocks, and one of a file without blocks.
 fn headers_of(bytes: u64) -> u64 {
@@ -252,7 +321,7 @@ fn is_directory_missing(rt: &HostRuntime, file: &Named<'_>, line: &str) -> bool 
 /// Says that there is no directory of this name.
 pub fn tell_no_directory(rt: &HostRuntime, directory: Name) {
     let why =
-        "the master file directory has no such directory; docs/RECIPES.md tells how one is made";
+        "the master file directory has no such directory; vfy tells whether one is lost, docs/RECIPES.md how one is made";
     let _ = eprintln!(rt; "{directory}: {why}");
 }
 
@@ -290,9 +359,24 @@ pub fn put_answer<'a>(
 /// The most bytes that are counted of a file that says that it has none: one more than the largest volume has.
 const MOST_COUNTED: u64 = 264_241_153;
 
+/// A file of the host under a word, to be read, and how many bytes it has; and where it can't be, a remark why.
+pub fn opened_host<'a>(
+    rt: &HostRuntime,
+    host: &'a str,
+    remark: &mut Option<Remark<'a>>,
+) -> Result<(File, u64), Failure> {
+    match with_length(rt, host) {
+        Err(CannotOpen::NoImage) => {
+            *remark = Some(Remark::of(host, Why::NO_FILE));
+            Err(Failure::CannotOpen)
+        }
+        file => opened(file, host, remark),
+    }
+}
+
 /// A file of the host, to be read, and how many bytes it has. What is no file isn't opened, since opening a pipe may wait. One that says that
 /// it has none, as the files of /proc do, is read to its end to count them, and opened again.
-pub fn with_length(rt: &HostRuntime, path: &str) -> Result<(File, u64), CannotOpen> {
+fn with_length(rt: &HostRuntime, path: &str) -> Result<(File, u64), CannotOpen> {
     if !fs::metadata(rt, path)?.is_file() {
         return Err(CannotOpen::NoImage);
     }

@@ -35,10 +35,10 @@ use heard::Heard;
 use host_files::{Named, Taking, tell_no_directory};
 use outcome::{Failure, status};
 use refusals::{NO_SUCH_ENTRY, not_found};
-use remarks::{Remark, Why};
+use remarks::{Remark, Why, tell_fault};
 use script::serve;
 use std::env;
-use std::fs::File;
+use std::fs::{self, File};
 use std::io::{self, BufWriter, ErrorKind, Write};
 use std::process::ExitCode;
 use words::Words;
@@ -177,8 +177,9 @@ fn run<'a, W: Write>(
     match words {
         Words::Dump { image, number } => {
             let mut device = opened(FileImage::open_to_read(rt, image), image, remark)?;
-            let answer = print_header(rt.alloc(), &mut device, writer, number)?;
-            Ok(looked(rt, image, System::Files11, answer, remark))
+            let answer = print_header(rt.alloc(), &mut device, writer, number);
+            tell_fault(rt, image, device);
+            Ok(looked(rt, image, System::Files11, answer?, remark))
         }
         Words::FlxFromRt {
             mode,
@@ -237,8 +238,9 @@ fn run<'a, W: Write>(
         Words::GetAll { image, folder } => get_all(rt, image, folder, writer, remark),
         Words::Home { image } => {
             let mut device = opened(FileImage::open_to_read(rt, image), image, remark)?;
-            let answer = print_home(&mut device, writer)?;
-            Ok(looked(rt, image, System::Files11, answer, remark))
+            let answer = print_home(&mut device, writer);
+            tell_fault(rt, image, device);
+            Ok(looked(rt, image, System::Files11, answer?, remark))
         }
         Words::Init {
             image,
@@ -298,8 +300,9 @@ fn run<'a, W: Write>(
             blocks,
             segments,
         } => {
-            let made = FileImage::create(rt, image, u32::from(blocks));
-            let (_, answer) = print_rt_init(opened(made, image, remark)?, segments, writer);
+            let made = created(rt, image, u32::from(blocks), remark)?;
+            let (device, answer) = print_rt_init(made, segments, writer);
+            tell_fault(rt, image, device);
             let answer = answer?;
             if answer == Answer::Fault {
                 told_zeros(rt, image, remarks::passed_by_segments(segments), remark);
@@ -308,12 +311,14 @@ fn run<'a, W: Write>(
         }
         Words::RtList { image } => {
             let device = opened(FileImage::open_to_read(rt, image), image, remark)?;
-            let (_, answer) = print_rt_list(rt.alloc(), device, writer);
+            let (device, answer) = print_rt_list(rt.alloc(), device, writer);
+            tell_fault(rt, image, device);
             Ok(looked(rt, image, System::Rt11, answer?, remark))
         }
         Words::RtLs { rt: image } => {
             let device = opened(FileImage::open_to_read(rt, image), image, remark)?;
-            let (_, served) = print_rt_ls(rt.alloc(), device, writer);
+            let (device, served) = print_rt_ls(rt.alloc(), device, writer);
+            tell_fault(rt, image, device);
             Ok(rt_files::judged(rt, image, served?, remark))
         }
         Words::RtPut {
@@ -323,7 +328,8 @@ fn run<'a, W: Write>(
         } => rt_files::put(rt, image, name, host, writer, remark),
         Words::RtVfy { image } => {
             let device = opened(FileImage::open_to_read(rt, image), image, remark)?;
-            let (_, answer) = print_rt_vfy(rt.alloc(), device, writer);
+            let (device, answer) = print_rt_vfy(rt.alloc(), device, writer);
+            tell_fault(rt, image, device);
             Ok(looked(rt, image, System::Rt11, answer?, remark))
         }
         Words::Run {
@@ -345,7 +351,8 @@ fn ls<'a, W: Write>(
 ) -> Result<Answer, Failure> {
     let device = opened(FileImage::open_to_read(rt, image), image, remark)?;
     let mut heard = Heard::new(writer, None);
-    let (_, served) = print_ls(rt.alloc(), device, &mut heard, directory);
+    let (device, served) = print_ls(rt.alloc(), device, &mut heard, directory);
+    tell_fault(rt, image, device);
     if let Some(line) = heard.refusal() {
         tell_unlisted(rt, directory.unwrap_or(directory_name(MASTER)), line);
     }
@@ -371,11 +378,13 @@ fn vfy<'a, W: Write>(
 ) -> Result<Answer, Failure> {
     let answer = if update {
         let device = opened(FileImage::open(rt, image), image, remark)?;
-        let (_, answer) = print_vfy_update(rt.alloc(), device, writer);
+        let (device, answer) = print_vfy_update(rt.alloc(), device, writer);
+        tell_fault(rt, image, device);
         written(rt, image, answer?, remark)
     } else {
         let device = opened(FileImage::open_to_read(rt, image), image, remark)?;
-        let (_, answer) = print_vfy(rt.alloc(), device, writer);
+        let (device, answer) = print_vfy(rt.alloc(), device, writer);
+        tell_fault(rt, image, device);
         looked(rt, image, System::Files11, answer?, remark)
     };
     Ok(answer)
@@ -425,6 +434,23 @@ fn opened<'a, T>(
     }
 }
 
+/// An image file of so many blocks that is made, and where none could be, a remark why; one that is there then, and got no such length, is
+/// told, too.
+fn created<'a>(
+    rt: &HostRuntime,
+    image: &'a str,
+    blocks: u32,
+    remark: &mut Option<Remark<'a>>,
+) -> Result<FileImage<File>, Failure> {
+    match FileImage::create(rt, image, blocks) {
+        Err(CannotOpen::Refused) if fs::metadata(rt, image).is_ok() => {
+            *remark = Some(Remark::of(image, Why::NO_LENGTH));
+            Err(Failure::CannotOpen)
+        }
+        made => opened(made, image, remark),
+    }
+}
+
 /// The answer of a command on an image of a volume of this system, and a remark on its file where there is one.
 fn looked<'a>(
     rt: &HostRuntime,
@@ -457,8 +483,9 @@ fn init<'a, W: Write>(
         *remark = Some(limit);
         return Ok(refuse_init(writer)?);
     }
-    let made = FileImage::create(rt, image, blocks);
-    let (_, answer) = print_init(opened(made, image, remark)?, writer, params);
+    let made = created(rt, image, blocks, remark)?;
+    let (device, answer) = print_init(made, writer, params);
+    tell_fault(rt, image, device);
     let answer = answer?;
     if answer == Answer::Fault {
         told_zeros(rt, image, limit, remark);

@@ -61,7 +61,7 @@ pub fn of_making<'a>(
         "no DeviceFull" => (image, "fewer blocks are free than the file needs"),
         "no NoHeader" => (
             image,
-            "too few file headers are free, and no more could be made: one for each 102 blocks of the file, or part of that, has to be",
+            "it may need a file header for each 102 of its blocks, and fewer are free or can be had: delete files, or read docs/RECIPES.md, How many slots",
         ),
         "no LineTooLong" => {
             (
@@ -100,7 +100,7 @@ pub fn of_rt<'a>(line: &str, image: &'a str, name: &'a str) -> Option<Remark<'a>
 pub fn of_request(line: &str) -> Option<&'static str> {
     let why = match line {
         "bad line" => {
-            "a line is a task, 0 to 7, a user's code as [200,1], a verb in capitals and its arguments, with single spaces between them"
+            "a line is a task, 0 to 7, a user's code as [200,1], a verb in capitals and its arguments, with single spaces between them (docs/FORMATS.md, Scripts)"
         }
         "no VolumeFailed" => "an earlier request met a device fault, or damage",
         "no BadArgument" => "a file number, a VBN, or a number of blocks or slots is 0",

@@ -5,10 +5,10 @@ use f11_commands::{
     Answer, FileAnswer, RtServed, RtState, System, blocks_wanted, print_home, print_rt_ls,
     print_rt_vfy,
 };
-use f11_dev::{BLOCK_SIZE, CannotOpen, Device, FileImage, MAX_BLOCKS};
+use f11_dev::{BLOCK_SIZE, CannotOpen, Device, Fault, FileImage, MAX_BLOCKS};
 use std::env::{Env, FillError};
 use std::fs::{self, File};
-use std::io::{self, Read};
+use std::io::{self, ErrorKind, Read};
 use thiserror::Error;
 
 /// The bytes of the longest word in which is looked for some that are no text: those of the longest path.
@@ -55,6 +55,12 @@ pub enum Why {
     /// No file can be opened, or made, under it.
     #[error("{0}")]
     CannotOpen(CannotOpen),
+    /// A transfer of its image failed.
+    #[error("{0}")]
+    Fault(Fault),
+    /// Its file, which was longer when it was opened, ends before this block, which was to be read.
+    #[error("block {0} cannot be read: the file ends before it")]
+    EndsBefore(u32),
     /// Its file, which was made, took no more, and why.
     #[error("not written to its end: {0}")]
     NotWritten(io::Error),
@@ -65,22 +71,22 @@ pub enum Why {
     #[error("goes with {0} alone")]
     Alone(&'static str),
     /// Fewer file headers are free on the volume in it than may be needed.
-    #[error("the file may need {0} file headers, fewer are free, and no more could be made: a volume that init makes with --slots so many more has them")]
-    FewHeaders(u64),
+    #[error("it may need {0} file headers, and fewer are free or can be had: delete files, or take a fresh volume, init with --slots {1} or more")]
+    FewHeaders(u64, u64),
     /// Its file begins as that of another program does, which packs what it keeps.
     #[error("{0}, not a raw image: unpack it first")]
     NotRaw(&'static str),
     /// The image of the volume in it ends early: how many blocks it should have, and how many bytes these are.
-    #[error("the volume has faults, which vfy tells: its image ends early and should have {0} blocks; take out its files first: truncate -s {1} puts zeros for what is missing")]
+    #[error("the volume has faults, which vfy tells: its image ends early and should have {0} blocks; take out its files first, then truncate -s {1} puts zeros for what is missing")]
     CutShort(u32, u64),
     /// The same where its faults are told already.
-    #[error("the image ends early and should have {0} blocks; take out its files first: truncate -s {1} puts zeros for what is missing")]
+    #[error("the image ends early and should have {0} blocks; take out its files first, then truncate -s {1} puts zeros for what is missing")]
     EndsEarly(u32, u64),
     /// So many bytes of 0 of its file aren't in the text that was made of it.
     #[error("{0} bytes of 0 were dropped, since they mean nothing in a text; --mode image takes all bytes as they are")]
     NulsDropped(u64),
     /// The RT-11 volume in it has faults, and its image ends early: how many blocks it should have, and how many bytes these are.
-    #[error("the volume has faults, which rt-vfy tells: if the first blocks and lengths in its directory are right, its image ends early and should have {0} blocks; take out its files first: truncate -s {1} puts zeros for what is missing")]
+    #[error("the volume has faults, which rt-vfy tells: if the first blocks and lengths in its directory are right, its image ends early and should have {0} blocks; take out its files first, then truncate -s {1} puts zeros for what is missing")]
     RtCutShort(u32, u64),
     /// The RT-11 volume in it ends within its last empty area: how many blocks it should have, and how many bytes these are.
     #[error("it ends within its last empty area, so that no file is cut if the lengths in its directory are right: it should have {0} blocks, as truncate -s {1} makes it")]
@@ -123,6 +129,8 @@ impl Why {
     );
     /// It is no command.
     pub const NO_COMMAND: Why = Why::Said("no command; f11_pip help lists them");
+    /// Its file was made, and the system gave it no length: it stays.
+    pub const NO_LENGTH: Why = Why::Said("the system gives it no such length; it stays, empty");
     /// Its file was made, and no volume in it: it stays.
     pub const ZEROS: Why = Why::Said("stays, all zeros; remove it first");
     /// A Files-11 volume was looked for, and it is an RT-11 volume.
@@ -165,6 +173,14 @@ impl Why {
     );
     /// Its file, which was made, has the text of the records before the one that can't be read.
     pub const BEGINNING: Why = Why::Said("has the lines of the records before that, and stays");
+    /// A line of the RT-11 text of this name is too long.
+    pub const LONG_RT_LINE: Why = Why::Said(
+        "a line, which CR LF ends and LF alone doesn't, has more than 2048 bytes; --mode image takes all its bytes",
+    );
+    /// The directory of the volume that was meant has no file of this name.
+    pub const NOT_THERE: Why = Why::Said("no such file in that directory; ls lists those that are");
+    /// It is a directory, a pipe, a device or the like, where a file is to be read.
+    pub const NO_FILE: Why = Why::Said("no regular file");
     /// The folder of its file isn't there.
     pub const NO_FOLDER: Why = Why::Said("no such folder");
     /// The bit of the slot of the file in it that is taken out is lost.
@@ -265,6 +281,17 @@ pub fn of_unwritten(word: &str, error: io::Error) -> Remark<'_> {
 pub fn tell(rt: &HostRuntime, word: &str, why: Why) {
     let remark = Remark::of(word, why);
     let _ = eprintln!(rt; "{remark}");
+}
+
+/// Says which transfer of the image in a word failed, and why, where one did, and closes it: it can be opened again.
+pub fn tell_fault(rt: &HostRuntime, word: &str, image: FileImage<File>) {
+    match image.fault() {
+        Some(Fault::Read(lbn, error)) if error.kind() == ErrorKind::UnexpectedEof => {
+            tell(rt, word, Why::EndsBefore(lbn));
+        }
+        Some(fault) => tell(rt, word, Why::Fault(fault)),
+        None => {}
+    }
 }
 
 /// What there is to say of a volume that has faults: where its image ends early, how long it should be.

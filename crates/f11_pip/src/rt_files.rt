@@ -1,10 +1,10 @@
 //! The commands on files of an RT-11 volume: which files they open, and how.
 use crate::heard::Heard;
-use crate::host_files::{ended, made, put_answer, with_length};
+use crate::host_files::{ended, in_pieces, made, opened_host, put_answer};
 use crate::opened;
 use crate::outcome::Failure;
 use crate::refusals::{self, of_rt};
-use crate::remarks::{self, Remark};
+use crate::remarks::{self, Remark, tell_fault};
 use f11_commands::{
     Answer, FileAnswer, RtServed, RtState, find_rt_file, print_rt_delete, print_rt_put,
     read_rt_name, refuse_names, write_rt_file,
@@ -49,13 +49,15 @@ pub fn get<'a, W: Write>(
     let mut heard = Heard::new(writer, None);
     let file = match find_rt_file(rt.alloc(), device, &name, &mut heard) {
         Ok(file) => file,
-        Err((_, served)) => {
+        Err((device, served)) => {
+            tell_fault(rt, image, device);
             tell_refused(rt, &heard, image, word);
             return Ok(judged(rt, image, served?, remark));
         }
     };
     let mut made = made(rt, host, remark)?;
-    let (_, served) = write_rt_file(file, &mut made, &mut heard);
+    let (device, served) = write_rt_file(file, &mut made, &mut heard);
+    tell_fault(rt, image, device);
     if !matches!(
         served,
         Ok(RtServed {
@@ -63,6 +65,7 @@ pub fn get<'a, W: Write>(
             ..
         },)
     ) {
+        let _ = made.end();
         if let Some(error) = made.failure() {
             *remark = Some(remarks::of_unwritten(host, error));
         }
@@ -84,10 +87,12 @@ pub fn put<'a, W: Write>(
         *remark = Some(remarks::of_rt_name(word));
         return Ok(refuse_names(writer)?);
     };
-    let (mut file, bytes) = opened(with_length(rt, host), host, remark)?;
+    let (file, bytes) = opened_host(rt, host, remark)?;
+    let mut file = in_pieces(rt, file)?;
     let device = opened(FileImage::open(rt, image), image, remark)?;
     let mut heard = Heard::new(writer, None);
-    let (_, told) = print_rt_put(rt.alloc(), device, &name, &mut file, bytes, &mut heard);
+    let (device, told) = print_rt_put(rt.alloc(), device, &name, &mut file, bytes, &mut heard);
+    tell_fault(rt, image, device);
     tell_refused(rt, &heard, image, word);
     put_answer(rt, image, host, told, remark)
 }
@@ -106,7 +111,8 @@ pub fn delete<'a, W: Write>(
     };
     let device = opened(FileImage::open(rt, image), image, remark)?;
     let mut heard = Heard::new(writer, None);
-    let (_, told) = print_rt_delete(rt.alloc(), device, &name, &mut heard);
+    let (device, told) = print_rt_delete(rt.alloc(), device, &name, &mut heard);
+    tell_fault(rt, image, device);
     tell_refused(rt, &heard, image, word);
     Ok(ended(rt, image, told?, remark))
 }

@@ -1,8 +1,9 @@
 //! The command `rt-get --all`: the files of the host that it makes, in a folder.
+use crate::folder::made_in;
 use crate::host_file::HostFile;
 use crate::opened;
 use crate::outcome::Failure;
-use crate::remarks::{self, Remark, Why};
+use crate::remarks::{self, Remark, Why, tell_fault};
 use crate::rt_files::judged;
 use f11_commands::{Answer, RtFate, RtFileAt, RtPlace, TakingAllRt, begin_all_rt};
 use f11_dev::{CannotOpen, Device, FileImage};
@@ -26,17 +27,21 @@ pub fn get_all<'a, W: Write>(
     let device = opened(FileImage::open_to_read(rt, image), image, remark)?;
     let mut all = match begin_all_rt(rt.alloc(), device, writer) {
         Ok(all) => all,
-        Err((_device, served)) => return Ok(judged(rt, image, served?, remark)),
+        Err((device, served)) => {
+            tell_fault(rt, image, device);
+            return Ok(judged(rt, image, served?, remark));
+        }
     };
     let new = fs::create_dir(rt, folder).map_err(CannotOpen::from);
     opened(new, folder, remark)?;
     let taken = take_all(rt, &mut all, folder, writer);
     // where it stopped the last line would count what was never tried as done
-    let (_device, served) = if taken.is_ok() {
+    let (device, served) = if taken.is_ok() {
         all.end(writer)
     } else {
         all.end(&mut io::sink())
     };
+    tell_fault(rt, image, device);
     let answer = judged(rt, image, served?, remark);
     if taken? {
         Ok(answer)
@@ -61,7 +66,8 @@ fn take_all<W: Write>(
             RtFate::Copied => match file_at(rt, folder, &found.place)? {
                 Some(mut file) => {
                     let written = all.write(&found, &mut file, writer);
-                    if written.is_err() || file.end().is_err() {
+                    let ended = file.end();
+                    if written.is_err() || ended.is_err() {
                         tell_unwritten(rt, folder, &found.place, &file, writer);
                         return Err(Failure::CannotWrite);
                     }
@@ -93,11 +99,11 @@ fn tell_unwritten<W: Write>(
 /// The file of the host that is made for one in this place; `None` where it can't be, which is told.
 fn file_at(rt: &HostRuntime, folder: &str, place: &RtPlace) -> Result<Option<HostFile>, Failure> {
     let path = format!(in rt.alloc(); "{folder}/{place}")?;
-    if let RtPlace::Lost(_, _, _) = place {
-        let lost = format!(in rt.alloc(); "{folder}/lost")?;
-        let _ = fs::create_dir(rt, lost.as_str());
-    }
-    match HostFile::new(rt, path.as_str()) {
+    let part = match place {
+        RtPlace::Lost(_, _, _) => format!(in rt.alloc(); "{folder}/lost")?,
+        _ => format!(in rt.alloc(); "{folder}")?,
+    };
+    match made_in(rt, part.as_str(), path.as_str())? {
         Ok(file) => Ok(Some(file)),
         Err(why) => {
             remarks::tell(rt, path.as_str(), Why::CannotOpen(why));

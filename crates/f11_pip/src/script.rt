@@ -3,7 +3,7 @@ ghost use Rattle.std.specs.Prelude.{◌≤◌, length};
 
 use crate::heard::{Heard, Told};
 use crate::outcome::Failure;
-use crate::remarks::{Remark, Why};
+use crate::remarks::{Remark, Why, tell_fault};
 use crate::{failure_of, opened, written};
 use f11_commands::{Answer, RunFailure, ScriptError, print_run};
 use f11_dev::{CannotOpen, FileImage};
@@ -71,7 +71,8 @@ pub fn serve<'a, W: Write>(
     let file = File::open(rt, script).map_err(CannotOpen::from);
     let file = opened(file, script, remark)?;
     let number = Cell::new(0);
-    let answer = serve_lines(rt, device, file, script, &number, is_quiet, writer)?;
+    let (device, answer) = serve_lines(rt, device, file, script, &number, is_quiet, writer)?;
+    tell_fault(rt, image, device);
     if let Err(RunFailure::Script(error)) = answer {
         let _ = eprintln!(rt; "{error}");
         if error == ScriptError::ReadFault {
@@ -81,7 +82,7 @@ pub fn serve<'a, W: Write>(
     Ok(written(rt, image, answer?, remark))
 }
 
-/// Serves the script that was opened under this path, and counts its lines.
+/// Serves the script that was opened under this path, and counts its lines. The device comes back.
 fn serve_lines<'x, W: Write>(
     rt: &'x HostRuntime,
     device: FileImage<File>,
@@ -90,7 +91,7 @@ fn serve_lines<'x, W: Write>(
     number: &'x Cell<u64>,
     is_quiet: bool,
     writer: &mut W,
-) -> Result<Result<Answer, RunFailure>, Failure> {
+) -> Result<(FileImage<File>, Result<Answer, RunFailure>), Failure> {
     let lines = Script::new(rt.alloc(), file, number).map_err(failure_of)?;
     let told = if is_quiet {
         None
@@ -98,6 +99,5 @@ fn serve_lines<'x, W: Write>(
         Some(Told { rt, path, number })
     };
     let mut heard = Heard::new(writer, told);
-    let (_, answer) = print_run(rt.alloc(), device, lines, &mut heard);
-    Ok(answer)
+    Ok(print_run(rt.alloc(), device, lines, &mut heard))
 }

@@ -18,8 +18,9 @@ pub record Answering : Type 0 where
   pub store : Store
   pub failed : Bool
 
--- A call was answered, of a volume on a disk that is honest or isn't. Once one has failed it each is refused as VolumeFailed. DeviceFault
--- and Damaged fail it; on an honest disk Damaged isn't answered, and any other answer is a step of the plain store.
+-- A call was answered, of a volume on a disk that is honest or isn't. DeviceFault and Damaged fail the volume, and once it has failed each
+-- call is refused as VolumeFailed. On an honest disk Damaged isn't answered, and each answer that leaves the volume unfailed is a step of
+-- the plain store.
 pub record StepsOrFails (honest : Bool) (old : Answering) (c : Call) (a : Answer) (new : Answering) : Type 0 where
   pub refused : old.failed ≡ true → IsErrOf a.result VolumeFailed
   pub next : new.failed ≡ (old.failed || is_refused is_fatal a.result)

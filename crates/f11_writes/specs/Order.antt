@@ -14,10 +14,9 @@ use Rattle.f11_volume.specs.Sound.{HasSoundVolume}
 use Rattle.f11_volume.specs.Volume.{volume_of, IsNamed}
 use Rattle.f11_writes.specs.Fixed.{IsFixed}
 
--- A write to a sound volume leaves it sound, and is in order. No block that is free is changed, and none that is fixed, which it is
--- afterwards, too. A slot comes into use when its header is
--- there, and leaves use when that is dead. A header is lost to which no header of a file links. A block that none named, and one names
--- then, was used and held zeros. A block that comes to be free was named by none.
+-- A write to a sound volume leaves it sound, and is in order. No block that is free is changed, and none that is fixed; what is fixed stays
+-- so. A slot comes into use when its header is there, and leaves use when that is dead. A header is lost to which no header of a file
+-- links. A block that none named, and one names then, was used and held zeros. A block that comes to be free was named by none.
 pub record IsOrderlyWrite (home : HomeFields) (old new : Image) : Type 0 where
   pub sound : HasSoundVolume new home
   pub spares : (lbn : ℕ) → (volume_of old home).free lbn ≡ true → slice_get new lbn ≡ slice_get old lbn

@@ -50,6 +50,7 @@ fn a_text_is_put(rt: HostRuntime) -> Result<(), Fail> {
         directory: master_directory(),
         name,
         mode: CopyMode::Text,
+        blocks: 1,
     };
     let mut told = lines();
     let (mut device, answer) = put(rt.alloc(), device, &putting, &mut told);

@@ -1,10 +1,11 @@
 //! Copies from an RT-11 volume of which a transfer fails.
 use crate::copies::volumes::{
-    MODES, accepted, are_alike, copy_in, files, find, give_up, length_on, mounted, rt_with_source,
+    MODES, accepted, copy_in, files, find, give_up, length_on, mounted, rt_with_source,
 };
 use f11_commands::f11_flx::f11_fcp::{Failed, Volume};
 use f11_commands::f11_flx::{CopyMode, FlxRefusal};
 use f11_dev::{FailOnce, Memory};
+use f11_fixtures::are_alike;
 use f11_fixtures::f11_vfy::{Report, verify};
 use f11_store::{Refusal, Reply};
 use rt11_volume::{RtAccepted, RtRefusal};

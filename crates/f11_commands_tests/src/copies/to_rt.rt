@@ -1,10 +1,11 @@
 //! Copies to an RT-11 volume of which a transfer fails.
 use crate::copies::volumes::{
-    MODES, accepted, are_alike, copy_out, files_with_source, give_up, length_on, mounted, rt,
+    MODES, accepted, copy_out, files_with_source, give_up, length_on, mounted, rt,
 };
 use f11_commands::f11_flx::f11_fcp::Failed;
 use f11_commands::f11_flx::{CopyMode, FlxRefusal};
 use f11_dev::FailOnce;
+use f11_fixtures::are_alike;
 use f11_store::{Refusal, Reply};
 use rt11_volume::RtRefusal;
 use std::alloc::Global;

@@ -4,7 +4,7 @@ use f11_commands::f11_flx::f11_fcp::Volume;
 use f11_commands::f11_flx::{CopyMode, FlxRefusal, copy_from_rt, copy_to_rt};
 use f11_dev::{Device, DeviceFault, Memory};
 use f11_fixtures::f11_vfy::{Report, verify};
-use f11_fixtures::{SYSTEM, ZEROS, file, get, memory, volumes};
+use f11_fixtures::{SYSTEM, ZEROS, file, memory, volumes};
 use f11_rad50::Name;
 use f11_store::{Lun, Mode, Refusal, Reply, Request, Task};
 use rt11_volume::{RtAccepted, RtName, RtReport};
@@ -211,17 +211,4 @@ pub fn copy_in<D: Device, E: Device>(
         0,
         mode,
     )
-}
-
-/// Whether two devices have the same blocks.
-pub fn are_alike(mut one: Memory, mut other: Memory) -> Result<bool, Fail> {
-    if one.blocks() != other.blocks() {
-        return Ok(false);
-    }
-    for lbn in 0..one.blocks() {
-        if get(&mut one, lbn)? != get(&mut other, lbn)? {
-            return Ok(false);
-        }
-    }
-    Ok(true)
 }

@@ -4,7 +4,7 @@ use f11_bytes::{Block, word_bytes};
 use f11_dev::{Device, DeviceFault, Memory};
 use f11_dir::put_words;
 use f11_fcp::{Call, Volume};
-use f11_fixtures::{SEVENS, SYSTEM, ZEROS, file, get, volumes};
+use f11_fixtures::{SEVENS, SYSTEM, ZEROS, file, volumes};
 use f11_rad50::Name;
 use f11_store::{Change, FileId, Lun, Mode, Refusal, Reply, Request, Task, Uic};
 use f11_vfy::{Report, verify};
@@ -287,19 +287,6 @@ pub fn first_wrong_in_list<D: Device>(
         }
     }
     Ok(None)
-}
-
-/// Whether two devices have the same blocks.
-pub fn are_alike(mut one: Memory, mut other: Memory) -> Result<bool, Fail> {
-    if one.blocks() != other.blocks() {
-        return Ok(false);
-    }
-    for lbn in 0..one.blocks() {
-        if get(&mut one, lbn)? != get(&mut other, lbn)? {
-            return Ok(false);
-        }
-    }
-    Ok(true)
 }
 
 /// Mounts the volume of a device.

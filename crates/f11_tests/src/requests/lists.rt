@@ -1,8 +1,8 @@
 //! Lists of requests of several tasks, each served as one call.
 use crate::requests::asks::{
-    Ask, MASTER, Row, SIX, X, are_alike, dismounted, first_wrong, first_wrong_in_list, mounted,
+    Ask, MASTER, Row, SIX, X, dismounted, first_wrong, first_wrong_in_list, mounted,
 };
-use f11_fixtures::{SYSTEM, file, volumes};
+use f11_fixtures::{SYSTEM, are_alike, file, volumes};
 use f11_store::{Mode, Refusal, Reply};
 use std::test::Fail;
 

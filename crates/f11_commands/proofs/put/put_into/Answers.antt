@@ -1,25 +1,18 @@
-use Rattle.std.proofs.Common.{refl}
-use Rattle.f11_commands.proofs.PutLemmas.{put-image, put-text}
+use Rattle.f11_commands.proofs.PutLemmas.{put-ready, put-unready}
 use Rattle.f11_commands.specs.PutCommand.{hosts}
 use Rattle.f11_commands.proofs.put.put_into.Goals as goal
 
-pub returns-in-Image : goal.returns-in-Image
-returns-in-Image g c = record {
-  puts = put-image c.args.put.now c.args.bytes (hosts (g.R.Read.remaining c.args.host.now) (g.R.Read.remaining c.args.again.now))
-      c.in-Image.is c.first_task-task.result c.first_lun-lun.result c.first_task-task.ensures c.first_lun-lun.ensures c.args.dir
-      c.copy_from_host.result (hosts (g.R.Read.remaining c.copy_from_host.new.host) (g.R.Read.remaining c.args.again.now))
-      c.args.volume.now c.copy_from_host.new.vol c.copy_from_host.ensures.files c.copy_from_host.ensures.order
-      c.copy_from_host.ensures.host refl
-      c.copy_from_host.ensures.copied c.copy_from_host.ensures.refused;
+pub returns-in-Ok : goal.returns-in-Ok
+returns-in-Ok g c = record {
+  puts = put-ready c.args.put.now c.args.bytes (hosts (g.R.Read.remaining c.args.host.now) (g.R.Read.remaining c.args.again.now))
+      c.args.dir c.args.volume.now c.make_file.result
+      (hosts (g.R.Read.remaining c.make_file.new.host) (g.R.Read.remaining c.make_file.new.again)) c.slots_before-slots.result
+      c.ask_for_slots.new.volume c.make_file.new.volume c.slots_before-slots.ensures c.in-Ok.ensures.asked c.make_file.ensures.puts;
 }
 
-pub returns-in-Text : goal.returns-in-Text
-returns-in-Text g c = record {
-  puts = put-text c.args.put.now c.args.bytes (hosts (g.R.Read.remaining c.args.host.now) (g.R.Read.remaining c.args.again.now))
-      c.in-Text.is c.first_task-task.result c.first_lun-lun.result c.first_task-task.ensures c.first_lun-lun.ensures c.args.dir
-      c.copy_text_from_host.result
-      (hosts (g.R.Read.remaining c.copy_text_from_host.new.first) (g.R.Read.remaining c.copy_text_from_host.new.again))
-      c.args.volume.now c.copy_text_from_host.new.vol c.copy_text_from_host.ensures.files c.copy_text_from_host.ensures.order
-      c.copy_text_from_host.ensures.hosts
-      c.copy_text_from_host.ensures.copied c.copy_text_from_host.ensures.refused;
+pub returns-in-Err : goal.returns-in-Err
+returns-in-Err g c = record {
+  puts = put-unready c.args.put.now c.args.bytes (hosts (g.R.Read.remaining c.args.host.now) (g.R.Read.remaining c.args.again.now))
+      c.args.dir c.args.volume.now c.slots_before-slots.result c.in-Err.refusal c.ask_for_slots.new.volume c.slots_before-slots.ensures
+      c.in-Err.ensures.fails.0 c.in-Err.ensures.fails.1;
 }
