@@ -16,8 +16,8 @@ most_headers blocks = max 1 ((blocks + 101) / 102) + 1
 abbrev pub more_slots : ℕ → ℕ → ℕ
 more_slots blocks headers = max 16 (most_headers blocks - headers)
 
--- how many are asked for, where so many blocks and headers are free: none where the headers are enough, where no file has so many (256,
--- and one of its directory), or where not more blocks are free than the file and the slots take: its directory may take one
+-- how many are asked for, where so many blocks and headers are free: none where the headers are enough, where it takes more than any file
+-- and its directory (256 and 1), or where the file and the slots leave no block free, which the directory may take
 abbrev pub slots_for : ℕ → ℕ → ℕ → ℕ
 slots_for blocks free headers =
     if nat_le (most_headers blocks) headers then 0
@@ -28,7 +28,8 @@ slots_for blocks free headers =
 abbrev pub slots_before : ℕ → Store → ℕ
 slots_before blocks s = slots_for blocks s.free (free_headers s)
 
--- So many slots were asked for, where there are any, whatever it is that answers: granted, or refused, but for no device fault or Damaged.
+-- So many slots were asked for, where there are any, whatever it is that answers: they were granted, or refused for another cause than a
+-- device fault or Damaged.
 abbrev pub AsksForSlots : {V : Type 0} → FilesService V → ℕ → V → V → Type 0
 AsksForSlots S zero old new = new ≡ old
 AsksForSlots S (suc n) old new =

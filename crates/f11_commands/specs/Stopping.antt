@@ -109,7 +109,8 @@ StopsNamed directory name s t = StopsBelow directory (λ dir. StopsMaking dir na
 abbrev pub KeepsButIndex : Store → Store → Type 0
 KeepsButIndex s t = (n : ℕ) → (n == 1) ≡ false → t.file n ≡ s.file n
 
--- So many slots were asked for first: that was stopped, and no file is changed but the index file; or what followed was.
+-- So many slots were asked for first, where there are any: that was stopped, and no file is changed but the index file; or it was granted
+-- or refused, and what followed was stopped.
 pub data StopsBehindSlots (n : ℕ) (Stops : Store → Store → Type 0) (s t : Store) : Type 0 where
   growing : IsStopped (asks (request.GrowIndex n)) s t → KeepsButIndex s t → StopsBehindSlots n Stops s t
   grown : (ready : Store) → AsksForSlots plain n s ready → Stops ready t → StopsBehindSlots n Stops s t

@@ -36,7 +36,8 @@ pub struct Putting {
     pub name: Name,
     /// As it is, or as a text's records.
     pub mode: CopyMode,
-    /// How many blocks it may take: by them the index file gets slots first, where too few headers are free. 0 where that isn't known.
+    /// How many blocks it takes at most: by them the index file gets slots first, where too few headers are free. Over 26,112, which no file
+    /// has, none are asked for.
     pub blocks: u64,
 }
 
@@ -48,7 +49,8 @@ pub struct Putting {
 ///
 /// The directory is the one that file 4,4 has under that name. The operator, [1,1], asks; the file has the protection 0. Where fewer headers
 /// are free than the file may take, the index file gets slots first, by one `GrowIndex`: as many as lack, and 16 at least. These stay. It
-/// isn't asked for where not more blocks are free than it and the file take, and the file is tried all the same where it is refused.
+/// isn't asked for where not more blocks are free than it and the file take, and where it is refused, other than by a device fault or
+/// `Damaged`, the file is tried all the same.
 ///
 /// # Errors
 ///

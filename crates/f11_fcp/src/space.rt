@@ -41,8 +41,8 @@ impl<D: Device> Volume<D> {
     ghost use Rattle.f11_fcp.specs.Lists.{store_of_volume};
     ghost use Rattle.f11_fcp.specs.Serving.{is_spent, state_in};
 
-    /// How many blocks are free, and how many headers: no request, but what a command asks that makes room for headers first. No transfer is
-    /// made. Behind a request that was answered `DeviceFault` or `Damaged` it may be any numbers.
+    /// How many blocks are free, and how many headers: no request, but what a command asks that gets slots first. No transfer is made. Behind
+    /// a request that was answered `DeviceFault` or `Damaged`, and on a device that isn't honest, they may be any numbers.
     pub fn free(&self) -> (u32, u32)
         ensures blocks { IsTrue (state_in self.now).disk.honest → is_spent self.now ≡ false
             → result.0 ≡ (store_of_volume self.now).free }

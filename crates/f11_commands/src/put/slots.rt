@@ -24,7 +24,8 @@ const FEWEST: u64 = 16;
 /// The most headers that making a file takes: 256 of its own, and one of its directory.
 const MOST: u64 = 257;
 
-/// How many slots are asked for, where so many blocks and headers are free.
+/// How many slots are asked for, where so many blocks and headers are free: none where the headers are enough, where no file has so many
+/// blocks, or where these and the slots wouldn't leave one for the directory.
 fn slots_for(blocks: u64, free: u32, headers: u32) -> u32
     ensures { result ≡ slots_for blocks free headers }
 {
