@@ -7,15 +7,15 @@ use Rattle.f11_home.specs.Home.{HomeFields}
 use Rattle.f11_serving.specs.fcp.Accesses.{AccessTable, held_in, no_entries}
 use Rattle.f11_serving.specs.fcp.Lists.{is_sound, store_of_volume}
 use Rattle.f11_serving.specs.fcp.Mounting.{Mounts}
-use Rattle.f11_serving.specs.fcp.Serving.{is_spent, state_in}
+use Rattle.f11_serving.specs.fcp.Serving.{SparesLost, is_spent, state_in}
 use Rattle.f11_serving.specs.fcp.declared.volume.Volume.{Volume}
 use Rattle.f11_flx.specs.declared.refusal.FlxRefusal.{FlxRefusal}
 use Rattle.f11_catalog.specs.image_store.StoreOf.{store_of}
 use Rattle.f11_store.specs.Store.{Store}
 use Rattle.f11_volume.specs.Verdict.{IsAccepted}
-use Rattle.f11_serving.proofs.writes.InOrderLemmas.{order-accepted, order-looked, order-then}
+use Rattle.f11_serving.proofs.writes.LostLemmas.{lost-looked, lost-then}
+use Rattle.f11_serving.proofs.writes.MomentLemmas.{order-accepted}
 use Rattle.f11_serving.specs.writes.Moments.{StandsAccepted}
-use Rattle.f11_serving.specs.writes.Order.{WritesInOrder}
 use Rattle.rt11_volume.specs.Calls.{has_failed, volume_device}
 use Rattle.rt11_volume.specs.Verifying.Verdict.{IsRtAccepted, IsSoundDisk}
 use Rattle.rt11_volume.specs.declared.volume.RtAccepted.{RtAccepted}
@@ -48,11 +48,12 @@ module _ {D : Type 0} {met : Ghosts D} (old : Disk) (first last : Volume D met) 
 
 -- what stands on the image of one that was mounted and then written in order
 pub stands-accepted : {D : Type 0} {met : Ghosts D} (old : Disk) (first last : Volume D met) → Mounts old first → IsImage old.image
-    → (IsTrue old.honest → IsAccepted old.image) → WritesInOrder (state_in first).disk (state_in last).disk
+    → (IsTrue old.honest → IsAccepted old.image) → SparesLost first last
     → StandsAccepted old (state_in last).disk
-stands-accepted old first last mounts image accepted ordered =
-    order-accepted old (state_in last).disk image accepted
-    (order-then old (state_in first).disk (state_in last).disk (order-looked old (state_in first).disk _ _ mounts.looked) ordered)
+stands-accepted old first last mounts image accepted beside =
+    order-accepted (is_spent first) (is_spent last) old (state_in last).disk image accepted
+    (lost-then (is_spent first) (is_spent first) (is_spent last) old (state_in first).disk (state_in last).disk
+    (lost-looked (is_spent first) (is_spent first) old (state_in first).disk _ _ (λ is. is) mounts.looked) beside)
 
 -- a volume that was mounted, between which and an RT-11 volume a copy was asked for
 module _ {D E : Type 0} {met : Ghosts D} {met' : Ghosts E} (rt-disk : E → Disk) (c : Copying) (result : Result ℕ FlxRefusal) (old : Disk)
@@ -107,7 +108,7 @@ module _ {D E : Type 0} {met : Ghosts D} {met' : Ghosts E} (rt-disk : E → Disk
           (subst (λ (h : HomeFields). WhereUnheld Stopped (store_of_volume first) (store_of (state_in last).disk.image h)) answers.home
           (answers.stopped (sound-first old first last mounts answers.home is) fault)) (λ task lun. refl);
       accepted = λ is. answers.fares.accepted (answers.fares.honest ∙ mounts.looked.honest ∙ is);
-      meanwhile = stands-accepted old first last mounts image files-accepted answers.fares.ordered;
+      meanwhile = stands-accepted old first last mounts image files-accepted answers.fares.beside;
       rt_broken = λ is. answers.rt_broken (sound-rt is);
       rt_front = λ is. answers.fares_rt.front (sound-rt is);
       rt_accepted = λ is none. (answers.sound_rt (sound-rt is) none).accepted;

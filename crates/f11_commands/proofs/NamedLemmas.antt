@@ -30,7 +30,7 @@ use Rattle.f11_store.specs.declared.refusals.Refusal.TheVariants.{Damaged, Volum
 use Rattle.f11_store.specs.declared.requests.Reply.{Reply}
 use Rattle.f11_store.specs.declared.requests.Reply.TheVariants as reply
 use Rattle.f11_store.specs.declared.requests.Request.TheVariants as request
-use Rattle.f11_serving.proofs.writes.InOrderLemmas.{order-then}
+use Rattle.f11_serving.proofs.writes.LostLemmas.{lost-then}
 use Rattle.rt11_volume.specs.Calls.{has_failed, volume_device}
 use Rattle.rt11_volume.specs.Files.{is_fault as is_rt_fault}
 use Rattle.rt11_volume.specs.Named.{files_named}
@@ -107,7 +107,7 @@ module _ {D : Type 0} {met : Ghosts D} where
         next = λ honest. g.next (f.honest ∙ honest) ∙ ap (λ b. b || of_files is_fatal result) alive;
         spent = λ dead. ap (λ b. b || of_files is_fatal result) (sym alive) ∙ g.spent dead;
         accepted = g.accepted;
-        ordered = order-then (state_in v).disk (state_in u).disk (state_in w).disk f.ordered g.ordered;
+        beside = lost-then _ _ _ _ _ _ f.beside g.beside;
       }
 
   -- a volume that a copy was asked of, as it tells itself
@@ -148,7 +148,7 @@ module _ {D : Type 0} {met : Ghosts D} where
           next = λ honest. fared.next;
           spent = λ dead. sym fared.next ∙ dead;
           accepted = fared.accepted;
-          ordered = fared.ordered;
+          beside = fared.beside;
         };
         alive = λ alive is. (denied-live operator x e v w alive denies).other (same-refusal (Files e) (Files VolumeFailed) is);
         home = denied-home operator x e v w denies;
@@ -170,7 +170,7 @@ module _ {D : Type 0} {met : Ghosts D} where
           next = λ honest. absurd (dishonest honest);
           spent = λ dead. or-true (is_spent v);
           accepted = fared.accepted;
-          ordered = fared.ordered;
+          beside = fared.beside;
         });
         alive = λ alive is. damaged-apart e wrong.2 (same-refusal (Files e) (Files VolumeFailed) is);
         home = granted-home operator (told (request.Find dir name) wrong.0) v w wrong.3;

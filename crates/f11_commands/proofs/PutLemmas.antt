@@ -479,7 +479,7 @@ module _ {D : Type 0} {met : Ghosts D} (p : Putting) (bytes : ℕ) (u : Hosts) w
         alive = puts.fares.alive mounts.fresh;
         undamaged = λ is. puts.fares.undamaged mounts.fresh (mounts.looked.honest ∙ is);
         accepted = λ is. puts.fares.fares.accepted (puts.fares.fares.honest ∙ mounts.looked.honest ∙ is);
-        meanwhile = stands-accepted old first last mounts image accepted puts.fares.fares.ordered;
+        meanwhile = stands-accepted old first last mounts image accepted puts.fares.fares.beside;
       }
 
       pub ends-accepted : {W : Type 0} (answer : Result FileAnswer PutFailure) (contents : W → Option (List ℕ)) (before after : W)

@@ -11,7 +11,7 @@ use Rattle.f11_home.specs.Home.{IsHomeOf}
 use Rattle.f11_serving.specs.fcp.Accesses.{held_in, no_entries}
 use Rattle.f11_serving.specs.fcp.Lists.{ServesCall, failures_of, store_of_volume}
 use Rattle.f11_serving.specs.fcp.Mounting.{Mounts}
-use Rattle.f11_serving.specs.fcp.Serving.{StaysAccepted, is_spent, state_in}
+use Rattle.f11_serving.specs.fcp.Serving.{SparesLost, StaysAccepted, is_spent, state_in}
 use Rattle.f11_serving.specs.fcp.declared.volume.Volume.{Volume}
 use Rattle.f11_catalog.specs.image_store.StoreOf.{store_of}
 use Rattle.f11_runs.specs.Each.{Steps}
@@ -23,7 +23,6 @@ use Rattle.f11_serving.proofs.VolumeLemmas.{KeepsVolume, script-keeps-volume}
 use Rattle.f11_store.specs.Store.{Store}
 use Rattle.f11_volume.specs.Verdict.{IsAccepted}
 use Rattle.f11_serving.proofs.writes.MomentLemmas.{stands-before, stands-behind}
-use Rattle.f11_serving.specs.writes.Order.{WritesInOrder}
 use Rattle.f11_commands.proofs.CopyLemmas.{first-is, last-is, sound-first, stands-accepted}
 use Rattle.f11_commands.specs.RunCommand.{EndsRun, EndsServing, EndsSyncing, HasFaults, ServesImage, SyncedIf, WritesNothing, outcome_of}
 use Rattle.f11_commands.specs.declared.outcome.Answer.{Answer}
@@ -40,7 +39,7 @@ module _ {D W : Type 0} {met : Ghosts D} (disk : Disk) (first last : Volume D me
     (runs : RunsScript ServesCall remaining first last (contents before) (contents after) result)
     (answers : AnswersScript first last remaining (contents before) (contents after) result)
     (run : ServesScriptRun first last remaining (contents before) (contents after) result) (accepted : StaysAccepted (state_in last))
-    (ordered : WritesInOrder (state_in first).disk (state_in last).disk) (image : IsImage disk.image)
+    (beside : SparesLost first last) (image : IsImage disk.image)
     (whole : IsTrue disk.honest → IsAccepted disk.image)
   where
     kept : KeepsVolume first last
@@ -85,7 +84,7 @@ module _ {D W : Type 0} {met : Ghosts D} (disk : Disk) (first last : Volume D me
       home_is = mounts.home;
       verified = whole;
       accepted = λ is. accepted (kept.honest ∙ mounts.looked.honest ∙ is);
-      meanwhile = stands-accepted disk first last mounts image whole ordered;
+      meanwhile = stands-accepted disk first last mounts image whole beside;
       failed = is_spent last;
       failed_is = λ is. (λ dead. more-failures dead is, λ alive. same-failures alive);
       answers = answers-images;

@@ -17,14 +17,13 @@ use Rattle.f11_store.specs.declared.requests.Reply.{Reply}
 use Rattle.f11_files.specs.Answers.{is_fatal, is_refused}
 use Rattle.f11_files.specs.Open.{store_in}
 use Rattle.f11_files.proofs.image_store.StoreLemmas.{unused-is-empty}
-use Rattle.f11_files.specs.writes.Order.{WritesInOrder}
-use Rattle.f11_files.proofs.writes.InOrderLemmas.{order-none, order-then}
+use Rattle.f11_files.proofs.writes.LostLemmas.{lost-none, lost-then}
 use Rattle.f11_fcp.specs.Accesses.{Entry, HasAccessed, AccessTable, access_of, held_in, mark_kept, mark_there}
 use Rattle.f11_fcp.specs.Handles.{State, faults_in, is_damage}
 use Rattle.f11_fcp.specs.Lists.{AreAnswered, IsServed, KeepsCosts, KeepsLocks, ServesCall, ServesRun, answer_and, answers_in, asked_in}
 use Rattle.f11_fcp.specs.Lists.{asked_of, cost_of, failures_of, is_sound, store_of_volume, transfers_of}
 use Rattle.f11_fcp.specs.Places.{access_table_of}
-use Rattle.f11_fcp.specs.Serving.{is_spent, state_in}
+use Rattle.f11_fcp.specs.Serving.{SparesLost, is_spent, state_in}
 use Rattle.f11_fcp.specs.declared.call.Call.{Call as Listed}
 use Rattle.f11_fcp.specs.declared.volume.Volume.{Volume}
 use Rattle.f11_fcp.proofs.AccessedLemmas.{there-marked}
@@ -158,14 +157,13 @@ module _ {D : Type 0} {met : Ghosts D} where
   tidy v w cs bs each sound none =
       each-sound ServesCall (Within FreeIsEmpty Steps) store_of_volume failures_of is_sound seen-as-steps v w cs bs each sound none
 
-  -- their blocks were written in order
-  pub each-ordered : (v w : Volume D met) (cs : List Call) (bs : List Answer) → Each ServesCall v cs bs w
-      → WritesInOrder (state_in v).disk (state_in w).disk
-  each-ordered v w [] [] h =
-      subst (λ (x : Volume D met). WritesInOrder (state_in v).disk (state_in x).disk) (sym h) (order-none (state_in v).disk)
-  each-ordered v w (c ∷ cs) (a ∷ bs) h = order-then _ _ _ h.1.serving.ordered (each-ordered h.0 w cs bs h.2)
-  each-ordered v w [] (a ∷ bs) h = absurd h
-  each-ordered v w (c ∷ cs) [] h = absurd h
+  -- their blocks were written in order, and none that was lost
+  pub each-beside : (v w : Volume D met) (cs : List Call) (bs : List Answer) → Each ServesCall v cs bs w
+      → SparesLost v w
+  each-beside v w [] [] h = subst (λ (x : Volume D met). SparesLost v x) (sym h) (lost-none (is_spent v) (state_in v).disk)
+  each-beside v w (c ∷ cs) (a ∷ bs) h = lost-then _ _ _ _ _ _ h.1.serving.beside (each-beside h.0 w cs bs h.2)
+  each-beside v w [] (a ∷ bs) h = absurd h
+  each-beside v w (c ∷ cs) [] h = absurd h
 
   pub serves-run : (v w : Volume D met) (cs : List Call) (bs : List Answer) → Each ServesCall v cs bs w → ServesRun v cs bs w
   serves-run v w cs bs each sound none =

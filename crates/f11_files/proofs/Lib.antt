@@ -14,6 +14,7 @@ pub mod Rows
 pub mod Readied
 pub mod Overall
 pub mod Behind
+pub mod Lost
 pub use Rattle.f11_image_store.proofs as image_store
 pub use Rattle.f11_volume.proofs as volume
 pub use Rattle.f11_writes.proofs as writes

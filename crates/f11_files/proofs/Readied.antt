@@ -1,6 +1,6 @@
 -- What a call does that readies headers first, where it goes on, and where it breaks off.
 use Rattle.std.proofs.Common.{◌≡◌, ◌≢◌, ℕ, zero, suc, ◌+◌, ◌≤◌, ◌==◌, ◌||◌, Bool, true, false, IsTrue, List, ◌++◌, Option, Some, None, refl}
-use Rattle.std.proofs.Common.{sym, ap, subst, ◌∙◌, arith}
+use Rattle.std.proofs.Common.{inl, sym, ap, subst, ◌∙◌, arith}
 use Rattle.std.proofs.lemmas.Bool.{or_parts}
 use Rattle.std.proofs.lemmas.List.{append-nil}
 use Rattle.f11_dev.specs.Disk.{Disk}
@@ -166,7 +166,12 @@ module _ {home : HomeFields} {headers n : ℕ} {a b : Disk} (readies : ReadiesHe
 pub unchanged-after : (headers : ℕ) (Rest : Disk → Disk → Type 0) (home : HomeFields) (disk : Disk) → Rest disk disk
     → WritesAfterSlots headers Rest home disk disk
 unchanged-after headers Rest home disk rest =
-    record { ready = disk; slots = λ honest. by_count (slots_first (store_of disk.image home) headers); rest = rest }
+    record {
+      ready = disk;
+      slots = λ honest. by_count (slots_first (store_of disk.image home) headers);
+      readied = inl refl;
+      rest = rest;
+    }
   where
     by_count : (n : ℕ) → ConfinesSlots n home disk disk
     by_count zero = λ _. confines-none _ _ _ _ disk

@@ -81,7 +81,7 @@ not-least (m ∷ slots) n some out same =
     absurd cc
 
 -- a number that differs from each of a list isn't in it
-none-in : (ns : List ℕ) (n : ℕ) → ((m : ℕ) → Contains ns m → m ≢ n) → is_in ns n ≡ false
+pub none-in : (ns : List ℕ) (n : ℕ) → ((m : ℕ) → Contains ns m → m ≢ n) → is_in ns n ≡ false
 none-in ns n away = list_any_none (λ m. m == n) ns (all-from (λ m. (m == n) ≡ false) ns (λ m has. ne_eqb m n (away m has)))
 
 -- what is replaced leaves a file's headers
@@ -89,6 +89,20 @@ replacement-held : (change : Change) (f : File) → (with_replacement change f).
 replacement-held (change.Attr attr) f = refl
 replacement-held (change.Ident ident) f = refl
 replacement-held (change.Protect word) f = refl
+
+-- a header of a file of a sound volume has a byte as its segment number
+pub small-segment : (image : Image) (home : HomeFields) → HasSoundVolume image home → (f n : ℕ) → IsHeaderOf (table_of image home) f n
+    → segment_number ((table_of image home).header n) < 256
+unfolding volume_of
+small-segment image home sound f n (first file) = let zero = file.first in omega (arith, zero)
+small-segment image home sound f n (next {n = m} of goes) =
+    let some = live-some goes.to in
+    let number = goes.number in
+    let segment = goes.segment in
+    let linked : IsLinked (table_of image home) m =
+    record { in_file = record { file = f; of = of }; link = λ none. omega (arith, none, number, some) } in
+    let small = (sound.sound.links m linked).not_last in
+    omega (arith, small, segment)
 
 module _ (home : HomeFields) (old new : Image) (sound : HasSoundVolume old home) (sound' : HasSoundVolume new home) where
   abbrev t : Table
@@ -104,25 +118,13 @@ module _ (home : HomeFields) (old new : Image) (sound : HasSoundVolume old home)
   there-still : (f : ℕ) → IsFile t f → HeldStays f → IsFile u f
   there-still f file held = is-stored new home f (headers_of t f) (held ∙ held-stored old home f sound file)
 
-  -- a header of a file has a byte as its segment number
-  small-segment : (f n : ℕ) → IsHeaderOf t f n → segment_number (t.header n) < 256
-  unfolding volume_of
-  small-segment f n (first file) = let zero = file.first in omega (arith, zero)
-  small-segment f n (next {n = m} of goes) =
-      let some = live-some goes.to in
-      let number = goes.number in
-      let segment = goes.segment in
-      let linked : IsLinked t m = record { in_file = record { file = f; of = of }; link = λ none. omega (arith, none, number, some) } in
-      let small = (sound.sound.links m linked).not_last in
-      omega (arith, small, segment)
-
   header-still : (f n : ℕ) → IsFile t f → HeldStays f → IsHeaderOf t f n → IsHeaderOf u f n
   header-still f n file held of =
       let now : IsFile u f = there-still f file held in
       let same : headers_of u f ≡ headers_of t f =
       same_Some (headers_of u f) (headers_of t f) (sym (held-stored new home f sound' now) ∙ held ∙ held-stored old home f sound file) in
       listed-are u f n ((image-files new home sound').each f now).whole
-      (subst (λ (l : List ℕ). Contains l n) (sym same) (header-listed t f n of (small-segment f n of)))
+      (subst (λ (l : List ℕ). Contains l n) (sym same) (header-listed t f n of (small-segment old home sound f n of)))
 
   row-still : (f : ℕ) → IsFile t f → HeldStays f → ((n : ℕ) → IsHeaderOf t f n → named_by u n ≡ named_by t n)
       → BeginsWith (file_blocks u f) (file_blocks t f)

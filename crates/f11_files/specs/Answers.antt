@@ -12,7 +12,7 @@ use Rattle.f11_dev.specs.Went.{Went}
 use Rattle.f11_home.specs.Home.{HomeFields}
 use Rattle.f11_index.specs.IndexFile.{index_of}
 use Rattle.f11_index.specs.Table.{table_of}
-use Rattle.f11_store.specs.Causes.{Cause, first_of}
+use Rattle.f11_store.specs.Causes.{Cause, first_of, is_missing}
 use Rattle.f11_store.specs.Changes.{is_in}
 use Rattle.f11_store.specs.Lags.{Work, LagsBy, work_if}
 use Rattle.f11_store.specs.Refusal.{refusal_number}
@@ -153,9 +153,13 @@ WritesHeadersOf f home old new = WritesOnly (is_in (file_named (store_of old.ima
 abbrev pub WritesNewHeaders : HomeFields → Disk → Disk → Type 0
 WritesNewHeaders home old new = WritesOnly (new_header (index_of old.image home)) [] home old new
 
+-- the blocks of file f: none where there is no such file
+abbrev pub blocks_of : HomeFields → FileId → Image → List ℕ
+blocks_of home f image = if is_missing (store_of image home) f then [] else file_blocks (table_of image home) f.number
+
 -- no header, but blocks of file f
 abbrev pub WritesBlocksOf : FileId → HomeFields → Disk → Disk → Type 0
-WritesBlocksOf f home old new = WritesOnly no_header (file_blocks (table_of old.image home) f.number) home old new
+WritesBlocksOf f home old new = WritesOnly no_header (blocks_of home f old.image) home old new
 
 -- of headers, those that file f holds and those whose slots weren't in use; and blocks that were free
 abbrev pub WritesMoreOf : ℕ → HomeFields → Disk → Disk → Type 0

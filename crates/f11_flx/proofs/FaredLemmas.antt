@@ -18,7 +18,7 @@ use Rattle.f11_fcp.specs.files.Answers.{is_fatal, is_fault}
 use Rattle.f11_fcp.specs.Lists.{failures_of, is_sound}
 use Rattle.f11_fcp.specs.Serving.{StaysAccepted, is_spent, state_in}
 use Rattle.f11_fcp.specs.declared.volume.Volume.{Volume}
-use Rattle.f11_fcp.proofs.writes.InOrderLemmas.{order-none, order-then}
+use Rattle.f11_fcp.proofs.writes.LostLemmas.{lost-none, lost-then}
 use Rattle.rt11_volume.specs.declared.volume.RtAccepted.{RtAccepted}
 use Rattle.f11_flx.specs.Asking.{Asking, BreaksOffAsking, Denies, Fails, Granted, Grants, Who, asks, told, writes_of}
 use Rattle.f11_flx.specs.Copying.{FaresFiles, of_files, of_volume}
@@ -71,7 +71,7 @@ module _ {D : Type 0} {met : Ghosts D} where
     next = λ honest. sym (or-false (is_spent v));
     spent = λ is. or-false (is_spent v) ∙ is;
     accepted = accepted v;
-    ordered = order-none (state_in v).disk;
+    beside = lost-none (is_spent v) (state_in v).disk;
   }
 
   -- what is told by an answer of which these hold is told by another of which they do
@@ -84,7 +84,7 @@ module _ {D : Type 0} {met : Ghosts D} where
     next = λ honest. h.next honest ∙ ap (λ x. is_spent v || x) (sym fatal);
     spent = λ is. ap (λ x. is_spent v || x) fatal ∙ h.spent is;
     accepted = h.accepted;
-    ordered = h.ordered;
+    beside = h.beside;
   }
 
   as-calm : (f : FlxRefusal) (v w : Volume D met) → is_lethal f ≡ false → FaresFiles (refused f) v w → FaresFiles done v w
@@ -103,7 +103,7 @@ module _ {D : Type 0} {met : Ghosts D} where
         ∙ ap (λ x. x || of_files is_fatal r) (h.next honest ∙ or-false (is_spent u));
     spent = λ is. still (is_spent v) (of_files is_fatal r) refl (k.spent is);
     accepted = k.accepted;
-    ordered = order-then (state_in u).disk (state_in v).disk (state_in w).disk h.ordered k.ordered;
+    beside = lost-then _ _ _ _ _ _ h.beside k.beside;
   }
     where
       plus-none : (n : ℕ) → n + 0 ≡ n
@@ -124,7 +124,7 @@ module _ {D : Type 0} {met : Ghosts D} where
         next = λ honest. h.next;
         spent = λ is. sym h.next ∙ is;
         accepted = h.accepted;
-        ordered = h.ordered;
+        beside = h.beside;
       }
 
   fares-denied : (who : Who) (x : Asking) (e : Refusal) (v w : Volume D met) → Denies of_volume who x e v w
@@ -138,7 +138,7 @@ module _ {D : Type 0} {met : Ghosts D} where
         next = λ honest. h.next;
         spent = λ is. sym h.next ∙ is;
         accepted = h.accepted;
-        ordered = h.ordered;
+        beside = h.beside;
       }
 
   pub fares-all : (who : Who) (xs : List Asking) (v w : Volume D met) → Granted of_volume who xs v w → FaresFiles done v w
@@ -183,7 +183,7 @@ module _ {D : Type 0} {met : Ghosts D} where
         next = λ honest. never honest (is_spent v) refl;
         spent = λ is. or_right (is_spent v) true refl;
         accepted = h.accepted;
-        ordered = h.ordered;
+        beside = h.beside;
       }
     where
       never : IsTrue (state_in v).disk.honest → (b : Bool) → is_spent v ≡ b → is_spent w ≡ (is_spent v || true)

@@ -19,7 +19,7 @@ use Rattle.f11_fcp.specs.files.Answers.{is_fatal, is_fault, is_refused}
 use Rattle.f11_fcp.specs.Handles.{State, faults_in}
 use Rattle.f11_fcp.specs.Lengths.{Measures}
 use Rattle.f11_fcp.specs.Lists.{ServesCall, failures_of, is_sound, store_of_volume}
-use Rattle.f11_fcp.specs.Serving.{StaysAccepted, is_spent, state_in}
+use Rattle.f11_fcp.specs.Serving.{SparesLost, StaysAccepted, is_spent, state_in}
 use Rattle.f11_fcp.specs.declared.volume.Volume.{Volume}
 use Rattle.f11_flx.specs.Asking.{Asking, BreaksOffAsking, Denies, Granted, Grants, Tried, Who, asks, counts, reads, reads_of, told, writes}
 use Rattle.f11_flx.specs.Copying.{IsAskedLength, ReadsFiles, is_reading, of_files, of_volume}
@@ -35,8 +35,7 @@ use Rattle.f11_flx.specs.declared.refusal.FlxRefusal.TheVariants.{BadRecord, Fil
 use Rattle.f11_flx.specs.Refusal.{is_lethal}
 use Rattle.f11_flx.specs.ToRt.{CopiesFileToRt, CopiesLocked, CountsAs, FailsLocked, FailsToCopyFileToRt, FailsToFillToRt, GaveUp}
 use Rattle.f11_flx.specs.ToRt.{UndoesToRt, nowhere_refuses, nowhere_takes, rt_refuses, rt_takes}
-use Rattle.f11_fcp.proofs.writes.InOrderLemmas.{order-looked, order-none, order-then}
-use Rattle.f11_fcp.specs.writes.Order.{WritesInOrder}
+use Rattle.f11_fcp.proofs.writes.LostLemmas.{lost-looked, lost-none, lost-then}
 use Rattle.rt11_volume.specs.Files.{is_fault as rt_fault}
 use Rattle.rt11_volume.specs.declared.volume.RtAccepted.{RtAccepted}
 use Rattle.f11_flx.proofs.KeptLemmas.{refused}
@@ -44,7 +43,7 @@ use Rattle.f11_flx.proofs.KeptToRtLemmas.{copied-keeps, uncopied-keeps}
 use Rattle.f11_flx.proofs.RefusedLemmas.{copied-stays, refused-stays}
 use Rattle.f11_flx.proofs.SmallLemmas.{not-true, or-false}
 use Rattle.f11_flx.proofs.SpentLemmas.{spent-refused, spent-uncopied}
-use Rattle.f11_flx.proofs.VolumeLemmas.{parts-sound, volume-seen}
+use Rattle.f11_flx.proofs.VolumeLemmas.{idle-beside, parts-sound, volume-seen}
 
 -- Things were asked of a volume, and whether the last of them met a device fault, and failed the volume.
 pub record Ran {D : Type 0} {met : Ghosts D} (who : Who) (fault fatal : Bool) (old new : Volume D met) : Type 0 where
@@ -57,7 +56,7 @@ pub record Ran {D : Type 0} {met : Ghosts D} (who : Who) (fault fatal : Bool) (o
   pub next : IsTrue (state_in old).disk.honest → is_spent new ≡ (is_spent old || fatal)
   pub spent : is_spent new ≡ true → (is_spent old || fatal) ≡ true
   pub accepted : StaysAccepted (state_in old) → StaysAccepted (state_in new)
-  pub ordered : WritesInOrder (state_in old).disk (state_in new).disk
+  pub beside : SparesLost old new
 
 abbrev as-count : Bool → ℕ
 as-count b = if b then 1 else 0
@@ -74,7 +73,7 @@ module _ {D : Type 0} {met : Ghosts D} (who : Who) where
     next = λ h. sym (or-false (is_spent v));
     spent = λ h. or-false (is_spent v) ∙ h;
     accepted = λ h. h;
-    ordered = order-none (state_in v).disk;
+    beside = lost-none (is_spent v) (state_in v).disk;
   })
 
   tried-append : (xs ys : List Asking) (u v w : Volume D met) → Tried of_volume who xs u v → Tried of_volume who ys v w
@@ -93,7 +92,7 @@ module _ {D : Type 0} {met : Ghosts D} (who : Who) where
     next = λ t. k.next (h.honest ∙ t) ∙ ap (λ (x : Bool). x || c) (h.next t ∙ or-false (is_spent u));
     spent = λ t. by (is_spent v) refl (k.spent t);
     accepted = λ a. k.accepted (h.accepted a);
-    ordered = order-then (state_in u).disk (state_in v).disk (state_in w).disk h.ordered k.ordered;
+    beside = lost-then _ _ _ _ _ _ h.beside k.beside;
   }
     where
       by : (s : Bool) → is_spent v ≡ s → (is_spent v || c) ≡ true → (is_spent u || c) ≡ true
@@ -118,7 +117,7 @@ module _ {D : Type 0} {met : Ghosts D} (who : Who) where
     next = λ t. s.serving.next;
     spent = λ t. sym s.serving.next ∙ t;
     accepted = λ t. s.accepted;
-    ordered = s.serving.ordered;
+    beside = s.serving.beside;
   }
     where
       no-fault : is_spent v ≡ true → is_refused is_fault a.result ≡ false
@@ -159,7 +158,7 @@ module _ {D : Type 0} {met : Ghosts D} (who : Who) where
     next = λ t. s.0.next;
     spent = λ t. sym s.0.next ∙ t;
     accepted = λ t. s.1;
-    ordered = ordered (is_spent v) refl;
+    beside = beside (is_spent v) refl;
   }
     where
       no-fault : is_spent v ≡ true → is_refused is_fault r ≡ false
@@ -186,10 +185,12 @@ module _ {D : Type 0} {met : Ghosts D} (who : Who) where
       honest true is = ap (λ (y : State). y.disk.honest) (s.0.untouched is)
       honest false is = (looked r (s.0.measures is)).1.honest
 
-      ordered : (b : Bool) → is_spent v ≡ b → WritesInOrder (state_in v).disk (state_in w).disk
-      ordered true is =
-          subst (λ (y : State). WritesInOrder (state_in v).disk y.disk) (sym (s.0.untouched is)) (order-none (state_in v).disk)
-      ordered false is = let l = looked r (s.0.measures is) in order-looked (state_in v).disk (state_in w).disk l.0 _ l.1
+      lasts : is_spent v ≡ true → is_spent w ≡ true
+      lasts is = s.0.next ∙ ap (λ (b : Bool). b || is_refused is_fatal r) is
+
+      beside : (b : Bool) → is_spent v ≡ b → SparesLost v w
+      beside true is = idle-beside v w lasts (s.0.untouched is)
+      beside false is = let l = looked r (s.0.measures is) in lost-looked _ _ (state_in v).disk (state_in w).disk l.0 _ lasts l.1
 
   -- one thing, granted or denied
   pub ran-granted : (x : Asking) (v w : Volume D met) → is_reading x ≡ true → Grants of_volume who x v w → Ran who false false v w
@@ -325,7 +326,7 @@ module _ {D : Type 0} {met : Ghosts D} (who : Who) (lun : ℕ) (name : List ℕ)
         next = λ t. absurd (wrong d.0 v w d.1 d.3 t);
         spent = λ t. or_right (is_spent v) true refl;
         accepted = h.accepted;
-        ordered = h.ordered;
+        beside = h.beside;
       } in
       by-files who lun name e r v w is (subst (λ x. Ran who (is_fault x) (is_fatal x) v w) (sym d.2) ran)
   told-nothing e r v w is (inr d) =
@@ -470,7 +471,7 @@ module _ {D : Type 0} {met : Ghosts D} (who : Who) (lun : ℕ) (name : List ℕ)
             next = h.next;
             spent = h.spent;
             accepted = p.1;
-            ordered = h.ordered;
+            beside = h.beside;
           };
           keeps = copied-keeps who disk lun file name day m old new rt rt' count made;
           spent = λ dead. absurd (spent-uncopied disk who lun name file day m old new rt rt' dead count made);
@@ -489,7 +490,7 @@ module _ {D : Type 0} {met : Ghosts D} (who : Who) (lun : ℕ) (name : List ℕ)
             next = h.next;
             spent = h.spent;
             accepted = p.1;
-            ordered = h.ordered;
+            beside = h.beside;
           };
           keeps = uncopied-keeps who disk lun file name day m old new rt rt' e failed;
           spent = λ dead. ap refused (spent-refused disk who lun name file day m old new rt rt' dead e failed);

@@ -2,6 +2,7 @@
 use Rattle.std.proofs.Common.{◌≡◌, ℕ, ◌+◌, ◌<◌, ◌&&◌, ◌||◌, not, Bool, true, false, IsTrue, if◌then◌else◌, [], ◌∷◌, Option, Some, None}
 use Rattle.std.proofs.Common.{Result, Ok, Err, is_none, option_map, refl, sym, ap, ◌∙◌, subst, arith}
 use Rattle.f11_dev.specs.declared.device.Device.{Ghosts}
+use Rattle.f11_dev.proofs.LookedLemmas.{looked_none}
 use Rattle.f11_store.specs.Accesses.{FreeIsEmpty, mark_of}
 use Rattle.f11_store.specs.Causes.{◌⇐◌, first_of, holds_none, is_missing}
 use Rattle.f11_store.specs.File.{File, is_marked}
@@ -23,10 +24,10 @@ use Rattle.f11_fcp.specs.Handles.{State, faults_in}
 use Rattle.f11_fcp.specs.Lengths.{AnswersLength, Measures}
 use Rattle.f11_fcp.specs.Lists.{ServesCall, failures_of, is_sound, store_of_volume}
 use Rattle.f11_fcp.specs.Places.{access_table_of}
-use Rattle.f11_fcp.specs.Serving.{StaysAccepted, is_spent, state_in}
+use Rattle.f11_fcp.specs.Serving.{SparesLost, StaysAccepted, is_spent, state_in}
 use Rattle.f11_fcp.specs.declared.volume.Volume.{Volume}
-use Rattle.f11_fcp.proofs.writes.InOrderLemmas.{order-looked, order-none}
-use Rattle.f11_fcp.specs.writes.Order.{WritesInOrder}
+use Rattle.f11_fcp.specs.writes.Lost.{WritesBesideLost}
+use Rattle.f11_fcp.proofs.writes.LostLemmas.{lost-looked}
 use Rattle.f11_flx.specs.Asking.{Asking, Denies, Grants, IsMeasured, Who, asks, counts, plain, reads, told, writes}
 use Rattle.f11_flx.specs.Copying.{of_volume}
 use Rattle.f11_flx.specs.Refusal.{is_lethal}
@@ -90,6 +91,12 @@ module _ {D : Type 0} {met : Ghosts D} where
       let parts = sound-parts (state_in v).disk.honest (is_spent v) sound in
       accessed (access_table_of v.accesses) (store_in v.files) (v.kept parts.1 parts.0)
 
+  -- of a volume nothing was asked
+  pub idle-beside : (v w : Volume D met) → (is_spent v ≡ true → is_spent w ≡ true) → state_in w ≡ state_in v → SparesLost v w
+  idle-beside v w lasts same =
+      subst (λ (x : State). WritesBesideLost (is_spent v) (is_spent w) (state_in v).disk x.disk) (sym same)
+      (lost-looked (is_spent v) (is_spent w) (state_in v).disk (state_in v).disk 0 0 lasts (looked_none (state_in v).disk))
+
   -- What answers tell of a volume: whether a transfer failed and whether it failed the volume.
   pub record IsFared (fault fatal : Bool) (old new : Volume D met) : Type 0 where
     pub failures : failures_of new ≡ failures_of old + (if fault then 1 else 0)
@@ -97,7 +104,7 @@ module _ {D : Type 0} {met : Ghosts D} where
     pub honest : (state_in new).disk.honest ≡ (state_in old).disk.honest
     pub next : is_spent new ≡ (is_spent old || fatal)
     pub accepted : StaysAccepted (state_in new)
-    pub ordered : WritesInOrder (state_in old).disk (state_in new).disk
+    pub beside : SparesLost old new
 
   -- a request of it, whatever it answers
   serves-fared : (v w : Volume D met) (c : Call) (a : Answer) → ServesCall v c a w
@@ -114,7 +121,7 @@ module _ {D : Type 0} {met : Ghosts D} where
             honest = ap (λ (x : State). x.disk.honest) same;
             next = h.serving.next ∙ ap (λ x. is_spent v || is_refused is_fatal x) r;
             accepted = h.accepted;
-            ordered = h.serving.ordered;
+            beside = h.serving.beside;
           })
       by_spent false is =
           let k = h.serving.handled is in
@@ -125,13 +132,16 @@ module _ {D : Type 0} {met : Ghosts D} where
             honest = k.writes.went.honest;
             next = h.serving.next;
             accepted = h.accepted;
-            ordered = h.serving.ordered;
+            beside = h.serving.beside;
           }
 
   measures-fared : (v w : Volume D met) (task lun : ℕ) (result : Result ℕ Refusal) → AnswersLength task lun result v w
       → StaysAccepted (state_in w) → IsFared (is_refused is_fault result) (is_refused is_fatal result) v w
   measures-fared v w task lun result h accepted = by_spent (is_spent v) refl
     where
+      lasts : {b : Bool} → is_spent w ≡ (is_spent v || b) → is_spent v ≡ true → is_spent w ≡ true
+      lasts {b} next is = next ∙ ap (λ (x : Bool). x || b) is
+
       by_result : (r : Result ℕ Refusal) → Measures task lun r (state_in v) (state_in w)
           → is_spent w ≡ (is_spent v || is_refused is_fatal r) → IsFared (is_refused is_fault r) (is_refused is_fatal r) v w
       by_result (Ok blocks) k next = record {
@@ -140,7 +150,7 @@ module _ {D : Type 0} {met : Ghosts D} where
         honest = k.outcome.reads.looked.honest;
         next = next;
         accepted = accepted;
-        ordered = order-looked _ _ _ _ k.outcome.reads.looked;
+        beside = lost-looked _ _ _ _ _ _ (lasts next) k.outcome.reads.looked;
       }
       by_result (Err e) k next = record {
         failures = k.outcome.reads.looked.failures;
@@ -148,7 +158,7 @@ module _ {D : Type 0} {met : Ghosts D} where
         honest = k.outcome.reads.looked.honest;
         next = next;
         accepted = accepted;
-        ordered = order-looked _ _ _ _ k.outcome.reads.looked;
+        beside = lost-looked _ _ _ _ _ _ (lasts next) k.outcome.reads.looked;
       }
 
       by_spent : (b : Bool) → is_spent v ≡ b → IsFared (is_refused is_fault result) (is_refused is_fatal result) v w
@@ -161,7 +171,7 @@ module _ {D : Type 0} {met : Ghosts D} where
             honest = ap (λ (x : State). x.disk.honest) same;
             next = h.next ∙ ap (λ x. is_spent v || is_refused is_fatal x) r;
             accepted = accepted;
-            ordered = subst (λ (x : State). WritesInOrder (state_in v).disk x.disk) (sym same) (order-none (state_in v).disk);
+            beside = idle-beside v w (lasts h.next) same;
           })
       by_spent false is = by_result result (h.measures is) h.next
 

@@ -12,11 +12,10 @@ use Rattle.f11_script.specs.declared.errors.ScriptError.{ScriptError}
 use Rattle.f11_script.specs.declared.errors.ScriptError.TheVariants.{ReadFault, WriteFault, TooLong}
 use Rattle.f11_fcp.specs.Lists.{ServesCall, cost_of, failures_of, is_sound, store_of_volume, transfers_of}
 use Rattle.f11_fcp.specs.Handles.{State, faults_in, is_damage}
-use Rattle.f11_fcp.specs.Serving.{is_spent, state_in}
+use Rattle.f11_fcp.specs.Serving.{SparesLost, is_spent, state_in}
 use Rattle.f11_fcp.specs.declared.volume.Volume.{Volume}
 use Rattle.f11_fcp.proofs.ListLemmas.{grows, seen-as-steps}
-use Rattle.f11_fcp.proofs.writes.InOrderLemmas.{order-none, order-then}
-use Rattle.f11_fcp.specs.writes.Order.{WritesInOrder}
+use Rattle.f11_fcp.proofs.writes.LostLemmas.{lost-none, lost-then}
 use Rattle.f11_serving.specs.Served.{Service, zeros}
 use Rattle.f11_serving.specs.Serving.{AnswersLines, Place, RunsScript, StopsReading}
 use Rattle.f11_serving.specs.Scripts.{KeepsScriptCosts, ServesScriptRun}
@@ -284,13 +283,13 @@ module _ {D : Type 0} {met : Ghosts D} where
   script-keeps-volume bytes written written' old new result h =
       script-keeps ServesCall KeepsVolume volume-self volume-trans call-keeps bytes written written' old new result h
 
-  -- blocks are written in order by a script, since they are by each call
-  pub script-ordered : (bytes written written' : Option (List ℕ)) (old new : Volume D met) (result : Result ℕ ScriptError) →
-      RunsScript ServesCall bytes old new written written' result → WritesInOrder (state_in old).disk (state_in new).disk
-  script-ordered bytes written written' old new result h =
-      script-keeps ServesCall (λ v w. WritesInOrder (state_in v).disk (state_in w).disk) (λ v. order-none (state_in v).disk)
-      (λ u v w. order-then (state_in u).disk (state_in v).disk (state_in w).disk) (λ v w c a served. served.serving.ordered) bytes written
-      written' old new result h
+  -- blocks are written in order by a script, and none that is lost, since they are by each call
+  pub script-beside : (bytes written written' : Option (List ℕ)) (old new : Volume D met) (result : Result ℕ ScriptError) →
+      RunsScript ServesCall bytes old new written written' result → SparesLost old new
+  script-beside bytes written written' old new result h =
+      script-keeps ServesCall SparesLost (λ v. lost-none (is_spent v) (state_in v).disk)
+      (λ u v w. lost-then (is_spent u) (is_spent v) (is_spent w) (state_in u).disk (state_in v).disk (state_in w).disk)
+      (λ v w c a served. served.serving.beside) bytes written written' old new result h
 
 module _ {D : Type 0} {met : Ghosts D} (old new : Volume D met) (bytes written written' : Option (List ℕ)) (result : Result ℕ ScriptError)
     (runs : RunsScript ServesCall bytes old new written written' result)

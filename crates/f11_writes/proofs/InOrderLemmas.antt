@@ -58,7 +58,7 @@ order-looked old new most faults looked = record {
 }
 
 -- an image has one home block
-at-home : (home other : HomeFields) (image : Image) → HasSoundVolume image home → HasSoundVolume image other → home ≡ other
+pub at-home : (home other : HomeFields) (image : Image) → HasSoundVolume image home → HasSoundVolume image other → home ≡ other
 at-home home other image one two = home-unique image home other one.framed.home_is two.framed.home_is
 
 -- a write of one block
@@ -88,7 +88,7 @@ module _ (old : Disk) (home : HomeFields) (sound : IsTrue old.honest → HasSoun
   })
   order-failed new (inr is) = subst (WritesInOrder old) (sym is) (landed false)
 
-newest-append : (later earlier : List Image) (image : Image) → newest (later ++ earlier) image ≡ newest later (newest earlier image)
+pub newest-append : (later earlier : List Image) (image : Image) → newest (later ++ earlier) image ≡ newest later (newest earlier image)
 newest-append [] earlier image = refl
 newest-append (last ∷ later) earlier image = refl
 
@@ -124,7 +124,7 @@ each-sound home old (image ∷ earlier) sound each =
     ((each zero (omega arith)).orderly (each-sound home old earlier sound (earlier-written each))).sound
 
 -- and accepted
-each-accepted : (home : HomeFields) (old : Image) (since : List Image) → HasSoundVolume old home → AreInOrder home old since
+pub each-accepted : (home : HomeFields) (old : Image) (since : List Image) → HasSoundVolume old home → AreInOrder home old since
     → All IsAccepted since
 each-accepted home old [] sound each = All-nil IsAccepted
 each-accepted home old (image ∷ earlier) sound each =
@@ -133,7 +133,7 @@ each-accepted home old (image ∷ earlier) sound each =
     (each-accepted home old earlier sound (earlier-written each))
 
 -- and keeps the fixed blocks of the first, which are fixed in it, too
-fixed-still : (home : HomeFields) (old : Image) (since : List Image) → HasSoundVolume old home → AreInOrder home old since → (lbn : ℕ)
+pub fixed-still : (home : HomeFields) (old : Image) (since : List Image) → HasSoundVolume old home → AreInOrder home old since → (lbn : ℕ)
     → IsFixed old home lbn → (slice_get (newest since old) lbn ≡ slice_get old lbn) × IsFixed (newest since old) home lbn
 fixed-still home old [] sound each lbn fixed = (refl, fixed)
 fixed-still home old (image ∷ earlier) sound each lbn fixed =
@@ -148,29 +148,6 @@ each-fixed home old [] sound each = All-nil (KeepsFixed home old)
 each-fixed home old (image ∷ earlier) sound each =
     All-cons (KeepsFixed home old) image earlier (λ lbn fixed. (fixed-still home old (image ∷ earlier) sound each lbn fixed).0)
     (each-fixed home old earlier sound (earlier-written each))
-
--- the images that were written are those which a history has more
-since-is : (old new : Disk) (made : MadeInOrder old new) (since : List Image) → new.history ≡ since ++ old.history → made.since ≡ since
-since-is old new made since history = append_cancel_right made.since since old.history (sym made.history ∙ history)
-
-pub order-accepted : (old new : Disk) → IsImage old.image → (IsTrue old.honest → IsAccepted old.image) → WritesInOrder old new
-    → StandsAccepted old new
-order-accepted old new is_image accepted ordered = record {
-  accepted = λ honest since history.
-      let sound = (accepted-sound old.image is_image).0 (accepted honest) in
-      let made = ordered.ordered honest in
-      subst (λ (images : List Image). All IsAccepted images) (since-is old new made since history)
-      (each-accepted sound.home old.image made.since sound.volume (made.each sound.home));
-  fixed = λ honest home sound since history.
-      let made = ordered.ordered honest in
-      subst (λ (images : List Image). All (KeepsFixed home old.image) images) (since-is old new made since history)
-      (each-fixed home old.image made.since sound (made.each home));
-  unchanged = λ honest home sound lbn fixed.
-      let made = ordered.ordered honest in
-      subst (λ (i : Image). slice_get i lbn ≡ slice_get old.image lbn) (sym made.image)
-      (fixed-still home old.image made.since sound (made.each home) lbn fixed).0;
-  ordered = ordered;
-}
 
 -- and each write is orderly
 pub each-orderly : (home : HomeFields) (old : Image) (since : List Image) → HasSoundVolume old home → AreInOrder home old since → (k : ℕ)

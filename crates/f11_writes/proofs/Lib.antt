@@ -15,6 +15,7 @@ pub mod GrowLemmas
 pub mod NameLemmas
 pub mod OrderLemmas
 pub mod InOrderLemmas
+pub mod LostLemmas
 pub mod MomentLemmas
 pub mod AddedLemmas
 pub mod MadeLemmas

@@ -6,6 +6,7 @@ pub mod Laws
 pub mod HeaderLaws
 pub mod Order
 pub mod OrderLaws
+pub mod Lost
 pub mod Moments
 pub mod NameLaws
 pub mod Worked

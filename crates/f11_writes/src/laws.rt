@@ -1,6 +1,7 @@
 //! Laws of writes, each the contract of a function that does nothing: layers above cite them.
 ghost use Rattle.f11_writes.specs.HeaderLaws as headers;
 ghost use Rattle.f11_writes.specs.Laws as laws;
+ghost use Rattle.f11_writes.specs.Lost as lost;
 ghost use Rattle.f11_writes.specs.Moments as moments;
 ghost use Rattle.f11_writes.specs.NameLaws as names;
 ghost use Rattle.f11_writes.specs.OrderLaws as order;
@@ -116,6 +117,12 @@ pub fn ordered_calls()
     ensures sound { order.OrderIsSound }
     ensures fixed { order.OrderKeepsFixed }
     ensures accepted { moments.OrderIsAccepted }
+{}
+
+/// Calls that write beside lost blocks.
+pub fn lost_blocks()
+    ensures looked { lost.LooksAreBesideLost }
+    ensures kept { lost.BesideLostIsKept }
 {}
 
 /// Writes that are not.

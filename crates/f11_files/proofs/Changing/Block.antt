@@ -1,10 +1,14 @@
 -- A block of a file that is written.
-use Rattle.std.proofs.Common.{◌≡◌, ◌⊎◌, ◌≤◌, ℕ, true, false, IsTrue, List, refl, sym, ap, subst, ◌∙◌}
+use Rattle.std.proofs.Common.{◌≡◌, ◌⊎◌, ◌-◌, ◌≤◌, ℕ, Bool, true, false, cond, IsTrue, List, [], Some, refl, sym, ap, subst, ◌∙◌}
 use Rattle.std.proofs.Math.ListN.{set}
+use Rattle.f11_chain.specs.FileHeaders.{block_by_vbn, file_blocks}
 use Rattle.f11_dev.specs.Disk.{Disk, with_transfer, with_block_at}
 use Rattle.f11_dev.specs.Image.{Image}
 use Rattle.f11_dev.proofs.WentLemmas.{went_write, went_failed_write}
-use Rattle.f11_store.specs.Changes.{with_block, with_change}
+use Rattle.f11_home.specs.Home.{HomeFields}
+use Rattle.f11_index.specs.Table.{table_of}
+use Rattle.f11_store.specs.Causes.{is_missing}
+use Rattle.f11_store.specs.Changes.{is_in, with_block, with_change}
 use Rattle.f11_store.specs.declared.files.FileId.{FileId}
 use Rattle.f11_store.specs.declared.refusals.Refusal.TheVariants.{DeviceFault}
 use Rattle.f11_store.specs.Lags.{LagsBy}
@@ -13,7 +17,7 @@ use Rattle.f11_volume.specs.Volume.{volume_of}
 use Rattle.f11_writes.specs.Kept.{WritesBlock}
 use Rattle.f11_writes.proofs.OtherLemmas.{file-keeps}
 use Rattle.f11_image_store.specs.Allocation.{KeepsBlocks}
-use Rattle.f11_files.specs.Answers.{Meanwhile}
+use Rattle.f11_files.specs.Answers.{Meanwhile, blocks_of}
 use Rattle.f11_files.specs.Finding.Blocks.{FindsBlock, StoresBlock, FailsToStore, block_work}
 use Rattle.f11_image_store.specs.StoreOf.{store_of}
 use Rattle.f11_files.specs.Structure.{home_of, store_on, IsStructureOf, IsStructureFor, StaysFor}
@@ -22,9 +26,17 @@ use Rattle.f11_image_store.proofs.AllocationLemmas.{keeps-same}
 use Rattle.f11_writes.specs.Order.{IsOrderlyWrite, WritesInOrder}
 use Rattle.f11_writes.proofs.OrderLemmas.{file-orderly}
 use Rattle.f11_files.proofs.Confining.InOrder.{block-failed-order, block-order}
+use Rattle.f11_files.proofs.Confining.Parts.{at-in}
 use Rattle.f11_files.proofs.AnswerLemmas.{right-fault}
 use Rattle.f11_image_store.proofs.StoreLemmas.{block-stored}
 use Rattle.f11_files.proofs.WriteLemmas.{breaks-off, keeps-volume, failed-stays, served-stays, writes-behind}
+
+-- a block of a file is among its blocks
+pub in-blocks : (home : HomeFields) (f : FileId) (image : Image) (vbn lbn : ℕ) → is_missing (store_of image home) f ≡ false
+    → block_by_vbn (table_of image home) f.number vbn ≡ Some lbn → is_in (blocks_of home f image) lbn ≡ true
+in-blocks home f image vbn lbn there at =
+    ap (λ (b : Bool). is_in (cond b [] (file_blocks (table_of image home) f.number)) lbn) there
+    ∙ at-in (file_blocks (table_of image home) f.number) (vbn - 1) lbn at
 
 -- the block was found, and is written there
 module _ (s : Structure) (f : FileId) (vbn lbn : ℕ) (block : List ℕ) (old now : Disk) (for : IsStructureFor s old) (own : 4 ≤ f.number)

@@ -1,28 +1,23 @@
 -- A block of a file that is written by a window.
-use Rattle.std.proofs.Common.{◌≡◌, ◌⊎◌, ◌-◌, ◌<◌, ℕ, Bool, true, false, IsTrue, List, length, inl, inr, refl, subst, arith}
-use Rattle.f11_bits.specs.Bitmap.{Bitmap}
-use Rattle.f11_chain.specs.FileHeaders.{file_blocks}
+use Rattle.std.proofs.Common.{◌≡◌, ◌⊎◌, ◌<◌, ℕ, Bool, true, false, List, length, inl, inr, refl, arith}
 use Rattle.f11_chain.specs.Windows.{HoldsAt}
 use Rattle.f11_chain.specs.declared.windows.Window.{Window}
 use Rattle.f11_dev.specs.Disk.{Disk, with_block_at, with_transfer}
 use Rattle.f11_home.specs.Home.{HomeFields}
-use Rattle.f11_index.specs.IndexFile.{Index, index_of}
-use Rattle.f11_index.specs.Table.{table_of}
+use Rattle.f11_index.specs.IndexFile.{index_of}
 use Rattle.f11_store.specs.declared.files.FileId.{FileId}
 use Rattle.f11_store.specs.declared.refusals.Refusal.TheVariants.{DeviceFault, VolumeFailed}
 use Rattle.f11_volume.specs.Space.{storage_bitmap}
 use Rattle.f11_image_store.specs.Confines.{no_header}
-use Rattle.f11_writes.specs.Order.{WritesInOrder}
-use Rattle.f11_files.specs.Confined.{ConfinesInOrder}
-use Rattle.f11_files.specs.Answers.{WritesBlocksOf}
+use Rattle.f11_files.specs.Answers.{blocks_of}
 use Rattle.f11_files.specs.Finding.Blocks.{FindsBlock}
 use Rattle.f11_files.specs.Finding.Windows.{FailsToStoreBy, IsOfFile, IsWindowOn, StoresBy}
-use Rattle.f11_files.specs.Structure.{bitmap_in, home_of, ConfinesTo, IsStructureFor, StaysFor}
+use Rattle.f11_files.specs.Structure.{home_of, IsStructureFor, StaysFor}
 use Rattle.f11_files.specs.declared.structure.Structure.{Structure}
 use Rattle.f11_files.proofs.Bounded.{one-failed}
-use Rattle.f11_files.proofs.Changing.Block.{fails-stays, fails-store, stored-order, stored-stays, stores-block, unstored-order}
+use Rattle.f11_files.proofs.Changing.Block.{fails-stays, fails-store, in-blocks, stored-order, stored-stays, stores-block, unstored-order}
 use Rattle.f11_files.proofs.Confining.Confines.{confines-none}
-use Rattle.f11_files.proofs.Confining.Parts.{at-in, other-failed, other-wrote}
+use Rattle.f11_files.proofs.Confining.Parts.{other-failed, other-wrote, to-only}
 use Rattle.f11_files.proofs.Finding.Windows.{finds-in-window, in-place}
 use Rattle.f11_files.proofs.WriteLemmas.{had-failed}
 
@@ -32,13 +27,7 @@ module _ (s : Structure) (w : Window) (vbn lbn : ℕ) (block : List ℕ) (old ne
   finds f is = finds-in-window s f w old for is some vbn lbn held within
 
   abbrev blocks : FileId → List ℕ
-  blocks f = file_blocks (table_of old.image (home_of s)) f.number
-
-  confined : (f : FileId) → (IsTrue old.honest → ConfinesTo s no_header (blocks f) old new) → WritesBlocksOf f (home_of s) old new
-  confined f is = λ honest.
-      let keeps = for.keeps honest in
-      subst (λ (b : Bitmap). ConfinesInOrder no_header (index_of old.image (home_of s)) b (blocks f) old new) keeps.bitmap_is
-      (subst (λ (i : Index). ConfinesInOrder no_header i (bitmap_in s) (blocks f) old new) keeps.index_is (is honest))
+  blocks f = blocks_of (home_of s) f old.image
 
   -- it was written
   module _ (is : new ≡ with_transfer true (with_block_at lbn block old)) where
@@ -48,17 +37,14 @@ module _ (s : Structure) (w : Window) (vbn lbn : ℕ) (block : List ℕ) (old ne
       held = held;
       once = is;
       of_file = λ f on. stores-block s f vbn lbn block old old for on.id.number (finds f on) new is;
-      confined = λ f on. confined f (λ honest.
+      confined = λ f on. to-only s no_header (blocks f) old new for (λ honest.
           other-wrote s no_header (blocks f) lbn block old new
-          (at-in (blocks f) (vbn - 1) lbn (in-place s f w old for on some vbn lbn held honest)) is
+          (in-blocks (home_of s) f old.image vbn lbn (on.has honest).there (in-place s f w old for on some vbn lbn held honest)) is
           (stored-order s f vbn lbn block old old for on.id.number (finds f on) new is));
     }
 
     pub stored-by-stays : IsOfFile (home_of s) w old → StaysFor false s s new
     stored-by-stays of = stored-stays s of.file vbn lbn block old old for of.is.id.number (finds of.file of.is) new is
-
-    pub stored-by-order : IsOfFile (home_of s) w old → WritesInOrder old new
-    stored-by-order of = stored-order s of.file vbn lbn block old old for of.is.id.number (finds of.file of.is) new is
 
   -- the transfer failed
   module _ (is : (new ≡ with_transfer false old) ⊎ (new ≡ with_transfer false (with_block_at lbn block old))) where
@@ -67,17 +53,14 @@ module _ (s : Structure) (w : Window) (vbn lbn : ℕ) (block : List ℕ) (old ne
       why = record { only = inr refl; volume = λ no. absurd cc };
       few = one-failed lbn block old new is;
       of_file = λ f on. fails-store s f vbn lbn block old old for on.id.number (finds f on) new is;
-      confined = λ f on. confined f (λ honest.
+      confined = λ f on. to-only s no_header (blocks f) old new for (λ honest.
           other-failed s no_header (blocks f) lbn block old new
-          (at-in (blocks f) (vbn - 1) lbn (in-place s f w old for on some vbn lbn held honest)) is
+          (in-blocks (home_of s) f old.image vbn lbn (on.has honest).there (in-place s f w old for on some vbn lbn held honest)) is
           (unstored-order s f vbn lbn block old old for on.id.number (finds f on) new is));
     }
 
     pub failed-by-stays : IsOfFile (home_of s) w old → StaysFor true s s new
     failed-by-stays of = fails-stays s of.file vbn lbn block old old for of.is.id.number (finds of.file of.is) new is
-
-    pub failed-by-order : IsOfFile (home_of s) w old → WritesInOrder old new
-    failed-by-order of = unstored-order s of.file vbn lbn block old old for of.is.id.number (finds of.file of.is) new is
 
 -- the volume had failed, and nothing is done
 pub had-failed-by : {failed : Bool} {home : HomeFields} {w : Window} {vbn : ℕ} {block : List ℕ} (old : Disk) → failed ≡ true
@@ -87,5 +70,5 @@ had-failed-by {home = home} old is = record {
   few = omega arith;
   of_file = λ f on. had-failed old is;
   confined = λ f on honest. confines-none no_header (index_of old.image home) (storage_bitmap old.image home)
-      (file_blocks (table_of old.image home) f.number) old;
+      (blocks_of home f old.image) old;
 }

@@ -15,7 +15,7 @@ use Rattle.f11_store.specs.Changes.{is_in}
 use Rattle.f11_image_store.specs.Confines.{IsNoPart, Spares, AreAlike}
 use Rattle.f11_image_store.proofs.ConfinesLemmas.{spares-other}
 use Rattle.f11_writes.specs.Order.{AreInOrder, WritesInOrder}
-use Rattle.f11_writes.proofs.InOrderLemmas.{order-looked, order-then, unwritten}
+use Rattle.f11_writes.proofs.InOrderLemmas.{newest-append, order-looked, order-then, unwritten}
 use Rattle.f11_files.specs.Confined.{ConfinesInOrder}
 
 -- what was written in order
@@ -96,10 +96,6 @@ confines-last : (headers : ℕ → Bool) (index : Index) (bitmap : Bitmap) (othe
 confines-last headers index bitmap others {old = old} one =
     subst (Spares headers index bitmap others old.image) (sym one.image)
     (spares-newest headers index bitmap others old.image one.since one.each)
-
-newest-append : (later earlier : List Image) (image : Image) → newest (later ++ earlier) image ≡ newest later (newest earlier image)
-newest-append [] earlier image = refl
-newest-append (last ∷ later) earlier image = refl
 
 -- what is no part of more is none of less
 pub fewer-part : (headers fewer : ℕ → Bool) (index : Index) (bitmap : Bitmap) → ((n : ℕ) → fewer n ≡ true → headers n ≡ true) → (lbn : ℕ)

@@ -1,5 +1,5 @@
 -- What carries `ConfinesTo` and `StandsAlike` from step to step, and which blocks a step writes.
-use Rattle.std.proofs.Common.{◌≡◌, ◌≢◌, ◌⊎◌, ◌+◌, ◌*◌, ◌-◌, ◌<◌, ◌≤◌, ℕ, zero, suc, ◌==◌, ◌||◌, Some, Bool, true, false, List, [], ◌∷◌}
+use Rattle.std.proofs.Common.{◌≡◌, ◌≢◌, ◌⊎◌, ◌+◌, ◌*◌, ◌-◌, ◌<◌, ◌≤◌, ℕ, zero, suc, ◌==◌, ◌||◌, Some, Bool, true, false, IsTrue, List, [], ◌∷◌}
 use Rattle.std.proofs.Common.{◌++◌, length, min, take, drop, get_or, inl, inr, refl, sym, ap, subst, ◌∙◌, arith}
 use Rattle.std.proofs.Math.Bool.{or-true}
 use Rattle.std.proofs.lemmas.Bool.{cases_Bool, cases_lt, eq-eqb, eqb-true, false≢true}
@@ -18,7 +18,7 @@ use Rattle.f11_dev.specs.Image.{Image}
 use Rattle.f11_dev.specs.Looked.{Looked}
 use Rattle.f11_dev.specs.Went.{Went}
 use Rattle.f11_index.specs.Calls.{SetsBit, HasBitWritten, bitmap_place, bitmap_block, with_blocks_behind}
-use Rattle.f11_index.specs.IndexFile.{Index, slots, header_lbn, is_in_use}
+use Rattle.f11_index.specs.IndexFile.{Index, index_of, slots, header_lbn, is_in_use}
 use Rattle.f11_index.specs.Kept.{index_kept}
 use Rattle.f11_index.specs.declared.index_file.IndexFile.{IndexFile}
 use Rattle.f11_index.proofs.InUseLemmas.{in_use-some, in_use-slot}
@@ -26,8 +26,10 @@ use Rattle.f11_store.specs.Changes.{is_in}
 use Rattle.f11_store.specs.declared.files.FileId.{FileId}
 use Rattle.f11_image_store.specs.Confines.{no_header, only_header, either}
 use Rattle.f11_writes.specs.Order.{WritesInOrder}
+use Rattle.f11_files.specs.Answers.{WritesOnly}
+use Rattle.f11_files.specs.Confined.{ConfinesInOrder}
 use Rattle.f11_files.specs.Finding.First.{FindsFile}
-use Rattle.f11_files.specs.Structure.{index_in, bitmap_in, ConfinesTo, WritesParts, StandsAlike, StandsWithin}
+use Rattle.f11_files.specs.Structure.{bitmap_in, home_of, index_in, ConfinesTo, IsStructureFor, StandsAlike, StandsWithin, WritesParts}
 use Rattle.f11_files.specs.declared.structure.Structure.{Structure}
 use Rattle.f11_files.proofs.Removing.Loss.{in-append, in-run}
 use Rattle.f11_image_store.proofs.ConfinesLemmas.{alike-part, header-apart, spares-bitmap, spares-other}
@@ -232,6 +234,14 @@ pub other-failed : (s : Structure) (headers : ℕ → Bool) (others : List ℕ) 
 other-failed s headers others lbn block old new is failed =
     confines-failed headers (index_in s) (bitmap_in s) others old new lbn block
     (λ l _ out same. false≢true (sym out ∙ ap (is_in others) (sym same) ∙ is)) failed
+
+-- blocks are written as what is kept of an image tells
+pub to-only : (s : Structure) (headers : ℕ → Bool) (others : List ℕ) (old new : Disk) → IsStructureFor s old
+    → (IsTrue old.honest → ConfinesTo s headers others old new) → WritesOnly headers others (home_of s) old new
+to-only s headers others old new for one = λ honest.
+    let keeps = for.keeps honest in
+    subst (λ (b : Bitmap). ConfinesInOrder headers (index_of old.image (home_of s)) b others old new) keeps.bitmap_is
+    (subst (λ (i : Index). ConfinesInOrder headers i (bitmap_in s) others old new) keeps.index_is (one honest))
 
 -- what stands in a list is in it
 pub at-in : (xs : List ℕ) (i n : ℕ) → slice_get xs i ≡ Some n → is_in xs n ≡ true

@@ -1,6 +1,6 @@
 -- A new file, once there is a header for it.
 use Rattle.std.proofs.Common.{◌≡◌, ℕ, ◌==◌, ◌&&◌, ◌||◌, Bool, true, false, not, cond, if◌then◌else◌, nat_lt, IsTrue, List, [], Some, None}
-use Rattle.std.proofs.Common.{refl, sym, ap, subst, ◌∙◌, arith}
+use Rattle.std.proofs.Common.{inl, inr, refl, sym, ap, subst, ◌∙◌, arith}
 use Rattle.std.proofs.lemmas.Bool.{eqb-true, ne_eqb}
 use Rattle.f11_bits.specs.Bitmap.{Bitmap}
 use Rattle.f11_dev.specs.Disk.{Disk}
@@ -127,13 +127,14 @@ module _ (home : HomeFields) (owner : Uic) (protection : ℕ) (ident attr : List
 -- which blocks are changed
 pub unready-confined : (home : HomeFields) (old new : Disk) → WritesSlots 1 home old new
     → WritesAfterSlots 1 (WritesNewHeaders home) home old new
-unready-confined home old new slots = record { ready = new; slots = slots; rest = λ _. confines-none _ _ _ _ new }
+unready-confined home old new slots = record { ready = new; slots = slots; readied = inl refl; rest = λ _. confines-none _ _ _ _ new }
 
 pub make-confined :
     (s t : Structure) (old mid new : Disk) → StaysFor false s t mid → WritesSlots 1 (home_of s) old mid
-    → WritesParts t (new_header (index_in t)) mid new →
+    → ReadiesHeaders (home_of s) 1 0 old mid → WritesParts t (new_header (index_in t)) mid new →
     WritesAfterSlots 1 (WritesNewHeaders (home_of s)) (home_of s) old new
-make-confined s t old mid new stays slots parts = record { ready = mid; slots = slots; rest = rest }
+make-confined s t old mid new stays slots readies parts =
+    record { ready = mid; slots = slots; readied = inr readies.does.allots; rest = rest }
   where
     rest : WritesNewHeaders (home_of s) mid new
     rest honest =

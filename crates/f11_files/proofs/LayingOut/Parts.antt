@@ -44,7 +44,7 @@ in-filter p (x ∷ xs) l pass is = elim (cases_Bool (x == l)) [
 ]
 
 -- a free block is listed
-free-listed : (v : Volume) (l : ℕ) → l < v.size → v.free l ≡ true → is_in (free_list v) l ≡ true
+pub free-listed : (v : Volume) (l : ℕ) → l < v.size → v.free l ≡ true → is_in (free_list v) l ≡ true
 unfolding free_list
 free-listed v l within free = in-filter v.free (range_with_len 0 v.size) l free (in-run 0 v.size l (omega arith) (omega (arith, within)))
 

@@ -1,5 +1,5 @@
 -- Headers that are to be taken: where too few are free, the index file gets slots first (profile).
-use Rattle.std.specs.Prelude.{◌≡◌, ℕ, zero, suc, ◌≤◌, Bool, IsTrue, []}
+use Rattle.std.specs.Prelude.{◌≡◌, ◌⊎◌, ℕ, zero, suc, ◌≤◌, Bool, IsTrue, []}
 use Rattle.f11_dev.specs.Disk.{Disk}
 use Rattle.f11_home.specs.Home.{HomeFields}
 use Rattle.f11_store.specs.Causes.{header_causes}
@@ -11,7 +11,7 @@ use Rattle.f11_store.specs.Step.{gets_slots}
 use Rattle.f11_store.specs.Store.{Store, free_headers}
 use Rattle.f11_store.specs.declared.refusals.Refusal.{Refusal}
 use Rattle.f11_volume.specs.Sound.{HasSoundVolume}
-use Rattle.f11_volume.specs.Volume.{Volume}
+use Rattle.f11_volume.specs.Volume.{Volume, volume_of}
 use Rattle.f11_image_store.specs.Allocation.{GainsSlots}
 use Rattle.f11_image_store.specs.Confines.{no_header}
 use Rattle.f11_image_store.specs.StoreOf.{store_of}
@@ -49,8 +49,14 @@ ConfinesSlots (suc n) home old new = WritesMoreOf 1 home old new
 abbrev pub WritesSlots : ℕ → HomeFields → Disk → Disk → Type 0
 WritesSlots headers home old new = IsTrue old.honest → ConfinesSlots (slots_first (store_of old.image home) headers) home old new
 
--- First those, so that so many headers are free, and then what else a call writes.
+-- The index file has got the slots that come first where so many headers are to be taken.
+abbrev pub HasReadied : ℕ → HomeFields → Disk → Disk → Type 0
+HasReadied headers home old ready = IsTrue old.honest →
+    AllotsSlots (slots_first (store_of old.image home) headers) (volume_of old.image home) (volume_of ready.image home)
+
+-- First those, so that so many headers are free, and then what else a call writes: nothing where it hasn't got them.
 pub record WritesAfterSlots (headers : ℕ) (Rest : Disk → Disk → Type 0) (home : HomeFields) (old new : Disk) : Type 0 where
   pub ready : Disk
   pub slots : WritesSlots headers home old ready
+  pub readied : (new ≡ ready) ⊎ HasReadied headers home old ready
   pub rest : Rest ready new

@@ -1,12 +1,10 @@
 //! The blocks of a file.
 ghost use Rattle.std.specs.Prelude.{◌≡◌, ◌+◌, ◌<◌, ◌≤◌, false, IfErr, OnOk, OnErr, IsTrue};
-ghost use Rattle.f11_files.specs.Answers.{FailsToRead, is_fatal, is_refused, MakesAtMost, WritesBlocksOf};
+ghost use Rattle.f11_files.specs.Answers.{FailsToRead, blocks_of, is_fatal, is_refused, MakesAtMost, WritesBlocksOf};
 ghost use Rattle.f11_files.specs.Finding.Blocks.{ReadsBlock, StoresBlock, FailsToStore};
 ghost use Rattle.f11_image_store.specs.Confines.{no_header};
 ghost use Rattle.f11_files.specs.Operations.{length_causes};
 ghost use Rattle.f11_files.specs.Structure.{home_of, store_on, IsStructureFor, StaysFor, ConfinesTo};
-ghost use Rattle.f11_chain.specs.FileHeaders.{file_blocks};
-ghost use Rattle.f11_index.specs.Table.{table_of};
 ghost use Rattle.f11_store.specs.Cost.{header_count};
 ghost use Rattle.f11_store.specs.Store.{file_named};
 
@@ -71,7 +69,7 @@ impl Structure {
         ensures stays { StaysFor (is_refused is_fatal result) self.now self.now
             (D.disk device.new) }
         ensures confined { IsTrue (D.disk device.old).honest → ConfinesTo self.now no_header
-            (file_blocks (table_of (D.disk device.old).image (home_of self.now)) f.number)
+            (blocks_of (home_of self.now) f (D.disk device.old).image)
             (D.disk device.old) (D.disk device.new) }
         ensures bounded { MakesAtMost 257 (D.disk device.old) (D.disk device.new) }
     {
@@ -84,8 +82,7 @@ impl Structure {
 }
 
 impl<D: Device> Files<D> {
-    ghost use Rattle.f11_writes.specs.Order.{WritesInOrder};
-    ghost use Rattle.f11_files.specs.Open.{counts_in, disk_in, has_failed, home_in, store_in, AnswersCall, IsIdFrom};
+    ghost use Rattle.f11_files.specs.Open.{counts_in, disk_in, has_failed, home_in, store_in, AnswersCall, IsIdFrom, LeavesLost};
 
     /// Reads block `vbn` of a file, from 1, into the block that is lent, which stays as it is where the call is refused for another cause
     /// than `DeviceFault` and `Damaged`. It reads the file's headers up to the one that names the block, each once and on any device 256 at
@@ -107,6 +104,7 @@ impl<D: Device> Files<D> {
             (length_causes (store_in self.old) f vbn)
             (header_count (file_named (store_in self.old) f) + 1) refusal
             (disk_in self.old) (disk_in self.new)) }
+        ensures beside { LeavesLost self.old self.new }
         ensures kept { is_refused is_fatal result ≡ false → OnErr result (block.new ≡ block.old) }
         ensures bounded { MakesAtMost 257 (disk_in self.old) (disk_in self.new) }
     {
@@ -133,7 +131,7 @@ impl<D: Device> Files<D> {
         ensures refused { IfErr result (λ refusal. FailsToStore (has_failed self.old)
             (home_in self.old) f vbn block.now refusal (disk_in self.old) (disk_in self.new)) }
         ensures confined { WritesBlocksOf f (home_in self.old) (disk_in self.old) (disk_in self.new) }
-        ensures ordered { WritesInOrder (disk_in self.old) (disk_in self.new) }
+        ensures beside { LeavesLost self.old self.new }
         ensures bounded { MakesAtMost 257 (disk_in self.old) (disk_in self.new) }
     {
         if self.failed {

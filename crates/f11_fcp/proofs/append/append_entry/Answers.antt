@@ -12,7 +12,7 @@ use Rattle.f11_files.specs.Operations.{file_causes}
 use Rattle.f11_store.specs.Directory.{record_bytes}
 use Rattle.f11_store.specs.Store.{file_named}
 use Rattle.f11_store.specs.declared.refusals.Refusal.{Refusal}
-use Rattle.f11_files.proofs.writes.InOrderLemmas.{order-then}
+use Rattle.f11_files.proofs.writes.LostLemmas.{lost-then}
 use Rattle.f11_fcp.specs.Entries.{Appending}
 use Rattle.f11_fcp.proofs.RowLemmas.{leaves-then, replaced-leaves}
 use Rattle.f11_fcp.proofs.EntryLemmas.{append-there, appends, breaks-move, breaks-put}
@@ -61,8 +61,8 @@ returns-in-Ok-write_attr-clause-rows g c =
     (g.met.D.Device.is_image c.write_attr.new.self.device) c.in-Ok-write_attr.ensures.answers.home c.args.directory
     (change.Attr c.moved_end-attr.result) c.in-Ok-write_attr.ensures.altered)
 
-pub returns-in-Ok-write_attr-clause-ordered : goal.returns-in-Ok-write_attr-clause-ordered
-returns-in-Ok-write_attr-clause-ordered g c = order-then _ _ _ c.replace_entry.ensures.ordered c.write_attr.ensures.ordered
+pub returns-in-Ok-write_attr-clause-beside : goal.returns-in-Ok-write_attr-clause-beside
+returns-in-Ok-write_attr-clause-beside g c = lost-then _ _ _ _ _ _ c.replace_entry.ensures.beside c.write_attr.ensures.beside
 
-pub returns-in-Err-write_attr-clause-ordered : goal.returns-in-Err-write_attr-clause-ordered
-returns-in-Err-write_attr-clause-ordered g c = order-then _ _ _ c.replace_entry.ensures.ordered c.write_attr.ensures.ordered
+pub returns-in-Err-write_attr-clause-beside : goal.returns-in-Err-write_attr-clause-beside
+returns-in-Err-write_attr-clause-beside g c = lost-then _ _ _ _ _ _ c.replace_entry.ensures.beside c.write_attr.ensures.beside

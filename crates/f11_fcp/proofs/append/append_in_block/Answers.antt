@@ -3,7 +3,7 @@ use Rattle.f11_files.specs.Open.{disk_in, home_in}
 use Rattle.f11_files.specs.image_store.StoreOf.{store_of}
 use Rattle.f11_home.specs.Home.{HomeFields}
 use Rattle.f11_store.specs.Directory.{record_bytes}
-use Rattle.f11_files.proofs.writes.InOrderLemmas.{order-then}
+use Rattle.f11_files.proofs.writes.LostLemmas.{lost-then}
 use Rattle.f11_fcp.specs.Entries.{IsDirectoryTail}
 use Rattle.f11_fcp.proofs.RowLemmas.{leaves-behind}
 use Rattle.f11_fcp.proofs.AppendLemmas.{appends-at-home, breaks-at-home, end-appended, end-not-appended, end-tail, end-unread, fatal-alone}
@@ -48,8 +48,8 @@ returns-in-Ok-append_entry-clause-rows g c =
     leaves-behind c.args.files.now c.end_block.new.files c.append_entry.new.files c.in-Ok.ensures.home c.in-Ok.ensures.reads.looked.honest
     c.in-Ok.ensures.reads.looked.image c.in-Ok-append_entry.ensures.rows
 
-pub returns-in-Ok-append_entry-clause-ordered : goal.returns-in-Ok-append_entry-clause-ordered
-returns-in-Ok-append_entry-clause-ordered g c = order-then _ _ _ c.end_block.ensures.ordered c.append_entry.ensures.ordered
+pub returns-in-Ok-append_entry-clause-beside : goal.returns-in-Ok-append_entry-clause-beside
+returns-in-Ok-append_entry-clause-beside g c = lost-then _ _ _ _ _ _ c.end_block.ensures.beside c.append_entry.ensures.beside
 
-pub returns-in-Err-append_entry-clause-ordered : goal.returns-in-Err-append_entry-clause-ordered
-returns-in-Err-append_entry-clause-ordered g c = order-then _ _ _ c.end_block.ensures.ordered c.append_entry.ensures.ordered
+pub returns-in-Err-append_entry-clause-beside : goal.returns-in-Err-append_entry-clause-beside
+returns-in-Err-append_entry-clause-beside g c = lost-then _ _ _ _ _ _ c.end_block.ensures.beside c.append_entry.ensures.beside

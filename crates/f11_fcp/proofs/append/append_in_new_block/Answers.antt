@@ -5,7 +5,7 @@ use Rattle.f11_files.specs.image_store.StoreOf.{store_of}
 use Rattle.f11_home.specs.Home.{HomeFields}
 use Rattle.f11_store.specs.Directory.{record_bytes}
 use Rattle.f11_store.specs.declared.refusals.Refusal.{Refusal}
-use Rattle.f11_files.proofs.writes.InOrderLemmas.{order-then}
+use Rattle.f11_files.proofs.writes.LostLemmas.{lost-then}
 use Rattle.f11_fcp.specs.Entries.{FailsToPut, IsDirectoryTail}
 use Rattle.f11_fcp.proofs.RowLemmas.{extended-honest, extended-leaves, leaves-then}
 use Rattle.f11_fcp.proofs.AppendLemmas.{appends-at-home, breaks-at-home, new-appended, new-not-appended, new-tail, not-extended-by-one}
@@ -68,8 +68,8 @@ returns-in-Ok-append_entry-clause-rows g c =
     (g.met.D.Device.is_image c.extend.new.self.device) c.in-Ok.ensures.answers.home c.args.directory 1 c.in-Ok.ensures.extended.1)
     c.in-Ok-append_entry.ensures.rows
 
-pub returns-in-Ok-append_entry-clause-ordered : goal.returns-in-Ok-append_entry-clause-ordered
-returns-in-Ok-append_entry-clause-ordered g c = order-then _ _ _ c.extend.ensures.ordered c.append_entry.ensures.ordered
+pub returns-in-Ok-append_entry-clause-beside : goal.returns-in-Ok-append_entry-clause-beside
+returns-in-Ok-append_entry-clause-beside g c = lost-then _ _ _ _ _ _ c.extend.ensures.beside c.append_entry.ensures.beside
 
-pub returns-in-Err-append_entry-clause-ordered : goal.returns-in-Err-append_entry-clause-ordered
-returns-in-Err-append_entry-clause-ordered g c = order-then _ _ _ c.extend.ensures.ordered c.append_entry.ensures.ordered
+pub returns-in-Err-append_entry-clause-beside : goal.returns-in-Err-append_entry-clause-beside
+returns-in-Err-append_entry-clause-beside g c = lost-then _ _ _ _ _ _ c.extend.ensures.beside c.append_entry.ensures.beside

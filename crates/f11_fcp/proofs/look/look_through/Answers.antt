@@ -4,7 +4,7 @@ use Rattle.f11_files.specs.Open.{disk_in, home_in, store_in}
 use Rattle.f11_entries.specs.Costs.{reading_cost}
 use Rattle.f11_store.specs.Store.{file_named}
 use Rattle.f11_store.specs.declared.refusals.Refusal.{Refusal}
-use Rattle.f11_files.proofs.writes.InOrderLemmas.{order-looked}
+use Rattle.f11_files.proofs.writes.LostLemmas.{lost-none, lost-then}
 use Rattle.f11_fcp.proofs.LookLemmas.{through-begins, through-fails, through-finds, through-goes-on, through-ends, read-at-home}
 use Rattle.f11_fcp.proofs.LookLemmas.{fails-at-home}
 use Rattle.f11_fcp.proofs.look.look_through.Goals as goal
@@ -35,6 +35,7 @@ loop-number-preserved g c =
       alive = c.in-Ok.ensures.answers.next ∙ ap (λ b. b || false) c.loop-number.invariant.alive;
       told = c.in-Ok.ensures.told ∙ c.loop-number.invariant.told;
       few = omega (arith, c.loop-number-test.true);
+      beside = lost-then _ _ _ _ _ _ c.loop-number.invariant.beside c.read_block.ensures.beside;
     }
 
 pub returns-clause-looked : goal.returns-clause-looked
@@ -49,7 +50,14 @@ loop-number-init g c = record {
   alive = c.requires.alive;
   told = refl;
   few = omega arith;
+  beside = lost-none _ _;
 }
 
-pub returns-in-Some-clause-ordered : goal.returns-in-Some-clause-ordered
-returns-in-Some-clause-ordered g c = order-looked _ _ _ _ (returns-in-Some-clause-looked g c).reads.looked
+pub returns-in-Some-clause-beside : goal.returns-in-Some-clause-beside
+returns-in-Some-clause-beside g c = lost-then _ _ _ _ _ _ c.loop-number.invariant.beside c.read_block.ensures.beside
+
+pub returns-in-Err-clause-beside : goal.returns-in-Err-clause-beside
+returns-in-Err-clause-beside g c = lost-then _ _ _ _ _ _ c.loop-number.invariant.beside c.read_block.ensures.beside
+
+pub returns-clause-beside : goal.returns-clause-beside
+returns-clause-beside g c = c.loop-number.invariant.beside

@@ -2,6 +2,7 @@ use Rattle.std.proofs.Common.{◌∙◌, ◌||◌, false, sym, ap, subst}
 use Rattle.f11_home.specs.Home.{HomeFields}
 use Rattle.f11_files.specs.Open.{disk_in, has_failed, home_in, IsIdFrom}
 use Rattle.f11_fcp.specs.Places.{entry_of}
+use Rattle.f11_files.proofs.writes.LostLemmas.{lost-then}
 use Rattle.f11_files.specs.Finding.Blocks.{FailsToStore, StoresBlock}
 use Rattle.f11_fcp.proofs.ReachedLemmas.{once-none, reached-keeps, on-here, one-written, store-through, unread-stored, unstored-through}
 use Rattle.f11_fcp.proofs.ReachedLemmas.{written-keeps}
@@ -72,3 +73,9 @@ returns-in-Err-write_in-clause-refused g c =
     (subst (λ (h : HomeFields). FailsToStore (has_failed mid) h e.file c.args.vbn c.args.block.now c.in-Err-write_in.refusal (disk_in mid)
     (disk_in new)) home (by.of_file e.file
     (on-here (home_in old) e c.args.vbn c.in-Ok.window (disk_in old) (disk_in mid) id finds (home_in mid) home)))
+
+pub returns-in-Ok-write_in-clause-beside : goal.returns-in-Ok-write_in-clause-beside
+returns-in-Ok-write_in-clause-beside g c = lost-then _ _ _ _ _ _ c.next_window.ensures.beside c.write_in.ensures.beside
+
+pub returns-in-Err-write_in-clause-beside : goal.returns-in-Err-write_in-clause-beside
+returns-in-Err-write_in-clause-beside g c = lost-then _ _ _ _ _ _ c.next_window.ensures.beside c.write_in.ensures.beside

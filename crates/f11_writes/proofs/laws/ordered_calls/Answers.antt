@@ -1,4 +1,5 @@
-use Rattle.f11_writes.proofs.InOrderLemmas.{each-fixed, each-orderly, order-accepted, order-failed, order-looked, order-then, order-write}
+use Rattle.f11_writes.proofs.InOrderLemmas.{each-fixed, each-orderly, order-failed, order-looked, order-then, order-write}
+use Rattle.f11_writes.proofs.MomentLemmas.{order-accepted}
 use Rattle.f11_writes.proofs.laws.ordered_calls.Goals as goal
 
 pub returns : goal.returns

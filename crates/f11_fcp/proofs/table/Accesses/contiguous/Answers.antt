@@ -2,7 +2,7 @@ use Rattle.std.proofs.Common.{[], ◌∙◌, ◌||◌, false, ap, sym, refl}
 use Rattle.std.proofs.lemmas.Bool.{ne_eqb}
 use Rattle.f11_files.specs.Answers.{is_fatal}
 use Rattle.f11_files.specs.Open.{store_in}
-use Rattle.f11_files.proofs.writes.InOrderLemmas.{order-then, order-looked}
+use Rattle.f11_files.proofs.writes.LostLemmas.{lost-then}
 use Rattle.f11_fcp.specs.Handles.{state_of}
 use Rattle.f11_fcp.specs.Places.{access_table_of, entry_of}
 use Rattle.f11_fcp.proofs.WindowLemmas.{windows-on}
@@ -156,10 +156,10 @@ returns-in-Err-contiguous-clause-run g c =
     c.of_accessed-in-Err-contiguous.result
     c.in-Err-contiguous.ensures.refused c.of_accessed-in-Err-contiguous.ensures (returns-in-Err-contiguous-clause-handles g c)
 
-pub returns-in-Ok-contiguous-clause-ordered : goal.returns-in-Ok-contiguous-clause-ordered
-returns-in-Ok-contiguous-clause-ordered g c =
-    order-then _ _ _ (order-looked _ _ _ _ c.in-Ok.ensures.read.reads.looked) c.contiguous.ensures.ordered
+pub returns-in-Ok-contiguous-clause-beside : goal.returns-in-Ok-contiguous-clause-beside
+returns-in-Ok-contiguous-clause-beside g c =
+    lost-then _ _ _ _ _ _ c.read_attr.ensures.beside c.contiguous.ensures.beside
 
-pub returns-in-Err-contiguous-clause-ordered : goal.returns-in-Err-contiguous-clause-ordered
-returns-in-Err-contiguous-clause-ordered g c =
-    order-then _ _ _ (order-looked _ _ _ _ c.in-Ok.ensures.read.reads.looked) c.contiguous.ensures.ordered
+pub returns-in-Err-contiguous-clause-beside : goal.returns-in-Err-contiguous-clause-beside
+returns-in-Err-contiguous-clause-beside g c =
+    lost-then _ _ _ _ _ _ c.read_attr.ensures.beside c.contiguous.ensures.beside

@@ -6,7 +6,7 @@ use Rattle.f11_store.specs.Store.{Store}
 use Rattle.f11_files.specs.Answers.{is_fatal}
 use Rattle.f11_files.specs.Open.{store_in, disk_in, home_in}
 use Rattle.f11_files.specs.image_store.StoreOf.{store_of}
-use Rattle.f11_files.proofs.writes.InOrderLemmas.{order-then, order-looked}
+use Rattle.f11_files.proofs.writes.LostLemmas.{lost-then}
 use Rattle.f11_fcp.specs.Accesses.{AccessTable, HasAccessed, with_marks}
 use Rattle.f11_fcp.specs.Handles.{state_of}
 use Rattle.f11_fcp.specs.Places.{access_table_of}
@@ -199,15 +199,15 @@ pub returns-in-Ok-mark-clause-windows : goal.returns-in-Ok-mark-clause-windows
 returns-in-Ok-mark-clause-windows g c =
     keeps-marked c.args.file (access_table_of c.args.self.now) (access_table_of c.set_marks.new.self) c.set_marks.ensures
 
-pub returns-in-Ok-delete-clause-ordered : goal.returns-in-Ok-delete-clause-ordered
-returns-in-Ok-delete-clause-ordered g c = order-then _ _ _ (order-looked _ _ _ _ c.in-Ok.ensures.read.reads.looked) c.delete.ensures.ordered
+pub returns-in-Ok-delete-clause-beside : goal.returns-in-Ok-delete-clause-beside
+returns-in-Ok-delete-clause-beside g c = lost-then _ _ _ _ _ _ c.read_attr.ensures.beside c.delete.ensures.beside
 
-pub returns-in-Err-delete-clause-ordered : goal.returns-in-Err-delete-clause-ordered
-returns-in-Err-delete-clause-ordered g c =
-    order-then _ _ _ (order-looked _ _ _ _ c.in-Ok.ensures.read.reads.looked) c.delete.ensures.ordered
+pub returns-in-Err-delete-clause-beside : goal.returns-in-Err-delete-clause-beside
+returns-in-Err-delete-clause-beside g c =
+    lost-then _ _ _ _ _ _ c.read_attr.ensures.beside c.delete.ensures.beside
 
-pub returns-in-Ok-mark-clause-ordered : goal.returns-in-Ok-mark-clause-ordered
-returns-in-Ok-mark-clause-ordered g c = order-then _ _ _ (order-looked _ _ _ _ c.in-Ok.ensures.read.reads.looked) c.mark.ensures.ordered
+pub returns-in-Ok-mark-clause-beside : goal.returns-in-Ok-mark-clause-beside
+returns-in-Ok-mark-clause-beside g c = lost-then _ _ _ _ _ _ c.read_attr.ensures.beside c.mark.ensures.beside
 
-pub returns-in-Err-mark-clause-ordered : goal.returns-in-Err-mark-clause-ordered
-returns-in-Err-mark-clause-ordered g c = order-then _ _ _ (order-looked _ _ _ _ c.in-Ok.ensures.read.reads.looked) c.mark.ensures.ordered
+pub returns-in-Err-mark-clause-beside : goal.returns-in-Err-mark-clause-beside
+returns-in-Err-mark-clause-beside g c = lost-then _ _ _ _ _ _ c.read_attr.ensures.beside c.mark.ensures.beside

@@ -1,5 +1,5 @@
 use Rattle.std.proofs.Common.{refl, sym, ◌∙◌}
-use Rattle.f11_files.proofs.writes.InOrderLemmas.{order-then}
+use Rattle.f11_files.proofs.writes.LostLemmas.{lost-then}
 use Rattle.f11_fcp.specs.Handles.{state_of}
 use Rattle.f11_fcp.specs.Places.{access_table_of}
 use Rattle.f11_fcp.proofs.WindowLemmas.{windows-on}
@@ -85,8 +85,8 @@ returns-in-Err-put_entry-clause-open g c =
     stays-open-entered (access_table_of c.args.self.now) c.args.files.now c.put_entry.new.files c.args.task c.args.caller c.args.directory
     c.args.name.now c.args.file _ c.requires.open (returns-in-Err-put_entry-clause-handles g c) c.in-Err-put_entry.ensures.alive tt
 
-pub returns-in-Ok-put_entry-clause-ordered : goal.returns-in-Ok-put_entry-clause-ordered
-returns-in-Ok-put_entry-clause-ordered g c = order-then _ _ _ c.search.ensures.ordered c.put_entry.ensures.ordered
+pub returns-in-Ok-put_entry-clause-beside : goal.returns-in-Ok-put_entry-clause-beside
+returns-in-Ok-put_entry-clause-beside g c = lost-then _ _ _ _ _ _ c.search.ensures.beside c.put_entry.ensures.beside
 
-pub returns-in-Err-put_entry-clause-ordered : goal.returns-in-Err-put_entry-clause-ordered
-returns-in-Err-put_entry-clause-ordered g c = order-then _ _ _ c.search.ensures.ordered c.put_entry.ensures.ordered
+pub returns-in-Err-put_entry-clause-beside : goal.returns-in-Err-put_entry-clause-beside
+returns-in-Err-put_entry-clause-beside g c = lost-then _ _ _ _ _ _ c.search.ensures.beside c.put_entry.ensures.beside

@@ -2,7 +2,7 @@ use Rattle.std.proofs.Common.{[], ◌∙◌, ◌||◌, false, ap, sym, refl}
 use Rattle.std.proofs.lemmas.Bool.{ne_eqb}
 use Rattle.f11_files.specs.Answers.{is_fatal}
 use Rattle.f11_files.specs.Open.{store_in}
-use Rattle.f11_files.proofs.writes.InOrderLemmas.{order-then, order-looked}
+use Rattle.f11_files.proofs.writes.LostLemmas.{lost-then}
 use Rattle.f11_fcp.specs.Handles.{state_of}
 use Rattle.f11_fcp.specs.Places.{access_table_of, entry_of}
 use Rattle.f11_fcp.proofs.WindowLemmas.{windows-on}
@@ -100,9 +100,9 @@ returns-in-Err-extend-clause-open g c =
     (c.in-Ok.ensures.answers.next ∙ ap (λ b. b || false) c.requires.open.alive)
     ∙ of-accessed-clean c.in-Err-extend.refusal (ap is_fatal (sym c.of_accessed-in-Err-extend.ensures) ∙ clean)) tt
 
-pub returns-in-Ok-extend-clause-ordered : goal.returns-in-Ok-extend-clause-ordered
-returns-in-Ok-extend-clause-ordered g c = order-then _ _ _ (order-looked _ _ _ _ c.in-Ok.ensures.read.reads.looked) c.extend.ensures.ordered
+pub returns-in-Ok-extend-clause-beside : goal.returns-in-Ok-extend-clause-beside
+returns-in-Ok-extend-clause-beside g c = lost-then _ _ _ _ _ _ c.read_attr.ensures.beside c.extend.ensures.beside
 
-pub returns-in-Err-extend-clause-ordered : goal.returns-in-Err-extend-clause-ordered
-returns-in-Err-extend-clause-ordered g c =
-    order-then _ _ _ (order-looked _ _ _ _ c.in-Ok.ensures.read.reads.looked) c.extend.ensures.ordered
+pub returns-in-Err-extend-clause-beside : goal.returns-in-Err-extend-clause-beside
+returns-in-Err-extend-clause-beside g c =
+    lost-then _ _ _ _ _ _ c.read_attr.ensures.beside c.extend.ensures.beside

@@ -1,5 +1,5 @@
 use Rattle.std.proofs.Common.{◌≡◌, ℕ, [], Ok, Err, refl, sym, ◌∙◌, ap, subst, arith}
-use Rattle.f11_files.proofs.writes.InOrderLemmas.{order-none, order-then}
+use Rattle.f11_files.proofs.writes.LostLemmas.{lost-none, lost-then}
 use Rattle.f11_fcp.specs.Handles.{Handles, state_of}
 use Rattle.f11_fcp.specs.Places.{access_table_of, entry_of}
 use Rattle.f11_store.specs.declared.requests.Request.TheVariants as request
@@ -11,7 +11,7 @@ pub loop-unit-init : goal.loop-unit-init
 loop-unit-init g c =
     record {
       windows = keeps-same (access_table_of c.args.self.now);
-      ordered = order-none _;
+      beside = lost-none _ _;
       open_now = c.requires.open;
       so_far = released-none c.args.task c.args.caller (state_of (access_table_of c.args.self.now) c.args.files.now);
     }
@@ -22,7 +22,7 @@ loop-unit-preserved-in-None g c = absurd (let no = c.in-None.ensures.valid.1 c.l
 pub loop-unit-preserved-in-None-held : goal.loop-unit-preserved-in-None-held
 loop-unit-preserved-in-None-held g c = record {
   windows = c.loop-unit.invariant.windows;
-  ordered = c.loop-unit.invariant.ordered;
+  beside = c.loop-unit.invariant.beside;
   open_now = c.loop-unit.invariant.open_now;
   so_far =
       released-skips c.args.task c.args.caller (state_of (access_table_of c.args.self.now) c.args.files.now)
@@ -50,7 +50,7 @@ loop-unit-preserved g c =
     record {
       windows = keeps-then (access_table_of c.args.self.now) t (access_table_of c.give_up.new.self) c.loop-unit.invariant.windows
           c.in-Ok.ensures.windows;
-      ordered = order-then _ _ _ c.loop-unit.invariant.ordered c.give_up.ensures.ordered;
+      beside = lost-then _ _ _ _ _ _ c.loop-unit.invariant.beside c.give_up.ensures.beside;
       open_now = c.in-Ok.ensures.open refl;
       so_far =
           released-more c.args.task c.args.caller (state_of (access_table_of c.args.self.now) c.args.files.now)
@@ -75,8 +75,8 @@ returns-clause-open g c = λ _. c.loop-unit.invariant.open_now
 pub returns-clause-windows : goal.returns-clause-windows
 returns-clause-windows g c = c.loop-unit.invariant.windows
 
-pub returns-in-Err-clause-ordered : goal.returns-in-Err-clause-ordered
-returns-in-Err-clause-ordered g c = order-then _ _ _ c.loop-unit.invariant.ordered c.give_up.ensures.ordered
+pub returns-in-Err-clause-beside : goal.returns-in-Err-clause-beside
+returns-in-Err-clause-beside g c = lost-then _ _ _ _ _ _ c.loop-unit.invariant.beside c.give_up.ensures.beside
 
-pub returns-clause-ordered : goal.returns-clause-ordered
-returns-clause-ordered g c = c.loop-unit.invariant.ordered
+pub returns-clause-beside : goal.returns-clause-beside
+returns-clause-beside g c = c.loop-unit.invariant.beside

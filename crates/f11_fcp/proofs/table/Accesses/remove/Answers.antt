@@ -1,5 +1,5 @@
 use Rattle.std.proofs.Common.{[], refl, sym, ◌∙◌}
-use Rattle.f11_files.proofs.writes.InOrderLemmas.{order-then}
+use Rattle.f11_files.proofs.writes.LostLemmas.{lost-then}
 use Rattle.f11_fcp.specs.Handles.{state_of}
 use Rattle.f11_fcp.specs.Places.{access_table_of}
 use Rattle.f11_fcp.proofs.WindowLemmas.{windows-on}
@@ -73,8 +73,8 @@ returns-in-Err-clear_entry-clause-handles g c =
 pub returns-in-Err-clear_entry-clause-open : goal.returns-in-Err-clear_entry-clause-open
 returns-in-Err-clear_entry-clause-open g c = λ clean. absurd (let fatal = c.in-Err-clear_entry.ensures.refused.fatal in cc)
 
-pub returns-in-Ok-clear_entry-clause-ordered : goal.returns-in-Ok-clear_entry-clause-ordered
-returns-in-Ok-clear_entry-clause-ordered g c = order-then _ _ _ c.search.ensures.ordered c.clear_entry.ensures.ordered
+pub returns-in-Ok-clear_entry-clause-beside : goal.returns-in-Ok-clear_entry-clause-beside
+returns-in-Ok-clear_entry-clause-beside g c = lost-then _ _ _ _ _ _ c.search.ensures.beside c.clear_entry.ensures.beside
 
-pub returns-in-Err-clear_entry-clause-ordered : goal.returns-in-Err-clear_entry-clause-ordered
-returns-in-Err-clear_entry-clause-ordered g c = order-then _ _ _ c.search.ensures.ordered c.clear_entry.ensures.ordered
+pub returns-in-Err-clear_entry-clause-beside : goal.returns-in-Err-clear_entry-clause-beside
+returns-in-Err-clear_entry-clause-beside g c = lost-then _ _ _ _ _ _ c.search.ensures.beside c.clear_entry.ensures.beside

@@ -9,7 +9,7 @@ use Rattle.f11_home.specs.Home.{HomeFields}
 use Rattle.f11_store.specs.Cost.{header_count}
 use Rattle.f11_store.specs.Store.{file_named}
 use Rattle.f11_store.specs.declared.refusals.Refusal.{Refusal}
-use Rattle.f11_files.proofs.writes.InOrderLemmas.{order-looked}
+use Rattle.f11_files.proofs.writes.LostLemmas.{lost-then}
 use Rattle.f11_fcp.specs.Directories.{IsDirectoryOf, LooksThroughDirectory, opening_causes}
 use Rattle.f11_fcp.specs.Places.{access_table_of}
 use Rattle.f11_fcp.proofs.AppendLemmas.{fatal-alone}
@@ -92,5 +92,13 @@ pub returns-in-Err-look_through-clause-alive : goal.returns-in-Err-look_through-
 returns-in-Err-look_through-clause-alive g c =
     λ clean. absurd (let fatal = fatal-alone c.in-Err-look_through.refusal c.in-Err-look_through.ensures.refused.right in cc)
 
-pub returns-in-Err-look_through-clause-ordered : goal.returns-in-Err-look_through-clause-ordered
-returns-in-Err-look_through-clause-ordered g c = order-looked _ _ _ _ (returns-in-Err-look_through-clause-refused g c).reads.looked
+pub returns-in-Err-length-clause-beside : goal.returns-in-Err-length-clause-beside
+returns-in-Err-length-clause-beside g c = lost-then _ _ _ _ _ _ c.open_directory.ensures.beside c.length.ensures.beside
+
+pub returns-in-Ok-look_through-clause-beside : goal.returns-in-Ok-look_through-clause-beside
+returns-in-Ok-look_through-clause-beside g c =
+    lost-then _ _ _ _ _ _ (lost-then _ _ _ _ _ _ c.open_directory.ensures.beside c.length.ensures.beside) c.look_through.ensures.beside
+
+pub returns-in-Err-look_through-clause-beside : goal.returns-in-Err-look_through-clause-beside
+returns-in-Err-look_through-clause-beside g c =
+    lost-then _ _ _ _ _ _ (lost-then _ _ _ _ _ _ c.open_directory.ensures.beside c.length.ensures.beside) c.look_through.ensures.beside

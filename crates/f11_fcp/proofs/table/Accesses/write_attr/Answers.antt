@@ -1,6 +1,6 @@
 use Rattle.std.proofs.Common.{[], ◌∙◌, ◌||◌, false, ap, refl, sym}
 use Rattle.f11_files.specs.Answers.{is_fatal}
-use Rattle.f11_files.proofs.writes.InOrderLemmas.{order-then, order-looked}
+use Rattle.f11_files.proofs.writes.LostLemmas.{lost-then}
 use Rattle.f11_fcp.specs.Handles.{state_of}
 use Rattle.f11_fcp.specs.Places.{access_table_of}
 use Rattle.f11_fcp.proofs.WindowLemmas.{windows-on}
@@ -101,10 +101,10 @@ returns-in-Err-write_attr-clause-open g c =
     (λ clean. c.in-Err-write_attr.ensures.answers.next ∙ ap (λ b. b || is_fatal c.in-Err-write_attr.refusal)
     (c.in-Ok.ensures.answers.next ∙ ap (λ b. b || false) c.requires.open.alive) ∙ clean) tt
 
-pub returns-in-Ok-write_attr-clause-ordered : goal.returns-in-Ok-write_attr-clause-ordered
-returns-in-Ok-write_attr-clause-ordered g c =
-    order-then _ _ _ (order-looked _ _ _ _ c.in-Ok.ensures.read.reads.looked) c.write_attr.ensures.ordered
+pub returns-in-Ok-write_attr-clause-beside : goal.returns-in-Ok-write_attr-clause-beside
+returns-in-Ok-write_attr-clause-beside g c =
+    lost-then _ _ _ _ _ _ c.read_attr.ensures.beside c.write_attr.ensures.beside
 
-pub returns-in-Err-write_attr-clause-ordered : goal.returns-in-Err-write_attr-clause-ordered
-returns-in-Err-write_attr-clause-ordered g c =
-    order-then _ _ _ (order-looked _ _ _ _ c.in-Ok.ensures.read.reads.looked) c.write_attr.ensures.ordered
+pub returns-in-Err-write_attr-clause-beside : goal.returns-in-Err-write_attr-clause-beside
+returns-in-Err-write_attr-clause-beside g c =
+    lost-then _ _ _ _ _ _ c.read_attr.ensures.beside c.write_attr.ensures.beside

@@ -1,5 +1,5 @@
 use Rattle.std.proofs.Common.{refl}
-use Rattle.f11_fcp.proofs.ListLemmas.{all-answered, all-served, all-tasks, each-ordered, keeps-costs, keeps-locks, serves-more, serves-run}
+use Rattle.f11_fcp.proofs.ListLemmas.{all-answered, all-served, all-tasks, each-beside, keeps-costs, keeps-locks, serves-more, serves-run}
 use Rattle.f11_fcp.proofs.volume.Volume.run.Goals as goal
 
 pub loop-call-init : goal.loop-call-init
@@ -24,5 +24,5 @@ returns-clause-locked g c =
 pub returns-clause-costs : goal.returns-clause-costs
 returns-clause-costs g c = keeps-costs _ _ _ _ (returns-clause-served g c)
 
-pub returns-clause-ordered : goal.returns-clause-ordered
-returns-clause-ordered g c = each-ordered _ _ _ _ (returns-clause-served g c)
+pub returns-clause-beside : goal.returns-clause-beside
+returns-clause-beside g c = each-beside _ _ _ _ (returns-clause-served g c)

@@ -1,8 +1,11 @@
+use Rattle.f11_files.specs.Open.{disk_in, has_failed, home_in}
 use Rattle.f11_files.proofs.Opening.Values.{files-for}
 use Rattle.f11_files.specs.Structure.{StaysFor}
 use Rattle.f11_files.proofs.Opening.Kept.{stays-opened}
 use Rattle.f11_files.proofs.LayingOut.Whole.{laying-failed}
-use Rattle.f11_files.proofs.Confining.Confines.{in-order-if}
+use Rattle.f11_writes.proofs.LostLemmas.{lost-none}
+use Rattle.f11_files.specs.Answers.{is_fatal, is_refused}
+use Rattle.f11_files.proofs.Lost.Calls.{as-answered, laid-beside}
 use Rattle.f11_files.proofs.files.Files.contiguous.Goals as goal
 
 pub contiguous-answer-requires-clause-is_for : goal.contiguous-answer-requires-clause-is_for
@@ -19,5 +22,14 @@ invariant_of-self g c =
 pub returns-then-self-clause-refused : goal.returns-then-self-clause-refused
 returns-then-self-clause-refused g c = laying-failed _ c.if-self.true
 
-pub returns-clause-ordered : goal.returns-clause-ordered
-returns-clause-ordered g c = in-order-if c.contiguous-answer.ensures.confined
+pub returns-then-self-clause-beside : goal.returns-then-self-clause-beside
+returns-then-self-clause-beside g c = lost-none (has_failed c.args.self.now) (disk_in c.args.self.now)
+
+pub returns-clause-beside : goal.returns-clause-beside
+returns-clause-beside g c =
+    let for = files-for c.args.self.now (g.met.D.Device.is_image c.args.self.now.device) c.if-self.false in
+    let old = disk_in c.args.self.now in
+    let new = g.D.Device.disk c.contiguous-answer.new.device in
+    as-answered _ c.is_fatal-self.result (is_refused is_fatal c.contiguous-answer.result) old new c.if-self.false c.is_fatal-self.ensures
+    (laid-beside (home_in c.args.self.now) old new for.sound c.args.f c.args.n c.contiguous-answer.result c.contiguous-answer.ensures.laid c.contiguous-answer.ensures.refused
+    c.contiguous-answer.ensures.confined)

@@ -1,11 +1,14 @@
 use Rattle.std.proofs.Common.{arith}
 use Rattle.f11_files.proofs.Opening.Values.{files-for}
-use Rattle.f11_files.specs.Open.{disk_in}
+use Rattle.f11_files.specs.Open.{disk_in, has_failed, home_in}
 use Rattle.f11_files.specs.Structure.{StaysFor}
 use Rattle.f11_files.proofs.Opening.Kept.{stays-opened}
-use Rattle.f11_files.proofs.Confining.Confines.{confines-none, in-order-if}
-use Rattle.f11_files.proofs.Readied.{after-slots-order, unchanged-after}
+use Rattle.f11_files.proofs.Confining.Confines.{confines-none}
+use Rattle.f11_files.proofs.Readied.{unchanged-after}
 use Rattle.f11_files.proofs.WriteLemmas.{as-wanting, had-failed}
+use Rattle.f11_writes.proofs.LostLemmas.{lost-none}
+use Rattle.f11_files.specs.Answers.{is_fatal, is_refused}
+use Rattle.f11_files.proofs.Lost.Calls.{as-answered, made-beside}
 use Rattle.f11_files.proofs.files.Files.create.Goals as goal
 
 pub create-answer-requires : goal.create-answer-requires
@@ -25,5 +28,14 @@ returns-then-self-clause-refused g c = as-wanting (λ is. omega (arith, is)) (ha
 pub returns-then-self-clause-confined : goal.returns-then-self-clause-confined
 returns-then-self-clause-confined g c = unchanged-after _ _ _ _ (λ _. confines-none _ _ _ _ (disk_in c.args.self.now))
 
-pub returns-clause-ordered : goal.returns-clause-ordered
-returns-clause-ordered g c = after-slots-order (λ ready rest. in-order-if rest) c.create-answer.ensures.confined
+pub returns-then-self-clause-beside : goal.returns-then-self-clause-beside
+returns-then-self-clause-beside g c = lost-none (has_failed c.args.self.now) (disk_in c.args.self.now)
+
+pub returns-clause-beside : goal.returns-clause-beside
+returns-clause-beside g c =
+    let for = files-for c.args.self.now (g.met.D.Device.is_image c.args.self.now.device) c.if-self.false in
+    let old = disk_in c.args.self.now in
+    let new = g.D.Device.disk c.create-answer.new.device in
+    as-answered _ c.is_fatal-self.result (is_refused is_fatal c.create-answer.result) old new c.if-self.false c.is_fatal-self.ensures
+    (made-beside (home_in c.args.self.now) old new for.sound c.args.owner c.args.protection c.args.ident.now c.args.attr.now c.create-answer.result c.create-answer.ensures.created c.create-answer.ensures.refused
+    c.create-answer.ensures.confined)

@@ -1,8 +1,15 @@
+use Rattle.f11_files.specs.Open.{disk_in, has_failed, home_in}
 use Rattle.f11_files.proofs.Opening.Values.{files-for}
 use Rattle.f11_files.specs.Structure.{StaysFor}
 use Rattle.f11_files.proofs.Opening.Kept.{stays-opened}
 use Rattle.f11_files.proofs.WriteLemmas.{had-failed}
-use Rattle.f11_files.proofs.Confining.Confines.{in-order}
+use Rattle.f11_writes.proofs.LostLemmas.{lost-none}
+use Rattle.f11_files.specs.Answers.{is_fatal, is_refused}
+use Rattle.f11_store.specs.Changes.{with_delete_mark}
+use Rattle.std.proofs.Common.{[]}
+use Rattle.f11_image_store.specs.Confines.{only_header}
+use Rattle.f11_files.proofs.Confining.Parts.{to-only}
+use Rattle.f11_files.proofs.Lost.Calls.{as-answered, altered-beside}
 use Rattle.f11_files.proofs.files.Files.mark.Goals as goal
 
 pub mark-answer-requires-clause-is_for : goal.mark-answer-requires-clause-is_for
@@ -19,5 +26,14 @@ invariant_of-self g c =
 pub returns-then-self-clause-refused : goal.returns-then-self-clause-refused
 returns-then-self-clause-refused g c = had-failed _ c.if-self.true
 
-pub returns-clause-ordered : goal.returns-clause-ordered
-returns-clause-ordered g c = in-order c.mark-answer.ensures.confined
+pub returns-then-self-clause-beside : goal.returns-then-self-clause-beside
+returns-then-self-clause-beside g c = lost-none (has_failed c.args.self.now) (disk_in c.args.self.now)
+
+pub returns-clause-beside : goal.returns-clause-beside
+returns-clause-beside g c =
+    let for = files-for c.args.self.now (g.met.D.Device.is_image c.args.self.now.device) c.if-self.false in
+    let old = disk_in c.args.self.now in
+    let new = g.D.Device.disk c.mark-answer.new.device in
+    as-answered _ c.is_fatal-self.result (is_refused is_fatal c.mark-answer.result) old new c.if-self.false c.is_fatal-self.ensures
+    (altered-beside (home_in c.args.self.now) old new for.sound with_delete_mark c.args.f c.mark-answer.result c.mark-answer.ensures.altered c.mark-answer.ensures.refused
+    (to-only c.args.self.now.structure (only_header c.args.f.number) [] old new for (λ _. c.mark-answer.ensures.confined)))

@@ -1,5 +1,10 @@
 use Rattle.f11_files.proofs.Opening.Values.{files-for}
 use Rattle.f11_files.proofs.Opening.Kept.{looked-for, answered, for-opened}
+use Rattle.f11_writes.proofs.LostLemmas.{lost-none}
+use Rattle.f11_files.specs.Answers.{is_fatal, is_refused}
+use Rattle.f11_files.specs.Open.{disk_in, has_failed}
+use Rattle.f11_files.proofs.Lost.Beside.{reads-beside}
+use Rattle.f11_files.proofs.Lost.Calls.{as-answered}
 use Rattle.f11_files.proofs.files.Files.read_attr.Goals as goal
 
 pub read_attr-answer-requires : goal.read_attr-answer-requires
@@ -13,3 +18,13 @@ invariant_of-self g c =
     (λ _ is. looked-for _ _ _ _ _ was is.reads.looked) (λ _ is. looked-for _ _ _ _ _ was is.reads.looked) in
     let is = for-opened c.args.self.now.structure c.is_fatal-self.result _ (g.met.D.Device.is_image c.read_attr-answer.new.device) for in
     record { lies = is.lies; accepted = is.accepted; home = is.home; keeps = is.keeps }
+
+pub returns-then-self-clause-beside : goal.returns-then-self-clause-beside
+returns-then-self-clause-beside g c = lost-none (has_failed c.args.self.now) (disk_in c.args.self.now)
+
+pub returns-clause-beside : goal.returns-clause-beside
+returns-clause-beside g c =
+    as-answered _ c.is_fatal-self.result (is_refused is_fatal c.read_attr-answer.result) (disk_in c.args.self.now) _ c.if-self.false
+    c.is_fatal-self.ensures
+    (answered c.read_attr-answer.result _ _ c.read_attr-answer.ensures.read c.read_attr-answer.ensures.refused (λ _ is. reads-beside _ is.reads.looked)
+    (λ _ is. reads-beside _ is.reads.looked))

@@ -1,8 +1,13 @@
+use Rattle.f11_files.specs.Open.{disk_in, has_failed, home_in}
 use Rattle.f11_files.proofs.Opening.Values.{files-for}
 use Rattle.f11_files.specs.Structure.{StaysFor}
 use Rattle.f11_files.proofs.Opening.Kept.{stays-opened}
 use Rattle.f11_files.proofs.WriteLemmas.{had-failed}
-use Rattle.f11_files.proofs.Confining.Confines.{in-order-if}
+use Rattle.f11_writes.proofs.LostLemmas.{lost-none}
+use Rattle.f11_files.specs.Answers.{is_fatal, is_refused}
+use Rattle.f11_image_store.specs.Confines.{no_header}
+use Rattle.f11_files.proofs.Confining.Parts.{to-only}
+use Rattle.f11_files.proofs.Lost.Calls.{as-answered, stored-beside}
 use Rattle.f11_files.proofs.files.Files.write_block.Goals as goal
 
 pub write_block-answer-requires-clause-is_for : goal.write_block-answer-requires-clause-is_for
@@ -19,5 +24,14 @@ invariant_of-self g c =
 pub returns-then-self-clause-refused : goal.returns-then-self-clause-refused
 returns-then-self-clause-refused g c = had-failed _ c.if-self.true
 
-pub returns-clause-ordered : goal.returns-clause-ordered
-returns-clause-ordered g c = in-order-if c.write_block-answer.ensures.confined
+pub returns-then-self-clause-beside : goal.returns-then-self-clause-beside
+returns-then-self-clause-beside g c = lost-none (has_failed c.args.self.now) (disk_in c.args.self.now)
+
+pub returns-clause-beside : goal.returns-clause-beside
+returns-clause-beside g c =
+    let for = files-for c.args.self.now (g.met.D.Device.is_image c.args.self.now.device) c.if-self.false in
+    let old = disk_in c.args.self.now in
+    let new = g.D.Device.disk c.write_block-answer.new.device in
+    as-answered _ c.is_fatal-self.result (is_refused is_fatal c.write_block-answer.result) old new c.if-self.false c.is_fatal-self.ensures
+    (stored-beside (home_in c.args.self.now) old new for.sound c.args.f c.args.vbn c.args.block.now c.write_block-answer.result c.write_block-answer.ensures.stored c.write_block-answer.ensures.refused
+    (to-only c.args.self.now.structure no_header _ old new for c.write_block-answer.ensures.confined))

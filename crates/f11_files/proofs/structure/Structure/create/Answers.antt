@@ -24,4 +24,4 @@ returns-else-is_no_header-clause-refused g c =
 pub returns-else-is_no_header-clause-confined : goal.returns-else-is_no_header-clause-confined
 returns-else-is_no_header-clause-confined g c =
     make-confined c.args.self.now c.ready_headers.new.self _ _ _ c.in_ok-ready_headers.ensures.stays c.ready_headers.ensures.confined
-    c.enter_file.ensures.confined
+    c.in_ok-ready_headers.ensures.ready c.enter_file.ensures.confined

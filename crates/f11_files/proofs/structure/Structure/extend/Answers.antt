@@ -1,4 +1,4 @@
-use Rattle.std.proofs.Common.{false, sym, subst}
+use Rattle.std.proofs.Common.{false, inl, inr, refl, sym, subst}
 use Rattle.f11_dev.specs.Disk.{Disk}
 use Rattle.f11_dev.proofs.LookedLemmas.{looked_none}
 use Rattle.f11_home.specs.Home.{HomeFields}
@@ -87,7 +87,7 @@ returns-in_err-ready_headers-clause-confined g c =
     after-slots (home_of s) (headers_for (home_of s) f n old) _ f.number old read ready _ c.in_ok-end.ensures.end.ends.looked.looked
     (need-is s f n c.in_ok-end.end c.find_end.new.first c.find_end.new.last old read c.requires.is_for c.requires.own
     c.in_ok-end.ensures.end c.room_of-room.result c.room_of-room.ensures)
-    (rw c.need.ensures.need at c.ready_headers.ensures.confined) (more-looked (home_of s) f.number (looked_none ready))
+    (rw c.need.ensures.need at c.ready_headers.ensures.confined) (inl refl) (more-looked (home_of s) f.number (looked_none ready))
 
 pub find_again-requires-clause-is_for : goal.find_again-requires-clause-is_for
 find_again-requires-clause-is_for g c =
@@ -146,6 +146,7 @@ returns-in_err-find_again-clause-confined g c =
     (need-is s f n c.in_ok-end.end c.find_end.new.first c.find_end.new.last old read c.requires.is_for c.requires.own
     c.in_ok-end.ensures.end c.room_of-room.result c.room_of-room.ensures)
     (rw c.need.ensures.need at c.ready_headers.ensures.confined)
+    (inr (rw c.need.ensures.need at c.in_ok-ready_headers.ensures.ready).does.allots)
     (more-looked (home_of s) f.number c.in_err-find_again.ensures.refused.reads.looked)
 
 pub extend_held-requires-clause-is_for : goal.extend_held-requires-clause-is_for
@@ -255,6 +256,7 @@ returns-in_err-extend_held-clause-confined g c =
     (need-is s f n c.in_ok-end.end c.find_end.new.first c.find_end.new.last old read c.requires.is_for c.requires.own
     c.in_ok-end.ensures.end c.room_of-room.result c.room_of-room.ensures)
     (rw c.need.ensures.need at c.ready_headers.ensures.confined)
+    (inr (rw c.need.ensures.need at c.in_ok-ready_headers.ensures.ready).does.allots)
     (more-of t (home_of s) f.number ready (g.D.Device.disk c.extend_held.new.device) c.in_ok-ready_headers.ensures.stays.home
     (stays-for c.in_ok-ready_headers.ensures.stays)
     (λ honest. file_of-header (end-again s f n c.in_ok-end.end c.find_end.new.first c.find_end.new.last old read c.requires.is_for
@@ -321,6 +323,7 @@ returns-clause-confined g c =
     (need-is s f n c.in_ok-end.end c.find_end.new.first c.find_end.new.last old read c.requires.is_for c.requires.own
     c.in_ok-end.ensures.end c.room_of-room.result c.room_of-room.ensures)
     (rw c.need.ensures.need at c.ready_headers.ensures.confined)
+    (inr (rw c.need.ensures.need at c.in_ok-ready_headers.ensures.ready).does.allots)
     (more-of t (home_of s) f.number ready (g.D.Device.disk c.extend_held.new.device) c.in_ok-ready_headers.ensures.stays.home
     (stays-for c.in_ok-ready_headers.ensures.stays)
     (λ honest. file_of-header (end-again s f n c.in_ok-end.end c.find_end.new.first c.find_end.new.last old read c.requires.is_for

@@ -1,11 +1,11 @@
 use Rattle.f11_files.proofs.AnswerLemmas.{handed}
 use Rattle.f11_files.proofs.WriteLemmas.{fails-unread}
-use Rattle.f11_files.proofs.Changing.Block.{stores-block, stored-order, stored-stays, fails-store, fails-stays, unstored-order}
-use Rattle.std.proofs.Common.{◌-◌, ap, arith}
-use Rattle.f11_chain.specs.FileHeaders.{file_blocks}
-use Rattle.f11_index.specs.Table.{table_of}
+use Rattle.f11_files.proofs.Changing.Block.{in-blocks, stores-block, stored-order, stored-stays, fails-store, fails-stays, unstored-order}
+use Rattle.std.proofs.Common.{ap, arith}
+use Rattle.f11_store.proofs.StoreLemmas.{none_first}
+use Rattle.f11_files.specs.Answers.{blocks_of}
 use Rattle.f11_files.specs.Structure.{home_of}
-use Rattle.f11_files.proofs.Confining.Parts.{at-in, other-failed, other-wrote, parts-looked, stands-same, stands-within, to-parts, to-then}
+use Rattle.f11_files.proofs.Confining.Parts.{other-failed, other-wrote, parts-looked, stands-same, stands-within, to-parts, to-then}
 use Rattle.f11_image_store.specs.Confines.{no_header}
 use Rattle.f11_dev.specs.Disk.{Disk}
 use Rattle.f11_files.proofs.Bounded.{one-failed}
@@ -35,10 +35,12 @@ pub returns-in-Ok-clause-confined : goal.returns-in-Ok-clause-confined
 returns-in-Ok-clause-confined g c = λ honest.
     let s = c.args.self.now in
     let found = c.in_ok-lbn.ensures.found in
-    let blocks = file_blocks (table_of (g.D.Device.disk c.args.device.now).image (home_of s)) c.args.f.number in
+    let old = g.D.Device.disk c.args.device.now in
+    let blocks = blocks_of (home_of s) c.args.f old.image in
     to-then s s no_header no_header blocks blocks (stands-within s s no_header no_header blocks (λ n is. is) (stands-same s)) (λ l out. out)
     (to-parts s no_header no_header blocks (λ n is. is) (parts-looked s no_header found.reads.looked))
-    (other-wrote s no_header blocks c.in_ok-lbn.lbn _ _ _ (at-in blocks (c.args.vbn - 1) c.in_ok-lbn.lbn (found.block_is honest))
+    (other-wrote s no_header blocks c.in_ok-lbn.lbn _ _ _ (in-blocks (home_of s) c.args.f old.image c.args.vbn c.in_ok-lbn.lbn
+    (none_first _ _ _ (found.no_cause honest)) (found.block_is honest))
     c.in-Ok.ensures.writes.ok
     (stored-order s c.args.f c.args.vbn _ _ _ _ c.requires.is_for c.requires.own found _ c.in-Ok.ensures.writes.ok))
 
@@ -46,10 +48,12 @@ pub returns-in-Err-clause-confined : goal.returns-in-Err-clause-confined
 returns-in-Err-clause-confined g c = λ honest.
     let s = c.args.self.now in
     let found = c.in_ok-lbn.ensures.found in
-    let blocks = file_blocks (table_of (g.D.Device.disk c.args.device.now).image (home_of s)) c.args.f.number in
+    let old = g.D.Device.disk c.args.device.now in
+    let blocks = blocks_of (home_of s) c.args.f old.image in
     to-then s s no_header no_header blocks blocks (stands-within s s no_header no_header blocks (λ n is. is) (stands-same s)) (λ l out. out)
     (to-parts s no_header no_header blocks (λ n is. is) (parts-looked s no_header found.reads.looked))
-    (other-failed s no_header blocks c.in_ok-lbn.lbn _ _ _ (at-in blocks (c.args.vbn - 1) c.in_ok-lbn.lbn (found.block_is honest))
+    (other-failed s no_header blocks c.in_ok-lbn.lbn _ _ _ (in-blocks (home_of s) c.args.f old.image c.args.vbn c.in_ok-lbn.lbn
+    (none_first _ _ _ (found.no_cause honest)) (found.block_is honest))
     c.in-Err.ensures.writes.err
     (unstored-order s c.args.f c.args.vbn _ _ _ _ c.requires.is_for c.requires.own found _ c.in-Err.ensures.writes.err))
 

@@ -1,4 +1,4 @@
-use Rattle.f11_files.proofs.Changing.ByWindow.{failed-by-order, failed-by-stays, fails-by, stored-by-order, stored-by-stays, stores-by}
+use Rattle.f11_files.proofs.Changing.ByWindow.{failed-by-stays, fails-by, stored-by-stays, stores-by}
 use Rattle.f11_files.proofs.structure.Structure.write_in.Goals as goal
 
 pub returns-in-Ok-clause-stored : goal.returns-in-Ok-clause-stored
@@ -21,16 +21,4 @@ pub returns-in-Err-clause-stays : goal.returns-in-Err-clause-stays
 returns-in-Err-clause-stays g c =
     let writes = c.in-Err.ensures.writes in
     failed-by-stays c.args.self.now _ _ writes.lbn _ _ _ c.requires.is_for c.requires.on.first writes.held writes.within writes.writes.err
-    c.requires.of_file
-
-pub returns-in-Ok-clause-ordered : goal.returns-in-Ok-clause-ordered
-returns-in-Ok-clause-ordered g c =
-    let writes = c.in-Ok.ensures.writes in
-    stored-by-order c.args.self.now _ _ writes.lbn _ _ _ c.requires.is_for c.requires.on.first writes.held writes.within writes.writes.ok
-    c.requires.of_file
-
-pub returns-in-Err-clause-ordered : goal.returns-in-Err-clause-ordered
-returns-in-Err-clause-ordered g c =
-    let writes = c.in-Err.ensures.writes in
-    failed-by-order c.args.self.now _ _ writes.lbn _ _ _ c.requires.is_for c.requires.on.first writes.held writes.within writes.writes.err
     c.requires.of_file

@@ -1,0 +1,96 @@
+-- What carries `WritesBesideLost` from call to call.
+use Rattle.std.proofs.Common.{◌≡◌, ℕ, ◌++◌, Bool, true, false, IsTrue, List, [], ◌∷◌, All, refl, sym, ap, subst, ◌∙◌, append_assoc, arith}
+use Rattle.std.proofs.lemmas.Bool.{false≢true}
+use Rattle.std.proofs.lemmas.List.Elements.{All-append, All-nil}
+use Rattle.f11_dev.specs.Disk.{Disk}
+use Rattle.f11_dev.specs.Image.{Image}
+use Rattle.f11_dev.specs.Looked.{Looked}
+use Rattle.f11_dev.specs.Went.{newest}
+use Rattle.f11_volume.specs.home.Home.{HomeFields}
+use Rattle.f11_volume.specs.Notes.{IsLost}
+use Rattle.f11_volume.specs.Sound.{HasSoundVolume}
+use Rattle.f11_volume.specs.Volume.{volume_of}
+use Rattle.f11_writes.specs.Lost.{KeepsLost, MadeBesideLost, WritesBesideLost}
+use Rattle.f11_writes.specs.Order.{WritesInOrder}
+use Rattle.f11_writes.proofs.InOrderLemmas.{each-sound, newest-append, order-looked, order-none, order-then}
+
+-- the last image keeps what each does
+keeps-newest : (home : HomeFields) (old : Image) (since : List Image) → All (KeepsLost home old) since → KeepsLost home old (newest since old)
+keeps-newest home old [] each = λ lbn lost. refl
+keeps-newest home old (image ∷ earlier) each = each 0 image (omega arith)
+
+pub made-last : (home : HomeFields) (old new : Disk) → MadeBesideLost home old new → KeepsLost home old.image new.image
+made-last home old new made =
+    subst (KeepsLost home old.image) (sym made.image) (keeps-newest home old.image made.since made.each)
+
+-- nothing was written
+pub lost-looked : (failed fails : Bool) (old new : Disk) (most faults : ℕ) → (failed ≡ true → fails ≡ true) → Looked old new most faults
+    → WritesBesideLost failed fails old new
+lost-looked failed fails old new most faults lasts looked = record {
+  ordered = order-looked old new most faults looked;
+  beside = λ honest home sound.
+      record { since = []; history = looked.history; image = looked.image; each = All-nil (KeepsLost home old.image) };
+  stay = λ alive honest home sound lbn lost. subst (λ (i : Image). IsLost (volume_of i home) lbn) (sym looked.image) lost;
+  spent = λ is. (lasts is, looked.image, looked.history);
+}
+
+pub lost-none : (failed : Bool) (disk : Disk) → WritesBesideLost failed failed disk disk
+lost-none failed disk = record {
+  ordered = order-none disk;
+  beside = λ honest home sound. record { since = []; history = refl; image = refl; each = All-nil (KeepsLost home disk.image) };
+  stay = λ alive honest home sound lbn lost. lost;
+  spent = λ is. (is, refl, refl);
+}
+
+-- the same is known of what stands for less
+pub lost-as : (failed fails was is : Bool) (old new : Disk) → was ≡ false → (is ≡ false → fails ≡ false)
+    → WritesBesideLost failed fails old new → WritesBesideLost was is old new
+lost-as failed fails was is old new alive less one = record {
+  ordered = one.ordered;
+  beside = one.beside;
+  stay = λ unfailed. one.stay (less unfailed);
+  spent = λ spent. absurd (false≢true (sym alive ∙ spent));
+}
+
+-- what was sound before is sound behind
+pub sound-behind : (a b : Disk) (home : HomeFields) → IsTrue a.honest → WritesInOrder a b → HasSoundVolume a.image home
+    → IsTrue b.honest × HasSoundVolume b.image home
+sound-behind a b home honest one sound =
+    let made = one.ordered honest in (
+      subst IsTrue (sym made.honest) honest,
+      subst (λ (i : Image). HasSoundVolume i home) (sym made.image) (each-sound home a.image made.since sound (made.each home)),
+    )
+
+-- one call after another
+pub lost-then : (failed between fails : Bool) (a b c : Disk) → WritesBesideLost failed between a b → WritesBesideLost between fails b c
+    → WritesBesideLost failed fails a c
+lost-then failed true fails a b c one two =
+    let idle = two.spent refl in
+    record {
+      ordered = order-then a b c one.ordered two.ordered;
+      beside = λ honest home sound.
+          let made = one.beside honest home sound in
+          record { since = made.since; history = idle.2 ∙ made.history; image = idle.1 ∙ made.image; each = made.each };
+      stay = λ alive honest home sound. absurd (false≢true (sym alive ∙ idle.0));
+      spent = λ is. let was = one.spent is in (idle.0, idle.1 ∙ was.1, idle.2 ∙ was.2);
+    }
+lost-then failed false fails a b c one two = record {
+  ordered = order-then a b c one.ordered two.ordered;
+  beside = λ honest home sound.
+      let then = sound-behind a b home honest one.ordered sound in
+      let first = one.beside honest home sound in
+      let second = two.beside then.0 home then.1 in
+      record {
+        since = second.since ++ first.since;
+        history = second.history ∙ ap (λ (h : List Image). second.since ++ h) first.history
+            ∙ sym (append_assoc second.since first.since a.history);
+        image = second.image ∙ ap (newest second.since) first.image ∙ sym (newest-append second.since first.since a.image);
+        each = All-append (KeepsLost home a.image) second.since first.since
+            (λ k d within lbn lost. second.each k d within lbn (one.stay refl honest home sound lbn lost)
+            ∙ made-last home a b first lbn lost) first.each;
+      };
+  stay = λ alive honest home sound lbn lost.
+      let then = sound-behind a b home honest one.ordered sound in
+      two.stay alive then.0 home then.1 lbn (one.stay refl honest home sound lbn lost);
+  spent = λ is. absurd (false≢true (one.spent is).0);
+}
