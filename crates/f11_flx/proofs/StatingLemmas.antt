@@ -1,12 +1,12 @@
 -- A file that gets its attributes once it is filled is made in that order.
-use Rattle.std.proofs.Common.{inl, inr, ℕ, List, [], ◌∷◌, ◌++◌, Option, Some, None, refl}
+use Rattle.std.proofs.Common.{inl, inr, ℕ, List, ◌++◌, Option, Some, None, refl}
 use Rattle.f11_store.specs.Ident.{ident_with}
 use Rattle.f11_store.specs.declared.files.Change.{Change}
 use Rattle.f11_store.specs.declared.files.Change.TheVariants as change
 use Rattle.f11_store.specs.declared.files.FileId.{FileId}
 use Rattle.f11_store.specs.declared.refusals.Refusal.{Refusal}
 use Rattle.f11_store.specs.declared.requests.Request.TheVariants as request
-use Rattle.f11_flx.specs.Asking.{Fails, FilesService, Granted, Tried, Who, asks}
+use Rattle.f11_flx.specs.Asking.{Fails, FilesService, Granted, Who}
 use Rattle.f11_flx.specs.CopyFromRt.{Making, creation, entry, filling, naming, opening, stating}
 use Rattle.f11_flx.specs.Copying.{SetsPart}
 use Rattle.f11_flx.specs.Making.{AsksToFill, FailsToMake, FillsOpened, MakesFile, is_created}

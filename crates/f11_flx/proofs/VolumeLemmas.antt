@@ -139,8 +139,8 @@ module _ {D : Type 0} {met : Ghosts D} where
       → StaysAccepted (state_in w) → IsFared (is_refused is_fault result) (is_refused is_fatal result) v w
   measures-fared v w task lun result h accepted = by_spent (is_spent v) refl
     where
-      lasts : {b : Bool} → is_spent w ≡ (is_spent v || b) → is_spent v ≡ true → is_spent w ≡ true
-      lasts {b} next is = next ∙ ap (λ (x : Bool). x || b) is
+      lasts : (b : Bool) → is_spent w ≡ (is_spent v || b) → is_spent v ≡ true → is_spent w ≡ true
+      lasts b next is = next ∙ ap (λ (x : Bool). x || b) is
 
       by_result : (r : Result ℕ Refusal) → Measures task lun r (state_in v) (state_in w)
           → is_spent w ≡ (is_spent v || is_refused is_fatal r) → IsFared (is_refused is_fault r) (is_refused is_fatal r) v w
@@ -150,7 +150,7 @@ module _ {D : Type 0} {met : Ghosts D} where
         honest = k.outcome.reads.looked.honest;
         next = next;
         accepted = accepted;
-        beside = lost-looked _ _ _ _ _ _ (lasts next) k.outcome.reads.looked;
+        beside = lost-looked _ _ _ _ _ _ (lasts _ next) k.outcome.reads.looked;
       }
       by_result (Err e) k next = record {
         failures = k.outcome.reads.looked.failures;
@@ -158,7 +158,7 @@ module _ {D : Type 0} {met : Ghosts D} where
         honest = k.outcome.reads.looked.honest;
         next = next;
         accepted = accepted;
-        beside = lost-looked _ _ _ _ _ _ (lasts next) k.outcome.reads.looked;
+        beside = lost-looked _ _ _ _ _ _ (lasts _ next) k.outcome.reads.looked;
       }
 
       by_spent : (b : Bool) → is_spent v ≡ b → IsFared (is_refused is_fault result) (is_refused is_fatal result) v w
@@ -171,7 +171,7 @@ module _ {D : Type 0} {met : Ghosts D} where
             honest = ap (λ (x : State). x.disk.honest) same;
             next = h.next ∙ ap (λ x. is_spent v || is_refused is_fatal x) r;
             accepted = accepted;
-            beside = idle-beside v w (lasts h.next) same;
+            beside = idle-beside v w (lasts _ h.next) same;
           })
       by_spent false is = by_result result (h.measures is) h.next
 

@@ -1,5 +1,5 @@
 -- Scripts whose calls a volume answers, whether transfers fail or not.
-use Rattle.std.proofs.Common.{◌≡◌, ℕ, ◌||◌, Bool, true, false, IsErrOf, IsTrue, List, Option, Result, refl, sym, ◌∙◌, ap, subst, arith}
+use Rattle.std.proofs.Common.{◌≡◌, ℕ, ◌||◌, Bool, true, false, IsErrOf, IsTrue, List, Option, Result, refl, sym, ◌∙◌, ap, arith}
 use Rattle.f11_dev.specs.declared.device.Device.{Ghosts}
 use Rattle.f11_store.specs.Run.{Answer, Call}
 use Rattle.f11_store.specs.declared.refusals.Refusal.{Refusal}
