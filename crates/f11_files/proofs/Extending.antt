@@ -1,6 +1,5 @@
 -- A file that grows, from the room for it to the header that names its new blocks.
 pub mod Room
-pub mod Again
 pub mod Zero
 pub mod Reserved
 pub mod Written
@@ -25,3 +24,4 @@ pub mod ClearAndGrow
 pub mod Extend
 pub mod Whole
 pub mod WholeConfined
+pub mod Still

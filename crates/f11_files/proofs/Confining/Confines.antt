@@ -91,7 +91,7 @@ spares-newest : (headers : ℕ → Bool) (index : Index) (bitmap : Bitmap) (othe
 spares-newest headers index bitmap others old [] each = λ l none out. refl
 spares-newest headers index bitmap others old (image ∷ earlier) each = each 0 image (omega arith)
 
-confines-last : (headers : ℕ → Bool) (index : Index) (bitmap : Bitmap) (others : List ℕ) {old new : Disk}
+pub confines-last : (headers : ℕ → Bool) (index : Index) (bitmap : Bitmap) (others : List ℕ) {old new : Disk}
     → ConfinesInOrder headers index bitmap others old new → Spares headers index bitmap others old.image new.image
 confines-last headers index bitmap others {old = old} one =
     subst (Spares headers index bitmap others old.image) (sym one.image)

@@ -337,61 +337,36 @@ module _ (s : Structure) (f : FileId) (n : ℕ) (end : FileEnd) (was last : List
           (extend_causes st f n) [] few r (λ honest. no-cause-old (as-old honest)) (λ _. refl) fewer fatal
           (λ honest. undamaged (honest-ready readies ∙ honest)) writes)))
 
-      pub fails-again : (r : Refusal) (d : Disk) → FailsToRead false [] 2 r ready d → FailsToExtend false home f n r old d
-      fails-again r d fails =
-          let fatal = fatal-none ready.honest now r fails.right in
-          fails-behind r d fatal (λ honest. fails.right.undamaged honest) 2 (λ honest. omega (arith, two-left)) record {
-            transfers = fails.reads.reads;
-            went = went_looked (Meanwhile (extend_work f.number (file_named now f).room n) home ready) fails.reads.looked;
-            few = fails.reads.few;
-          }
-        where
-          two-left : 2 ≤ few
-          two-left = by_parts (header_count file) st.bitmap_blocks st.index_bitmap_blocks ((n + 101) / 102)
-            where
-              by_parts : (h b i m : ℕ) → 2 ≤ h + b + 5 * n + (i + 8) * (m + 1) - 1 - h
-              by_parts h b i m = omega arith
+      -- or where a header wasn't in use any more
+      pub fails-again : ¬ IsTrue ready.honest → FailsToExtend false home f n Damaged old ready
+      fails-again never = fails-behind Damaged ready refl (λ honest. absurd (never honest)) 0 (λ honest. omega arith) record {
+        transfers = 0;
+        went = went_looked (Meanwhile (extend_work f.number (file_named now f).room n) home ready) (looked_none ready);
+        few = λ honest. omega arith;
+      }
 
-      module _ (d : Disk) (again : ReadsAtMost 2 ready d 0) where
-        store-again : store_of d.image home ≡ now
-        store-again = store-read again home
+      -- its headers are in hand, so that two transfers are left
+      parts : (h b i m : ℕ) → 2 + (h + b + 5 * n + (i + 8) * (m + 1) - 1 - h - 2) ≤ h + b + 5 * n + (i + 8) * (m + 1) - 1 - h
+      parts h b i m = omega arith
 
-        within : IsTrue read.honest → 2 + (growth_cost now (file_named now f) n - 1 - header_count (file_named now f) - 2) ≤ few
-        within honest = let left = left-now honest in let more = growth-parts now (file_named now f) in omega (arith, left, more)
-          where
-            growth-parts : (x : Store) (g : File) → 2 ≤ growth_cost x g n - 1 - header_count g
-            growth-parts x g = by_parts (header_count g) x.bitmap_blocks x.index_bitmap_blocks ((n + 101) / 102)
-              where
-                by_parts : (h b i m : ℕ) → 2 ≤ h + b + 5 * n + (i + 8) * (m + 1) - 1 - h
-                by_parts h b i m = omega arith
+      two-left : 2 + (growth_cost now (file_named now f) n - 1 - header_count (file_named now f) - 2)
+          ≤ growth_cost now (file_named now f) n - 1 - header_count (file_named now f)
+      two-left = parts (header_count (file_named now f)) now.bitmap_blocks now.index_bitmap_blocks ((n + 101) / 102)
 
-        pub fails-in-hand : (r : Refusal) (new : Disk) → FailsToExtendHeld home f n r d new → FailsToExtend false home f n r old new
-        fails-in-hand r new fails =
-            let whole-fails = fails-read again home
-            (subst (λ (x : Store). FailsToWrite false [] (growth_cost x (file_named x f) n - 1 - header_count (file_named x f) - 2)
-            (extend_work f.number (file_named x f).room n) home r d new) store-again fails) in
-            fails-behind r new (fatal-none ready.honest now r whole-fails.right) (λ honest. whole-fails.right.undamaged honest) _ within
-            whole-fails.writes
+      pub fails-in-hand : (r : Refusal) (new : Disk) → FailsToExtendHeld home f n r ready new → FailsToExtend false home f n r old new
+      fails-in-hand r new fails =
+          fails-behind r new (fatal-none ready.honest now r fails.right) (λ honest. fails.right.undamaged honest) _
+          (λ honest. let left = left-now honest in omega (arith, left, two-left)) fails.writes
 
-        pub extends-then : (new : Disk) → ExtendsInHand home f n d new → ExtendsFile home f n old new
-        extends-then new extends = record {
-          no_cause = no-cause-old;
-          read = read;
-          reads = file-read;
-          ready = ready;
-          readies = readies;
-          extends = does-within two-more (does-read again home
-              (subst (λ (x : Store). Does (held_causes x f n) (extend_work f.number (file_named x f).room n)
-              (growth_cost x (file_named x f) n - 1 - header_count (file_named x f) - 2) (Extends x f.number n)
-              (KeepsUnused (GainsBlocks f.number n)) home d new) store-again extends));
-        }
-          where
-            two-more : 2 + (growth_cost now (file_named now f) n - 1 - header_count (file_named now f) - 2) ≤ growth_cost now
-                (file_named now f) n - 1 - header_count (file_named now f)
-            two-more = by_parts (header_count (file_named now f)) now.bitmap_blocks now.index_bitmap_blocks ((n + 101) / 102)
-              where
-                by_parts : (h b i m : ℕ) → 2 + (h + b + 5 * n + (i + 8) * (m + 1) - 1 - h - 2) ≤ h + b + 5 * n + (i + 8) * (m + 1) - 1 - h
-                by_parts h b i m = omega arith
+      pub extends-then : (new : Disk) → ExtendsInHand home f n ready new → ExtendsFile home f n old new
+      extends-then new extends = record {
+        no_cause = no-cause-old;
+        read = read;
+        reads = file-read;
+        ready = ready;
+        readies = readies;
+        extends = does-within (omega (arith, two-left)) extends;
+      }
 
   pub length-then : IsLengthAfter home f n old (end.blocks + n)
   length-then honest =
@@ -401,10 +376,6 @@ module _ (s : Structure) (f : FileId) (n : ℕ) (end : FileEnd) (was last : List
 pub fatal-held : (home : HomeFields) (f : FileId) (n : ℕ) (r : Refusal) (old new : Disk) → FailsToExtendHeld home f n r old new
     → is_fatal r ≡ true
 fatal-held home f n r old new fails = fatal-none old.honest (store_of old.image home) r fails.right
-
--- it is not read again
-pub none-read : (disk : Disk) → ReadsAtMost 2 disk disk 0
-none-read disk = record { reads = 0; looked = looked_none disk; few = λ _. omega arith }
 
 -- a file may have no more blocks than 32 bits tell
 pub few-enough : (end : FileEnd) (room n : ℕ) (last : List ℕ) → length last ≡ 512 → end.headers ≤ 256 → end.blocks ≤ 32512 * end.headers

@@ -233,7 +233,7 @@ impl Structure {
     /// # Errors
     ///
     /// Those of [`Structure::find_end`], `TooManySegments` where it would have over 256 headers, and those of
-    /// [`Structure::ready_headers`], [`Structure::find_again`] and [`Structure::extend_held`].
+    /// [`Structure::ready_headers`], [`Structure::find_still`] and [`Structure::extend_held`].
     pub(crate) fn extend<D: Device>(
         &mut self,
         device: &mut D,
@@ -262,9 +262,8 @@ impl Structure {
         if is_too_long(end.headers, room, n) {
             return Err(Refusal::TooManySegments);
         }
-        if self.ready_headers(device, need(room, n), n)? {
-            self.find_again(device, f, end, &mut first, &mut last)?;
-        }
+        self.ready_headers(device, need(room, n), n)?;
+        self.find_still(f, end)?;
         self.extend_held(device, f, n, end, &mut first, &last)?;
         Ok(end.blocks + n)
     }

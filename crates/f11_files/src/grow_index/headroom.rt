@@ -42,7 +42,7 @@ fn judge_slots(fit: bool, free: u32, slots: u32, n: u32) -> Result<(), Refusal>
 
 impl Structure {
     /// Sees to it that so many headers are free, where `n` blocks are to be taken besides: where fewer are, the index file gets a slot for
-    /// each that lacks. Says whether it did.
+    /// each that lacks.
     ///
     /// # Errors
     ///
@@ -54,12 +54,10 @@ impl Structure {
         device: &mut D,
         headers: u32,
         n: u32,
-    ) -> Result<bool, Refusal>
+    ) -> Result<(), Refusal>
         requires is_for { IsStructureFor self.old (D.disk device.old) }
         ensures ready { OnOk result (ReadiesHeaders (home_of self.old) headers n
             (D.disk device.old) (D.disk device.new)) }
-        ensures still { IfOk result (λ grew. grew ≡ false
-            → (self.new ≡ self.old) × (D.disk device.new ≡ D.disk device.old)) }
         ensures refused { IfErr result (λ refusal. FailsToReady false (home_of self.old) headers n
             refusal (D.disk device.old) (D.disk device.new)) }
         ensures stays { StaysFor (is_refused is_fatal result) self.old self.new
@@ -72,12 +70,12 @@ impl Structure {
         let lacking = headers - self.headers_for(headers).min(headers);
         if lacking > 0 {
             self.get_slots(device, lacking, n)?;
-            return Ok(true);
+            return Ok(());
         }
         if self.storage.free() < n {
             return Err(Refusal::DeviceFull);
         }
-        Ok(false)
+        Ok(())
     }
 
     /// Gives the index file so many slots more in its last header, where `n` blocks are to be taken besides.

@@ -1,8 +1,8 @@
-use Rattle.std.proofs.Common.{false, inl, inr, refl, sym, subst}
+use Rattle.std.proofs.Common.{false, inl, inr, refl, sym, ap, subst}
 use Rattle.f11_dev.specs.Disk.{Disk}
 use Rattle.f11_dev.proofs.LookedLemmas.{looked_none}
 use Rattle.f11_home.specs.Home.{HomeFields}
-use Rattle.f11_files.specs.Answers.{ReadsAtMost}
+use Rattle.f11_files.specs.Answers.{is_fatal, ReadsAtMost}
 use Rattle.f11_files.specs.Extending.Again.{IsEndOf}
 use Rattle.f11_files.specs.Extending.Room.{HoldsEnd}
 use Rattle.f11_files.specs.Extending.Runs.{headers_for, FailsToExtend}
@@ -13,13 +13,13 @@ use Rattle.f11_index.proofs.ChainLemmas.{file_of-header}
 use Rattle.f11_files.proofs.Behind.{confined-read, more-looked, more-of, stays-handed}
 use Rattle.f11_files.proofs.Extending.Room.{ends-then}
 use Rattle.f11_files.proofs.Extending.Whole.{end-again, extends-then, fails-again, fatal-held, few-enough, fails-in-hand, length-then}
-use Rattle.f11_files.proofs.Extending.Whole.{need-is, none-read, readies-file, room-ready, too-long, unfound, unready}
+use Rattle.f11_files.proofs.Extending.Whole.{need-is, readies-file, room-ready, too-long, unfound, unready}
+use Rattle.f11_files.proofs.Extending.Still.{ends-still, never-still}
 use Rattle.f11_files.proofs.Extending.WholeConfined.{after-read, after-slots}
 use Rattle.f11_files.proofs.Opening.Kept.{looked-for}
 use Rattle.f11_files.proofs.Removing.Freeing.{stays-for, stays-then}
 use Rattle.f11_files.proofs.WriteLemmas.{looked-stays}
 use Rattle.f11_files.proofs.structure.Structure.extend.Goals as goal
-use Rattle.f11_files.proofs.structure.Structure.extend.Goals.{then-branch+in_ok-find_again, else-branch}
 
 pub returns-in_err-end-clause-refused : goal.returns-in_err-end-clause-refused
 returns-in_err-end-clause-refused g c =
@@ -89,12 +89,8 @@ returns-in_err-ready_headers-clause-confined g c =
     c.in_ok-end.ensures.end c.room_of-room.result c.room_of-room.ensures)
     (rw c.need.ensures.need at c.ready_headers.ensures.confined) (inl refl) (more-looked (home_of s) f.number (looked_none ready))
 
-pub find_again-requires-clause-is_for : goal.find_again-requires-clause-is_for
-find_again-requires-clause-is_for g c =
-    stays-for c.in_ok-ready_headers.ensures.stays
-
-pub find_again-requires-clause-end : goal.find_again-requires-clause-end
-find_again-requires-clause-end g c =
+pub returns-in_err-find_still-clause-refused : goal.returns-in_err-find_still-clause-refused
+returns-in_err-find_still-clause-refused g c =
     let s = c.args.self.now in
     let f = c.args.f in
     let n = c.args.n in
@@ -102,39 +98,35 @@ find_again-requires-clause-end g c =
     let read = g.D.Device.disk c.find_end.new.device in
     let ready = g.D.Device.disk c.ready_headers.new.device in
     let t = c.ready_headers.new.self in
-    λ honest. subst (λ (h : HomeFields). IsEndOf ready.image h f c.in_ok-end.end) (sym c.in_ok-ready_headers.ensures.stays.home)
-    (end-again s f n c.in_ok-end.end c.find_end.new.first c.find_end.new.last old read c.requires.is_for c.requires.own
-    c.in_ok-end.ensures.end c.room_of-room.result c.room_of-room.ensures (sym c.if-is_too_long.ensures) ready
-    (readies-file s f n c.in_ok-end.end c.find_end.new.first c.find_end.new.last old read c.requires.is_for c.requires.own
-    c.in_ok-end.ensures.end c.room_of-room.result c.room_of-room.ensures (sym c.if-is_too_long.ensures) ready
-    (rw c.need.ensures.need at c.in_ok-ready_headers.ensures.ready)) (g.met.D.Device.is_image c.ready_headers.new.device) honest)
-
-pub returns-in_err-find_again-clause-refused : goal.returns-in_err-find_again-clause-refused
-returns-in_err-find_again-clause-refused g c =
-    let s = c.args.self.now in
-    let f = c.args.f in
-    let n = c.args.n in
-    let old = g.D.Device.disk c.args.device.now in
-    let read = g.D.Device.disk c.find_end.new.device in
-    let ready = g.D.Device.disk c.ready_headers.new.device in
-    let t = c.ready_headers.new.self in
-    handed (λ r. FailsToExtend false (home_of s) f n r old (g.D.Device.disk c.find_again.new.device))
-    c.from_residual-in_err-find_again.result _ c.from_residual-in_err-find_again.ensures.1
+    handed (λ r. FailsToExtend false (home_of s) f n r old ready)
+    c.from_residual-in_err-find_still.result _ c.from_residual-in_err-find_still.ensures.1
+    (subst (λ r. FailsToExtend false (home_of s) f n r old ready) (sym c.in_err-find_still.ensures.refused.damaged)
     (fails-again s f n c.in_ok-end.end c.find_end.new.first c.find_end.new.last old read c.requires.is_for c.requires.own
     c.in_ok-end.ensures.end c.room_of-room.result c.room_of-room.ensures (sym c.if-is_too_long.ensures) ready
     (readies-file s f n c.in_ok-end.end c.find_end.new.first c.find_end.new.last old read c.requires.is_for c.requires.own
     c.in_ok-end.ensures.end c.room_of-room.result c.room_of-room.ensures (sym c.if-is_too_long.ensures) ready
-    (rw c.need.ensures.need at c.in_ok-ready_headers.ensures.ready)) _ _ c.in_err-find_again.ensures.refused)
+    (rw c.need.ensures.need at c.in_ok-ready_headers.ensures.ready))
+    (never-still s f n c.in_ok-end.end c.find_end.new.first c.find_end.new.last old read c.requires.is_for c.requires.own
+    c.in_ok-end.ensures.end c.room_of-room.result c.room_of-room.ensures (sym c.if-is_too_long.ensures) ready
+    (readies-file s f n c.in_ok-end.end c.find_end.new.first c.find_end.new.last old read c.requires.is_for c.requires.own
+    c.in_ok-end.ensures.end c.room_of-room.result c.room_of-room.ensures (sym c.if-is_too_long.ensures) ready
+    (rw c.need.ensures.need at c.in_ok-ready_headers.ensures.ready)) t
+    (g.met.D.Device.is_image c.ready_headers.new.device) c.in_ok-ready_headers.ensures.stays c.in_err-find_still.ensures.refused.not)))
 
-pub returns-in_err-find_again-clause-stays : goal.returns-in_err-find_again-clause-stays
-returns-in_err-find_again-clause-stays g c =
-    stays-handed c.from_residual-in_err-find_again.result _ _ _ _ c.from_residual-in_err-find_again.ensures.1
+pub returns-in_err-find_still-clause-stays : goal.returns-in_err-find_still-clause-stays
+returns-in_err-find_still-clause-stays g c =
+    stays-handed c.from_residual-in_err-find_still.result _ _ _ _ c.from_residual-in_err-find_still.ensures.1
     (stays-then c.in_ok-ready_headers.ensures.stays.home
     (looked-stays c.ready_headers.new.self _ _ _ (stays-for c.in_ok-ready_headers.ensures.stays)
-    c.in_err-find_again.ensures.refused.reads.looked))
+    (looked_none (g.D.Device.disk c.ready_headers.new.device))))
 
-pub returns-in_err-find_again-clause-confined : goal.returns-in_err-find_again-clause-confined
-returns-in_err-find_again-clause-confined g c =
+pub returns-in_err-find_still-clause-counts : goal.returns-in_err-find_still-clause-counts
+returns-in_err-find_still-clause-counts g c =
+    not-clean c.from_residual-in_err-find_still.result _ c.from_residual-in_err-find_still.ensures.1
+    (ap is_fatal c.in_err-find_still.ensures.refused.damaged)
+
+pub returns-in_err-find_still-clause-confined : goal.returns-in_err-find_still-clause-confined
+returns-in_err-find_still-clause-confined g c =
     let s = c.args.self.now in
     let f = c.args.f in
     let n = c.args.n in
@@ -145,9 +137,7 @@ returns-in_err-find_again-clause-confined g c =
     after-slots (home_of s) (headers_for (home_of s) f n old) _ f.number old read ready _ c.in_ok-end.ensures.end.ends.looked.looked
     (need-is s f n c.in_ok-end.end c.find_end.new.first c.find_end.new.last old read c.requires.is_for c.requires.own
     c.in_ok-end.ensures.end c.room_of-room.result c.room_of-room.ensures)
-    (rw c.need.ensures.need at c.ready_headers.ensures.confined)
-    (inr (rw c.need.ensures.need at c.in_ok-ready_headers.ensures.ready).does.allots)
-    (more-looked (home_of s) f.number c.in_err-find_again.ensures.refused.reads.looked)
+    (rw c.need.ensures.need at c.ready_headers.ensures.confined) (inl refl) (more-looked (home_of s) f.number (looked_none ready))
 
 pub extend_held-requires-clause-is_for : goal.extend_held-requires-clause-is_for
 extend_held-requires-clause-is_for g c =
@@ -158,13 +148,7 @@ extend_held-requires-clause-is_for g c =
     let read = g.D.Device.disk c.find_end.new.device in
     let ready = g.D.Device.disk c.ready_headers.new.device in
     let t = c.ready_headers.new.self in
-    let d = g.D.Device.disk c.if-branch.device in
-    let again : ReadsAtMost 2 ready d 0 = elim c.if-branch.branch [
-      | then-branch+in_ok-find_again w ↦ subst (λ (x : _). ReadsAtMost 2 ready (g.D.Device.disk x) 0) (sym w.device-is)
-          w.in_ok-find_again.ensures.found.reads
-      | else-branch w ↦ subst (λ (x : _). ReadsAtMost 2 ready (g.D.Device.disk x) 0) (sym w.device-is) (none-read ready)
-    ] in
-    looked-for t ready d _ _ (stays-for c.in_ok-ready_headers.ensures.stays) again.looked
+    stays-for c.in_ok-ready_headers.ensures.stays
 
 pub extend_held-requires-clause-room : goal.extend_held-requires-clause-room
 extend_held-requires-clause-room g c =
@@ -175,26 +159,19 @@ extend_held-requires-clause-room g c =
     let read = g.D.Device.disk c.find_end.new.device in
     let ready = g.D.Device.disk c.ready_headers.new.device in
     let t = c.ready_headers.new.self in
-    let d = g.D.Device.disk c.if-branch.device in
-    let again : ReadsAtMost 2 ready d 0 = elim c.if-branch.branch [
-      | then-branch+in_ok-find_again w ↦ subst (λ (x : _). ReadsAtMost 2 ready (g.D.Device.disk x) 0) (sym w.device-is)
-          w.in_ok-find_again.ensures.found.reads
-      | else-branch w ↦ subst (λ (x : _). ReadsAtMost 2 ready (g.D.Device.disk x) 0) (sym w.device-is) (none-read ready)
-    ] in
-    let ends : HoldsEnd t f c.in_ok-end.end c.if-branch.first c.if-branch.last d = elim c.if-branch.branch [
-      | then-branch+in_ok-find_again w ↦ rw w.device-is (rw w.first-is (rw w.last-is w.in_ok-find_again.ensures.found.ends))
-      | else-branch w ↦
-          let still = c.in_ok-ready_headers.ensures.still w.if-branch.false in
-          rw w.device-is (rw w.first-is (rw w.last-is
-          (subst (λ (x : Structure). HoldsEnd x f c.in_ok-end.end c.find_end.new.first c.find_end.new.last ready) (sym still.0)
-          (subst (λ (x : Disk). HoldsEnd s f c.in_ok-end.end c.find_end.new.first c.find_end.new.last x) (sym still.1)
-          (ends-then s f c.in_ok-end.end _ _ old read c.in_ok-end.ensures.end)))))
-    ] in
+    let ends : HoldsEnd t f c.in_ok-end.end c.find_end.new.first c.find_end.new.last ready =
+    ends-still s f n c.in_ok-end.end c.find_end.new.first c.find_end.new.last old read c.requires.is_for c.requires.own
+    c.in_ok-end.ensures.end c.room_of-room.result c.room_of-room.ensures (sym c.if-is_too_long.ensures) ready
+    (readies-file s f n c.in_ok-end.end c.find_end.new.first c.find_end.new.last old read c.requires.is_for c.requires.own
+    c.in_ok-end.ensures.end c.room_of-room.result c.room_of-room.ensures (sym c.if-is_too_long.ensures) ready
+    (rw c.need.ensures.need at c.in_ok-ready_headers.ensures.ready)) t
+    (g.met.D.Device.is_image c.ready_headers.new.device) c.in_ok-ready_headers.ensures.stays
+    (rw c.need.ensures.need at c.ready_headers.ensures.confined) c.in_ok-find_still.ensures.found in
     room-ready s f n c.in_ok-end.end c.find_end.new.first c.find_end.new.last old read c.requires.is_for c.requires.own
     c.in_ok-end.ensures.end c.room_of-room.result c.room_of-room.ensures (sym c.if-is_too_long.ensures) ready
     (readies-file s f n c.in_ok-end.end c.find_end.new.first c.find_end.new.last old read c.requires.is_for c.requires.own
     c.in_ok-end.ensures.end c.room_of-room.result c.room_of-room.ensures (sym c.if-is_too_long.ensures) ready
-    (rw c.need.ensures.need at c.in_ok-ready_headers.ensures.ready)) t d _ _ c.in_ok-ready_headers.ensures.stays.home again.looked ends
+    (rw c.need.ensures.need at c.in_ok-ready_headers.ensures.ready)) t ready _ _ c.in_ok-ready_headers.ensures.stays.home (looked_none ready) ends
 
 pub returns-in_err-extend_held-clause-refused : goal.returns-in_err-extend_held-clause-refused
 returns-in_err-extend_held-clause-refused g c =
@@ -205,19 +182,13 @@ returns-in_err-extend_held-clause-refused g c =
     let read = g.D.Device.disk c.find_end.new.device in
     let ready = g.D.Device.disk c.ready_headers.new.device in
     let t = c.ready_headers.new.self in
-    let d = g.D.Device.disk c.if-branch.device in
-    let again : ReadsAtMost 2 ready d 0 = elim c.if-branch.branch [
-      | then-branch+in_ok-find_again w ↦ subst (λ (x : _). ReadsAtMost 2 ready (g.D.Device.disk x) 0) (sym w.device-is)
-          w.in_ok-find_again.ensures.found.reads
-      | else-branch w ↦ subst (λ (x : _). ReadsAtMost 2 ready (g.D.Device.disk x) 0) (sym w.device-is) (none-read ready)
-    ] in
     handed (λ r. FailsToExtend false (home_of s) f n r old (g.D.Device.disk c.extend_held.new.device))
     c.from_residual-in_err-extend_held.result _ c.from_residual-in_err-extend_held.ensures.1
     (fails-in-hand s f n c.in_ok-end.end c.find_end.new.first c.find_end.new.last old read c.requires.is_for c.requires.own
     c.in_ok-end.ensures.end c.room_of-room.result c.room_of-room.ensures (sym c.if-is_too_long.ensures) ready
     (readies-file s f n c.in_ok-end.end c.find_end.new.first c.find_end.new.last old read c.requires.is_for c.requires.own
     c.in_ok-end.ensures.end c.room_of-room.result c.room_of-room.ensures (sym c.if-is_too_long.ensures) ready
-    (rw c.need.ensures.need at c.in_ok-ready_headers.ensures.ready)) d again _ _
+    (rw c.need.ensures.need at c.in_ok-ready_headers.ensures.ready)) _ _
     (rw c.in_ok-ready_headers.ensures.stays.home at c.in_err-extend_held.ensures.refused))
 
 pub returns-in_err-extend_held-clause-stays : goal.returns-in_err-extend_held-clause-stays
@@ -246,12 +217,6 @@ returns-in_err-extend_held-clause-confined g c =
     let read = g.D.Device.disk c.find_end.new.device in
     let ready = g.D.Device.disk c.ready_headers.new.device in
     let t = c.ready_headers.new.self in
-    let d = g.D.Device.disk c.if-branch.device in
-    let again : ReadsAtMost 2 ready d 0 = elim c.if-branch.branch [
-      | then-branch+in_ok-find_again w ↦ subst (λ (x : _). ReadsAtMost 2 ready (g.D.Device.disk x) 0) (sym w.device-is)
-          w.in_ok-find_again.ensures.found.reads
-      | else-branch w ↦ subst (λ (x : _). ReadsAtMost 2 ready (g.D.Device.disk x) 0) (sym w.device-is) (none-read ready)
-    ] in
     after-slots (home_of s) (headers_for (home_of s) f n old) _ f.number old read ready _ c.in_ok-end.ensures.end.ends.looked.looked
     (need-is s f n c.in_ok-end.end c.find_end.new.first c.find_end.new.last old read c.requires.is_for c.requires.own
     c.in_ok-end.ensures.end c.room_of-room.result c.room_of-room.ensures)
@@ -264,8 +229,7 @@ returns-in_err-extend_held-clause-confined g c =
     (readies-file s f n c.in_ok-end.end c.find_end.new.first c.find_end.new.last old read c.requires.is_for c.requires.own
     c.in_ok-end.ensures.end c.room_of-room.result c.room_of-room.ensures (sym c.if-is_too_long.ensures) ready
     (rw c.need.ensures.need at c.in_ok-ready_headers.ensures.ready)) (g.met.D.Device.is_image c.ready_headers.new.device) honest).last.of)
-    (confined-read again (home_of s) t f.number c.in_ok-ready_headers.ensures.stays.home
-    (rw c.in_ok-ready_headers.ensures.stays.home at c.extend_held.ensures.confined)))
+    (rw c.in_ok-ready_headers.ensures.stays.home at c.extend_held.ensures.confined))
 
 pub overflow_add-result : goal.overflow_add-result
 overflow_add-result g c =
@@ -283,12 +247,7 @@ returns-clause-extended g c =
     let read = g.D.Device.disk c.find_end.new.device in
     let ready = g.D.Device.disk c.ready_headers.new.device in
     let t = c.ready_headers.new.self in
-    let d = g.D.Device.disk c.if-branch.device in
-    let again : ReadsAtMost 2 ready d 0 = elim c.if-branch.branch [
-      | then-branch+in_ok-find_again w ↦ subst (λ (x : _). ReadsAtMost 2 ready (g.D.Device.disk x) 0) (sym w.device-is)
-          w.in_ok-find_again.ensures.found.reads
-      | else-branch w ↦ subst (λ (x : _). ReadsAtMost 2 ready (g.D.Device.disk x) 0) (sym w.device-is) (none-read ready)
-    ] in (
+    (
       length-then s f n c.in_ok-end.end c.find_end.new.first c.find_end.new.last old read c.requires.is_for c.requires.own
           c.in_ok-end.ensures.end c.room_of-room.result c.room_of-room.ensures,
       extends-then s f n c.in_ok-end.end c.find_end.new.first
@@ -296,7 +255,7 @@ returns-clause-extended g c =
           (sym c.if-is_too_long.ensures) ready
           (readies-file s f n c.in_ok-end.end c.find_end.new.first c.find_end.new.last old read c.requires.is_for c.requires.own
           c.in_ok-end.ensures.end c.room_of-room.result c.room_of-room.ensures (sym c.if-is_too_long.ensures) ready
-          (rw c.need.ensures.need at c.in_ok-ready_headers.ensures.ready)) d again _
+          (rw c.need.ensures.need at c.in_ok-ready_headers.ensures.ready)) _
           (rw c.in_ok-ready_headers.ensures.stays.home at c.in_ok-extend_held.ensures.extended),
     )
 
@@ -313,12 +272,6 @@ returns-clause-confined g c =
     let read = g.D.Device.disk c.find_end.new.device in
     let ready = g.D.Device.disk c.ready_headers.new.device in
     let t = c.ready_headers.new.self in
-    let d = g.D.Device.disk c.if-branch.device in
-    let again : ReadsAtMost 2 ready d 0 = elim c.if-branch.branch [
-      | then-branch+in_ok-find_again w ↦ subst (λ (x : _). ReadsAtMost 2 ready (g.D.Device.disk x) 0) (sym w.device-is)
-          w.in_ok-find_again.ensures.found.reads
-      | else-branch w ↦ subst (λ (x : _). ReadsAtMost 2 ready (g.D.Device.disk x) 0) (sym w.device-is) (none-read ready)
-    ] in
     after-slots (home_of s) (headers_for (home_of s) f n old) _ f.number old read ready _ c.in_ok-end.ensures.end.ends.looked.looked
     (need-is s f n c.in_ok-end.end c.find_end.new.first c.find_end.new.last old read c.requires.is_for c.requires.own
     c.in_ok-end.ensures.end c.room_of-room.result c.room_of-room.ensures)
@@ -331,5 +284,4 @@ returns-clause-confined g c =
     (readies-file s f n c.in_ok-end.end c.find_end.new.first c.find_end.new.last old read c.requires.is_for c.requires.own
     c.in_ok-end.ensures.end c.room_of-room.result c.room_of-room.ensures (sym c.if-is_too_long.ensures) ready
     (rw c.need.ensures.need at c.in_ok-ready_headers.ensures.ready)) (g.met.D.Device.is_image c.ready_headers.new.device) honest).last.of)
-    (confined-read again (home_of s) t f.number c.in_ok-ready_headers.ensures.stays.home
-    (rw c.in_ok-ready_headers.ensures.stays.home at c.extend_held.ensures.confined)))
+    (rw c.in_ok-ready_headers.ensures.stays.home at c.extend_held.ensures.confined))
