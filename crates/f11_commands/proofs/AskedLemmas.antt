@@ -17,7 +17,7 @@ use Rattle.f11_store.specs.declared.refusals.Refusal.{Refusal}
 use Rattle.f11_store.specs.declared.refusals.Refusal.TheVariants.{Damaged, DeviceFault}
 
 -- a refusal that fails a volume, and isn't Damaged, is that of a transfer
-fault-of : (e : Refusal) → is_fatal e ≡ true → (e ≡ Damaged → ⊥) → is_fault e ≡ true
+pub fault-of : (e : Refusal) → is_fatal e ≡ true → (e ≡ Damaged → ⊥) → is_fault e ≡ true
 fault-of DeviceFault fatal un = refl
 fault-of Damaged fatal un = absurd (un refl)
 fault-of _ fatal un = absurd (let never : false ≡ true = fatal in cc)

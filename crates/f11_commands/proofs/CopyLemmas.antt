@@ -1,15 +1,21 @@
 -- A copy between the volumes of two images.
-use Rattle.std.proofs.Common.{◌≡◌, inl, ℕ, ◌&&◌, not, Bool, true, false, IsTrue, List, Option, Result, refl, ◌∙◌, ap, subst, arith}
+use Rattle.std.proofs.Common.{◌≡◌, ◌≢◌, inl, ℕ, ◌+◌, ◌&&◌, ◌||◌, not, Bool, true, false, if◌then◌else◌, IsTrue, List, Option, Result, Ok, Err, refl, sym}
+use Rattle.std.proofs.Common.{◌∙◌, ap, subst, arith}
 use Rattle.f11_dev.specs.Disk.{Disk}
 use Rattle.f11_dev.specs.Image.{Image, IsImage}
 use Rattle.f11_dev.specs.declared.device.Device.{Ghosts}
 use Rattle.f11_home.specs.Home.{HomeFields}
+use Rattle.f11_serving.specs.files.Answers.{is_fatal, is_fault}
 use Rattle.f11_serving.specs.fcp.Accesses.{AccessTable, held_in, no_entries}
 use Rattle.f11_serving.specs.fcp.Lists.{is_sound, store_of_volume}
 use Rattle.f11_serving.specs.fcp.Mounting.{Mounts}
-use Rattle.f11_serving.specs.fcp.Serving.{SparesLost, is_spent, state_in}
+use Rattle.f11_serving.specs.fcp.Serving.{RequestsSpareLost, is_spent, state_in}
 use Rattle.f11_serving.specs.fcp.declared.volume.Volume.{Volume}
+use Rattle.f11_flx.specs.Copying.{FaresFiles, of_files}
 use Rattle.f11_flx.specs.declared.refusal.FlxRefusal.{FlxRefusal}
+use Rattle.f11_flx.specs.declared.refusal.FlxRefusal.TheVariants.{BadRecord, Files, LineTooLong, Rt}
+use Rattle.f11_store.specs.declared.refusals.Refusal.{Refusal}
+use Rattle.f11_store.specs.declared.refusals.Refusal.TheVariants.{Damaged}
 use Rattle.f11_catalog.specs.image_store.StoreOf.{store_of}
 use Rattle.f11_store.specs.Store.{Store}
 use Rattle.f11_volume.specs.Verdict.{IsAccepted}
@@ -19,6 +25,7 @@ use Rattle.f11_serving.specs.writes.Moments.{StandsAccepted}
 use Rattle.rt11_volume.specs.Calls.{has_failed, volume_device}
 use Rattle.rt11_volume.specs.Verifying.Verdict.{IsRtAccepted, IsSoundDisk}
 use Rattle.rt11_volume.specs.declared.volume.RtAccepted.{RtAccepted}
+use Rattle.f11_commands.proofs.AskedLemmas.{fault-of}
 use Rattle.f11_commands.specs.CopyCommand.{CopiesImages, EndsBetween, TellsKeptCopy}
 use Rattle.f11_commands.specs.Copying.{OutcomeIs, StandsAsIs}
 use Rattle.f11_commands.specs.Finding.{FaresAsAnswered}
@@ -48,12 +55,37 @@ module _ {D : Type 0} {met : Ghosts D} (old : Disk) (first last : Volume D met) 
 
 -- what stands on the image of one that was mounted and then written in order
 pub stands-accepted : {D : Type 0} {met : Ghosts D} (old : Disk) (first last : Volume D met) → Mounts old first → IsImage old.image
-    → (IsTrue old.honest → IsAccepted old.image) → SparesLost first last
+    → (IsTrue old.honest → IsAccepted old.image)
+    → (IsTrue old.honest → (state_in last).disk.failures ≡ old.failures → is_spent last ≡ false) → RequestsSpareLost first last
     → StandsAccepted old (state_in last).disk
-stands-accepted old first last mounts image accepted beside =
-    order-accepted (is_spent first) (is_spent last) old (state_in last).disk image accepted
+stands-accepted old first last mounts image accepted alive lost =
+    order-accepted (is_spent first) (is_spent last) old (state_in last).disk image accepted alive
     (lost-then (is_spent first) (is_spent first) (is_spent last) old (state_in first).disk (state_in last).disk
-    (lost-looked (is_spent first) (is_spent first) old (state_in first).disk _ _ (λ is. is) mounts.looked) beside)
+    (lost-looked (is_spent first) (is_spent first) old (state_in first).disk _ _ (λ is. is) mounts.looked) lost)
+
+-- where no transfer failed, none of what a copy asked has failed the volume
+fatal-fault : (r : Result ℕ FlxRefusal) → r ≢ Err (Files Damaged) → of_files is_fatal r ≡ true → of_files is_fault r ≡ true
+fatal-fault (Ok n) undamaged fatal = fatal
+fatal-fault (Err (Files e)) undamaged fatal = fault-of e fatal (λ is. undamaged (ap (λ (x : Refusal). Err (Files x)) is))
+fatal-fault (Err (Rt e)) undamaged fatal = fatal
+fatal-fault (Err BadRecord) undamaged fatal = fatal
+fatal-fault (Err LineTooLong) undamaged fatal = fatal
+
+pub still-alive : {D : Type 0} {met : Ghosts D} (result : Result ℕ FlxRefusal) (old : Disk) (first last : Volume D met) → Mounts old first
+    → FaresFiles result first last
+    → (is_spent first ≡ false → IsTrue (state_in first).disk.honest → result ≢ Err (Files Damaged))
+    → IsTrue old.honest → (state_in last).disk.failures ≡ old.failures → is_spent last ≡ false
+still-alive result old first last mounts fares undamaged honest same = by_spent (is_spent last) refl
+  where
+    by_spent : (b : Bool) → is_spent last ≡ b → is_spent last ≡ false
+    by_spent false is = is
+    by_spent true is =
+        let sure : IsTrue (state_in first).disk.honest = mounts.looked.honest ∙ honest in
+        let fatal : of_files is_fatal result ≡ true =
+        sym (fares.next sure ∙ ap (λ (b : Bool). b || of_files is_fatal result) mounts.fresh) ∙ is in
+        let fault = fatal-fault result (undamaged mounts.fresh sure) fatal in
+        let more = fares.failures ∙ ap (λ (b : Bool). (state_in first).disk.failures + (if b then 1 else 0)) fault in
+        let none = mounts.looked.failures in absurd (omega (arith, more, none, same))
 
 -- a volume that was mounted, between which and an RT-11 volume a copy was asked for
 module _ {D E : Type 0} {met : Ghosts D} {met' : Ghosts E} (rt-disk : E → Disk) (c : Copying) (result : Result ℕ FlxRefusal) (old : Disk)
@@ -108,7 +140,8 @@ module _ {D E : Type 0} {met : Ghosts D} {met' : Ghosts E} (rt-disk : E → Disk
           (subst (λ (h : HomeFields). WhereUnheld Stopped (store_of_volume first) (store_of (state_in last).disk.image h)) answers.home
           (answers.stopped (sound-first old first last mounts answers.home is) fault)) (λ task lun. refl);
       accepted = λ is. answers.fares.accepted (answers.fares.honest ∙ mounts.looked.honest ∙ is);
-      meanwhile = stands-accepted old first last mounts image files-accepted answers.fares.beside;
+      meanwhile = stands-accepted old first last mounts image files-accepted
+          (still-alive result old first last mounts answers.fares answers.undamaged) answers.fares.lost;
       rt_broken = λ is. answers.rt_broken (sound-rt is);
       rt_front = λ is. answers.fares_rt.front (sound-rt is);
       rt_accepted = λ is none. (answers.sound_rt (sound-rt is) none).accepted;

@@ -107,7 +107,7 @@ module _ {D : Type 0} {met : Ghosts D} where
         next = λ honest. g.next (f.honest ∙ honest) ∙ ap (λ b. b || of_files is_fatal result) alive;
         spent = λ dead. ap (λ b. b || of_files is_fatal result) (sym alive) ∙ g.spent dead;
         accepted = g.accepted;
-        beside = lost-then _ _ _ _ _ _ f.beside g.beside;
+        lost = lost-then _ _ _ _ _ _ f.lost g.lost;
       }
 
   -- a volume that a copy was asked of, as it tells itself
@@ -148,7 +148,7 @@ module _ {D : Type 0} {met : Ghosts D} where
           next = λ honest. fared.next;
           spent = λ dead. sym fared.next ∙ dead;
           accepted = fared.accepted;
-          beside = fared.beside;
+          lost = fared.lost;
         };
         alive = λ alive is. (denied-live operator x e v w alive denies).other (same-refusal (Files e) (Files VolumeFailed) is);
         home = denied-home operator x e v w denies;
@@ -170,7 +170,7 @@ module _ {D : Type 0} {met : Ghosts D} where
           next = λ honest. absurd (dishonest honest);
           spent = λ dead. or-true (is_spent v);
           accepted = fared.accepted;
-          beside = fared.beside;
+          lost = fared.lost;
         });
         alive = λ alive is. damaged-apart e wrong.2 (same-refusal (Files e) (Files VolumeFailed) is);
         home = granted-home operator (told (request.Find dir name) wrong.0) v w wrong.3;

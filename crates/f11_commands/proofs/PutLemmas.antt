@@ -39,7 +39,7 @@ use Rattle.f11_store.specs.declared.requests.Request.{Request}
 use Rattle.f11_store.specs.declared.requests.Request.TheVariants as request
 use Rattle.f11_volume.specs.Verdict.{IsAccepted}
 use Rattle.f11_commands.proofs.AskedLemmas.{denied-home, granted-home, never, tried-home}
-use Rattle.f11_commands.proofs.CopyLemmas.{first-is, last-is, sound-first, stands-accepted}
+use Rattle.f11_commands.proofs.CopyLemmas.{first-is, last-is, sound-first, stands-accepted, still-alive}
 use Rattle.f11_commands.proofs.StoppingLemmas.{alive-of, failed-by, find-leaves, find-stopped, honest-of, request-stopped, stops-by, stored}
 use Rattle.f11_commands.proofs.MomentsLemmas.{asked-alone, asked-stood, at, disk, file-stood, stood-both, stood-looked, stood-none}
 use Rattle.f11_commands.proofs.MomentsLemmas.{stood-then, stood-weaker, whole-stood}
@@ -479,7 +479,8 @@ module _ {D : Type 0} {met : Ghosts D} (p : Putting) (bytes : ℕ) (u : Hosts) w
         alive = puts.fares.alive mounts.fresh;
         undamaged = λ is. puts.fares.undamaged mounts.fresh (mounts.looked.honest ∙ is);
         accepted = λ is. puts.fares.fares.accepted (puts.fares.fares.honest ∙ mounts.looked.honest ∙ is);
-        meanwhile = stands-accepted old first last mounts image accepted puts.fares.fares.beside;
+        meanwhile = stands-accepted old first last mounts image accepted
+            (still-alive _ old first last mounts puts.fares.fares puts.fares.undamaged) puts.fares.fares.lost;
       }
 
       pub ends-accepted : {W : Type 0} (answer : Result FileAnswer PutFailure) (contents : W → Option (List ℕ)) (before after : W)

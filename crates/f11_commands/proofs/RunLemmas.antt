@@ -1,6 +1,7 @@
 -- A script that is served on an image.
 use Rattle.std.proofs.Common.{◌≡◌, ◌⊎◌, inl, inr, ℕ, ◌+◌, ◌<◌, ◌++◌, ◌||◌, Bool, true, false, IsTrue, List, Option, Result, Ok, Err, refl}
 use Rattle.std.proofs.Common.{sym}
+use Rattle.std.proofs.lemmas.Bool.{cases_Bool}
 use Rattle.std.proofs.Common.{◌∙◌, ap, subst, arith}
 use Rattle.f11_dev.specs.Disk.{Disk, with_transfer}
 use Rattle.f11_dev.proofs.LookedLemmas.{looked_failed_read}
@@ -11,7 +12,7 @@ use Rattle.f11_home.specs.Home.{IsHomeOf}
 use Rattle.f11_serving.specs.fcp.Accesses.{held_in, no_entries}
 use Rattle.f11_serving.specs.fcp.Lists.{ServesCall, failures_of, store_of_volume}
 use Rattle.f11_serving.specs.fcp.Mounting.{Mounts}
-use Rattle.f11_serving.specs.fcp.Serving.{SparesLost, StaysAccepted, is_spent, state_in}
+use Rattle.f11_serving.specs.fcp.Serving.{RequestsSpareLost, StaysAccepted, is_spent, state_in}
 use Rattle.f11_serving.specs.fcp.declared.volume.Volume.{Volume}
 use Rattle.f11_catalog.specs.image_store.StoreOf.{store_of}
 use Rattle.f11_runs.specs.Each.{Steps}
@@ -39,7 +40,7 @@ module _ {D W : Type 0} {met : Ghosts D} (disk : Disk) (first last : Volume D me
     (runs : RunsScript ServesCall remaining first last (contents before) (contents after) result)
     (answers : AnswersScript first last remaining (contents before) (contents after) result)
     (run : ServesScriptRun first last remaining (contents before) (contents after) result) (accepted : StaysAccepted (state_in last))
-    (beside : SparesLost first last) (image : IsImage disk.image)
+    (lost : RequestsSpareLost first last) (image : IsImage disk.image)
     (whole : IsTrue disk.honest → IsAccepted disk.image)
   where
     kept : KeepsVolume first last
@@ -77,6 +78,12 @@ module _ {D W : Type 0} {met : Ghosts D} (disk : Disk) (first last : Volume D me
     same-failures : is_spent last ≡ false → (state_in last).disk.failures ≡ disk.failures
     same-failures is = omega (arith, kept.same is, mounts.looked.failures)
 
+    still-alive : IsTrue disk.honest → (state_in last).disk.failures ≡ disk.failures → is_spent last ≡ false
+    still-alive honest same = elim (cases_Bool (is_spent last)) [
+      | inl is ↦ let more = more-failures is honest in absurd (omega (arith, more, same))
+      | inr alive ↦ alive
+    ]
+
     pub serves-image : ServesImage result remaining disk (state_in last).disk contents before after
     serves-image = record {
       home = (state_in first).home;
@@ -84,7 +91,7 @@ module _ {D W : Type 0} {met : Ghosts D} (disk : Disk) (first last : Volume D me
       home_is = mounts.home;
       verified = whole;
       accepted = λ is. accepted (kept.honest ∙ mounts.looked.honest ∙ is);
-      meanwhile = stands-accepted disk first last mounts image whole beside;
+      meanwhile = stands-accepted disk first last mounts image whole still-alive lost;
       failed = is_spent last;
       failed_is = λ is. (λ dead. more-failures dead is, λ alive. same-failures alive);
       answers = answers-images;
@@ -108,7 +115,8 @@ module _ {D W : Type 0} {met : Ghosts D} (disk : Disk) (first last : Volume D me
       verified = s.verified;
       accepted = s.accepted;
       meanwhile =
-          stands-before disk (state_in last).disk (with_transfer false (state_in last).disk) 1 1 s.meanwhile
+          stands-before disk (state_in last).disk (with_transfer false (state_in last).disk) 1 1
+          (let rises = kept.rises in let none = mounts.looked.failures in omega (arith, rises, none)) s.meanwhile
           (looked_failed_read (state_in last).disk (with_transfer false (state_in last).disk) refl);
       failed = s.failed;
       failed_is = λ honest.
@@ -155,7 +163,7 @@ module _ {W : Type 0} (remaining : Option (List ℕ)) (contents : W → Option (
     home_is = λ is. subst (λ (i : Image). IsHomeOf i s.home) looked.image (s.home_is (looked.honest ∙ is));
     verified = λ is. subst IsAccepted looked.image (s.verified (looked.honest ∙ is));
     accepted = λ is. s.accepted (looked.honest ∙ is);
-    meanwhile = stands-behind old mid new n 0 looked s.meanwhile;
+    meanwhile = stands-behind old mid new n looked s.meanwhile;
     failed = s.failed;
     failed_is = λ is.
         let fared = s.failed_is (looked.honest ∙ is) in (

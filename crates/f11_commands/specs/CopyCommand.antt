@@ -88,10 +88,10 @@ pub record FaresBoth (result : Result ℕ FlxRefusal) (files files' rt rt' : Dis
 
 -- A copy was asked for between the volumes of two images, of which neither has a fault. Where the disks are honest it is what the answer
 -- says of the plain stores, from those of the images, in which nobody holds an access; and the images have no fault then, that of the RT-11
--- volume unless a transfer of it failed; nor has any that stood meanwhile on the Files-11 one. Where a transfer of either failed nothing is
--- undone on the other; where that was one of the Files-11 volume, all its files are as they were if it is copied from, and else what was
--- asked last was stopped, and no file is changed but the copy, its directory and the index file. An RT-11 source is only read, and of any
--- RT-11 volume blocks 0 to 5 are spared.
+-- volume unless a transfer of it failed; nor has any that stood meanwhile on the Files-11 one, where blocks that are fixed or were lost are
+-- as they were. Where a transfer of either failed nothing is undone on the other; where that was one of the Files-11 volume, all its files
+-- are as they were if it is copied from, and else what was asked last was stopped, and no file is changed but the copy, its directory and
+-- the index file. An RT-11 source is only read, and of any RT-11 volume blocks 0 to 5 are spared.
 pub record CopiesImages (c : Copying) (result : Result ℕ FlxRefusal) (files files' rt rt' : Disk) : Type 0 where
   pub home : HomeFields
   pub held : AccessTable

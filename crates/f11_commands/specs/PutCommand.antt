@@ -122,10 +122,10 @@ pub record PutsNamed {D : Type 0} {met : Ghosts D} (m : CopyMode) (bytes : ℕ) 
       Stood (λ image. Stops (store_of_volume old) (store_of image (state_in old).home)) (state_in old).disk (state_in new).disk
 
 -- A file was to be made on the volume of an image that has no fault. Where the disk is honest it is what the answer says of the plain
--- store, from that of the image, in which nobody holds an access; and the image has no fault then, nor has any that stood meanwhile. A
--- transfer failed exactly where that is the answer, and no other followed; then what was asked last was stopped, and nothing else is done
--- but what was asked for this file before: no other is changed, but its directory and the index file, and it has an end only where its
--- blocks hold all that was read. So it is of each image that stood meanwhile.
+-- store, from that of the image, in which nobody holds an access; and the image has no fault then, nor has any that stood meanwhile; blocks
+-- that are fixed or were lost are as they were. A transfer failed exactly where that is the answer, and no other followed; then what was
+-- asked last was stopped, and nothing else is done but what was asked for this file before: no other is changed, but its directory and the
+-- index file, and it has an end only where its blocks hold all that was read. So it is of each image that stood meanwhile.
 pub record PutsOnImage (p : Putting) (bytes : ℕ) (result : Result ℕ HostRefusal) (h h' : Hosts) (old new : Disk)
     : Type 0 where
   pub home : HomeFields

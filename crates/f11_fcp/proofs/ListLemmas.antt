@@ -23,7 +23,7 @@ use Rattle.f11_fcp.specs.Handles.{State, faults_in, is_damage}
 use Rattle.f11_fcp.specs.Lists.{AreAnswered, IsServed, KeepsCosts, KeepsLocks, ServesCall, ServesRun, answer_and, answers_in, asked_in}
 use Rattle.f11_fcp.specs.Lists.{asked_of, cost_of, failures_of, is_sound, store_of_volume, transfers_of}
 use Rattle.f11_fcp.specs.Places.{access_table_of}
-use Rattle.f11_fcp.specs.Serving.{SparesLost, is_spent, state_in}
+use Rattle.f11_fcp.specs.Serving.{RequestsSpareLost, is_spent, state_in}
 use Rattle.f11_fcp.specs.declared.call.Call.{Call as Listed}
 use Rattle.f11_fcp.specs.declared.volume.Volume.{Volume}
 use Rattle.f11_fcp.proofs.AccessedLemmas.{there-marked}
@@ -159,9 +159,9 @@ module _ {D : Type 0} {met : Ghosts D} where
 
   -- their blocks were written in order, and none that was lost
   pub each-beside : (v w : Volume D met) (cs : List Call) (bs : List Answer) → Each ServesCall v cs bs w
-      → SparesLost v w
-  each-beside v w [] [] h = subst (λ (x : Volume D met). SparesLost v x) (sym h) (lost-none (is_spent v) (state_in v).disk)
-  each-beside v w (c ∷ cs) (a ∷ bs) h = lost-then _ _ _ _ _ _ h.1.serving.beside (each-beside h.0 w cs bs h.2)
+      → RequestsSpareLost v w
+  each-beside v w [] [] h = subst (λ (x : Volume D met). RequestsSpareLost v x) (sym h) (lost-none (is_spent v) (state_in v).disk)
+  each-beside v w (c ∷ cs) (a ∷ bs) h = lost-then _ _ _ _ _ _ h.1.serving.lost (each-beside h.0 w cs bs h.2)
   each-beside v w [] (a ∷ bs) h = absurd h
   each-beside v w (c ∷ cs) [] h = absurd h
 

@@ -10,7 +10,7 @@ use Rattle.f11_store.specs.declared.requests.Request.TheVariants as request
 use Rattle.f11_files.specs.Answers.{is_fatal, is_refused}
 use Rattle.f11_files.specs.Open as files
 use Rattle.f11_files.specs.volume.Verdict.{IsAccepted}
-use Rattle.f11_files.specs.writes.Lost.{WritesBesideLost}
+use Rattle.f11_files.specs.writes.Lost.{SparesLost}
 use Rattle.f11_fcp.specs.Handles.{State, state_of, Handles, IsUnwritten}
 use Rattle.f11_fcp.specs.InOneRun.{InOneRun}
 use Rattle.f11_fcp.specs.Places.{access_table_of}
@@ -45,21 +45,22 @@ StaysAccepted v = IsTrue v.disk.honest → IsAccepted v.disk.image
 abbrev pub is_spent : {D : Type 0} {met : Ghosts D} → Volume D met → Bool
 is_spent v = v.failed
 
--- What requests leave of a volume: blocks were written in order, and none that is lost; those are lost still unless one has failed it.
-abbrev pub SparesLost : {D : Type 0} {met : Ghosts D} → Volume D met → Volume D met → Type 0
-SparesLost old new = WritesBesideLost (is_spent old) (is_spent new) (state_in old).disk (state_in new).disk
+-- Requests spare the lost blocks of a volume: what was lost before them is as it was, and lost still unless one has failed the volume.
+-- Blocks are written in order.
+abbrev pub RequestsSpareLost : {D : Type 0} {met : Ghosts D} → Volume D met → Volume D met → Type 0
+RequestsSpareLost old new = SparesLost (is_spent old) (is_spent new) (state_in old).disk (state_in new).disk
 
--- A request was served. Once one has failed the volume each is refused as VolumeFailed, and nothing is done; before that it is handled.
--- It fails the volume where it answers DeviceFault or Damaged, and no other way. Where it asks for blocks in one run, these
--- lie in the image as it asks. Blocks are written in order, and none that is lost, whatever is answered; by a request that only reads none
--- is. The block that is lent is changed by ReadBlock alone.
+-- A request was served. Once one has failed the volume each is refused as VolumeFailed, and nothing is done; before that it is handled. It
+-- fails the volume where it answers DeviceFault or Damaged, and no other way. Where it asks for blocks in one run, these lie in the image
+-- as it asks. Blocks are written in order, and none is another that was lost before, whatever is answered; by a request that only reads
+-- none is written. The block that is lent is changed by ReadBlock alone.
 pub record Serving {D : Type 0} {met : Ghosts D} (task : ℕ) (caller : Uic) (r : Request)
     (result : Result Reply Refusal) (old new : Volume D met) (block block' : List ℕ) : Type 0 where
   pub refused : is_spent old ≡ true → IsErrOf result VolumeFailed
   pub untouched : is_spent old ≡ true → (state_in new ≡ state_in old) × (block' ≡ block)
   pub handled : is_spent old ≡ false → Handles task caller r result (state_in old) block (state_in new) block'
   pub in_run : is_spent old ≡ false → InOneRun task caller r result (state_in old) (state_in new)
-  pub beside : SparesLost old new
+  pub lost : RequestsSpareLost old new
   pub unwritten : only_reads r ≡ true → IsUnwritten (state_in old).disk (state_in new).disk
   pub spared : fills_block r ≡ false → block' ≡ block
   pub next : is_spent new ≡ (is_spent old || is_refused is_fatal result)

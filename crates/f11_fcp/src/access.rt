@@ -4,7 +4,7 @@ ghost use Rattle.f11_fcp.specs.ByWindow.{WindowsAfter};
 ghost use Rattle.f11_fcp.specs.Handles.{Handles, IsOpen, StaysOpen, state_of};
 ghost use Rattle.f11_fcp.specs.Places.{access_table_of};
 ghost use Rattle.f11_store.specs.declared.requests.Request.TheVariants as asked;
-ghost use Rattle.f11_files.specs.Open.{LeavesLost};
+ghost use Rattle.f11_files.specs.Open.{CallSparesLost};
 
 use crate::rights::{is_bad, is_marked, lacks_for};
 use crate::table::{Accesses, Held};
@@ -34,7 +34,7 @@ impl Accesses {
         ensures open { StaysOpen result (access_table_of self.new) files.new }
         ensures windows { OnOk result (WindowsAfter task (asked.Access file mode lun)
             (state_of (access_table_of self.old) files.old) (state_of (access_table_of self.new) files.new)) }
-        ensures beside { LeavesLost files.old files.new }
+        ensures lost { CallSparesLost files.old files.new }
     {
         if is_bad(file) {
             return Err(Refusal::BadArgument);

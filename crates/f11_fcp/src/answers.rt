@@ -5,7 +5,7 @@ ghost use Rattle.f11_fcp.specs.Handles.{Handles, IsOpen, IsUnwritten, StaysOpen,
 ghost use Rattle.f11_fcp.specs.InOneRun.{InOneRun};
 ghost use Rattle.f11_fcp.specs.Places.{access_table_of};
 ghost use Rattle.f11_fcp.specs.Serving.{fills_block, only_reads};
-ghost use Rattle.f11_files.specs.Open.{disk_in, LeavesLost};
+ghost use Rattle.f11_files.specs.Open.{disk_in, CallSparesLost};
 
 use crate::table::Accesses;
 use f11_bytes::Block;
@@ -34,7 +34,7 @@ impl Accesses {
         ensures run { InOneRun task caller request.now result
             (state_of (access_table_of self.old) files.old) (state_of (access_table_of self.new) files.new) }
         ensures spared { fills_block request.now ≡ false → block.new ≡ block.old }
-        ensures beside { LeavesLost files.old files.new }
+        ensures lost { CallSparesLost files.old files.new }
         ensures unwritten { only_reads request.now ≡ true → IsUnwritten (disk_in files.old) (disk_in files.new) }
     {
         match request {

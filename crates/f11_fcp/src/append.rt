@@ -4,7 +4,7 @@ ghost use Rattle.std.specs.List.{slice_get};
 ghost use Rattle.f11_entries.specs.Costs.{append_cost};
 ghost use Rattle.f11_files.specs.Answers.{is_fatal, is_clean, is_refused, Breaks, FailsToRead, ReadsAtMost};
 ghost use Rattle.f11_files.specs.Finding.Length.{most_blocks};
-ghost use Rattle.f11_files.specs.Open.{counts_in, disk_in, has_failed, home_in, is_honest, store_in, IsIdFrom, LeavesLost};
+ghost use Rattle.f11_files.specs.Open.{counts_in, disk_in, has_failed, home_in, is_honest, store_in, IsIdFrom, CallSparesLost};
 ghost use Rattle.f11_fcp.specs.Entries.{Appending, Appends, FailsToPut, HasEmpty, IsDirectoryEnd, IsFull, IsDirectoryTail, PutsEntry};
 ghost use Rattle.f11_fcp.specs.Windows.{LeavesRows};
 ghost use Rattle.f11_store.specs.Cost.{header_count};
@@ -48,7 +48,7 @@ fn end_block<D: Device>(
         (disk_in files.old) (disk_in files.new)) }
     ensures alive { OnOk result (has_failed files.new ≡ false) }
     ensures home { home_in files.new ≡ home_in files.old }
-    ensures beside { LeavesLost files.old files.new }
+    ensures lost { CallSparesLost files.old files.new }
 {
     if found.count % RECORDS != 0 {
         return Ok(found.last);
@@ -105,7 +105,7 @@ fn append_entry<D: Device>(
     ensures alive { OnOk result (has_failed files.new ≡ false) }
     ensures rows { OnOk result (LeavesRows files.old files.new) }
     ensures home { home_in files.new ≡ home_in files.old }
-    ensures beside { LeavesLost files.old files.new }
+    ensures lost { CallSparesLost files.old files.new }
 {
     match replace_entry(files, directory, &tail.spot, file, name) {
         Ok(()) => {}
@@ -139,7 +139,7 @@ fn append_in_block<D: Device>(
     ensures alive { OnOk result (has_failed files.new ≡ false) }
     ensures rows { OnOk result (LeavesRows files.old files.new) }
     ensures home { home_in files.new ≡ home_in files.old }
-    ensures beside { LeavesLost files.old files.new }
+    ensures lost { CallSparesLost files.old files.new }
 {
     let block = match end_block(files, directory, found) {
         Ok(block) => block,
@@ -172,7 +172,7 @@ fn append_in_new_block<D: Device>(
     ensures alive { is_refused is_fatal result ≡ false → has_failed files.new ≡ false }
     ensures rows { OnOk result (LeavesRows files.old files.new) }
     ensures home { home_in files.new ≡ home_in files.old }
-    ensures beside { LeavesLost files.old files.new }
+    ensures lost { CallSparesLost files.old files.new }
 {
     match files.extend(directory, 1) {
         Ok(_) => {}
@@ -210,7 +210,7 @@ pub(crate) fn put_entry<D: Device>(
     ensures alive { is_refused is_fatal result ≡ false → has_failed files.new ≡ false }
     ensures rows { OnOk result (LeavesRows files.old files.new) }
     ensures home { home_in files.new ≡ home_in files.old }
-    ensures beside { LeavesLost files.old files.new }
+    ensures lost { CallSparesLost files.old files.new }
 {
     match empty {
         Some(spot) => match replace_entry(files, directory, &spot, file, name) {

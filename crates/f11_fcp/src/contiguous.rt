@@ -4,7 +4,7 @@ ghost use Rattle.f11_fcp.specs.Handles.{Handles, IsOpen, StaysOpen, state_of};
 ghost use Rattle.f11_fcp.specs.InOneRun.{InOneRun};
 ghost use Rattle.f11_fcp.specs.Places.{access_table_of};
 ghost use Rattle.f11_store.specs.declared.requests.Request.TheVariants as asked;
-ghost use Rattle.f11_files.specs.Open.{LeavesLost};
+ghost use Rattle.f11_files.specs.Open.{CallSparesLost};
 
 use crate::answer::of_accessed;
 use crate::table::Accesses;
@@ -33,7 +33,7 @@ impl Accesses {
         ensures open { StaysOpen result (access_table_of self.now) files.new }
         ensures run { InOneRun task caller (asked.Contiguous lun n) result
             (state_of (access_table_of self.now) files.old) (state_of (access_table_of self.now) files.new) }
-        ensures beside { LeavesLost files.old files.new }
+        ensures lost { CallSparesLost files.old files.new }
     {
         if n == 0 {
             return Err(Refusal::BadArgument);

@@ -5,7 +5,7 @@ ghost use Rattle.f11_fcp.specs.Handles.{Handles, IsOpen, StaysOpen, state_of};
 ghost use Rattle.f11_fcp.specs.Places.{entry_of, access_table_of};
 ghost use Rattle.f11_files.specs.Answers.{is_fatal};
 ghost use Rattle.f11_store.specs.declared.requests.Request.TheVariants as asked;
-ghost use Rattle.f11_files.specs.Open.{LeavesLost};
+ghost use Rattle.f11_files.specs.Open.{CallSparesLost};
 
 use crate::answer::of_accessed;
 use crate::table::{Accesses, Held};
@@ -32,7 +32,7 @@ impl Accesses {
         ensures open { StaysOpen result (access_table_of self.new) files.new }
         ensures windows { OnOk result (WindowsAfter task (asked.Deaccess lun)
             (state_of (access_table_of self.old) files.old) (state_of (access_table_of self.new) files.new)) }
-        ensures beside { LeavesLost files.old files.new }
+        ensures lost { CallSparesLost files.old files.new }
     {
         match self.held(task, lun) {
             Some(held) => self.give_up(files, task, caller, lun, held),
@@ -58,7 +58,7 @@ impl Accesses {
         ensures windows { OnOk result (WindowsAfter task (asked.Deaccess lun)
             (state_of (access_table_of self.old) files.old) (state_of (access_table_of self.new) files.new)) }
         ensures fatal { IfErr result (λ refusal. is_fatal refusal ≡ true) }
-        ensures beside { LeavesLost files.old files.new }
+        ensures lost { CallSparesLost files.old files.new }
     {
         self.set(task, lun, None);
         if !held.marked {

@@ -1,7 +1,7 @@
 //! A directory that is opened for a request, and looked through.
 ghost use Rattle.std.specs.Prelude.{◌≡◌, ◌≤◌, false, IfErr, IfOk};
 ghost use Rattle.f11_files.specs.Answers.{is_fatal, is_refused, FailsToRead};
-ghost use Rattle.f11_files.specs.Open.{counts_in, disk_in, has_failed, home_in, store_in, LeavesLost};
+ghost use Rattle.f11_files.specs.Open.{counts_in, disk_in, has_failed, home_in, store_in, CallSparesLost};
 ghost use Rattle.f11_entries.specs.Costs.{look_cost};
 ghost use Rattle.f11_fcp.specs.Directories.{lacks_for_purpose, is_barred_to, opening_causes, OpensDirectory, Searches};
 ghost use Rattle.f11_fcp.specs.Places.{access_table_of};
@@ -63,7 +63,7 @@ impl Accesses {
         ensures alive { is_refused is_fatal result ≡ false → has_failed files.new ≡ false }
         ensures told { counts_in files.new ≡ counts_in files.old }
         ensures home { home_in files.new ≡ home_in files.old }
-        ensures beside { LeavesLost files.old files.new }
+        ensures lost { CallSparesLost files.old files.new }
     {
         if directory.number < 4 {
             return Err(Refusal::SystemFile);
@@ -112,7 +112,7 @@ impl Accesses {
         ensures alive { is_refused is_fatal result ≡ false → has_failed files.new ≡ false }
         ensures told { counts_in files.new ≡ counts_in files.old }
         ensures home { home_in files.new ≡ home_in files.old }
-        ensures beside { LeavesLost files.old files.new }
+        ensures lost { CallSparesLost files.old files.new }
     {
         let attr = match self.open_directory(files, caller, directory, purpose) {
             Ok(attr) => attr,

@@ -3,7 +3,7 @@ ghost use Rattle.std.specs.Prelude.{[]};
 ghost use Rattle.f11_fcp.specs.Handles.{Handles, IsOpen, StaysOpen, state_of};
 ghost use Rattle.f11_fcp.specs.Places.{access_table_of};
 ghost use Rattle.f11_store.specs.declared.requests.Request.TheVariants as asked;
-ghost use Rattle.f11_files.specs.Open.{LeavesLost};
+ghost use Rattle.f11_files.specs.Open.{CallSparesLost};
 
 use crate::append::put_entry;
 use crate::purpose::Purpose;
@@ -35,7 +35,7 @@ impl Accesses {
         ensures handles { Handles task caller (asked.Enter directory name.now file) result
             (state_of (access_table_of self.now) files.old) [] (state_of (access_table_of self.now) files.new) [] }
         ensures open { StaysOpen result (access_table_of self.now) files.new }
-        ensures beside { LeavesLost files.old files.new }
+        ensures lost { CallSparesLost files.old files.new }
     {
         if is_bad(directory) {
             return Err(Refusal::BadArgument);

@@ -2,7 +2,7 @@
 ghost use Rattle.std.specs.Prelude.{◌≡◌, ◌+◌, ◌<◌, ◌≤◌, ◌^◌, false, IfErr, IfOk, OnOk};
 ghost use Rattle.f11_files.specs.Answers.{Breaks, Meanwhile};
 ghost use Rattle.f11_files.specs.Finding.Blocks.{StoresBlock, block_work};
-ghost use Rattle.f11_files.specs.Open.{disk_in, has_failed, home_in, is_honest, store_in, IsIdFrom, LeavesLost};
+ghost use Rattle.f11_files.specs.Open.{disk_in, has_failed, home_in, is_honest, store_in, IsIdFrom, CallSparesLost};
 ghost use Rattle.f11_fcp.specs.Entries.{BreaksReplacing, HasBlocks, HoldsSpot, ReplacesEntry};
 ghost use Rattle.f11_fcp.specs.Windows.{LeavesRows};
 ghost use Rattle.f11_store.specs.Cost.{header_count};
@@ -37,7 +37,7 @@ fn write_known<D: Device>(
         (disk_in files.old) (disk_in files.new)) }
     ensures alive { OnOk result (has_failed files.new ≡ false) }
     ensures home { home_in files.new ≡ home_in files.old }
-    ensures beside { LeavesLost files.old files.new }
+    ensures lost { CallSparesLost files.old files.new }
 {
     match files.write_block(directory, number + 1, block) {
         Ok(()) => Ok(()),
@@ -64,7 +64,7 @@ pub(crate) fn replace_entry<D: Device>(
     ensures alive { OnOk result (has_failed files.new ≡ false) }
     ensures rows { OnOk result (LeavesRows files.old files.new) }
     ensures home { home_in files.new ≡ home_in files.old }
-    ensures beside { LeavesLost files.old files.new }
+    ensures lost { CallSparesLost files.old files.new }
 {
     let mut block = spot.block;
     put(&mut block, spot.place, file, name);
@@ -90,7 +90,7 @@ pub(crate) fn clear_entry<D: Device>(
     ensures alive { OnOk result (has_failed files.new ≡ false) }
     ensures rows { OnOk result (LeavesRows files.old files.new) }
     ensures home { home_in files.new ≡ home_in files.old }
-    ensures beside { LeavesLost files.old files.new }
+    ensures lost { CallSparesLost files.old files.new }
 {
     let mut block = spot.block;
     clear(&mut block, spot.place);

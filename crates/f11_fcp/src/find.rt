@@ -3,7 +3,7 @@ ghost use Rattle.std.specs.Prelude.{[]};
 ghost use Rattle.f11_fcp.specs.Handles.{Handles, IsOpen, IsUnwritten, StaysOpen, state_of};
 ghost use Rattle.f11_fcp.specs.Places.{access_table_of};
 ghost use Rattle.f11_store.specs.declared.requests.Request.TheVariants as asked;
-ghost use Rattle.f11_files.specs.Open.{disk_in, LeavesLost};
+ghost use Rattle.f11_files.specs.Open.{disk_in, CallSparesLost};
 
 use crate::purpose::Purpose;
 use crate::rights::is_bad;
@@ -32,7 +32,7 @@ impl Accesses {
         ensures handles { Handles task caller (asked.Find directory name.now) result
             (state_of (access_table_of self.now) files.old) [] (state_of (access_table_of self.now) files.new) [] }
         ensures open { StaysOpen result (access_table_of self.now) files.new }
-        ensures beside { LeavesLost files.old files.new }
+        ensures lost { CallSparesLost files.old files.new }
         ensures unwritten { IsUnwritten (disk_in files.old) (disk_in files.new) }
     {
         if is_bad(directory) {

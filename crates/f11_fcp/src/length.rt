@@ -4,7 +4,7 @@ ghost use Rattle.f11_files.specs.Answers.{is_fatal, is_refused};
 ghost use Rattle.f11_fcp.specs.Handles.{IsOpen, state_of};
 ghost use Rattle.f11_fcp.specs.Lengths.{Measures};
 ghost use Rattle.f11_fcp.specs.Places.{access_table_of};
-ghost use Rattle.f11_files.specs.Open.{LeavesLost};
+ghost use Rattle.f11_files.specs.Open.{CallSparesLost};
 
 use crate::answer::{is_fatal, of_accessed};
 use crate::table::Accesses;
@@ -29,7 +29,7 @@ impl Accesses {
         ensures measures { Measures task lun result (state_of (access_table_of self.now) files.old)
             (state_of (access_table_of self.now) files.new) }
         ensures open { is_refused is_fatal result ≡ false → IsOpen (access_table_of self.now) files.new }
-        ensures beside { LeavesLost files.old files.new }
+        ensures lost { CallSparesLost files.old files.new }
     {
         let held = match self.held(task, lun) {
             Some(held) => held,

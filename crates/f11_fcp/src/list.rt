@@ -2,7 +2,7 @@
 ghost use Rattle.f11_runs.specs.Each.{Each, answer_with, call_with};
 ghost use Rattle.f11_runs.specs.Standing.{IsTasks};
 ghost use Rattle.f11_fcp.specs.Lists.{AreAnswered, IsServed, KeepsCosts, KeepsLocks, ServesCall, ServesRun, answers_in, asked_in};
-ghost use Rattle.f11_fcp.specs.Serving.{SparesLost};
+ghost use Rattle.f11_fcp.specs.Serving.{RequestsSpareLost};
 
 use crate::call::Call;
 use crate::volume::Volume;
@@ -21,7 +21,7 @@ impl<D: Device> Volume<D> {
         ensures run { ServesRun self.old (asked_in calls.old) (answers_in calls.new) self.new }
         ensures locked { KeepsLocks self.old (asked_in calls.old) (answers_in calls.new) self.new }
         ensures costs { KeepsCosts self.old (asked_in calls.old) (answers_in calls.new) self.new }
-        ensures beside { SparesLost self.old self.new }
+        ensures lost { RequestsSpareLost self.old self.new }
     {
         for call in calls.iter_mut() {
             self.serve_call(call);

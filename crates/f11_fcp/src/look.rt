@@ -2,7 +2,7 @@
 ghost use Rattle.std.specs.Prelude.{◌≡◌, ◌*◌, ◌<◌, ◌≤◌, ◌^◌, false, IfErr, IfOk, OnOk, []};
 ghost use Rattle.f11_entries.specs.Costs.{reading_cost};
 ghost use Rattle.f11_files.specs.Answers.{FailsToRead};
-ghost use Rattle.f11_files.specs.Open.{counts_in, disk_in, has_failed, home_in, is_honest, store_in, IsIdFrom, LeavesLost};
+ghost use Rattle.f11_files.specs.Open.{counts_in, disk_in, has_failed, home_in, is_honest, store_in, IsIdFrom, CallSparesLost};
 ghost use Rattle.f11_fcp.specs.Directories.{IsDirectoryOf, LooksThroughDirectory};
 ghost use Rattle.f11_store.specs.Store.{file_named};
 
@@ -37,7 +37,7 @@ pub(crate) fn look_through<D: Device>(
     ensures alive { OnOk result (has_failed files.new ≡ false) }
     ensures told { counts_in files.new ≡ counts_in files.old }
     ensures home { home_in files.new ≡ home_in files.old }
-    ensures beside { LeavesLost files.old files.new }
+    ensures lost { CallSparesLost files.old files.new }
 {
     let mut empty: Option<Spot> = None;
     for number in 0..count.div_ceil(32) {

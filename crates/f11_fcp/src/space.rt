@@ -3,7 +3,7 @@ ghost use Rattle.std.specs.Prelude.{◌≡◌, [], false, IsTrue};
 ghost use Rattle.f11_fcp.specs.Handles.{Handles, IsOpen, IsUnwritten, StaysOpen, state_of};
 ghost use Rattle.f11_fcp.specs.Places.{access_table_of};
 ghost use Rattle.f11_store.specs.declared.requests.Request.TheVariants as asked;
-ghost use Rattle.f11_files.specs.Open.{disk_in, LeavesLost};
+ghost use Rattle.f11_files.specs.Open.{disk_in, CallSparesLost};
 
 use crate::table::Accesses;
 use crate::volume::Volume;
@@ -23,7 +23,7 @@ impl Accesses {
         ensures handles { Handles task caller asked.Space result (state_of (access_table_of self.now) files.old) []
             (state_of (access_table_of self.now) files.new) [] }
         ensures open { StaysOpen result (access_table_of self.now) files.new }
-        ensures beside { LeavesLost files.old files.new }
+        ensures lost { CallSparesLost files.old files.new }
         ensures unwritten { IsUnwritten (disk_in files.old) (disk_in files.new) }
     {
         let (free, headers, slots) = files.space();

@@ -5,7 +5,7 @@ ghost use Rattle.f11_fcp.specs.Places.{entry_of};
 ghost use Rattle.f11_fcp.specs.Windows.{FindsNext, IsHeld, KeepsNext};
 ghost use Rattle.f11_files.specs.Answers.{is_fatal, is_refused, FailsToRead};
 ghost use Rattle.f11_files.specs.Finding.Blocks.{FailsToStore, ReadsBlock, StoresBlock};
-ghost use Rattle.f11_files.specs.Open.{counts_in, disk_in, has_failed, home_in, store_in, AnswersCall, LeavesLost};
+ghost use Rattle.f11_files.specs.Open.{counts_in, disk_in, has_failed, home_in, store_in, AnswersCall, CallSparesLost};
 ghost use Rattle.f11_files.specs.Operations.{length_causes};
 ghost use Rattle.f11_store.specs.Cost.{header_count};
 ghost use Rattle.f11_store.specs.Store.{file_named};
@@ -35,7 +35,7 @@ fn next_window<D: Device>(files: &mut Files<D>, held: &Held, vbn: u32) -> Result
         (length_causes (store_in files.old) held.now.file vbn)
         (header_count (file_named (store_in files.old) held.now.file)) refusal
         (disk_in files.old) (disk_in files.new)) }
-    ensures beside { LeavesLost files.old files.new }
+    ensures lost { CallSparesLost files.old files.new }
 {
     match held.window.lbn_of(vbn) {
         Some(_) => Ok(held.window),
@@ -70,7 +70,7 @@ pub(crate) fn read_by<D: Device>(
         (header_count (file_named (store_in files.old) held.now.file) + 1) refusal
         (disk_in files.old) (disk_in files.new)) }
     ensures kept { is_refused is_fatal result ≡ false → OnErr result (block.new ≡ block.old) }
-    ensures beside { LeavesLost files.old files.new }
+    ensures lost { CallSparesLost files.old files.new }
 {
     let window = match next_window(files, held, vbn) {
         Ok(window) => window,
@@ -107,7 +107,7 @@ pub(crate) fn write_by<D: Device>(
     ensures refused { IfErr result (λ refusal. FailsToStore (has_failed files.old)
         (home_in files.old) held.now.file vbn block.now refusal
         (disk_in files.old) (disk_in files.new)) }
-    ensures beside { LeavesLost files.old files.new }
+    ensures lost { CallSparesLost files.old files.new }
 {
     let window = match next_window(files, held, vbn) {
         Ok(window) => window,

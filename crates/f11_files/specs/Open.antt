@@ -7,7 +7,7 @@ use Rattle.f11_store.specs.Store.{Store}
 use Rattle.f11_store.specs.declared.files.FileId.{FileId}
 use Rattle.f11_store.specs.declared.refusals.Refusal.{Refusal}
 use Rattle.f11_store.specs.declared.refusals.Refusal.TheVariants.{VolumeFailed}
-use Rattle.f11_writes.specs.Lost.{WritesBesideLost}
+use Rattle.f11_writes.specs.Lost.{SparesLost}
 use Rattle.f11_files.specs.Answers.{is_fatal, is_clean, is_refused}
 use Rattle.f11_image_store.specs.StoreOf.{store_of}
 use Rattle.f11_files.specs.Structure.{counts_of, home_of}
@@ -55,6 +55,7 @@ pub record AnswersCall {D T : Type 0} {met : Ghosts D} (result : Result T Refusa
   pub home : home_in new ≡ home_in old
   pub counts : is_refused is_clean result ≡ true → counts_in new ≡ counts_in old
 
--- What a call leaves of the volume: blocks were written in order, and none that is lost; those are lost still unless a call has failed it.
-abbrev pub LeavesLost : {D : Type 0} {met : Ghosts D} → Files D met → Files D met → Type 0
-LeavesLost old new = WritesBesideLost (has_failed old) (has_failed new) (disk_in old) (disk_in new)
+-- A call spares the lost blocks of the volume: what was lost before it is as it was, and lost still unless a call has failed the volume.
+-- Blocks are written in order.
+abbrev pub CallSparesLost : {D : Type 0} {met : Ghosts D} → Files D met → Files D met → Type 0
+CallSparesLost old new = SparesLost (has_failed old) (has_failed new) (disk_in old) (disk_in new)

@@ -140,7 +140,7 @@ impl Structure {
 }
 
 impl<D: Device> Files<D> {
-    ghost use Rattle.f11_files.specs.Open.{disk_in, has_failed, home_in, AnswersCall, LeavesLost};
+    ghost use Rattle.f11_files.specs.Open.{disk_in, has_failed, home_in, AnswersCall, CallSparesLost};
 
     /// Makes a file without blocks in the least free slot from 6 on, with the slot's next sequence number (profile), and gives its
     /// identification. Its owner, protection, ident area and attributes are those given, and its characteristics 0. Where no slot is
@@ -168,7 +168,7 @@ impl<D: Device> Files<D> {
             (disk_in self.old) (disk_in self.new)) }
         ensures confined { let home = home_in self.old in
             WritesAfterSlots 1 (WritesNewHeaders home) home (disk_in self.old) (disk_in self.new) }
-        ensures beside { LeavesLost self.old self.new }
+        ensures lost { CallSparesLost self.old self.new }
     {
         if self.failed {
             return Err(Refusal::VolumeFailed);

@@ -71,7 +71,7 @@ module _ {D : Type 0} {met : Ghosts D} where
     next = λ honest. sym (or-false (is_spent v));
     spent = λ is. or-false (is_spent v) ∙ is;
     accepted = accepted v;
-    beside = lost-none (is_spent v) (state_in v).disk;
+    lost = lost-none (is_spent v) (state_in v).disk;
   }
 
   -- what is told by an answer of which these hold is told by another of which they do
@@ -84,7 +84,7 @@ module _ {D : Type 0} {met : Ghosts D} where
     next = λ honest. h.next honest ∙ ap (λ x. is_spent v || x) (sym fatal);
     spent = λ is. ap (λ x. is_spent v || x) fatal ∙ h.spent is;
     accepted = h.accepted;
-    beside = h.beside;
+    lost = h.lost;
   }
 
   as-calm : (f : FlxRefusal) (v w : Volume D met) → is_lethal f ≡ false → FaresFiles (refused f) v w → FaresFiles done v w
@@ -103,7 +103,7 @@ module _ {D : Type 0} {met : Ghosts D} where
         ∙ ap (λ x. x || of_files is_fatal r) (h.next honest ∙ or-false (is_spent u));
     spent = λ is. still (is_spent v) (of_files is_fatal r) refl (k.spent is);
     accepted = k.accepted;
-    beside = lost-then _ _ _ _ _ _ h.beside k.beside;
+    lost = lost-then _ _ _ _ _ _ h.lost k.lost;
   }
     where
       plus-none : (n : ℕ) → n + 0 ≡ n
@@ -124,7 +124,7 @@ module _ {D : Type 0} {met : Ghosts D} where
         next = λ honest. h.next;
         spent = λ is. sym h.next ∙ is;
         accepted = h.accepted;
-        beside = h.beside;
+        lost = h.lost;
       }
 
   fares-denied : (who : Who) (x : Asking) (e : Refusal) (v w : Volume D met) → Denies of_volume who x e v w
@@ -138,7 +138,7 @@ module _ {D : Type 0} {met : Ghosts D} where
         next = λ honest. h.next;
         spent = λ is. sym h.next ∙ is;
         accepted = h.accepted;
-        beside = h.beside;
+        lost = h.lost;
       }
 
   pub fares-all : (who : Who) (xs : List Asking) (v w : Volume D met) → Granted of_volume who xs v w → FaresFiles done v w
@@ -183,7 +183,7 @@ module _ {D : Type 0} {met : Ghosts D} where
         next = λ honest. never honest (is_spent v) refl;
         spent = λ is. or_right (is_spent v) true refl;
         accepted = h.accepted;
-        beside = h.beside;
+        lost = h.lost;
       }
     where
       never : IsTrue (state_in v).disk.honest → (b : Bool) → is_spent v ≡ b → is_spent w ≡ (is_spent v || true)

@@ -19,7 +19,7 @@ use Rattle.f11_fcp.specs.files.Answers.{is_fatal, is_fault, is_refused}
 use Rattle.f11_fcp.specs.Handles.{State, faults_in}
 use Rattle.f11_fcp.specs.Lengths.{Measures}
 use Rattle.f11_fcp.specs.Lists.{ServesCall, failures_of, is_sound, store_of_volume}
-use Rattle.f11_fcp.specs.Serving.{SparesLost, StaysAccepted, is_spent, state_in}
+use Rattle.f11_fcp.specs.Serving.{RequestsSpareLost, StaysAccepted, is_spent, state_in}
 use Rattle.f11_fcp.specs.declared.volume.Volume.{Volume}
 use Rattle.f11_flx.specs.Asking.{Asking, BreaksOffAsking, Denies, Granted, Grants, Tried, Who, asks, counts, reads, reads_of, told, writes}
 use Rattle.f11_flx.specs.Copying.{IsAskedLength, ReadsFiles, is_reading, of_files, of_volume}
@@ -56,7 +56,7 @@ pub record Ran {D : Type 0} {met : Ghosts D} (who : Who) (fault fatal : Bool) (o
   pub next : IsTrue (state_in old).disk.honest → is_spent new ≡ (is_spent old || fatal)
   pub spent : is_spent new ≡ true → (is_spent old || fatal) ≡ true
   pub accepted : StaysAccepted (state_in old) → StaysAccepted (state_in new)
-  pub beside : SparesLost old new
+  pub lost : RequestsSpareLost old new
 
 abbrev as-count : Bool → ℕ
 as-count b = if b then 1 else 0
@@ -73,7 +73,7 @@ module _ {D : Type 0} {met : Ghosts D} (who : Who) where
     next = λ h. sym (or-false (is_spent v));
     spent = λ h. or-false (is_spent v) ∙ h;
     accepted = λ h. h;
-    beside = lost-none (is_spent v) (state_in v).disk;
+    lost = lost-none (is_spent v) (state_in v).disk;
   })
 
   tried-append : (xs ys : List Asking) (u v w : Volume D met) → Tried of_volume who xs u v → Tried of_volume who ys v w
@@ -92,7 +92,7 @@ module _ {D : Type 0} {met : Ghosts D} (who : Who) where
     next = λ t. k.next (h.honest ∙ t) ∙ ap (λ (x : Bool). x || c) (h.next t ∙ or-false (is_spent u));
     spent = λ t. by (is_spent v) refl (k.spent t);
     accepted = λ a. k.accepted (h.accepted a);
-    beside = lost-then _ _ _ _ _ _ h.beside k.beside;
+    lost = lost-then _ _ _ _ _ _ h.lost k.lost;
   }
     where
       by : (s : Bool) → is_spent v ≡ s → (is_spent v || c) ≡ true → (is_spent u || c) ≡ true
@@ -117,7 +117,7 @@ module _ {D : Type 0} {met : Ghosts D} (who : Who) where
     next = λ t. s.serving.next;
     spent = λ t. sym s.serving.next ∙ t;
     accepted = λ t. s.accepted;
-    beside = s.serving.beside;
+    lost = s.serving.lost;
   }
     where
       no-fault : is_spent v ≡ true → is_refused is_fault a.result ≡ false
@@ -158,7 +158,7 @@ module _ {D : Type 0} {met : Ghosts D} (who : Who) where
     next = λ t. s.0.next;
     spent = λ t. sym s.0.next ∙ t;
     accepted = λ t. s.1;
-    beside = beside (is_spent v) refl;
+    lost = lost (is_spent v) refl;
   }
     where
       no-fault : is_spent v ≡ true → is_refused is_fault r ≡ false
@@ -188,9 +188,9 @@ module _ {D : Type 0} {met : Ghosts D} (who : Who) where
       lasts : is_spent v ≡ true → is_spent w ≡ true
       lasts is = s.0.next ∙ ap (λ (b : Bool). b || is_refused is_fatal r) is
 
-      beside : (b : Bool) → is_spent v ≡ b → SparesLost v w
-      beside true is = idle-beside v w lasts (s.0.untouched is)
-      beside false is = let l = looked r (s.0.measures is) in lost-looked _ _ (state_in v).disk (state_in w).disk l.0 _ lasts l.1
+      lost : (b : Bool) → is_spent v ≡ b → RequestsSpareLost v w
+      lost true is = idle-beside v w lasts (s.0.untouched is)
+      lost false is = let l = looked r (s.0.measures is) in lost-looked _ _ (state_in v).disk (state_in w).disk l.0 _ lasts l.1
 
   -- one thing, granted or denied
   pub ran-granted : (x : Asking) (v w : Volume D met) → is_reading x ≡ true → Grants of_volume who x v w → Ran who false false v w
@@ -326,7 +326,7 @@ module _ {D : Type 0} {met : Ghosts D} (who : Who) (lun : ℕ) (name : List ℕ)
         next = λ t. absurd (wrong d.0 v w d.1 d.3 t);
         spent = λ t. or_right (is_spent v) true refl;
         accepted = h.accepted;
-        beside = h.beside;
+        lost = h.lost;
       } in
       by-files who lun name e r v w is (subst (λ x. Ran who (is_fault x) (is_fatal x) v w) (sym d.2) ran)
   told-nothing e r v w is (inr d) =
@@ -471,7 +471,7 @@ module _ {D : Type 0} {met : Ghosts D} (who : Who) (lun : ℕ) (name : List ℕ)
             next = h.next;
             spent = h.spent;
             accepted = p.1;
-            beside = h.beside;
+            lost = h.lost;
           };
           keeps = copied-keeps who disk lun file name day m old new rt rt' count made;
           spent = λ dead. absurd (spent-uncopied disk who lun name file day m old new rt rt' dead count made);
@@ -490,7 +490,7 @@ module _ {D : Type 0} {met : Ghosts D} (who : Who) (lun : ℕ) (name : List ℕ)
             next = h.next;
             spent = h.spent;
             accepted = p.1;
-            beside = h.beside;
+            lost = h.lost;
           };
           keeps = uncopied-keeps who disk lun file name day m old new rt rt' e failed;
           spent = λ dead. ap refused (spent-refused disk who lun name file day m old new rt rt' dead e failed);

@@ -24,9 +24,9 @@ use Rattle.f11_fcp.specs.Handles.{State, faults_in}
 use Rattle.f11_fcp.specs.Lengths.{AnswersLength, Measures}
 use Rattle.f11_fcp.specs.Lists.{ServesCall, failures_of, is_sound, store_of_volume}
 use Rattle.f11_fcp.specs.Places.{access_table_of}
-use Rattle.f11_fcp.specs.Serving.{SparesLost, StaysAccepted, is_spent, state_in}
+use Rattle.f11_fcp.specs.Serving.{RequestsSpareLost, StaysAccepted, is_spent, state_in}
 use Rattle.f11_fcp.specs.declared.volume.Volume.{Volume}
-use Rattle.f11_fcp.specs.writes.Lost.{WritesBesideLost}
+use Rattle.f11_fcp.specs.writes.Lost.{SparesLost}
 use Rattle.f11_fcp.proofs.writes.LostLemmas.{lost-looked}
 use Rattle.f11_flx.specs.Asking.{Asking, Denies, Grants, IsMeasured, Who, asks, counts, plain, reads, told, writes}
 use Rattle.f11_flx.specs.Copying.{of_volume}
@@ -92,9 +92,9 @@ module _ {D : Type 0} {met : Ghosts D} where
       accessed (access_table_of v.accesses) (store_in v.files) (v.kept parts.1 parts.0)
 
   -- of a volume nothing was asked
-  pub idle-beside : (v w : Volume D met) → (is_spent v ≡ true → is_spent w ≡ true) → state_in w ≡ state_in v → SparesLost v w
+  pub idle-beside : (v w : Volume D met) → (is_spent v ≡ true → is_spent w ≡ true) → state_in w ≡ state_in v → RequestsSpareLost v w
   idle-beside v w lasts same =
-      subst (λ (x : State). WritesBesideLost (is_spent v) (is_spent w) (state_in v).disk x.disk) (sym same)
+      subst (λ (x : State). SparesLost (is_spent v) (is_spent w) (state_in v).disk x.disk) (sym same)
       (lost-looked (is_spent v) (is_spent w) (state_in v).disk (state_in v).disk 0 0 lasts (looked_none (state_in v).disk))
 
   -- What answers tell of a volume: whether a transfer failed and whether it failed the volume.
@@ -104,7 +104,7 @@ module _ {D : Type 0} {met : Ghosts D} where
     pub honest : (state_in new).disk.honest ≡ (state_in old).disk.honest
     pub next : is_spent new ≡ (is_spent old || fatal)
     pub accepted : StaysAccepted (state_in new)
-    pub beside : SparesLost old new
+    pub lost : RequestsSpareLost old new
 
   -- a request of it, whatever it answers
   serves-fared : (v w : Volume D met) (c : Call) (a : Answer) → ServesCall v c a w
@@ -121,7 +121,7 @@ module _ {D : Type 0} {met : Ghosts D} where
             honest = ap (λ (x : State). x.disk.honest) same;
             next = h.serving.next ∙ ap (λ x. is_spent v || is_refused is_fatal x) r;
             accepted = h.accepted;
-            beside = h.serving.beside;
+            lost = h.serving.lost;
           })
       by_spent false is =
           let k = h.serving.handled is in
@@ -132,7 +132,7 @@ module _ {D : Type 0} {met : Ghosts D} where
             honest = k.writes.went.honest;
             next = h.serving.next;
             accepted = h.accepted;
-            beside = h.serving.beside;
+            lost = h.serving.lost;
           }
 
   measures-fared : (v w : Volume D met) (task lun : ℕ) (result : Result ℕ Refusal) → AnswersLength task lun result v w
@@ -150,7 +150,7 @@ module _ {D : Type 0} {met : Ghosts D} where
         honest = k.outcome.reads.looked.honest;
         next = next;
         accepted = accepted;
-        beside = lost-looked _ _ _ _ _ _ (lasts _ next) k.outcome.reads.looked;
+        lost = lost-looked _ _ _ _ _ _ (lasts _ next) k.outcome.reads.looked;
       }
       by_result (Err e) k next = record {
         failures = k.outcome.reads.looked.failures;
@@ -158,7 +158,7 @@ module _ {D : Type 0} {met : Ghosts D} where
         honest = k.outcome.reads.looked.honest;
         next = next;
         accepted = accepted;
-        beside = lost-looked _ _ _ _ _ _ (lasts _ next) k.outcome.reads.looked;
+        lost = lost-looked _ _ _ _ _ _ (lasts _ next) k.outcome.reads.looked;
       }
 
       by_spent : (b : Bool) → is_spent v ≡ b → IsFared (is_refused is_fault result) (is_refused is_fatal result) v w
@@ -171,7 +171,7 @@ module _ {D : Type 0} {met : Ghosts D} where
             honest = ap (λ (x : State). x.disk.honest) same;
             next = h.next ∙ ap (λ x. is_spent v || is_refused is_fatal x) r;
             accepted = accepted;
-            beside = idle-beside v w (lasts _ h.next) same;
+            lost = idle-beside v w (lasts _ h.next) same;
           })
       by_spent false is = by_result result (h.measures is) h.next
 

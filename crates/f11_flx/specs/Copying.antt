@@ -16,7 +16,7 @@ use Rattle.f11_store.specs.declared.requests.Request.TheVariants as request
 use Rattle.f11_fcp.specs.files.Answers.{is_fatal, is_fault}
 use Rattle.f11_fcp.specs.Lengths.{AnswersLength}
 use Rattle.f11_fcp.specs.Lists.{ServesCall, failures_of, is_sound, store_of_volume}
-use Rattle.f11_fcp.specs.Serving.{SparesLost, StaysAccepted, is_spent, state_in}
+use Rattle.f11_fcp.specs.Serving.{RequestsSpareLost, StaysAccepted, is_spent, state_in}
 use Rattle.f11_fcp.specs.declared.volume.Volume.{Volume}
 use Rattle.rt11_volume.specs.Calls.{has_failed, volume_device}
 use Rattle.rt11_volume.specs.Files.{is_fault as is_rt_fault}
@@ -72,8 +72,9 @@ pub record KeepsFailed {E T : Type 0} {met : Ghosts E} (disk : E → Disk) (resu
   pub only : result ≡ Err (Rt Failed) → has_failed old ≡ true
   pub untouched : has_failed old ≡ true → disk (volume_device new) ≡ disk (volume_device old)
 
--- What the answer tells of the Files-11 volume: a transfer failed where that is the answer, and none followed; DeviceFault and
--- Damaged fail the volume, and nothing else does. Where its disk is honest its blocks were written in order, and none that is lost.
+-- What the answer tells of the Files-11 volume: a transfer failed where that is the answer, and none followed; DeviceFault and Damaged fail
+-- the volume, and nothing else does. Where its disk is honest its blocks were written in order, and no block is another that was lost
+-- before.
 pub record FaresFiles {D T : Type 0} {met : Ghosts D} (result : Result T FlxRefusal) (old new : Volume D met) : Type 0 where
   pub failures : failures_of new ≡ failures_of old + (if of_files is_fault result then 1 else 0)
   pub quiet : of_files is_fault result ≡ true → (state_in new).disk.calm ≡ 0
@@ -81,7 +82,7 @@ pub record FaresFiles {D T : Type 0} {met : Ghosts D} (result : Result T FlxRefu
   pub next : IsTrue (state_in old).disk.honest → is_spent new ≡ (is_spent old || of_files is_fatal result)
   pub spent : is_spent new ≡ true → (is_spent old || of_files is_fatal result) ≡ true
   pub accepted : StaysAccepted (state_in new)
-  pub beside : SparesLost old new
+  pub lost : RequestsSpareLost old new
 
 -- What it tells of the RT-11 volume, of which blocks 0 to 5 are spared where the disk is sound.
 pub record FaresRt {E T : Type 0} {met : Ghosts E} (disk : E → Disk) (result : Result T FlxRefusal)

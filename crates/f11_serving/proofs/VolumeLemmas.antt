@@ -12,7 +12,7 @@ use Rattle.f11_script.specs.declared.errors.ScriptError.{ScriptError}
 use Rattle.f11_script.specs.declared.errors.ScriptError.TheVariants.{ReadFault, WriteFault, TooLong}
 use Rattle.f11_fcp.specs.Lists.{ServesCall, cost_of, failures_of, is_sound, store_of_volume, transfers_of}
 use Rattle.f11_fcp.specs.Handles.{State, faults_in, is_damage}
-use Rattle.f11_fcp.specs.Serving.{SparesLost, is_spent, state_in}
+use Rattle.f11_fcp.specs.Serving.{RequestsSpareLost, is_spent, state_in}
 use Rattle.f11_fcp.specs.declared.volume.Volume.{Volume}
 use Rattle.f11_fcp.proofs.ListLemmas.{grows, seen-as-steps}
 use Rattle.f11_fcp.proofs.writes.LostLemmas.{lost-none, lost-then}
@@ -285,11 +285,11 @@ module _ {D : Type 0} {met : Ghosts D} where
 
   -- blocks are written in order by a script, and none that is lost, since they are by each call
   pub script-beside : (bytes written written' : Option (List ℕ)) (old new : Volume D met) (result : Result ℕ ScriptError) →
-      RunsScript ServesCall bytes old new written written' result → SparesLost old new
+      RunsScript ServesCall bytes old new written written' result → RequestsSpareLost old new
   script-beside bytes written written' old new result h =
-      script-keeps ServesCall SparesLost (λ v. lost-none (is_spent v) (state_in v).disk)
+      script-keeps ServesCall RequestsSpareLost (λ v. lost-none (is_spent v) (state_in v).disk)
       (λ u v w. lost-then (is_spent u) (is_spent v) (is_spent w) (state_in u).disk (state_in v).disk (state_in w).disk)
-      (λ v w c a served. served.serving.beside) bytes written written' old new result h
+      (λ v w c a served. served.serving.lost) bytes written written' old new result h
 
 module _ {D : Type 0} {met : Ghosts D} (old new : Volume D met) (bytes written written' : Option (List ℕ)) (result : Result ℕ ScriptError)
     (runs : RunsScript ServesCall bytes old new written written' result)

@@ -1,6 +1,6 @@
 //! A volume that serves scripts.
 ghost use Rattle.f11_fcp.specs.Lists.{ServesCall};
-ghost use Rattle.f11_fcp.specs.Serving.{SparesLost, StaysAccepted, state_in};
+ghost use Rattle.f11_fcp.specs.Serving.{RequestsSpareLost, StaysAccepted, state_in};
 ghost use Rattle.f11_serving.specs.Answering.{AnswersScript};
 ghost use Rattle.f11_serving.specs.Scripts.{KeepsScriptCosts, ServesScriptRun};
 ghost use Rattle.f11_serving.specs.Serving.{RunsScript};
@@ -35,7 +35,7 @@ impl<D: Device> Serves for Volume<D> {
 /// the next line is read. The first request is lent a block of zeros, each later one the block as the last one left it. It
 /// takes no memory but for slots of the index file, by `GrowIndex` or first, for headers of others. A request that fails the
 /// volume ends nothing: the later ones are answered so. Blocks are written in order, so that a stop between two writes leaves an
-/// accepted volume, and none that is lost.
+/// accepted volume, and no block is changed that was lost before.
 ///
 /// # Errors
 ///
@@ -56,7 +56,7 @@ pub fn run_script<D: Device, R: Read + Drop, W: Write>(
     ensures costs { KeepsScriptCosts volume.old volume.new (R.remaining reader)
         (W.contents writer.old) (W.contents writer.new) result }
     ensures accepted { StaysAccepted (state_in volume.new) }
-    ensures beside { SparesLost volume.old volume.new }
+    ensures lost { RequestsSpareLost volume.old volume.new }
 {
     run_lines(reader, writer, volume)
 }

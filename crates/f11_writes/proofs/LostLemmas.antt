@@ -1,4 +1,4 @@
--- What carries `WritesBesideLost` from call to call.
+-- What carries `SparesLost` from call to call.
 use Rattle.std.proofs.Common.{◌≡◌, ℕ, ◌++◌, Bool, true, false, IsTrue, List, [], ◌∷◌, All, refl, sym, ap, subst, ◌∙◌, append_assoc, arith}
 use Rattle.std.proofs.lemmas.Bool.{false≢true}
 use Rattle.std.proofs.lemmas.List.Elements.{All-append, All-nil}
@@ -10,7 +10,7 @@ use Rattle.f11_volume.specs.home.Home.{HomeFields}
 use Rattle.f11_volume.specs.Notes.{IsLost}
 use Rattle.f11_volume.specs.Sound.{HasSoundVolume}
 use Rattle.f11_volume.specs.Volume.{volume_of}
-use Rattle.f11_writes.specs.Lost.{KeepsLost, MadeBesideLost, WritesBesideLost}
+use Rattle.f11_writes.specs.Lost.{KeepsLost, KeepsLostThroughout, SparesLost}
 use Rattle.f11_writes.specs.Order.{WritesInOrder}
 use Rattle.f11_writes.proofs.InOrderLemmas.{each-sound, newest-append, order-looked, order-none, order-then}
 
@@ -19,35 +19,35 @@ keeps-newest : (home : HomeFields) (old : Image) (since : List Image) → All (K
 keeps-newest home old [] each = λ lbn lost. refl
 keeps-newest home old (image ∷ earlier) each = each 0 image (omega arith)
 
-pub made-last : (home : HomeFields) (old new : Disk) → MadeBesideLost home old new → KeepsLost home old.image new.image
+pub made-last : (home : HomeFields) (old new : Disk) → KeepsLostThroughout home old new → KeepsLost home old.image new.image
 made-last home old new made =
     subst (KeepsLost home old.image) (sym made.image) (keeps-newest home old.image made.since made.each)
 
 -- nothing was written
 pub lost-looked : (failed fails : Bool) (old new : Disk) (most faults : ℕ) → (failed ≡ true → fails ≡ true) → Looked old new most faults
-    → WritesBesideLost failed fails old new
+    → SparesLost failed fails old new
 lost-looked failed fails old new most faults lasts looked = record {
   ordered = order-looked old new most faults looked;
-  beside = λ honest home sound.
+  kept = λ honest home sound.
       record { since = []; history = looked.history; image = looked.image; each = All-nil (KeepsLost home old.image) };
   stay = λ alive honest home sound lbn lost. subst (λ (i : Image). IsLost (volume_of i home) lbn) (sym looked.image) lost;
   spent = λ is. (lasts is, looked.image, looked.history);
 }
 
-pub lost-none : (failed : Bool) (disk : Disk) → WritesBesideLost failed failed disk disk
+pub lost-none : (failed : Bool) (disk : Disk) → SparesLost failed failed disk disk
 lost-none failed disk = record {
   ordered = order-none disk;
-  beside = λ honest home sound. record { since = []; history = refl; image = refl; each = All-nil (KeepsLost home disk.image) };
+  kept = λ honest home sound. record { since = []; history = refl; image = refl; each = All-nil (KeepsLost home disk.image) };
   stay = λ alive honest home sound lbn lost. lost;
   spent = λ is. (is, refl, refl);
 }
 
 -- the same is known of what stands for less
 pub lost-as : (failed fails was is : Bool) (old new : Disk) → was ≡ false → (is ≡ false → fails ≡ false)
-    → WritesBesideLost failed fails old new → WritesBesideLost was is old new
+    → SparesLost failed fails old new → SparesLost was is old new
 lost-as failed fails was is old new alive less one = record {
   ordered = one.ordered;
-  beside = one.beside;
+  kept = one.kept;
   stay = λ unfailed. one.stay (less unfailed);
   spent = λ spent. absurd (false≢true (sym alive ∙ spent));
 }
@@ -62,24 +62,24 @@ sound-behind a b home honest one sound =
     )
 
 -- one call after another
-pub lost-then : (failed between fails : Bool) (a b c : Disk) → WritesBesideLost failed between a b → WritesBesideLost between fails b c
-    → WritesBesideLost failed fails a c
+pub lost-then : (failed between fails : Bool) (a b c : Disk) → SparesLost failed between a b → SparesLost between fails b c
+    → SparesLost failed fails a c
 lost-then failed true fails a b c one two =
     let idle = two.spent refl in
     record {
       ordered = order-then a b c one.ordered two.ordered;
-      beside = λ honest home sound.
-          let made = one.beside honest home sound in
+      kept = λ honest home sound.
+          let made = one.kept honest home sound in
           record { since = made.since; history = idle.2 ∙ made.history; image = idle.1 ∙ made.image; each = made.each };
       stay = λ alive honest home sound. absurd (false≢true (sym alive ∙ idle.0));
       spent = λ is. let was = one.spent is in (idle.0, idle.1 ∙ was.1, idle.2 ∙ was.2);
     }
 lost-then failed false fails a b c one two = record {
   ordered = order-then a b c one.ordered two.ordered;
-  beside = λ honest home sound.
+  kept = λ honest home sound.
       let then = sound-behind a b home honest one.ordered sound in
-      let first = one.beside honest home sound in
-      let second = two.beside then.0 home then.1 in
+      let first = one.kept honest home sound in
+      let second = two.kept then.0 home then.1 in
       record {
         since = second.since ++ first.since;
         history = second.history ∙ ap (λ (h : List Image). second.since ++ h) first.history

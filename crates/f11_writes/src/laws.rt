@@ -116,13 +116,13 @@ pub fn ordered_calls()
     ensures kept { order.OrderIsKept }
     ensures sound { order.OrderIsSound }
     ensures fixed { order.OrderKeepsFixed }
-    ensures accepted { moments.OrderIsAccepted }
+    ensures accepted { moments.SparingLostIsAccepted }
 {}
 
 /// Calls that write beside lost blocks.
 pub fn lost_blocks()
-    ensures looked { lost.LooksAreBesideLost }
-    ensures kept { lost.BesideLostIsKept }
+    ensures looked { lost.LooksSpareLost }
+    ensures kept { lost.SparingLostIsKept }
 {}
 
 /// Writes that are not.

@@ -13,7 +13,7 @@ use Rattle.f11_volume.specs.Notes.{IsLost}
 use Rattle.f11_volume.specs.Sound.{HasSoundVolume}
 use Rattle.f11_volume.specs.Space.{storage_bitmap}
 use Rattle.f11_volume.specs.Volume.{volume_of}
-use Rattle.f11_writes.specs.Lost.{KeepsLost, MadeBesideLost, StayLost, WritesBesideLost}
+use Rattle.f11_writes.specs.Lost.{KeepsLost, KeepsLostThroughout, StayLost, SparesLost}
 use Rattle.f11_writes.proofs.InOrderLemmas.{at-home}
 use Rattle.f11_writes.proofs.LostLemmas.{lost-looked, lost-then, sound-behind}
 use Rattle.f11_image_store.specs.Allocation.{free_list}
@@ -43,16 +43,16 @@ pub looked-stay : (home : HomeFields) (old new : Disk) {most faults : ℕ} → L
 looked-stay home old new looked lbn lost = subst (λ (i : Image). IsLost (volume_of i home) lbn) (sym looked.image) lost
 
 -- blocks were read
-pub reads-beside : (fails : Bool) {old new : Disk} {most faults : ℕ} → Looked old new most faults → WritesBesideLost false fails old new
+pub reads-beside : (fails : Bool) {old new : Disk} {most faults : ℕ} → Looked old new most faults → SparesLost false fails old new
 reads-beside fails {old = old} {new = new} {most = most} {faults = faults} looked =
     lost-looked false fails old new most faults (λ is. absurd (false≢true is)) looked
 
 -- where the disk is honest
-beside-if : (fails : Bool) (old new : Disk) → (IsTrue old.honest → WritesBesideLost false fails old new)
-    → WritesBesideLost false fails old new
+beside-if : (fails : Bool) (old new : Disk) → (IsTrue old.honest → SparesLost false fails old new)
+    → SparesLost false fails old new
 beside-if fails old new one = record {
   ordered = record { ordered = λ honest. (one honest).ordered.ordered honest };
-  beside = λ honest. (one honest).beside honest;
+  kept = λ honest. (one honest).kept honest;
   stay = λ alive honest. (one honest).stay alive honest;
   spent = λ is. absurd (false≢true is);
 }
@@ -60,10 +60,10 @@ beside-if fails old new one = record {
 module _ (home : HomeFields) (fails : Bool) (old new : Disk) (sound : IsTrue old.honest → HasSoundVolume old.image home)
     (stay : fails ≡ false → IsTrue old.honest → HasSoundVolume new.image home → StayLost home old.image new.image) where
   -- what stays is told of the call as a whole
-  with-stay : WritesBesideLost false true old new → WritesBesideLost false fails old new
+  with-stay : SparesLost false true old new → SparesLost false fails old new
   with-stay one = record {
     ordered = one.ordered;
-    beside = one.beside;
+    kept = one.kept;
     stay = λ alive honest other there.
         subst (λ (h : HomeFields). StayLost h old.image new.image) (at-home home other old.image (sound honest) there)
         (stay alive honest (sound-behind old new home honest one.ordered (sound honest)).1);
@@ -72,12 +72,12 @@ module _ (home : HomeFields) (fails : Bool) (old new : Disk) (sound : IsTrue old
 
   -- a call writes its own blocks, and these
   pub confined-beside : (headers : ℕ → Bool) (others : List ℕ) → (IsTrue old.honest → NoneLost home old.image others)
-      → WritesOnly headers others home old new → WritesBesideLost false fails old new
+      → WritesOnly headers others home old new → SparesLost false fails old new
   confined-beside headers others out confined = with-stay (record {
     ordered = in-order-if confined;
-    beside = λ honest other there.
+    kept = λ honest other there.
         let one = confined honest in
-        subst (λ (h : HomeFields). MadeBesideLost h old new) (at-home home other old.image (sound honest) there) (record {
+        subst (λ (h : HomeFields). KeepsLostThroughout h old new) (at-home home other old.image (sound honest) there) (record {
           since = one.since;
           history = one.history;
           image = one.image;
@@ -91,7 +91,7 @@ module _ (home : HomeFields) (fails : Bool) (old new : Disk) (sound : IsTrue old
 -- slots that come first
 slots-beside : (n : ℕ) (home : HomeFields) (fails : Bool) (old ready : Disk) → (IsTrue old.honest → HasSoundVolume old.image home)
     → (fails ≡ false → IsTrue old.honest → HasSoundVolume ready.image home → StayLost home old.image ready.image)
-    → (IsTrue old.honest → ConfinesSlots n home old ready) → WritesBesideLost false fails old ready
+    → (IsTrue old.honest → ConfinesSlots n home old ready) → SparesLost false fails old ready
 slots-beside zero home fails old ready sound stay slots =
     confined-beside home fails old ready sound stay no_header [] (λ honest lbn lost. refl) (λ honest. slots honest honest)
 slots-beside (suc n) home fails old ready sound stay slots =
@@ -103,19 +103,19 @@ slots-beside (suc n) home fails old ready sound stay slots =
 module _ (home : HomeFields) (headers : ℕ) (Rest : Disk → Disk → Type 0) (fails : Bool) (old new : Disk)
     (sound : IsTrue old.honest → HasSoundVolume old.image home)
     (stay : fails ≡ false → IsTrue old.honest → HasSoundVolume new.image home → StayLost home old.image new.image)
-    (rest : (ready : Disk) → HasSoundVolume ready.image home → Rest ready new → WritesBesideLost false true ready new)
+    (rest : (ready : Disk) → HasSoundVolume ready.image home → Rest ready new → SparesLost false true ready new)
     (after : WritesAfterSlots headers Rest home old new) where
   slots : (fails : Bool)
       → (fails ≡ false → IsTrue old.honest → HasSoundVolume after.ready.image home → StayLost home old.image after.ready.image)
-      → WritesBesideLost false fails old after.ready
+      → SparesLost false fails old after.ready
   slots fails stay = slots-beside (slots_first (store_of old.image home) headers) home fails old after.ready sound stay after.slots
 
-  either-way : IsTrue old.honest → (new ≡ after.ready) ⊎ HasReadied headers home old after.ready → WritesBesideLost false true old new
-  either-way honest (inl same) = subst (WritesBesideLost false true old) (sym same) (slots true (λ is. absurd (false≢true (sym is))))
+  either-way : IsTrue old.honest → (new ≡ after.ready) ⊎ HasReadied headers home old after.ready → SparesLost false true old new
+  either-way honest (inl same) = subst (SparesLost false true old) (sym same) (slots true (λ is. absurd (false≢true (sym is))))
   either-way honest (inr readied) =
       let first = slots false (λ alive sure there. slots-stay home old.image after.ready.image (sound sure) there _ (readied sure)) in
       lost-then false false true old after.ready new first
       (rest after.ready (sound-behind old after.ready home honest first.ordered (sound honest)).1 after.rest)
 
-  pub after-beside : WritesBesideLost false fails old new
+  pub after-beside : SparesLost false fails old new
   after-beside = with-stay home fails old new sound stay (beside-if true old new (λ honest. either-way honest after.readied))

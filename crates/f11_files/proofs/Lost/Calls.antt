@@ -22,7 +22,7 @@ use Rattle.f11_store.specs.declared.refusals.Refusal.{Refusal}
 use Rattle.f11_store.proofs.StoreLemmas.{none_first}
 use Rattle.f11_volume.specs.Sound.{HasSoundVolume}
 use Rattle.f11_volume.specs.Volume.{volume_of}
-use Rattle.f11_writes.specs.Lost.{StayLost, WritesBesideLost}
+use Rattle.f11_writes.specs.Lost.{StayLost, SparesLost}
 use Rattle.f11_image_store.specs.Allocation.{free_list}
 use Rattle.f11_image_store.specs.Confines.{either, new_header, no_header, only_header}
 use Rattle.f11_image_store.specs.StoreOf.{store_of}
@@ -43,14 +43,14 @@ use Rattle.f11_files.proofs.Lost.Beside.{after-beside, confined-beside, free-non
 use Rattle.f11_files.proofs.Lost.Stay.{cut-stay, gained-stay, gone-stay, kept-stay, out-of-file, run-stay, slots-stay}
 
 -- a call of which this is the answer, on a volume that hadn't failed
-pub as-answered : (failed fails fatal : Bool) (old new : Disk) → failed ≡ false → fails ≡ fatal → WritesBesideLost false fatal old new
-    → WritesBesideLost failed fails old new
+pub as-answered : (failed fails fatal : Bool) (old new : Disk) → failed ≡ false → fails ≡ fatal → SparesLost false fatal old new
+    → SparesLost failed fails old new
 as-answered failed fails fatal old new alive same one =
-    subst (λ (f : Bool). WritesBesideLost f fails old new) (sym alive) (subst (λ (f : Bool). WritesBesideLost false f old new) (sym same) one)
+    subst (λ (f : Bool). SparesLost f fails old new) (sym alive) (subst (λ (f : Bool). SparesLost false f old new) (sym same) one)
 
 -- a block was read by a window, or wasn't
 pub read-beside : (old new : Disk) (w : Window) (vbn : ℕ) (block : List ℕ) (r : Result Unit Refusal) → ReadsIn w vbn r block old new
-    → WritesBesideLost false (is_refused is_fatal r) old new
+    → SparesLost false (is_refused is_fatal r) old new
 read-beside old new w vbn block (Ok x) is = reads-beside _ (looked_read old new is.reads.counts)
 read-beside old new w vbn block (Err e) is = reads-beside _ (looked_failed_read old new is.reads.counts)
 
@@ -75,7 +75,7 @@ module _ (home : HomeFields) (old new : Disk) (sound : IsTrue old.honest → Has
 
   pub altered-beside : {T : Type 0} (change : File → File) (f : FileId) (r : Result T Refusal) → OnOk r (Alters change home f old new)
       → IfErr r (λ e. FailsToAlter false change home f e old new) → WritesFirstOf f home old new
-      → WritesBesideLost false (is_refused is_fatal r) old new
+      → SparesLost false (is_refused is_fatal r) old new
   altered-beside change f r does fails confined =
       confined-beside home _ old new sound (altered-stay change f r does fails) (only_header f.number) [] (λ honest lbn lost. refl) confined
 
@@ -99,7 +99,7 @@ module _ (home : HomeFields) (old new : Disk) (sound : IsTrue old.honest → Has
 
   pub stored-beside : {T : Type 0} (f : FileId) (vbn : ℕ) (block : List ℕ) (r : Result T Refusal)
       → OnOk r (StoresBlock home f vbn block old new) → IfErr r (λ e. FailsToStore false home f vbn block e old new)
-      → WritesBlocksOf f home old new → WritesBesideLost false (is_refused is_fatal r) old new
+      → WritesBlocksOf f home old new → SparesLost false (is_refused is_fatal r) old new
   stored-beside f vbn block r does fails confined =
       confined-beside home _ old new sound (stored-stay f vbn block r does fails) no_header (blocks_of home f old.image)
       (blocks-none-lost f) confined
@@ -107,7 +107,7 @@ module _ (home : HomeFields) (old new : Disk) (sound : IsTrue old.honest → Has
   -- by a window
   pub window-beside : {T : Type 0} (w : Window) (vbn : ℕ) (block : List ℕ) (r : Result T Refusal) → IsOfFile home w old
       → OnOk r (StoresBy home w vbn block old new) → IfErr r (λ e. FailsToStoreBy false home w vbn block e old new)
-      → WritesBesideLost false (is_refused is_fatal r) old new
+      → SparesLost false (is_refused is_fatal r) old new
   window-beside {T = T} w vbn block (Ok x) of does fails =
       stored-beside {T = T} of.file vbn block (Ok x) (does.of_file of.file of.is) fails (does.confined of.file of.is)
   window-beside {T = T} w vbn block (Err e) of does fails =
@@ -124,7 +124,7 @@ module _ (home : HomeFields) (old new : Disk) (sound : IsTrue old.honest → Has
 
   pub deleted-beside : {T : Type 0} (f : FileId) (r : Result T Refusal) → OnOk r (Deletes home f old new)
       → IfErr r (λ e. FailsToDelete false home f e old new) → WritesHeadersOf f home old new
-      → WritesBesideLost false (is_refused is_fatal r) old new
+      → SparesLost false (is_refused is_fatal r) old new
   deleted-beside f r does fails confined =
       confined-beside home _ old new sound (deleted-stay f r does fails) (is_in (file_named (store_of old.image home) f).held) []
       (λ honest lbn lost. refl) confined
@@ -140,13 +140,13 @@ module _ (home : HomeFields) (old new : Disk) (sound : IsTrue old.honest → Has
 
   pub cut-beside : (f : FileId) (to : ℕ) (r : Result ℕ Refusal) → IfOk r (λ blocks. (blocks ≡ to) × Cuts home f to old new)
       → IfErr r (λ e. FailsToCut false home f to e old new) → WritesHeadersOf f home old new
-      → WritesBesideLost false (is_refused is_fatal r) old new
+      → SparesLost false (is_refused is_fatal r) old new
   cut-beside f to r does fails confined =
       confined-beside home _ old new sound (cut-still f to r does fails) (is_in (file_named (store_of old.image home) f).held) []
       (λ honest lbn lost. refl) confined
 
   -- file k may get blocks that were free
-  more-beside : (k : ℕ) (fails : Bool) → StayUnless fails → WritesMoreOf k home old new → WritesBesideLost false fails old new
+  more-beside : (k : ℕ) (fails : Bool) → StayUnless fails → WritesMoreOf k home old new → SparesLost false fails old new
   more-beside k fails stay confined =
       confined-beside home fails old new sound stay
       (either (is_in (file_numbered (store_of old.image home) k).held) (new_header (index_of old.image home)))
@@ -161,7 +161,7 @@ module _ (home : HomeFields) (old new : Disk) (sound : IsTrue old.honest → Has
 
   pub laid-beside : (f : FileId) (n : ℕ) (r : Result ℕ Refusal) → IfOk r (λ blocks. (blocks ≡ n) × LaysOutFile home f n old new)
       → IfErr r (λ e. FailsToLayOut false home f n e old new) → WritesMoreOf f.number home old new
-      → WritesBesideLost false (is_refused is_fatal r) old new
+      → SparesLost false (is_refused is_fatal r) old new
   laid-beside f n r does fails confined = more-beside f.number _ (laid-stay f n r does fails) confined
 
   -- as slots
@@ -173,7 +173,7 @@ module _ (home : HomeFields) (old new : Disk) (sound : IsTrue old.honest → Has
 
   pub grown-beside : (n : ℕ) (r : Result ℕ Refusal) → IfOk r (λ slots. IsSlotsAfter home n old slots × GrowsIndexFile home n old new)
       → IfErr r (λ e. FailsToGrow false home n e old new) → WritesMoreOf 1 home old new
-      → WritesBesideLost false (is_refused is_fatal r) old new
+      → SparesLost false (is_refused is_fatal r) old new
   grown-beside n r does fails confined = more-beside 1 _ (grown-stay n r does fails) confined
 
   -- headers were readied first
@@ -198,7 +198,7 @@ module _ (home : HomeFields) (old new : Disk) (sound : IsTrue old.honest → Has
   pub made-beside : (owner : Uic) (protection : ℕ) (ident attr : List ℕ) (r : Result FileId Refusal)
       → IfOk r (λ f. Creates home owner protection ident attr f old new)
       → IfErr r (λ e. FailsToCreate false home owner protection ident attr e old new)
-      → WritesAfterSlots 1 (WritesNewHeaders home) home old new → WritesBesideLost false (is_refused is_fatal r) old new
+      → WritesAfterSlots 1 (WritesNewHeaders home) home old new → SparesLost false (is_refused is_fatal r) old new
   made-beside owner protection ident attr r does fails after =
       after-beside home 1 (WritesNewHeaders home) _ old new sound (made-stay owner protection ident attr r does fails)
       (λ ready there confined.
@@ -221,7 +221,7 @@ module _ (home : HomeFields) (old new : Disk) (sound : IsTrue old.honest → Has
   pub extended-beside : (f : FileId) (n : ℕ) (r : Result ℕ Refusal)
       → IfOk r (λ blocks. IsLengthAfter home f n old blocks × ExtendsFile home f n old new) → IfErr r (λ e. FailsToExtend false home f n e old new)
       → WritesAfterSlots (headers_for home f n old) (WritesMoreOf f.number home) home old new
-      → WritesBesideLost false (is_refused is_fatal r) old new
+      → SparesLost false (is_refused is_fatal r) old new
   extended-beside f n r does fails after =
       after-beside home (headers_for home f n old) (WritesMoreOf f.number home) _ old new sound (extended-stay f n r does fails)
       (λ ready there confined.

@@ -116,7 +116,7 @@ impl Structure {
 }
 
 impl<D: Device> Files<D> {
-    ghost use Rattle.f11_files.specs.Open.{counts_in, disk_in, has_failed, home_in, store_in, AnswersCall, IsIdFrom, LeavesLost};
+    ghost use Rattle.f11_files.specs.Open.{counts_in, disk_in, has_failed, home_in, store_in, AnswersCall, IsIdFrom, CallSparesLost};
 
     /// What a file's header says of it, of one that is marked for delete too, and of the volume's own files. One transfer at most.
     ///
@@ -132,7 +132,7 @@ impl<D: Device> Files<D> {
             ReadsAttr (home_in self.old) f attr (disk_in self.old) (disk_in self.new)) }
         ensures refused { IfErr result (λ refusal. FailsToRead (has_failed self.old)
             (file_causes (store_in self.old) f) 1 refusal (disk_in self.old) (disk_in self.new)) }
-        ensures beside { LeavesLost self.old self.new }
+        ensures lost { CallSparesLost self.old self.new }
         ensures bounded { MakesAtMost 1 (disk_in self.old) (disk_in self.new) }
     {
         if self.failed {
@@ -158,7 +158,7 @@ impl<D: Device> Files<D> {
             (with_replacement change.now) (home_in self.old) f refusal
             (disk_in self.old) (disk_in self.new)) }
         ensures confined { WritesFirstOf f (home_in self.old) (disk_in self.old) (disk_in self.new) }
-        ensures beside { LeavesLost self.old self.new }
+        ensures lost { CallSparesLost self.old self.new }
         ensures bounded { MakesAtMost 2 (disk_in self.old) (disk_in self.new) }
     {
         if self.failed {
@@ -183,7 +183,7 @@ impl<D: Device> Files<D> {
         ensures refused { IfErr result (λ refusal. FailsToAlter (has_failed self.old)
             with_delete_mark (home_in self.old) f refusal (disk_in self.old) (disk_in self.new)) }
         ensures confined { WritesFirstOf f (home_in self.old) (disk_in self.old) (disk_in self.new) }
-        ensures beside { LeavesLost self.old self.new }
+        ensures lost { CallSparesLost self.old self.new }
         ensures bounded { MakesAtMost 2 (disk_in self.old) (disk_in self.new) }
     {
         if self.failed {

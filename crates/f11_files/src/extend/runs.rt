@@ -270,7 +270,7 @@ impl Structure {
 }
 
 impl<D: Device> Files<D> {
-    ghost use Rattle.f11_files.specs.Open.{disk_in, has_failed, home_in, AnswersCall, IsIdFrom, LeavesLost};
+    ghost use Rattle.f11_files.specs.Open.{disk_in, has_failed, home_in, AnswersCall, IsIdFrom, CallSparesLost};
 
     /// Extends a file by `n` blocks of zeros, and answers how many it has then. Where fewer headers are free than it may need, the index file
     /// first gets a slot for each that lacks, as [`Files::grow_index`] says, in its last header. Then the contiguous mark is cleared where
@@ -298,7 +298,7 @@ impl<D: Device> Files<D> {
         ensures confined { let home = home_in self.old in
             WritesAfterSlots (headers_for home f n (disk_in self.old)) (WritesMoreOf f.number home)
             home (disk_in self.old) (disk_in self.new) }
-        ensures beside { LeavesLost self.old self.new }
+        ensures lost { CallSparesLost self.old self.new }
     {
         if self.failed {
             return Err(Refusal::VolumeFailed);

@@ -82,7 +82,7 @@ impl Structure {
 }
 
 impl<D: Device> Files<D> {
-    ghost use Rattle.f11_files.specs.Open.{counts_in, disk_in, has_failed, home_in, store_in, AnswersCall, IsIdFrom, LeavesLost};
+    ghost use Rattle.f11_files.specs.Open.{counts_in, disk_in, has_failed, home_in, store_in, AnswersCall, IsIdFrom, CallSparesLost};
 
     /// Reads block `vbn` of a file, from 1, into the block that is lent, which stays as it is where the call is refused for another cause
     /// than `DeviceFault` and `Damaged`. It reads the file's headers up to the one that names the block, each once and on any device 256 at
@@ -104,7 +104,7 @@ impl<D: Device> Files<D> {
             (length_causes (store_in self.old) f vbn)
             (header_count (file_named (store_in self.old) f) + 1) refusal
             (disk_in self.old) (disk_in self.new)) }
-        ensures beside { LeavesLost self.old self.new }
+        ensures lost { CallSparesLost self.old self.new }
         ensures kept { is_refused is_fatal result ≡ false → OnErr result (block.new ≡ block.old) }
         ensures bounded { MakesAtMost 257 (disk_in self.old) (disk_in self.new) }
     {
@@ -131,7 +131,7 @@ impl<D: Device> Files<D> {
         ensures refused { IfErr result (λ refusal. FailsToStore (has_failed self.old)
             (home_in self.old) f vbn block.now refusal (disk_in self.old) (disk_in self.new)) }
         ensures confined { WritesBlocksOf f (home_in self.old) (disk_in self.old) (disk_in self.new) }
-        ensures beside { LeavesLost self.old self.new }
+        ensures lost { CallSparesLost self.old self.new }
         ensures bounded { MakesAtMost 257 (disk_in self.old) (disk_in self.new) }
     {
         if self.failed {

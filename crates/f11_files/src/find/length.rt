@@ -43,7 +43,7 @@ impl Structure {
 }
 
 impl<D: Device> Files<D> {
-    ghost use Rattle.f11_files.specs.Open.{counts_in, disk_in, has_failed, home_in, store_in, AnswersCall, IsIdFrom, LeavesLost};
+    ghost use Rattle.f11_files.specs.Open.{counts_in, disk_in, has_failed, home_in, store_in, AnswersCall, IsIdFrom, CallSparesLost};
 
     /// How many blocks a file has. It reads each of the file's headers once, on any device 256 at most.
     ///
@@ -61,7 +61,7 @@ impl<D: Device> Files<D> {
             (file_causes (store_in self.old) f)
             (header_count (file_named (store_in self.old) f)) refusal
             (disk_in self.old) (disk_in self.new)) }
-        ensures beside { LeavesLost self.old self.new }
+        ensures lost { CallSparesLost self.old self.new }
         ensures bounded { MakesAtMost 256 (disk_in self.old) (disk_in self.new) }
     {
         if self.failed {

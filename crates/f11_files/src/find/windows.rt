@@ -107,7 +107,7 @@ fn read_in<D: Device>(
 }
 
 impl<D: Device> Files<D> {
-    ghost use Rattle.f11_files.specs.Open.{counts_in, disk_in, has_failed, home_in, store_in, AnswersCall, LeavesLost};
+    ghost use Rattle.f11_files.specs.Open.{counts_in, disk_in, has_failed, home_in, store_in, AnswersCall, CallSparesLost};
     ghost use Rattle.std.specs.Prelude.{OnErr};
 
     /// The window of block `vbn` of a file, from 1: the retrieval pointer that names the block, and those that follow it in its header,
@@ -129,7 +129,7 @@ impl<D: Device> Files<D> {
             (length_causes (store_in self.old) f vbn)
             (header_count (file_named (store_in self.old) f)) refusal
             (disk_in self.old) (disk_in self.new)) }
-        ensures beside { LeavesLost self.old self.new }
+        ensures lost { CallSparesLost self.old self.new }
         ensures bounded { MakesAtMost 256 (disk_in self.old) (disk_in self.new) }
     {
         if self.failed {
@@ -155,7 +155,7 @@ impl<D: Device> Files<D> {
             (disk_in self.old) (disk_in self.new)) }
         ensures refused { IfErr result (λ refusal. FailsToReadBy (has_failed self.old) refusal
             (disk_in self.old) (disk_in self.new)) }
-        ensures beside { LeavesLost self.old self.new }
+        ensures lost { CallSparesLost self.old self.new }
         ensures kept { is_refused is_fatal result ≡ false → OnErr result (block.new ≡ block.old) }
     {
         if self.failed {
@@ -183,7 +183,7 @@ impl<D: Device> Files<D> {
         ensures refused { IfErr result (λ refusal. FailsToStoreBy (has_failed self.old)
             (home_in self.old) window.now vbn block.now refusal
             (disk_in self.old) (disk_in self.new)) }
-        ensures beside { LeavesLost self.old self.new }
+        ensures lost { CallSparesLost self.old self.new }
     {
         if self.failed {
             return Err(Refusal::VolumeFailed);

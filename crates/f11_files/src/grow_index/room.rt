@@ -167,7 +167,7 @@ impl Structure {
 }
 
 impl<D: Device> Files<D> {
-    ghost use Rattle.f11_files.specs.Open.{disk_in, has_failed, home_in, AnswersCall, LeavesLost};
+    ghost use Rattle.f11_files.specs.Open.{disk_in, has_failed, home_in, AnswersCall, CallSparesLost};
 
     /// Gives the index file `n` slots more, and answers how many there are then. First all memory is taken, and the contiguous mark cleared
     /// where it is set. Then the index file grows as [`Files::extend`] says of a file; its new blocks are zeros, so none of the slots was
@@ -189,7 +189,7 @@ impl<D: Device> Files<D> {
         ensures refused { IfErr result (λ refusal. FailsToGrow (has_failed self.old)
             (home_in self.old) n refusal (disk_in self.old) (disk_in self.new)) }
         ensures confined { WritesMoreOf 1 (home_in self.old) (disk_in self.old) (disk_in self.new) }
-        ensures beside { LeavesLost self.old self.new }
+        ensures lost { CallSparesLost self.old self.new }
     {
         if self.failed {
             return Err(Refusal::VolumeFailed);

@@ -189,7 +189,7 @@ impl Structure {
 }
 
 impl<D: Device> Files<D> {
-    ghost use Rattle.f11_files.specs.Open.{disk_in, has_failed, home_in, AnswersCall, IsIdFrom, LeavesLost};
+    ghost use Rattle.f11_files.specs.Open.{disk_in, has_failed, home_in, AnswersCall, IsIdFrom, CallSparesLost};
 
     /// Lays a file without blocks out in one run of `n` blocks of zeros, and answers how many it has then. The run is the lowest place that has
     /// `n` free blocks in a row. Its blocks are marked used, all of them; then, header by header, they are made zeros and named, in pointers of
@@ -213,7 +213,7 @@ impl<D: Device> Files<D> {
             (home_in self.old) f n refusal (disk_in self.old) (disk_in self.new)) }
         ensures confined { WritesMoreOf f.number (home_in self.old) (disk_in self.old)
             (disk_in self.new) }
-        ensures beside { LeavesLost self.old self.new }
+        ensures lost { CallSparesLost self.old self.new }
     {
         if self.failed {
             return Err(Refusal::VolumeFailed);

@@ -42,7 +42,7 @@ impl Structure {
 }
 
 impl<D: Device> Files<D> {
-    ghost use Rattle.f11_files.specs.Open.{disk_in, has_failed, home_in, AnswersCall, IsIdFrom, LeavesLost};
+    ghost use Rattle.f11_files.specs.Open.{disk_in, has_failed, home_in, AnswersCall, IsIdFrom, CallSparesLost};
 
     /// Deletes a file, one that is marked for delete too. For each of its headers, in order, three things are written: the header, killed;
     /// the bit of its slot, so that it isn't in use; and the bits of its blocks, so that they are free. So each header is killed
@@ -61,7 +61,7 @@ impl<D: Device> Files<D> {
             (home_in self.old) f refusal (disk_in self.old) (disk_in self.new)) }
         ensures confined { WritesHeadersOf f (home_in self.old) (disk_in self.old)
             (disk_in self.new) }
-        ensures beside { LeavesLost self.old self.new }
+        ensures lost { CallSparesLost self.old self.new }
     {
         if self.failed {
             return Err(Refusal::VolumeFailed);

@@ -110,7 +110,7 @@ impl Structure {
 }
 
 impl<D: Device> Files<D> {
-    ghost use Rattle.f11_files.specs.Open.{disk_in, has_failed, home_in, AnswersCall, IsIdFrom, LeavesLost};
+    ghost use Rattle.f11_files.specs.Open.{disk_in, has_failed, home_in, AnswersCall, IsIdFrom, CallSparesLost};
 
     /// Cuts a file to its first `to` blocks, and answers how many it has then. The header that names the last of them, or the first one
     /// where none stays, is written with those blocks and no link; then its other blocks are marked free; and then each header behind
@@ -131,7 +131,7 @@ impl<D: Device> Files<D> {
             (home_in self.old) f to refusal (disk_in self.old) (disk_in self.new)) }
         ensures confined { WritesHeadersOf f (home_in self.old) (disk_in self.old)
             (disk_in self.new) }
-        ensures beside { LeavesLost self.old self.new }
+        ensures lost { CallSparesLost self.old self.new }
     {
         if self.failed {
             return Err(Refusal::VolumeFailed);

@@ -61,8 +61,8 @@ returns-in-Ok-write_attr-clause-rows g c =
     (g.met.D.Device.is_image c.write_attr.new.self.device) c.in-Ok-write_attr.ensures.answers.home c.args.directory
     (change.Attr c.moved_end-attr.result) c.in-Ok-write_attr.ensures.altered)
 
-pub returns-in-Ok-write_attr-clause-beside : goal.returns-in-Ok-write_attr-clause-beside
-returns-in-Ok-write_attr-clause-beside g c = lost-then _ _ _ _ _ _ c.replace_entry.ensures.beside c.write_attr.ensures.beside
+pub returns-in-Ok-write_attr-clause-lost : goal.returns-in-Ok-write_attr-clause-lost
+returns-in-Ok-write_attr-clause-lost g c = lost-then _ _ _ _ _ _ c.replace_entry.ensures.lost c.write_attr.ensures.lost
 
-pub returns-in-Err-write_attr-clause-beside : goal.returns-in-Err-write_attr-clause-beside
-returns-in-Err-write_attr-clause-beside g c = lost-then _ _ _ _ _ _ c.replace_entry.ensures.beside c.write_attr.ensures.beside
+pub returns-in-Err-write_attr-clause-lost : goal.returns-in-Err-write_attr-clause-lost
+returns-in-Err-write_attr-clause-lost g c = lost-then _ _ _ _ _ _ c.replace_entry.ensures.lost c.write_attr.ensures.lost

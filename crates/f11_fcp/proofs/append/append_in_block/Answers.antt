@@ -48,8 +48,8 @@ returns-in-Ok-append_entry-clause-rows g c =
     leaves-behind c.args.files.now c.end_block.new.files c.append_entry.new.files c.in-Ok.ensures.home c.in-Ok.ensures.reads.looked.honest
     c.in-Ok.ensures.reads.looked.image c.in-Ok-append_entry.ensures.rows
 
-pub returns-in-Ok-append_entry-clause-beside : goal.returns-in-Ok-append_entry-clause-beside
-returns-in-Ok-append_entry-clause-beside g c = lost-then _ _ _ _ _ _ c.end_block.ensures.beside c.append_entry.ensures.beside
+pub returns-in-Ok-append_entry-clause-lost : goal.returns-in-Ok-append_entry-clause-lost
+returns-in-Ok-append_entry-clause-lost g c = lost-then _ _ _ _ _ _ c.end_block.ensures.lost c.append_entry.ensures.lost
 
-pub returns-in-Err-append_entry-clause-beside : goal.returns-in-Err-append_entry-clause-beside
-returns-in-Err-append_entry-clause-beside g c = lost-then _ _ _ _ _ _ c.end_block.ensures.beside c.append_entry.ensures.beside
+pub returns-in-Err-append_entry-clause-lost : goal.returns-in-Err-append_entry-clause-lost
+returns-in-Err-append_entry-clause-lost g c = lost-then _ _ _ _ _ _ c.end_block.ensures.lost c.append_entry.ensures.lost

@@ -68,8 +68,8 @@ returns-in-Ok-append_entry-clause-rows g c =
     (g.met.D.Device.is_image c.extend.new.self.device) c.in-Ok.ensures.answers.home c.args.directory 1 c.in-Ok.ensures.extended.1)
     c.in-Ok-append_entry.ensures.rows
 
-pub returns-in-Ok-append_entry-clause-beside : goal.returns-in-Ok-append_entry-clause-beside
-returns-in-Ok-append_entry-clause-beside g c = lost-then _ _ _ _ _ _ c.extend.ensures.beside c.append_entry.ensures.beside
+pub returns-in-Ok-append_entry-clause-lost : goal.returns-in-Ok-append_entry-clause-lost
+returns-in-Ok-append_entry-clause-lost g c = lost-then _ _ _ _ _ _ c.extend.ensures.lost c.append_entry.ensures.lost
 
-pub returns-in-Err-append_entry-clause-beside : goal.returns-in-Err-append_entry-clause-beside
-returns-in-Err-append_entry-clause-beside g c = lost-then _ _ _ _ _ _ c.extend.ensures.beside c.append_entry.ensures.beside
+pub returns-in-Err-append_entry-clause-lost : goal.returns-in-Err-append_entry-clause-lost
+returns-in-Err-append_entry-clause-lost g c = lost-then _ _ _ _ _ _ c.extend.ensures.lost c.append_entry.ensures.lost

@@ -35,7 +35,7 @@ loop-number-preserved g c =
       alive = c.in-Ok.ensures.answers.next ∙ ap (λ b. b || false) c.loop-number.invariant.alive;
       told = c.in-Ok.ensures.told ∙ c.loop-number.invariant.told;
       few = omega (arith, c.loop-number-test.true);
-      beside = lost-then _ _ _ _ _ _ c.loop-number.invariant.beside c.read_block.ensures.beside;
+      lost = lost-then _ _ _ _ _ _ c.loop-number.invariant.lost c.read_block.ensures.lost;
     }
 
 pub returns-clause-looked : goal.returns-clause-looked
@@ -50,14 +50,14 @@ loop-number-init g c = record {
   alive = c.requires.alive;
   told = refl;
   few = omega arith;
-  beside = lost-none _ _;
+  lost = lost-none _ _;
 }
 
-pub returns-in-Some-clause-beside : goal.returns-in-Some-clause-beside
-returns-in-Some-clause-beside g c = lost-then _ _ _ _ _ _ c.loop-number.invariant.beside c.read_block.ensures.beside
+pub returns-in-Some-clause-lost : goal.returns-in-Some-clause-lost
+returns-in-Some-clause-lost g c = lost-then _ _ _ _ _ _ c.loop-number.invariant.lost c.read_block.ensures.lost
 
-pub returns-in-Err-clause-beside : goal.returns-in-Err-clause-beside
-returns-in-Err-clause-beside g c = lost-then _ _ _ _ _ _ c.loop-number.invariant.beside c.read_block.ensures.beside
+pub returns-in-Err-clause-lost : goal.returns-in-Err-clause-lost
+returns-in-Err-clause-lost g c = lost-then _ _ _ _ _ _ c.loop-number.invariant.lost c.read_block.ensures.lost
 
-pub returns-clause-beside : goal.returns-clause-beside
-returns-clause-beside g c = c.loop-number.invariant.beside
+pub returns-clause-lost : goal.returns-clause-lost
+returns-clause-lost g c = c.loop-number.invariant.lost

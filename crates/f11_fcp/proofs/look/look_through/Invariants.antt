@@ -1,5 +1,5 @@
 use Rattle.std.proofs.Common.{◌≡◌, ◌≤◌, false}
-use Rattle.f11_files.specs.Open.{counts_in, disk_in, has_failed, home_in, LeavesLost}
+use Rattle.f11_files.specs.Open.{counts_in, disk_in, has_failed, home_in, CallSparesLost}
 use Rattle.f11_fcp.proofs.LookLemmas.{IsThrough}
 use Rattle.f11_fcp.proofs.look.look_through.Given as goal
 
@@ -11,5 +11,5 @@ invariant-loop-number g l =
       alive : has_failed l.files ≡ false;
       told : counts_in l.files ≡ counts_in l.fn.files;
       few : l.number ≤ l.number-end;
-      beside : LeavesLost l.fn.files l.files;
+      lost : CallSparesLost l.fn.files l.files;
     }

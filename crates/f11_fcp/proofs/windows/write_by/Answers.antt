@@ -74,8 +74,8 @@ returns-in-Err-write_in-clause-refused g c =
     (disk_in new)) home (by.of_file e.file
     (on-here (home_in old) e c.args.vbn c.in-Ok.window (disk_in old) (disk_in mid) id finds (home_in mid) home)))
 
-pub returns-in-Ok-write_in-clause-beside : goal.returns-in-Ok-write_in-clause-beside
-returns-in-Ok-write_in-clause-beside g c = lost-then _ _ _ _ _ _ c.next_window.ensures.beside c.write_in.ensures.beside
+pub returns-in-Ok-write_in-clause-lost : goal.returns-in-Ok-write_in-clause-lost
+returns-in-Ok-write_in-clause-lost g c = lost-then _ _ _ _ _ _ c.next_window.ensures.lost c.write_in.ensures.lost
 
-pub returns-in-Err-write_in-clause-beside : goal.returns-in-Err-write_in-clause-beside
-returns-in-Err-write_in-clause-beside g c = lost-then _ _ _ _ _ _ c.next_window.ensures.beside c.write_in.ensures.beside
+pub returns-in-Err-write_in-clause-lost : goal.returns-in-Err-write_in-clause-lost
+returns-in-Err-write_in-clause-lost g c = lost-then _ _ _ _ _ _ c.next_window.ensures.lost c.write_in.ensures.lost

@@ -8,8 +8,8 @@ returns-clause-run g c = serves-script-run c.args.volume.now c.run_lines.new.ser
 pub returns-clause-costs : goal.returns-clause-costs
 returns-clause-costs g c = keeps-script-costs c.args.volume.now c.run_lines.new.service _ _ _ c.run_lines.result c.run_lines.ensures.runs
 
-pub returns-clause-beside : goal.returns-clause-beside
-returns-clause-beside g c = script-beside _ _ _ c.args.volume.now c.run_lines.new.service c.run_lines.result c.run_lines.ensures.runs
+pub returns-clause-lost : goal.returns-clause-lost
+returns-clause-lost g c = script-beside _ _ _ c.args.volume.now c.run_lines.new.service c.run_lines.result c.run_lines.ensures.runs
 
 pub returns-clause-answers : goal.returns-clause-answers
 returns-clause-answers g c = answers-script c.args.volume.now c.run_lines.new.service _ _ _ c.run_lines.result c.run_lines.ensures.runs

@@ -156,10 +156,10 @@ returns-in-Err-contiguous-clause-run g c =
     c.of_accessed-in-Err-contiguous.result
     c.in-Err-contiguous.ensures.refused c.of_accessed-in-Err-contiguous.ensures (returns-in-Err-contiguous-clause-handles g c)
 
-pub returns-in-Ok-contiguous-clause-beside : goal.returns-in-Ok-contiguous-clause-beside
-returns-in-Ok-contiguous-clause-beside g c =
-    lost-then _ _ _ _ _ _ c.read_attr.ensures.beside c.contiguous.ensures.beside
+pub returns-in-Ok-contiguous-clause-lost : goal.returns-in-Ok-contiguous-clause-lost
+returns-in-Ok-contiguous-clause-lost g c =
+    lost-then _ _ _ _ _ _ c.read_attr.ensures.lost c.contiguous.ensures.lost
 
-pub returns-in-Err-contiguous-clause-beside : goal.returns-in-Err-contiguous-clause-beside
-returns-in-Err-contiguous-clause-beside g c =
-    lost-then _ _ _ _ _ _ c.read_attr.ensures.beside c.contiguous.ensures.beside
+pub returns-in-Err-contiguous-clause-lost : goal.returns-in-Err-contiguous-clause-lost
+returns-in-Err-contiguous-clause-lost g c =
+    lost-then _ _ _ _ _ _ c.read_attr.ensures.lost c.contiguous.ensures.lost

@@ -199,15 +199,15 @@ pub returns-in-Ok-mark-clause-windows : goal.returns-in-Ok-mark-clause-windows
 returns-in-Ok-mark-clause-windows g c =
     keeps-marked c.args.file (access_table_of c.args.self.now) (access_table_of c.set_marks.new.self) c.set_marks.ensures
 
-pub returns-in-Ok-delete-clause-beside : goal.returns-in-Ok-delete-clause-beside
-returns-in-Ok-delete-clause-beside g c = lost-then _ _ _ _ _ _ c.read_attr.ensures.beside c.delete.ensures.beside
+pub returns-in-Ok-delete-clause-lost : goal.returns-in-Ok-delete-clause-lost
+returns-in-Ok-delete-clause-lost g c = lost-then _ _ _ _ _ _ c.read_attr.ensures.lost c.delete.ensures.lost
 
-pub returns-in-Err-delete-clause-beside : goal.returns-in-Err-delete-clause-beside
-returns-in-Err-delete-clause-beside g c =
-    lost-then _ _ _ _ _ _ c.read_attr.ensures.beside c.delete.ensures.beside
+pub returns-in-Err-delete-clause-lost : goal.returns-in-Err-delete-clause-lost
+returns-in-Err-delete-clause-lost g c =
+    lost-then _ _ _ _ _ _ c.read_attr.ensures.lost c.delete.ensures.lost
 
-pub returns-in-Ok-mark-clause-beside : goal.returns-in-Ok-mark-clause-beside
-returns-in-Ok-mark-clause-beside g c = lost-then _ _ _ _ _ _ c.read_attr.ensures.beside c.mark.ensures.beside
+pub returns-in-Ok-mark-clause-lost : goal.returns-in-Ok-mark-clause-lost
+returns-in-Ok-mark-clause-lost g c = lost-then _ _ _ _ _ _ c.read_attr.ensures.lost c.mark.ensures.lost
 
-pub returns-in-Err-mark-clause-beside : goal.returns-in-Err-mark-clause-beside
-returns-in-Err-mark-clause-beside g c = lost-then _ _ _ _ _ _ c.read_attr.ensures.beside c.mark.ensures.beside
+pub returns-in-Err-mark-clause-lost : goal.returns-in-Err-mark-clause-lost
+returns-in-Err-mark-clause-lost g c = lost-then _ _ _ _ _ _ c.read_attr.ensures.lost c.mark.ensures.lost

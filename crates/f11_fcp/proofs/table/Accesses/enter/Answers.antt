@@ -85,8 +85,8 @@ returns-in-Err-put_entry-clause-open g c =
     stays-open-entered (access_table_of c.args.self.now) c.args.files.now c.put_entry.new.files c.args.task c.args.caller c.args.directory
     c.args.name.now c.args.file _ c.requires.open (returns-in-Err-put_entry-clause-handles g c) c.in-Err-put_entry.ensures.alive tt
 
-pub returns-in-Ok-put_entry-clause-beside : goal.returns-in-Ok-put_entry-clause-beside
-returns-in-Ok-put_entry-clause-beside g c = lost-then _ _ _ _ _ _ c.search.ensures.beside c.put_entry.ensures.beside
+pub returns-in-Ok-put_entry-clause-lost : goal.returns-in-Ok-put_entry-clause-lost
+returns-in-Ok-put_entry-clause-lost g c = lost-then _ _ _ _ _ _ c.search.ensures.lost c.put_entry.ensures.lost
 
-pub returns-in-Err-put_entry-clause-beside : goal.returns-in-Err-put_entry-clause-beside
-returns-in-Err-put_entry-clause-beside g c = lost-then _ _ _ _ _ _ c.search.ensures.beside c.put_entry.ensures.beside
+pub returns-in-Err-put_entry-clause-lost : goal.returns-in-Err-put_entry-clause-lost
+returns-in-Err-put_entry-clause-lost g c = lost-then _ _ _ _ _ _ c.search.ensures.lost c.put_entry.ensures.lost

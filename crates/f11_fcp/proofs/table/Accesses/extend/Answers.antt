@@ -100,9 +100,9 @@ returns-in-Err-extend-clause-open g c =
     (c.in-Ok.ensures.answers.next ∙ ap (λ b. b || false) c.requires.open.alive)
     ∙ of-accessed-clean c.in-Err-extend.refusal (ap is_fatal (sym c.of_accessed-in-Err-extend.ensures) ∙ clean)) tt
 
-pub returns-in-Ok-extend-clause-beside : goal.returns-in-Ok-extend-clause-beside
-returns-in-Ok-extend-clause-beside g c = lost-then _ _ _ _ _ _ c.read_attr.ensures.beside c.extend.ensures.beside
+pub returns-in-Ok-extend-clause-lost : goal.returns-in-Ok-extend-clause-lost
+returns-in-Ok-extend-clause-lost g c = lost-then _ _ _ _ _ _ c.read_attr.ensures.lost c.extend.ensures.lost
 
-pub returns-in-Err-extend-clause-beside : goal.returns-in-Err-extend-clause-beside
-returns-in-Err-extend-clause-beside g c =
-    lost-then _ _ _ _ _ _ c.read_attr.ensures.beside c.extend.ensures.beside
+pub returns-in-Err-extend-clause-lost : goal.returns-in-Err-extend-clause-lost
+returns-in-Err-extend-clause-lost g c =
+    lost-then _ _ _ _ _ _ c.read_attr.ensures.lost c.extend.ensures.lost

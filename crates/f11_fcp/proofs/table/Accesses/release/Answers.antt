@@ -11,7 +11,7 @@ pub loop-unit-init : goal.loop-unit-init
 loop-unit-init g c =
     record {
       windows = keeps-same (access_table_of c.args.self.now);
-      beside = lost-none _ _;
+      lost = lost-none _ _;
       open_now = c.requires.open;
       so_far = released-none c.args.task c.args.caller (state_of (access_table_of c.args.self.now) c.args.files.now);
     }
@@ -22,7 +22,7 @@ loop-unit-preserved-in-None g c = absurd (let no = c.in-None.ensures.valid.1 c.l
 pub loop-unit-preserved-in-None-held : goal.loop-unit-preserved-in-None-held
 loop-unit-preserved-in-None-held g c = record {
   windows = c.loop-unit.invariant.windows;
-  beside = c.loop-unit.invariant.beside;
+  lost = c.loop-unit.invariant.lost;
   open_now = c.loop-unit.invariant.open_now;
   so_far =
       released-skips c.args.task c.args.caller (state_of (access_table_of c.args.self.now) c.args.files.now)
@@ -50,7 +50,7 @@ loop-unit-preserved g c =
     record {
       windows = keeps-then (access_table_of c.args.self.now) t (access_table_of c.give_up.new.self) c.loop-unit.invariant.windows
           c.in-Ok.ensures.windows;
-      beside = lost-then _ _ _ _ _ _ c.loop-unit.invariant.beside c.give_up.ensures.beside;
+      lost = lost-then _ _ _ _ _ _ c.loop-unit.invariant.lost c.give_up.ensures.lost;
       open_now = c.in-Ok.ensures.open refl;
       so_far =
           released-more c.args.task c.args.caller (state_of (access_table_of c.args.self.now) c.args.files.now)
@@ -75,8 +75,8 @@ returns-clause-open g c = λ _. c.loop-unit.invariant.open_now
 pub returns-clause-windows : goal.returns-clause-windows
 returns-clause-windows g c = c.loop-unit.invariant.windows
 
-pub returns-in-Err-clause-beside : goal.returns-in-Err-clause-beside
-returns-in-Err-clause-beside g c = lost-then _ _ _ _ _ _ c.loop-unit.invariant.beside c.give_up.ensures.beside
+pub returns-in-Err-clause-lost : goal.returns-in-Err-clause-lost
+returns-in-Err-clause-lost g c = lost-then _ _ _ _ _ _ c.loop-unit.invariant.lost c.give_up.ensures.lost
 
-pub returns-clause-beside : goal.returns-clause-beside
-returns-clause-beside g c = c.loop-unit.invariant.beside
+pub returns-clause-lost : goal.returns-clause-lost
+returns-clause-lost g c = c.loop-unit.invariant.lost

@@ -1,4 +1,4 @@
-use Rattle.f11_files.specs.Open.{LeavesLost}
+use Rattle.f11_files.specs.Open.{CallSparesLost}
 use Rattle.f11_fcp.specs.Handles.{IsOpen, state_of}
 use Rattle.f11_fcp.specs.Places.{access_table_of}
 use Rattle.f11_fcp.specs.ByWindow.{KeepsWindows}
@@ -11,6 +11,6 @@ invariant-loop-unit g l =
       open_now : IsOpen (access_table_of l.self) l.files;
       so_far : Released l.task l.caller (state_of (access_table_of l.fn.self) l.fn.files) (state_of (access_table_of l.self) l.files)
           l.unit;
-      beside : LeavesLost l.fn.files l.files;
+      lost : CallSparesLost l.fn.files l.files;
       windows : KeepsWindows (access_table_of l.fn.self) (access_table_of l.self);
     }

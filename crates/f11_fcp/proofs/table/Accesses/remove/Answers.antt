@@ -73,8 +73,8 @@ returns-in-Err-clear_entry-clause-handles g c =
 pub returns-in-Err-clear_entry-clause-open : goal.returns-in-Err-clear_entry-clause-open
 returns-in-Err-clear_entry-clause-open g c = λ clean. absurd (let fatal = c.in-Err-clear_entry.ensures.refused.fatal in cc)
 
-pub returns-in-Ok-clear_entry-clause-beside : goal.returns-in-Ok-clear_entry-clause-beside
-returns-in-Ok-clear_entry-clause-beside g c = lost-then _ _ _ _ _ _ c.search.ensures.beside c.clear_entry.ensures.beside
+pub returns-in-Ok-clear_entry-clause-lost : goal.returns-in-Ok-clear_entry-clause-lost
+returns-in-Ok-clear_entry-clause-lost g c = lost-then _ _ _ _ _ _ c.search.ensures.lost c.clear_entry.ensures.lost
 
-pub returns-in-Err-clear_entry-clause-beside : goal.returns-in-Err-clear_entry-clause-beside
-returns-in-Err-clear_entry-clause-beside g c = lost-then _ _ _ _ _ _ c.search.ensures.beside c.clear_entry.ensures.beside
+pub returns-in-Err-clear_entry-clause-lost : goal.returns-in-Err-clear_entry-clause-lost
+returns-in-Err-clear_entry-clause-lost g c = lost-then _ _ _ _ _ _ c.search.ensures.lost c.clear_entry.ensures.lost

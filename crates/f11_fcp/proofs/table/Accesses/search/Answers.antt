@@ -92,13 +92,13 @@ pub returns-in-Err-look_through-clause-alive : goal.returns-in-Err-look_through-
 returns-in-Err-look_through-clause-alive g c =
     λ clean. absurd (let fatal = fatal-alone c.in-Err-look_through.refusal c.in-Err-look_through.ensures.refused.right in cc)
 
-pub returns-in-Err-length-clause-beside : goal.returns-in-Err-length-clause-beside
-returns-in-Err-length-clause-beside g c = lost-then _ _ _ _ _ _ c.open_directory.ensures.beside c.length.ensures.beside
+pub returns-in-Err-length-clause-lost : goal.returns-in-Err-length-clause-lost
+returns-in-Err-length-clause-lost g c = lost-then _ _ _ _ _ _ c.open_directory.ensures.lost c.length.ensures.lost
 
-pub returns-in-Ok-look_through-clause-beside : goal.returns-in-Ok-look_through-clause-beside
-returns-in-Ok-look_through-clause-beside g c =
-    lost-then _ _ _ _ _ _ (lost-then _ _ _ _ _ _ c.open_directory.ensures.beside c.length.ensures.beside) c.look_through.ensures.beside
+pub returns-in-Ok-look_through-clause-lost : goal.returns-in-Ok-look_through-clause-lost
+returns-in-Ok-look_through-clause-lost g c =
+    lost-then _ _ _ _ _ _ (lost-then _ _ _ _ _ _ c.open_directory.ensures.lost c.length.ensures.lost) c.look_through.ensures.lost
 
-pub returns-in-Err-look_through-clause-beside : goal.returns-in-Err-look_through-clause-beside
-returns-in-Err-look_through-clause-beside g c =
-    lost-then _ _ _ _ _ _ (lost-then _ _ _ _ _ _ c.open_directory.ensures.beside c.length.ensures.beside) c.look_through.ensures.beside
+pub returns-in-Err-look_through-clause-lost : goal.returns-in-Err-look_through-clause-lost
+returns-in-Err-look_through-clause-lost g c =
+    lost-then _ _ _ _ _ _ (lost-then _ _ _ _ _ _ c.open_directory.ensures.lost c.length.ensures.lost) c.look_through.ensures.lost

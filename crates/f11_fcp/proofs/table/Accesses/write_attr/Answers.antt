@@ -101,10 +101,10 @@ returns-in-Err-write_attr-clause-open g c =
     (λ clean. c.in-Err-write_attr.ensures.answers.next ∙ ap (λ b. b || is_fatal c.in-Err-write_attr.refusal)
     (c.in-Ok.ensures.answers.next ∙ ap (λ b. b || false) c.requires.open.alive) ∙ clean) tt
 
-pub returns-in-Ok-write_attr-clause-beside : goal.returns-in-Ok-write_attr-clause-beside
-returns-in-Ok-write_attr-clause-beside g c =
-    lost-then _ _ _ _ _ _ c.read_attr.ensures.beside c.write_attr.ensures.beside
+pub returns-in-Ok-write_attr-clause-lost : goal.returns-in-Ok-write_attr-clause-lost
+returns-in-Ok-write_attr-clause-lost g c =
+    lost-then _ _ _ _ _ _ c.read_attr.ensures.lost c.write_attr.ensures.lost
 
-pub returns-in-Err-write_attr-clause-beside : goal.returns-in-Err-write_attr-clause-beside
-returns-in-Err-write_attr-clause-beside g c =
-    lost-then _ _ _ _ _ _ c.read_attr.ensures.beside c.write_attr.ensures.beside
+pub returns-in-Err-write_attr-clause-lost : goal.returns-in-Err-write_attr-clause-lost
+returns-in-Err-write_attr-clause-lost g c =
+    lost-then _ _ _ _ _ _ c.read_attr.ensures.lost c.write_attr.ensures.lost

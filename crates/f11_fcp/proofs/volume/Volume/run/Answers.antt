@@ -24,5 +24,5 @@ returns-clause-locked g c =
 pub returns-clause-costs : goal.returns-clause-costs
 returns-clause-costs g c = keeps-costs _ _ _ _ (returns-clause-served g c)
 
-pub returns-clause-beside : goal.returns-clause-beside
-returns-clause-beside g c = each-beside _ _ _ _ (returns-clause-served g c)
+pub returns-clause-lost : goal.returns-clause-lost
+returns-clause-lost g c = each-beside _ _ _ _ (returns-clause-served g c)

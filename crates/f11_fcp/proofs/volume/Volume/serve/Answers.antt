@@ -31,7 +31,7 @@ returns-then-self-clause-serves g c = record {
   untouched = λ _. (refl, refl);
   handled = λ alive. absurd (false≢true (sym alive ∙ c.if-self.true));
   in_run = λ alive. absurd (false≢true (sym alive ∙ c.if-self.true));
-  beside = lost-none (is_spent c.args.self.now) (state_in c.args.self.now).disk;
+  lost = lost-none (is_spent c.args.self.now) (state_in c.args.self.now).disk;
   unwritten = λ _. record { image = refl; history = refl };
   spared = λ _. refl;
   next = c.if-self.true ∙ sym (ap (λ (b : Bool). b || false) c.if-self.true);
@@ -45,7 +45,7 @@ returns-clause-serves g c =
       untouched = λ spent. absurd (false≢true (sym c.if-self.false ∙ spent));
       handled = λ _. told.handles;
       in_run = λ _. told.run;
-      beside = lost-as _ _ _ _ _ _ c.if-self.false (λ clean. (told.open (sym c.is_fatal-self.ensures ∙ clean)).alive) told.beside;
+      lost = lost-as _ _ _ _ _ _ c.if-self.false (λ clean. (told.open (sym c.is_fatal-self.ensures ∙ clean)).alive) told.lost;
       unwritten = told.unwritten;
       spared = told.spared;
       next = c.is_fatal-self.ensures ∙ sym (ap (λ (b : Bool). b || is_refused is_fatal c.answer-answer.result) c.if-self.false);

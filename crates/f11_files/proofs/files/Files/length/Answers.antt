@@ -18,11 +18,11 @@ invariant_of-self g c =
     let is = for-opened c.args.self.now.structure c.is_fatal-self.result _ (g.met.D.Device.is_image c.length-answer.new.device) for in
     record { lies = is.lies; accepted = is.accepted; home = is.home; keeps = is.keeps }
 
-pub returns-then-self-clause-beside : goal.returns-then-self-clause-beside
-returns-then-self-clause-beside g c = lost-none (has_failed c.args.self.now) (disk_in c.args.self.now)
+pub returns-then-self-clause-lost : goal.returns-then-self-clause-lost
+returns-then-self-clause-lost g c = lost-none (has_failed c.args.self.now) (disk_in c.args.self.now)
 
-pub returns-clause-beside : goal.returns-clause-beside
-returns-clause-beside g c =
+pub returns-clause-lost : goal.returns-clause-lost
+returns-clause-lost g c =
     as-answered _ c.is_fatal-self.result (is_refused is_fatal c.length-answer.result) (disk_in c.args.self.now) _ c.if-self.false
     c.is_fatal-self.ensures
     (answered c.length-answer.result _ _ c.length-answer.ensures.counts c.length-answer.ensures.refused (λ _ is. reads-beside _ is.reads.looked)

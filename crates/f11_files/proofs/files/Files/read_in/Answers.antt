@@ -24,11 +24,11 @@ returns-clause-refused g c =
     let was = files-for c.args.self.now (g.met.D.Device.is_image c.args.self.now.device) c.if-self.false in
     read-refused-by _ _ _ _ _ _ was _ c.read_in-answer.result c.read_in-answer.ensures.fault c.read_in-answer.ensures.reads
 
-pub returns-then-self-clause-beside : goal.returns-then-self-clause-beside
-returns-then-self-clause-beside g c = lost-none (has_failed c.args.self.now) (disk_in c.args.self.now)
+pub returns-then-self-clause-lost : goal.returns-then-self-clause-lost
+returns-then-self-clause-lost g c = lost-none (has_failed c.args.self.now) (disk_in c.args.self.now)
 
-pub returns-clause-beside : goal.returns-clause-beside
-returns-clause-beside g c =
+pub returns-clause-lost : goal.returns-clause-lost
+returns-clause-lost g c =
     as-answered _ c.is_fatal-self.result (is_refused is_fatal c.read_in-answer.result) (disk_in c.args.self.now) _ c.if-self.false
     c.is_fatal-self.ensures
     (read-beside (disk_in c.args.self.now) _ c.args.window.now c.args.vbn _ c.read_in-answer.result c.read_in-answer.ensures.reads)

@@ -24,11 +24,11 @@ invariant_of-self g c =
 pub returns-then-self-clause-refused : goal.returns-then-self-clause-refused
 returns-then-self-clause-refused g c = had-failed _ c.if-self.true
 
-pub returns-then-self-clause-beside : goal.returns-then-self-clause-beside
-returns-then-self-clause-beside g c = lost-none (has_failed c.args.self.now) (disk_in c.args.self.now)
+pub returns-then-self-clause-lost : goal.returns-then-self-clause-lost
+returns-then-self-clause-lost g c = lost-none (has_failed c.args.self.now) (disk_in c.args.self.now)
 
-pub returns-clause-beside : goal.returns-clause-beside
-returns-clause-beside g c =
+pub returns-clause-lost : goal.returns-clause-lost
+returns-clause-lost g c =
     let for = files-for c.args.self.now (g.met.D.Device.is_image c.args.self.now.device) c.if-self.false in
     let old = disk_in c.args.self.now in
     let new = g.D.Device.disk c.truncate-answer.new.device in
