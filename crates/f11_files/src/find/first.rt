@@ -1,5 +1,6 @@
 //! A file's first header.
-ghost use Rattle.std.specs.Prelude.{false, OnOk, IfErr};
+ghost use Rattle.std.specs.Prelude.{◌≡◌, false, OnOk, IfErr};
+ghost use Rattle.f11_chain.specs.Calls.{HoldsHeader};
 ghost use Rattle.f11_files.specs.Answers.{FailsToRead, MakesAtMost};
 ghost use Rattle.f11_files.specs.Finding.First.{FindsFile, IsFirstHeaderOf, IsOther};
 ghost use Rattle.f11_files.specs.Operations.{file_causes};
@@ -61,5 +62,34 @@ impl Structure {
             Ok(()) => judge_first(block, f),
             Err(_) => Err(Refusal::DeviceFault),
         }
+    }
+
+    /// Finds the first header of a file in the block where that holds this header and it is the file's first, by its number; else reads
+    /// it into the block, as [`Structure::read_first`] does. No transfer where it is in hand, and else one at most.
+    ///
+    /// # Errors
+    ///
+    /// `NoSuchFile` where the header in hand isn't the first one of the file with this identification, and those of
+    /// [`Structure::read_first`].
+    pub(crate) fn get_first<D: Device>(
+        &self,
+        device: &mut D,
+        f: FileId,
+        number: u16,
+        block: &mut Block,
+    ) -> Result<(), Refusal>
+        requires is_for { IsStructureFor self.now (D.disk device.old) }
+        requires holds { HoldsHeader (index_in self.now) number block.old (D.disk device.old) }
+        ensures found { OnOk result
+            (FindsFile (index_in self.now) f block.new (D.disk device.old) (D.disk device.new)) }
+        ensures refused { IfErr result (λ refusal. FailsToRead false
+            (file_causes (store_on self.now (D.disk device.old)) f) 1 refusal
+            (D.disk device.old) (D.disk device.new)) }
+        ensures none { number ≡ f.number → D.disk device.new ≡ D.disk device.old }
+    {
+        if number == f.number {
+            return judge_first(block, f);
+        }
+        self.read_first(device, f, block)
     }
 }

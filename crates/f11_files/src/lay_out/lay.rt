@@ -90,6 +90,7 @@ impl Structure {
             (D.disk device.old) (D.disk device.new) }
         ensures places { OnOk result
             (GrowthStandsWithin self.old tail.old (range_with_len lbn n) self.new tail.new) }
+        ensures last { OnOk result (HoldsLast self.new tail.new (D.disk device.new)) }
     {
         let mut left = n;
         while left > 0 {
@@ -139,7 +140,7 @@ impl Structure {
         };
         let mut tail = tail_of(f, first, end.number, last);
         self.lay_run(device, &mut tail, lbn, n)?;
-        match self.mark_contiguous(device, f) {
+        match self.mark_contiguous(device, f, &tail) {
             Ok(()) => Ok(()),
             Err(refusal) => Err(when_found(refusal)),
         }

@@ -137,6 +137,9 @@ returns-in-Ok-None-clause-counts g c = λ _. (rw c.in-Ok-None.field-0-is at c.in
 pub mark_contiguous-requires-clause-is_for : goal.mark_contiguous-requires-clause-is_for
 mark_contiguous-requires-clause-is_for g c = stays-for (rw c.in_ok-lay_run.was at c.lay_run.ensures.stays)
 
+pub mark_contiguous-requires-clause-last : goal.mark_contiguous-requires-clause-last
+mark_contiguous-requires-clause-last g c = c.in_ok-lay_run.ensures.last.header
+
 pub returns-in-Err-mark_contiguous-clause-stays : goal.returns-in-Err-mark_contiguous-clause-stays
 returns-in-Err-mark_contiguous-clause-stays g c =
     rw c.when_found.ensures (broken-stays c.args.self.now c.args.f c.args.n c.args.end _ _ _ c.requires.is_for c.requires.own

@@ -146,6 +146,9 @@ returns-clause-confined g c = c.loop-left.invariant.confined
 pub returns-clause-places : goal.returns-clause-places
 returns-clause-places g c = c.loop-left.invariant.places
 
+pub returns-clause-last : goal.returns-clause-last
+returns-clause-last g c = c.loop-left.invariant.laid.last
+
 pub loop-left-smaller : goal.loop-left-smaller
 loop-left-smaller g c =
     let some = next-some c.args.self.now c.args.tail.now c.args.lbn c.args.n _ c.requires.is_for c.requires.last c.requires.own

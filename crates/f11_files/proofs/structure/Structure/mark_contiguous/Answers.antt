@@ -1,8 +1,10 @@
-use Rattle.std.proofs.Common.{length, ap}
+use Rattle.std.proofs.Common.{length, ap, arith}
+use Rattle.f11_dev.specs.Disk.{Disk}
 use Rattle.f11_dev.specs.Image.{Image}
 use Rattle.f11_index.proofs.InUseLemmas.{in_use-slot}
 use Rattle.f11_store.specs.Lags.{with_contiguous_mark}
 use Rattle.f11_files.specs.Structure.{index_in}
+use Rattle.f11_files.proofs.Bounded.{one-failed}
 use Rattle.f11_files.proofs.Changing.Alter.{alters, altered-order, altered-stays, fails-alter, fails-altered, unaltered-order}
 use Rattle.f11_files.proofs.Finding.First.{place-within}
 use Rattle.f11_files.proofs.Confining.Parts.{first-failed, first-wrote}
@@ -11,53 +13,65 @@ use Rattle.f11_files.proofs.structure.Structure.mark_contiguous.Goals as goal
 
 pub lbn_of_header-requires-clause-slot : goal.lbn_of_header-requires-clause-slot
 lbn_of_header-requires-clause-slot g c =
-    in_use-slot (index_in c.args.self.now) c.args.f.number c.in_ok-read_first.ensures.found.holds.header.in_use
+    in_use-slot (index_in c.args.self.now) c.args.f.number c.in_ok-get_first.ensures.found.holds.header.in_use
 
 pub write-requires : goal.write-requires
 write-requires g c =
-    let found = c.in_ok-read_first.ensures.found in
+    let found = c.in_ok-get_first.ensures.found in
     place-within c.args.self.now c.args.f.number _ _ _ c.requires.is_for found.holds.header.in_use
     (ap (λ (i : Image). length i) found.looked.image) c.lbn_of_header.ensures
 
 pub returns-in-Ok-clause-altered : goal.returns-in-Ok-clause-altered
 returns-in-Ok-clause-altered g c =
-    alters c.args.self.now c.args.f with_contiguous_mark _ _ _ _ _ c.requires.is_for c.requires.own c.in_ok-read_first.ensures.found
+    alters c.args.self.now c.args.f with_contiguous_mark _ _ _ _ _ c.requires.is_for c.requires.own c.in_ok-get_first.ensures.found
     c.set_contiguous.ensures c.lbn_of_header.ensures _
     c.in-Ok.ensures.writes.ok
 
 pub returns-in-Ok-clause-stays : goal.returns-in-Ok-clause-stays
 returns-in-Ok-clause-stays g c =
-    altered-stays c.args.self.now c.args.f with_contiguous_mark _ _ _ _ _ c.requires.is_for c.requires.own c.in_ok-read_first.ensures.found
+    altered-stays c.args.self.now c.args.f with_contiguous_mark _ _ _ _ _ c.requires.is_for c.requires.own c.in_ok-get_first.ensures.found
     c.set_contiguous.ensures c.lbn_of_header.ensures _
     c.in-Ok.ensures.writes.ok
 
 pub returns-in-Err-clause-refused : goal.returns-in-Err-clause-refused
 returns-in-Err-clause-refused g c =
-    fails-alter c.args.self.now c.args.f with_contiguous_mark _ _ _ _ _ c.requires.is_for c.requires.own c.in_ok-read_first.ensures.found
+    fails-alter c.args.self.now c.args.f with_contiguous_mark _ _ _ _ _ c.requires.is_for c.requires.own c.in_ok-get_first.ensures.found
     c.set_contiguous.ensures c.lbn_of_header.ensures _
     c.in-Err.ensures.writes.err
 
 pub returns-in-Err-clause-stays : goal.returns-in-Err-clause-stays
 returns-in-Err-clause-stays g c =
-    fails-altered c.args.self.now c.args.f with_contiguous_mark _ _ _ _ _ c.requires.is_for c.requires.own c.in_ok-read_first.ensures.found
+    fails-altered c.args.self.now c.args.f with_contiguous_mark _ _ _ _ _ c.requires.is_for c.requires.own c.in_ok-get_first.ensures.found
     c.set_contiguous.ensures c.lbn_of_header.ensures _
     c.in-Err.ensures.writes.err
 
 pub returns-in-Ok-clause-confined : goal.returns-in-Ok-clause-confined
 returns-in-Ok-clause-confined g c =
-    first-wrote c.args.self.now c.args.f _ _ _ _ _ _ c.in_ok-read_first.ensures.found c.lbn_of_header.ensures c.in-Ok.ensures.writes.ok
-    (altered-order c.args.self.now c.args.f with_contiguous_mark _ _ _ _ _ c.requires.is_for c.requires.own c.in_ok-read_first.ensures.found
+    first-wrote c.args.self.now c.args.f _ _ _ _ _ _ c.in_ok-get_first.ensures.found c.lbn_of_header.ensures c.in-Ok.ensures.writes.ok
+    (altered-order c.args.self.now c.args.f with_contiguous_mark _ _ _ _ _ c.requires.is_for c.requires.own c.in_ok-get_first.ensures.found
     c.set_contiguous.ensures c.lbn_of_header.ensures _ c.in-Ok.ensures.writes.ok)
 
 pub returns-in-Err-clause-confined : goal.returns-in-Err-clause-confined
 returns-in-Err-clause-confined g c =
-    first-failed c.args.self.now c.args.f _ _ _ _ _ _ c.in_ok-read_first.ensures.found c.lbn_of_header.ensures c.in-Err.ensures.writes.err
+    first-failed c.args.self.now c.args.f _ _ _ _ _ _ c.in_ok-get_first.ensures.found c.lbn_of_header.ensures c.in-Err.ensures.writes.err
     (unaltered-order c.args.self.now c.args.f with_contiguous_mark _ _ _ _ _ c.requires.is_for c.requires.own
-    c.in_ok-read_first.ensures.found
+    c.in_ok-get_first.ensures.found
     c.set_contiguous.ensures c.lbn_of_header.ensures _ c.in-Err.ensures.writes.err)
 
 pub returns-in-Ok-clause-gains : goal.returns-in-Ok-clause-gains
 returns-in-Ok-clause-gains g c =
-    altered-gains c.args.self.now c.args.f _ _ _ _ _ c.requires.is_for c.requires.own c.in_ok-read_first.ensures.found
+    altered-gains c.args.self.now c.args.f _ _ _ _ _ c.requires.is_for c.requires.own c.in_ok-get_first.ensures.found
     c.set_contiguous.ensures c.lbn_of_header.ensures _
     c.in-Ok.ensures.writes.ok
+
+pub returns-in-Ok-clause-once : goal.returns-in-Ok-clause-once
+returns-in-Ok-clause-once g c = λ same.
+    let none = ap (λ (d : Disk). d.transfers) (c.get_first.ensures.none same) in
+    let once = ap (λ (d : Disk). d.transfers) c.in-Ok.ensures.writes.ok in
+    omega (arith, none, once)
+
+pub returns-in-Err-clause-once : goal.returns-in-Err-clause-once
+returns-in-Err-clause-once g c = λ same.
+    let none = ap (λ (d : Disk). d.transfers) (c.get_first.ensures.none same) in
+    let once = one-failed _ _ (g.D.Device.disk c.get_first.new.device) _ c.in-Err.ensures.writes.err in
+    omega (arith, none, once)
