@@ -17,7 +17,7 @@ use Rattle.f11_store.specs.declared.refusals.Refusal.{Refusal}
 use Rattle.f11_volume.specs.Sound.{HasSoundVolume}
 use Rattle.f11_volume.specs.Volume.{Volume, volume_of}
 use Rattle.f11_image_store.specs.StoreOf.{store_of}
-use Rattle.f11_files.specs.Answers.{Does, FailsOrWants, FailsToRead, FailsToWrite, IsRight, IsUnderWay, Meanwhile, ReadsAtMost}
+use Rattle.f11_files.specs.Answers.{Does, FailsOrWants, FailsToRead, IsRight, IsUnderWay, Meanwhile, ReadsAtMost}
 use Rattle.f11_files.specs.Answers.{WritesAtMost, WritesMoreOf, is_among, is_fatal, is_refused}
 use Rattle.f11_image_store.specs.Allocation.{free_list}
 use Rattle.f11_image_store.specs.Confines.{either, new_header, no_header}
@@ -95,17 +95,6 @@ module _ {m : ℕ} {a b : Disk} (reads : ReadsAtMost m a b 0) (home : HomeFields
     writes = writes-read fails.writes;
     unchanged = λ clean. reads-more reads (fails.unchanged clean);
   }
-
-  pub fails-read : {failed : Bool} {causes : List Cause} {work : Work} {n : ℕ} {r : Refusal} {c : Disk}
-      → FailsToWrite failed causes n work home r b c
-      → FailsToWrite failed causes (m + n) work home r a c
-  fails-read fails =
-      record {
-        right = right-read fails.right;
-        writes = writes-read fails.writes;
-        unchanged = λ clean.
-            reads-more reads (fails.unchanged clean);
-      }
 
   -- headers of a file, new ones, and free blocks alone are written
   pub confined-read : (s : Structure) (f : ℕ) {c : Disk} → home_of s ≡ home

@@ -20,9 +20,8 @@ use Rattle.f11_index.proofs.HeadersLemmas.{header-placed, last-ends, whole-last}
 use Rattle.f11_index.proofs.SegmentLemmas.{table-bytes}
 use Rattle.f11_store.specs.Causes.{◌⇐◌, first_of, growth_causes, header_causes, is_missing}
 use Rattle.f11_store.specs.Causes as causes
-use Rattle.f11_store.specs.Changes.{Extends, GetsSlots}
+use Rattle.f11_store.specs.Changes.{GetsSlots}
 use Rattle.f11_store.proofs.Respects.{extend_respectful}
-use Rattle.f11_image_store.specs.Allocation.{GainsBlocks}
 use Rattle.std.specs.Prelude.{is_none}
 use Rattle.std.proofs.lemmas.Bool.Decides.{nat_tests}
 use Rattle.f11_store.specs.Cost.{growth_cost, header_count, slots_cost}
@@ -42,7 +41,7 @@ use Rattle.f11_volume.proofs.FileLemmas.{image-files}
 use Rattle.f11_image_store.specs.FileLaws.{room_in}
 use Rattle.f11_image_store.specs.StoreOf.{store_of}
 use Rattle.f11_image_store.proofs.KeptBlocksLemmas.{held-stored, is-stored}
-use Rattle.f11_files.specs.Answers.{Does, FailsOrWants, FailsToRead, FailsToWrite, IsRight, IsUnderWay, KeepsUnused, Meanwhile, ReadsAtMost}
+use Rattle.f11_files.specs.Answers.{FailsOrWants, FailsToRead, IsRight, IsUnderWay, Meanwhile, ReadsAtMost}
 use Rattle.f11_files.specs.Answers.{WritesAtMost, faults_of, is_among, is_fatal}
 use Rattle.f11_files.specs.Extending.Again.{IsEndOf}
 use Rattle.f11_files.specs.Extending.Room.{FindsFileEnd, HoldsEnd, HoldsRoom}
@@ -52,7 +51,7 @@ use Rattle.f11_files.specs.Operations.{extend_causes, file_causes, held_causes}
 use Rattle.f11_files.specs.Structure.{home_of, store_on, IsStructureFor}
 use Rattle.f11_files.specs.declared.structure.Structure.{Structure}
 use Rattle.f11_files.proofs.AnswerLemmas.{fails-more, right-cause}
-use Rattle.f11_files.proofs.Behind.{does-read, fails-read, honest-read, right-anyway, store-read, wants-as, wants-read, wants-within}
+use Rattle.f11_files.proofs.Behind.{honest-read, right-anyway, store-read, wants-as, wants-read, wants-within}
 use Rattle.f11_files.proofs.Creating.Make.{fatal-enter}
 use Rattle.f11_files.proofs.Overall.{does-within, growth-more, growth-stays}
 use Rattle.f11_files.proofs.Extending.Room.{headers-named, last-few, last-of, room-named}

@@ -1,5 +1,5 @@
 -- A file's first header and its last, which are in hand once other blocks were written.
-use Rattle.std.specs.Prelude.{◌≡◌, ℕ, length, None, true}
+use Rattle.std.specs.Prelude.{◌≡◌, length, None, true}
 use Rattle.f11_dev.specs.Image.{Image}
 use Rattle.f11_chain.specs.declared.blocks.FileEnd.{FileEnd}
 use Rattle.f11_home.specs.Home.{HomeFields}

@@ -78,7 +78,7 @@ ExtendsHeld home f n old new =
     (growth_cost s (file_named s f) n - 1 - header_count (file_named s f)) (Extends s f.number n) (KeepsUnused (GainsBlocks f.number n))
     home old new
 
--- the same where its first and last header are in hand: two transfers are left, in which they may have been read again
+-- the same where its first and last header are in hand, in two transfers less
 abbrev pub ExtendsInHand : HomeFields → FileId → ℕ → Disk → Disk → Type 0
 ExtendsInHand home f n old new =
     let s = store_of old.image home in

@@ -1,22 +1,16 @@
 use Rattle.std.proofs.Common.{false, inl, inr, refl, sym, ap, subst}
-use Rattle.f11_dev.specs.Disk.{Disk}
 use Rattle.f11_dev.proofs.LookedLemmas.{looked_none}
-use Rattle.f11_home.specs.Home.{HomeFields}
-use Rattle.f11_files.specs.Answers.{is_fatal, ReadsAtMost}
-use Rattle.f11_files.specs.Extending.Again.{IsEndOf}
+use Rattle.f11_files.specs.Answers.{is_fatal}
 use Rattle.f11_files.specs.Extending.Room.{HoldsEnd}
 use Rattle.f11_files.specs.Extending.Runs.{headers_for, FailsToExtend}
 use Rattle.f11_files.specs.Structure.{home_of}
-use Rattle.f11_files.specs.declared.structure.Structure.{Structure}
 use Rattle.f11_files.proofs.AnswerLemmas.{handed, not-clean}
 use Rattle.f11_index.proofs.ChainLemmas.{file_of-header}
-use Rattle.f11_files.proofs.Behind.{confined-read, more-looked, more-of, stays-handed}
-use Rattle.f11_files.proofs.Extending.Room.{ends-then}
+use Rattle.f11_files.proofs.Behind.{more-looked, more-of, stays-handed}
 use Rattle.f11_files.proofs.Extending.Whole.{end-again, extends-then, fails-again, fatal-held, few-enough, fails-in-hand, length-then}
 use Rattle.f11_files.proofs.Extending.Whole.{need-is, readies-file, room-ready, too-long, unfound, unready}
 use Rattle.f11_files.proofs.Extending.Still.{ends-still, never-still}
 use Rattle.f11_files.proofs.Extending.WholeConfined.{after-read, after-slots}
-use Rattle.f11_files.proofs.Opening.Kept.{looked-for}
 use Rattle.f11_files.proofs.Removing.Freeing.{stays-for, stays-then}
 use Rattle.f11_files.proofs.WriteLemmas.{looked-stays}
 use Rattle.f11_files.proofs.structure.Structure.extend.Goals as goal
