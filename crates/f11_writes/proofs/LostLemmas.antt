@@ -15,7 +15,8 @@ use Rattle.f11_writes.specs.Order.{WritesInOrder}
 use Rattle.f11_writes.proofs.InOrderLemmas.{each-sound, newest-append, order-looked, order-none, order-then}
 
 -- the last image keeps what each does
-keeps-newest : (home : HomeFields) (old : Image) (since : List Image) → All (KeepsLost home old) since → KeepsLost home old (newest since old)
+keeps-newest : (home : HomeFields) (old : Image) (since : List Image) → All (KeepsLost home old) since
+    → KeepsLost home old (newest since old)
 keeps-newest home old [] each = λ lbn lost. refl
 keeps-newest home old (image ∷ earlier) each = each 0 image (omega arith)
 

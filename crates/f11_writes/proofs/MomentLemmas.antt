@@ -70,13 +70,15 @@ stands-behind old mid new most looked s = record {
     sound-mid : (home : HomeFields) → HasSoundVolume old.image home → HasSoundVolume mid.image home
     sound-mid home sound = subst (λ (i : Image). HasSoundVolume i home) (sym looked.image) sound
 
-pub stands-before : (old mid new : Disk) (most faults : ℕ) → old.failures ≤ mid.failures → StandsAccepted old mid → Looked mid new most faults
+pub stands-before : (old mid new : Disk) (most faults : ℕ) → old.failures ≤ mid.failures → StandsAccepted old mid
+    → Looked mid new most faults
     → StandsAccepted old new
 stands-before old mid new most faults rises s looked = record {
   accepted = λ is since history. s.accepted is since (sym looked.history ∙ history);
   each = λ is home sound since history. s.each is home sound since (sym looked.history ∙ history);
   last = λ is home sound. subst (λ (i : Image). LeavesAlone home old.image i) (sym looked.image) (s.last is home sound);
   still = λ same is home sound.
-      subst (λ (i : Image). StayLost home old.image i) (sym looked.image) (s.still (let more = looked.failures in omega (arith, same, more, rises)) is home sound);
+      subst (λ (i : Image). StayLost home old.image i) (sym looked.image)
+      (s.still (let more = looked.failures in omega (arith, same, more, rises)) is home sound);
   ordered = order-then old mid new s.ordered (order-looked mid new most faults looked);
 }

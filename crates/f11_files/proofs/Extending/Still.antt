@@ -1,5 +1,6 @@
 -- A file's headers stand still while the index file grows.
-use Rattle.std.proofs.Common.{◌≡◌, ◌≢◌, ◌+◌, ◌-◌, ◌<◌, ◌≤◌, ◌||◌, ◌++◌, ℕ, zero, suc, Bool, true, false, not, nat_lt, IsTrue, List, [], Some}
+use Rattle.std.proofs.Common.{◌≡◌, ◌≢◌, ◌+◌, ◌-◌, ◌<◌, ◌≤◌, ◌||◌, ◌++◌, ℕ, zero, suc, Bool, true, false, not, nat_lt, IsTrue, List, []}
+use Rattle.std.proofs.Common.{Some}
 use Rattle.std.proofs.Common.{length, take, inl, inr, refl, sym, ap, subst, ◌∙◌, arith}
 use Rattle.std.specs.List.{slice_get, range_with_len}
 use Rattle.std.proofs.lemmas.Bool.{cases_Bool, false≢true}
@@ -74,7 +75,8 @@ module _ (image : Image) (home : HomeFields) (sound : HasSoundVolume image home)
   pub header-at : (n : ℕ) → 0 < n → n ≤ slots index → slice_get (index_file_blocks image home) (place n) ≡ Some (header_lbn index n)
   unfolding index_of header_lbn
   header-at n some slot =
-      slice_get-header (index_file_blocks image home) (2 + home.index_blocks) _ (n - 1) (header_lbn index n) 0 (omega (arith, some, slot)) refl
+      slice_get-header (index_file_blocks image home) (2 + home.index_blocks) _ (n - 1) (header_lbn index n) 0 (omega (arith, some, slot))
+      refl
 
   as-file-one : (i lbn : ℕ) → slice_get (index_file_blocks image home) i ≡ Some lbn → slice_get (file_blocks t 1) i ≡ Some lbn
   as-file-one i lbn at = ap (λ (xs : List ℕ). slice_get xs i) (file-one image home sound.framed.indexed.file) ∙ at
@@ -114,7 +116,8 @@ module _ (image : Image) (home : HomeFields) (sound : HasSoundVolume image home)
           (sym (is_in_use-within index n some slot) ∙ used))) ∙ unused)
     ]
 
-    no-part : IsNoPart (either (is_in (file_numbered (store_of image home) 1).held) (new_header index)) index (storage_bitmap image home) lbn
+    no-part : IsNoPart (either (is_in (file_numbered (store_of image home) 1).held) (new_header index)) index (storage_bitmap image home)
+        lbn
     unfolding index_of
     no-part = record {
       header = λ m may low high at.
@@ -191,7 +194,8 @@ slots-spare : (k : ℕ) (home : HomeFields) (old new : Disk) → ConfinesSlots k
 slots-spare zero home old new confined honest = λ lbn none out.
     confines-last no_header (index_of old.image home) (storage_bitmap old.image home) [] (confined honest) lbn
     (fewer-part _ no_header (index_of old.image home) (storage_bitmap old.image home) (λ n is. absurd (false≢true is)) lbn none) refl
-slots-spare (suc n) home old new confined honest = confines-last _ (index_of old.image home) (storage_bitmap old.image home) _ (confined honest)
+slots-spare (suc n) home old new confined honest =
+    confines-last _ (index_of old.image home) (storage_bitmap old.image home) _ (confined honest)
 
 -- a file whose headers are in hand
 module _ (s : Structure) (f : FileId) (n : ℕ) (end : FileEnd) (was last : List ℕ) (old read : Disk) (for : IsStructureFor s old)

@@ -207,7 +207,8 @@ module _ (home : HomeFields) (old new : Disk) (sound : IsTrue old.honest → Has
 
   -- a file is extended
   extended-stay : (f : FileId) (n : ℕ) (r : Result ℕ Refusal)
-      → IfOk r (λ blocks. IsLengthAfter home f n old blocks × ExtendsFile home f n old new) → IfErr r (λ e. FailsToExtend false home f n e old new)
+      → IfOk r (λ blocks. IsLengthAfter home f n old blocks × ExtendsFile home f n old new)
+      → IfErr r (λ e. FailsToExtend false home f n e old new)
       → StayUnless (is_refused is_fatal r)
   extended-stay f n (Ok x) does fails clean honest there =
       let e = does.1 in
@@ -219,7 +220,8 @@ module _ (home : HomeFields) (old new : Disk) (sound : IsTrue old.honest → Has
   extended-stay f n (Err e) does fails clean honest there = looked-stay home old new (fails.unchanged clean).looked
 
   pub extended-beside : (f : FileId) (n : ℕ) (r : Result ℕ Refusal)
-      → IfOk r (λ blocks. IsLengthAfter home f n old blocks × ExtendsFile home f n old new) → IfErr r (λ e. FailsToExtend false home f n e old new)
+      → IfOk r (λ blocks. IsLengthAfter home f n old blocks × ExtendsFile home f n old new)
+      → IfErr r (λ e. FailsToExtend false home f n e old new)
       → WritesAfterSlots (headers_for home f n old) (WritesMoreOf f.number home) home old new
       → SparesLost false (is_refused is_fatal r) old new
   extended-beside f n r does fails after =

@@ -31,5 +31,6 @@ returns-clause-lost g c =
     let old = disk_in c.args.self.now in
     let new = g.D.Device.disk c.contiguous-answer.new.device in
     as-answered _ c.is_fatal-self.result (is_refused is_fatal c.contiguous-answer.result) old new c.if-self.false c.is_fatal-self.ensures
-    (laid-beside (home_in c.args.self.now) old new for.sound c.args.f c.args.n c.contiguous-answer.result c.contiguous-answer.ensures.laid c.contiguous-answer.ensures.refused
+    (laid-beside (home_in c.args.self.now) old new for.sound c.args.f c.args.n c.contiguous-answer.result c.contiguous-answer.ensures.laid
+    c.contiguous-answer.ensures.refused
     c.contiguous-answer.ensures.confined)

@@ -37,5 +37,6 @@ returns-clause-lost g c =
     let old = disk_in c.args.self.now in
     let new = g.D.Device.disk c.create-answer.new.device in
     as-answered _ c.is_fatal-self.result (is_refused is_fatal c.create-answer.result) old new c.if-self.false c.is_fatal-self.ensures
-    (made-beside (home_in c.args.self.now) old new for.sound c.args.owner c.args.protection c.args.ident.now c.args.attr.now c.create-answer.result c.create-answer.ensures.created c.create-answer.ensures.refused
+    (made-beside (home_in c.args.self.now) old new for.sound c.args.owner c.args.protection c.args.ident.now c.args.attr.now
+    c.create-answer.result c.create-answer.ensures.created c.create-answer.ensures.refused
     c.create-answer.ensures.confined)

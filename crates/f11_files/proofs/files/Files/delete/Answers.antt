@@ -33,5 +33,6 @@ returns-clause-lost g c =
     let old = disk_in c.args.self.now in
     let new = g.D.Device.disk c.delete-answer.new.device in
     as-answered _ c.is_fatal-self.result (is_refused is_fatal c.delete-answer.result) old new c.if-self.false c.is_fatal-self.ensures
-    (deleted-beside (home_in c.args.self.now) old new for.sound c.args.f c.delete-answer.result c.delete-answer.ensures.deleted c.delete-answer.ensures.refused
+    (deleted-beside (home_in c.args.self.now) old new for.sound c.args.f c.delete-answer.result c.delete-answer.ensures.deleted
+    c.delete-answer.ensures.refused
     (to-only c.args.self.now.structure _ [] old new for c.delete-answer.ensures.confined))

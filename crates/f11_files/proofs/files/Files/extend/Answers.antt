@@ -37,5 +37,6 @@ returns-clause-lost g c =
     let old = disk_in c.args.self.now in
     let new = g.D.Device.disk c.extend-answer.new.device in
     as-answered _ c.is_fatal-self.result (is_refused is_fatal c.extend-answer.result) old new c.if-self.false c.is_fatal-self.ensures
-    (extended-beside (home_in c.args.self.now) old new for.sound c.args.f c.args.n c.extend-answer.result c.extend-answer.ensures.extended c.extend-answer.ensures.refused
+    (extended-beside (home_in c.args.self.now) old new for.sound c.args.f c.args.n c.extend-answer.result c.extend-answer.ensures.extended
+    c.extend-answer.ensures.refused
     c.extend-answer.ensures.confined)

@@ -32,5 +32,6 @@ returns-clause-lost g c =
     let old = disk_in c.args.self.now in
     let new = g.D.Device.disk c.grow_index-answer.new.device in
     as-answered _ c.is_fatal-self.result (is_refused is_fatal c.grow_index-answer.result) old new c.if-self.false c.is_fatal-self.ensures
-    (grown-beside (home_in c.args.self.now) old new for.sound c.args.n c.grow_index-answer.result c.grow_index-answer.ensures.grown c.grow_index-answer.ensures.refused
+    (grown-beside (home_in c.args.self.now) old new for.sound c.args.n c.grow_index-answer.result c.grow_index-answer.ensures.grown
+    c.grow_index-answer.ensures.refused
     c.grow_index-answer.ensures.confined)

@@ -25,5 +25,6 @@ pub returns-clause-lost : goal.returns-clause-lost
 returns-clause-lost g c =
     as-answered _ c.is_fatal-self.result (is_refused is_fatal c.length-answer.result) (disk_in c.args.self.now) _ c.if-self.false
     c.is_fatal-self.ensures
-    (answered c.length-answer.result _ _ c.length-answer.ensures.counts c.length-answer.ensures.refused (λ _ is. reads-beside _ is.reads.looked)
+    (answered c.length-answer.result _ _ c.length-answer.ensures.counts c.length-answer.ensures.refused
+    (λ _ is. reads-beside _ is.reads.looked)
     (λ _ is. reads-beside _ is.reads.looked))

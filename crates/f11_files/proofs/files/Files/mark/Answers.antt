@@ -35,5 +35,6 @@ returns-clause-lost g c =
     let old = disk_in c.args.self.now in
     let new = g.D.Device.disk c.mark-answer.new.device in
     as-answered _ c.is_fatal-self.result (is_refused is_fatal c.mark-answer.result) old new c.if-self.false c.is_fatal-self.ensures
-    (altered-beside (home_in c.args.self.now) old new for.sound with_delete_mark c.args.f c.mark-answer.result c.mark-answer.ensures.altered c.mark-answer.ensures.refused
+    (altered-beside (home_in c.args.self.now) old new for.sound with_delete_mark c.args.f c.mark-answer.result c.mark-answer.ensures.altered
+    c.mark-answer.ensures.refused
     (to-only c.args.self.now.structure (only_header c.args.f.number) [] old new for (λ _. c.mark-answer.ensures.confined)))

@@ -26,5 +26,6 @@ pub returns-clause-lost : goal.returns-clause-lost
 returns-clause-lost g c =
     as-answered _ c.is_fatal-self.result (is_refused is_fatal c.read_attr-answer.result) (disk_in c.args.self.now) _ c.if-self.false
     c.is_fatal-self.ensures
-    (answered c.read_attr-answer.result _ _ c.read_attr-answer.ensures.read c.read_attr-answer.ensures.refused (λ _ is. reads-beside _ is.reads.looked)
+    (answered c.read_attr-answer.result _ _ c.read_attr-answer.ensures.read c.read_attr-answer.ensures.refused
+    (λ _ is. reads-beside _ is.reads.looked)
     (λ _ is. reads-beside _ is.reads.looked))

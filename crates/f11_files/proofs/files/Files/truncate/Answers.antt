@@ -33,5 +33,6 @@ returns-clause-lost g c =
     let old = disk_in c.args.self.now in
     let new = g.D.Device.disk c.truncate-answer.new.device in
     as-answered _ c.is_fatal-self.result (is_refused is_fatal c.truncate-answer.result) old new c.if-self.false c.is_fatal-self.ensures
-    (cut-beside (home_in c.args.self.now) old new for.sound c.args.f c.args.to c.truncate-answer.result c.truncate-answer.ensures.cut c.truncate-answer.ensures.refused
+    (cut-beside (home_in c.args.self.now) old new for.sound c.args.f c.args.to c.truncate-answer.result c.truncate-answer.ensures.cut
+    c.truncate-answer.ensures.refused
     (to-only c.args.self.now.structure _ [] old new for c.truncate-answer.ensures.confined))

@@ -33,5 +33,6 @@ returns-clause-lost g c =
     let old = disk_in c.args.self.now in
     let new = g.D.Device.disk c.write_block-answer.new.device in
     as-answered _ c.is_fatal-self.result (is_refused is_fatal c.write_block-answer.result) old new c.if-self.false c.is_fatal-self.ensures
-    (stored-beside (home_in c.args.self.now) old new for.sound c.args.f c.args.vbn c.args.block.now c.write_block-answer.result c.write_block-answer.ensures.stored c.write_block-answer.ensures.refused
+    (stored-beside (home_in c.args.self.now) old new for.sound c.args.f c.args.vbn c.args.block.now c.write_block-answer.result
+    c.write_block-answer.ensures.stored c.write_block-answer.ensures.refused
     (to-only c.args.self.now.structure no_header _ old new for c.write_block-answer.ensures.confined))

@@ -31,4 +31,5 @@ returns-clause-lost g c =
     let old = disk_in c.args.self.now in
     let new = g.D.Device.disk c.write_in-answer.new.device in
     as-answered _ c.is_fatal-self.result (is_refused is_fatal c.write_in-answer.result) old new c.if-self.false c.is_fatal-self.ensures
-    (window-beside (home_in c.args.self.now) old new for.sound c.args.window.now c.args.vbn c.args.block.now c.write_in-answer.result (c.requires.of_file c.if-self.false) c.write_in-answer.ensures.stored c.write_in-answer.ensures.refused)
+    (window-beside (home_in c.args.self.now) old new for.sound c.args.window.now c.args.vbn c.args.block.now c.write_in-answer.result
+    (c.requires.of_file c.if-self.false) c.write_in-answer.ensures.stored c.write_in-answer.ensures.refused)

@@ -165,7 +165,8 @@ extend_held-requires-clause-room g c =
     c.in_ok-end.ensures.end c.room_of-room.result c.room_of-room.ensures (sym c.if-is_too_long.ensures) ready
     (readies-file s f n c.in_ok-end.end c.find_end.new.first c.find_end.new.last old read c.requires.is_for c.requires.own
     c.in_ok-end.ensures.end c.room_of-room.result c.room_of-room.ensures (sym c.if-is_too_long.ensures) ready
-    (rw c.need.ensures.need at c.in_ok-ready_headers.ensures.ready)) t ready _ _ c.in_ok-ready_headers.ensures.stays.home (looked_none ready) ends
+    (rw c.need.ensures.need at c.in_ok-ready_headers.ensures.ready)) t ready _ _ c.in_ok-ready_headers.ensures.stays.home
+    (looked_none ready) ends
 
 pub returns-in_err-extend_held-clause-refused : goal.returns-in_err-extend_held-clause-refused
 returns-in_err-extend_held-clause-refused g c =
@@ -240,8 +241,7 @@ returns-clause-extended g c =
     let old = g.D.Device.disk c.args.device.now in
     let read = g.D.Device.disk c.find_end.new.device in
     let ready = g.D.Device.disk c.ready_headers.new.device in
-    let t = c.ready_headers.new.self in
-    (
+    let t = c.ready_headers.new.self in (
       length-then s f n c.in_ok-end.end c.find_end.new.first c.find_end.new.last old read c.requires.is_for c.requires.own
           c.in_ok-end.ensures.end c.room_of-room.result c.room_of-room.ensures,
       extends-then s f n c.in_ok-end.end c.find_end.new.first
