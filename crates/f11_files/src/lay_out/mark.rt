@@ -16,8 +16,8 @@ use f11_dev::Device;
 use f11_store::{FileId, Refusal};
 
 impl Structure {
-    /// Sets the contiguous mark (UC.CON) in a file's first header, which is written, and is read first unless it is the last one, in hand:
-    /// two transfers at most, and else one.
+    /// Sets the contiguous mark (UC.CON) in a file's first header, and writes it. Where it is the last one, it is in hand: one transfer at most.
+    /// Else it is read first: two at most.
     ///
     /// # Errors
     ///
