@@ -37,7 +37,7 @@ struct Left {
 const NOTED: &[(u8, u32, u32)] = &[(6, 6, 0)];
 
 /// The header is read for the right, and again to be changed; the bitmap block, which is kept, is written; then the zeros; the header, which has
-/// places for all pointers; it is read, and written with the mark.
+/// places for all pointers; and it again, with the mark.
 const ONE_HEADER: [Left; 4] = [
     Left {
         from: 0,
@@ -58,7 +58,7 @@ const ONE_HEADER: [Left; 4] = [
         words: [(12, 0), (94, 0), (100, 0xcc04)],
     },
     Left {
-        from: 306,
+        from: 305,
         zeros: (300, 300),
         notes: NOTED,
         words: [(12, 0o200), (94, 0), (100, 0xcc04)],
@@ -211,7 +211,7 @@ fn first_wrong_stop(
 #[test]
 fn a_run_is_stopped_behind_each_transfer(rt: HostRuntime) -> Result<(), Fail> {
     let one = first_wrong_stop(rt.alloc(), 204, &ONE_HEADER)?;
-    assert_eq!(rt; one, (None, Some(306)));
+    assert_eq!(rt; one, (None, Some(305)));
     let two = first_wrong_stop(rt.alloc(), 2, &TWO_HEADERS)?;
     assert_eq!(rt; two, (None, Some(310)));
     Ok(())
