@@ -94,6 +94,7 @@ module _ {D W : Type 0} {met : Ghosts D} (disk : Disk) (first last : Volume D me
       meanwhile = stands-accepted disk first last mounts image whole still-alive lost;
       failed = is_spent last;
       failed_is = λ is. (λ dead. more-failures dead is, λ alive. same-failures alive);
+      quiet = λ more. kept.quiet (omega (arith, more, mounts.looked.failures));
       answers = answers-images;
       run = λ is none.
           let sound = sound-first disk first last mounts kept.home is in
@@ -124,6 +125,7 @@ module _ {D W : Type 0} {met : Ghosts D} (disk : Disk) (first last : Volume D me
             λ dead. omega (arith, more),
             λ alive. let same = (s.failed_is honest).1 alive in absurd (omega (arith, more, same)),
           );
+      quiet = λ _. refl;
       answers = s.answers;
       run = λ honest none.
           let more = more-failures is honest in
@@ -170,6 +172,7 @@ module _ {W : Type 0} (remaining : Option (List ℕ)) (contents : W → Option (
           λ dead. let more = fared.0 dead in omega (arith, more, looked.failures),
           λ alive. let same = fared.1 alive in omega (arith, same, looked.failures),
         );
+    quiet = λ more. s.quiet (omega (arith, more, looked.failures));
     answers =
         subst (λ (h : Bool). RunsScript (StepsOrFails h) remaining
         (record { store = held_in no_entries (store_of old.image s.home); failed = false })

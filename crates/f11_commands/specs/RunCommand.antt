@@ -23,7 +23,8 @@ use Rattle.f11_serving.specs.vfy.Verify.{Examines}
 -- A script was served on an image. Where the disk is honest the image was accepted before, is then, and so was each that stood meanwhile;
 -- blocks were written in order, and those that are fixed or were lost are as they were. What was written are the answers of its requests,
 -- from the store of the image, in which nobody holds an access, to that of the image then, with what tasks held at the end. On an honest
--- disk one of them failed the volume exactly where a transfer failed; where none did, they are steps of the plain store.
+-- disk one of them failed the volume exactly where a transfer failed; where none did, they are steps of the plain store. Behind a transfer
+-- that failed none was made.
 pub record ServesImage {W : Type 0} (result : Result ℕ ScriptError) (remaining : Option (List ℕ)) (old new : Disk)
     (contents : W → Option (List ℕ)) (before after : W) : Type 0 where
   pub home : HomeFields
@@ -34,6 +35,7 @@ pub record ServesImage {W : Type 0} (result : Result ℕ ScriptError) (remaining
   pub meanwhile : StandsAccepted old new
   pub failed : Bool
   pub failed_is : IsTrue old.honest → (failed ≡ true → old.failures < new.failures) × (failed ≡ false → new.failures ≡ old.failures)
+  pub quiet : old.failures < new.failures → new.calm ≡ 0
   pub answers : RunsScript (StepsOrFails old.honest) remaining
       (record { store = held_in no_entries (store_of old.image home); failed = false })
       (record { store = held_in held (store_of new.image home); failed = failed }) (contents before) (contents after) result

@@ -6,7 +6,8 @@ use Rattle.f11_dev.specs.Disk.{Disk}
 use Rattle.f11_dev.specs.Image.{IsImage}
 use Rattle.f11_dev.specs.Looked.{Looked}
 use Rattle.f11_dev.specs.declared.device.Device.{Ghosts}
-use Rattle.rt11_volume.specs.Files.{AnswersRt, FailsToFindFile, FailsToReach, HasBlock, HasFile, IsFileAt, faults_in, file_area}
+use Rattle.rt11_volume.specs.Calls.{AnswersRt}
+use Rattle.rt11_volume.specs.Files.{FailsToFindFile, FailsToReach, HasBlock, HasFile, IsFileAt, faults_in, file_area}
 use Rattle.rt11_volume.specs.Files.{is_device_fault, is_fault}
 use Rattle.rt11_volume.specs.Store.{Area, RtStore}
 use Rattle.rt11_volume.specs.Verifying.Verdict.{IsSoundDisk}

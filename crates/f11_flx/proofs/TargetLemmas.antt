@@ -9,8 +9,8 @@ use Rattle.f11_dev.specs.Image.{Image}
 use Rattle.f11_dev.specs.Looked.{Looked}
 use Rattle.f11_dev.specs.Went.{Went}
 use Rattle.f11_dev.specs.declared.device.Device.{Ghosts}
-use Rattle.rt11_volume.specs.Calls.{has_failed}
-use Rattle.rt11_volume.specs.Files.{AnswersRt, CreatesFile, DeletesFile, FailsToCreate, FailsToDelete, FailsToReach, HasBlockWritten}
+use Rattle.rt11_volume.specs.Calls.{AnswersRt, has_failed}
+use Rattle.rt11_volume.specs.Files.{CreatesFile, DeletesFile, FailsToCreate, FailsToDelete, FailsToReach, HasBlockWritten}
 use Rattle.rt11_volume.specs.Files.{KeepsFiles}
 use Rattle.rt11_volume.specs.Files.{faults_in, file_area}
 use Rattle.rt11_volume.specs.Files.{is_device_fault, is_fault}

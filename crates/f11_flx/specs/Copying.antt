@@ -99,7 +99,7 @@ pub record AsksOnly {D : Type 0} {met : Ghosts D} (is_one : Asking → Bool) (wh
   pub tried : Tried of_volume who asked old new
   pub only : All (λ x. is_one x ≡ true) asked
 
--- what a copy to RT-11 asks: nothing that writes
+-- what a copy to RT-11 asks: nothing that makes, changes or deletes a file
 abbrev pub is_reading_request : Request → Bool
 is_reading_request (request.Access id mode lun) = true
 is_reading_request (request.ReadAttr id) = true
@@ -165,8 +165,8 @@ pub data AsksForFile {V : Type 0} (S : FilesService V) (who : Who) (lun : ℕ) (
 abbrev pub AsksForOne : {V : Type 0} → FilesService V → Who → ℕ → FileId → List ℕ → ℕ → V → V → Type 0
 AsksForOne S who lun dir to protection old new = AsksForFile S who lun dir to protection None old new
 
--- The volume was read, whatever the answer is; it is as before unless a device fault or Damaged was met. Where it had failed, the answer is
--- VolumeFailed.
+-- The volume was read, whatever the answer is; its store is as before unless a device fault or Damaged was met. Where it had failed, the
+-- answer is VolumeFailed.
 pub record ReadsFiles {D T : Type 0} {met : Ghosts D} (result : Result T FlxRefusal) (who : Who) (old new : Volume D met) : Type 0 where
   pub fares : FaresFiles result old new
   pub keeps : KeepsSpent result old new

@@ -95,6 +95,10 @@ fn opened_both<'a>(
     remark: &mut Option<Remark<'a>>,
 ) -> Result<(FileImage<File>, FileImage<File>), Failure> {
     let (image, rt_image) = (asked.image, asked.rt_image);
+    if image == rt_image {
+        *remark = Some(Remark::of(image, Why::TWICE));
+        return Err(Failure::CannotOpen);
+    }
     match asked.direction {
         Direction::ToRt => {
             let files = opened(FileImage::open_to_read(rt, image), image, remark)?;

@@ -2,7 +2,7 @@
 use crate::host_file::HostFile;
 use crate::outcome::Failure;
 use crate::remarks::{self, Remark, Why, tell_fault};
-use crate::{judged, opened};
+use crate::{judged, opened, opened_new};
 use f11_commands::f11_catalog::{Content, DirectoryName, Place};
 use f11_commands::{Answer, LeftOut, TakingAll, begin_all};
 use f11_dev::{CannotOpen, FileImage};
@@ -37,7 +37,7 @@ pub fn get_all<'a, W: Write>(
         }
     };
     let new = fs::create_dir(rt, folder).map_err(CannotOpen::from);
-    opened(new, folder, remark)?;
+    opened_new(new, folder, remark)?;
     let taken = take_all(rt, &mut all, folder, writer);
     // where it stopped the last line would count what was never tried as done
     let (device, served) = if taken.is_ok() {

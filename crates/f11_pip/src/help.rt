@@ -130,7 +130,10 @@ const GROUPS: [Group; 4] = [
                 name: "rt-put",
                 words: "f11_pip rt-put RT NAME HOST",
                 does: "makes a file of one of the host, filled up with zeros to whole blocks",
-                about: &["of a volume that is accepted"],
+                about: &[
+                    "of a volume that is accepted",
+                    "RT-11 ends the lines of a text by CR LF, which its copies to Files-11 look for: LF alone is put as it is",
+                ],
                 example: "f11_pip rt-put rt.dsk LOGIN.COM login.com",
             },
             Synopsis {

@@ -4,7 +4,7 @@ use crate::host_file::{HostFile, PIECE};
 use crate::outcome::Failure;
 use crate::refusals::{self, NO_SUCH_ENTRY, of_finding, of_making};
 use crate::remarks::{self, Remark, Why, tell_fault};
-use crate::{judged, opened};
+use crate::{judged, opened, opened_new};
 use f11_commands::f11_flx::{CopyMode, LONGEST_LINE};
 use f11_commands::f11_rad50::Name;
 use f11_commands::{
@@ -159,13 +159,7 @@ pub fn made<'a>(
     host: &'a str,
     remark: &mut Option<Remark<'a>>,
 ) -> Result<HostFile, Failure> {
-    match HostFile::new(rt, host)? {
-        Err(CannotOpen::Missing) => {
-            *remark = Some(Remark::of(host, Why::NO_FOLDER));
-            Err(Failure::CannotOpen)
-        }
-        file => opened(file, host, remark),
-    }
+    opened_new(HostFile::new(rt, host)?, host, remark)
 }
 
 /// A file of the host that is read for one of a volume, and counts the bytes of 0 in it.

@@ -434,6 +434,21 @@ fn opened<'a, T>(
     }
 }
 
+/// The same of what was made.
+fn opened_new<'a, T>(
+    file: Result<T, CannotOpen>,
+    word: &'a str,
+    remark: &mut Option<Remark<'a>>,
+) -> Result<T, Failure> {
+    match file {
+        Ok(file) => Ok(file),
+        Err(why) => {
+            *remark = Some(Remark::of(word, remarks::unmade(why)));
+            Err(Failure::CannotOpen)
+        }
+    }
+}
+
 /// An image file of so many blocks that is made, and where none could be, a remark why; one that is there then, and got no such length, is
 /// told, too.
 fn created<'a>(
@@ -447,7 +462,7 @@ fn created<'a>(
             *remark = Some(Remark::of(image, Why::NO_LENGTH));
             Err(Failure::CannotOpen)
         }
-        made => opened(made, image, remark),
+        file => opened_new(file, image, remark),
     }
 }
 

@@ -100,7 +100,7 @@ pub fn of_rt<'a>(line: &str, image: &'a str, name: &'a str) -> Option<Remark<'a>
 pub fn of_request(line: &str) -> Option<&'static str> {
     let why = match line {
         "bad line" => {
-            "a line is a task, 0 to 7, a user's code as [200,1], a verb in capitals and its arguments, with single spaces between them (docs/FORMATS.md, Scripts)"
+            "a line is a task, 0 to 7, a user's code as [200,1], a verb in capitals and its arguments, with single spaces between them, each as docs/FORMATS.md has it at Scripts: a file as 6,1, a name as LOGIN.CMD;1, a number in digits alone"
         }
         "no VolumeFailed" => "an earlier request met a device fault, or damage",
         "no BadArgument" => "a file number, a VBN, or a number of blocks or slots is 0",

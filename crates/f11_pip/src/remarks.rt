@@ -183,6 +183,18 @@ impl Why {
     pub const NO_FILE: Why = Why::Said("no regular file");
     /// The folder of its file isn't there.
     pub const NO_FOLDER: Why = Why::Said("no such folder");
+    /// The system doesn't let it be made, for a cause that it doesn't name.
+    pub const NOT_MADE: Why = Why::Said(
+        "cannot be made: what stands before its last slash may be no folder",
+    );
+    /// It is named as both images of a copy.
+    pub const TWICE: Why = Why::Said(
+        "named twice: a copy goes from one image to another; get and put go by a file",
+    );
+    /// A mode was given with `--blocks`.
+    pub const NO_MODE_BESIDE: Why = Why::Said(
+        "doesn't go with --blocks, which takes whole blocks as they are",
+    );
     /// The bit of the slot of the file in it that is taken out is lost.
     pub const UNUSED: Why = Why::Said(
         "the file's slot is out of use: if the volume was written since, its blocks may be another file's",
@@ -231,10 +243,7 @@ pub fn passed_by(blocks: u32, params: &InitParams<'_>) -> Remark<'static> {
     } else if params.slots < 16 || params.slots > 16_000 {
         limit("--slots", "16 to 16000")
     } else if params.max_files < params.slots || params.max_files > 65_500 {
-        limit(
-            "--max",
-            "as many as slots, to 65500; 4000 where it isn't given",
-        )
+        limit("--max", "from --slots to 65500; 4000 where it isn't given")
     } else if !is_label(params.label) {
         limit("--label", "1 to 12 characters A to Z and 0 to 9")
     } else {
@@ -319,6 +328,15 @@ pub fn of_rt_volume<'a>(rt: &HostRuntime, word: &'a str, state: RtState) -> Opti
         RtState::Sound => of_image(rt, word, None),
         RtState::Short(blocks) => Some(Remark::of(word, Why::Short(blocks, bytes_of(blocks)))),
         RtState::Faulty => Some(Remark::of(word, of_rt_faults(rt, word))),
+    }
+}
+
+/// Why no file, or folder, could be made under a word.
+pub fn unmade(why: CannotOpen) -> Why {
+    match why {
+        CannotOpen::Missing => Why::NO_FOLDER,
+        CannotOpen::Refused => Why::NOT_MADE,
+        _ => Why::CannotOpen(why),
     }
 }
 

@@ -1,10 +1,10 @@
 //! The command `rt-get --all`: the files of the host that it makes, in a folder.
 use crate::folder::made_in;
 use crate::host_file::HostFile;
-use crate::opened;
 use crate::outcome::Failure;
 use crate::remarks::{self, Remark, Why, tell_fault};
 use crate::rt_files::judged;
+use crate::{opened, opened_new};
 use f11_commands::{Answer, RtFate, RtFileAt, RtPlace, TakingAllRt, begin_all_rt};
 use f11_dev::{CannotOpen, Device, FileImage};
 use std::fs::{self, File};
@@ -33,7 +33,7 @@ pub fn get_all<'a, W: Write>(
         }
     };
     let new = fs::create_dir(rt, folder).map_err(CannotOpen::from);
-    opened(new, folder, remark)?;
+    opened_new(new, folder, remark)?;
     let taken = take_all(rt, &mut all, folder, writer);
     // where it stopped the last line would count what was never tried as done
     let (device, served) = if taken.is_ok() {

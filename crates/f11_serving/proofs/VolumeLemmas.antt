@@ -1,6 +1,7 @@
 -- Scripts that a volume serves: a run of its store, and its transfers.
 use Rattle.std.proofs.Common.{◌≡◌, ℕ, ◌+◌, ◌<◌, ◌≤◌, ◌||◌, Bool, true, false, IsTrue, List, [], ◌∷◌, Option, Result, Ok, Err, refl, sym}
 use Rattle.std.proofs.Common.{◌∙◌, ap, arith}
+use Rattle.f11_dev.specs.Disk.{Disk}
 use Rattle.f11_dev.specs.declared.device.Device.{Ghosts}
 use Rattle.f11_store.specs.Run.{Call, Answer}
 use Rattle.f11_store.specs.declared.refusals.Refusal.{Refusal}
@@ -207,14 +208,16 @@ fatal-one (Err DeviceFault) fatal undamaged = refl
 fatal-one (Err Damaged) fatal undamaged = absurd (let never : true ≡ false = undamaged in cc)
 fatal-one (Err _) fatal undamaged = absurd (let never : false ≡ true = fatal in cc)
 
--- the home block and whether the disk is honest stay; once a request has failed the volume that stays so; while none has no transfer fails,
--- and where one does a transfer failed, on an honest disk
+-- the home block and whether the disk is honest stay; once a request has failed the volume that stays so, and the disk as it is; while
+-- none has no transfer fails, and where one does a transfer failed, on an honest disk; behind a transfer that failed none is made
 module _ {D : Type 0} {met : Ghosts D} where
   pub record KeepsVolume (v w : Volume D met) : Type 0 where
     pub home : (state_in w).home ≡ (state_in v).home
     pub honest : (state_in w).disk.honest ≡ (state_in v).disk.honest
     pub spent : is_spent v ≡ true → is_spent w ≡ true
+    pub untouched : is_spent v ≡ true → (state_in w).disk ≡ (state_in v).disk
     pub rises : failures_of v ≤ failures_of w
+    pub quiet : failures_of v < failures_of w → (state_in w).disk.calm ≡ 0
     pub same : is_spent w ≡ false → failures_of w ≡ failures_of v
     pub more : IsTrue (state_in v).disk.honest → is_spent v ≡ false → is_spent w ≡ true → failures_of v < failures_of w
 
@@ -229,7 +232,9 @@ module _ {D : Type 0} {met : Ghosts D} where
             home = ap (λ (x : State). x.home) state;
             honest = ap (λ (x : State). x.disk.honest) state;
             spent = λ _. served.serving.next ∙ ap (λ b. b || is_refused is_fatal a.result) is;
+            untouched = λ _. ap (λ (x : State). x.disk) state;
             rises = omega (arith, failures);
+            quiet = λ more. absurd (omega (arith, more, failures));
             same = λ _. failures;
             more = λ _ alive _. absurd (let never : true ≡ false = sym is ∙ alive in cc);
           }
@@ -240,7 +245,9 @@ module _ {D : Type 0} {met : Ghosts D} where
             home = handled.home;
             honest = handled.writes.went.honest;
             spent = λ was. absurd (let never : false ≡ true = sym is ∙ was in cc);
+            untouched = λ was. absurd (let never : false ≡ true = sym is ∙ was in cc);
             rises = omega (arith, handled.writes.went.failures);
+            quiet = λ more. handled.writes.went.quiet (omega (arith, more, handled.writes.went.failures));
             same = λ alive. omega (arith, handled.writes.went.failures, clean-none a.result (sym next ∙ alive));
             more = λ honest _ failed.
                 omega (arith, handled.writes.went.failures, fatal-one a.result (sym next ∙ failed) (handled.undamaged honest));
@@ -251,7 +258,9 @@ module _ {D : Type 0} {met : Ghosts D} where
     home = refl;
     honest = refl;
     spent = λ was. was;
+    untouched = λ _. refl;
     rises = omega arith;
+    quiet = λ more. absurd (omega (arith, more));
     same = λ _. refl;
     more = λ _ alive failed. absurd (let never : false ≡ true = sym alive ∙ failed in cc);
   }
@@ -261,7 +270,9 @@ module _ {D : Type 0} {met : Ghosts D} where
     home = then.home ∙ one.home;
     honest = then.honest ∙ one.honest;
     spent = λ was. then.spent (one.spent was);
+    untouched = λ was. then.untouched (one.spent was) ∙ one.untouched was;
     rises = omega (arith, one.rises, then.rises);
+    quiet = λ more. quiet_behind (is_spent v) refl more;
     same = λ alive. then.same alive ∙ one.same (alive-before alive);
     more = λ honest alive failed. by_spent (is_spent v) refl honest alive failed;
   }
@@ -272,6 +283,13 @@ module _ {D : Type 0} {met : Ghosts D} where
           before : (b : Bool) → is_spent v ≡ b → is_spent v ≡ false
           before false is = is
           before true is = absurd (let never : true ≡ false = sym (then.spent is) ∙ alive in cc)
+
+      quiet_behind : (b : Bool) → is_spent v ≡ b → failures_of u < failures_of w → (state_in w).disk.calm ≡ 0
+      quiet_behind true is more =
+          let disk = then.untouched is in
+          let failures : failures_of w ≡ failures_of v = ap (λ (d : Disk). d.failures) disk in
+          ap (λ (d : Disk). d.calm) disk ∙ one.quiet (omega (arith, more, failures))
+      quiet_behind false is more = then.quiet (omega (arith, more, one.same is))
 
       by_spent : (b : Bool) → is_spent v ≡ b → IsTrue (state_in u).disk.honest → is_spent u ≡ false → is_spent w ≡ true
           → failures_of u < failures_of w

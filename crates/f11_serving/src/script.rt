@@ -2,7 +2,7 @@
 
 ghost use Rattle.std.specs.Prelude.{◌≡◌};
 ghost use Rattle.f11_script.specs.Input.{left_of, number_read};
-ghost use Rattle.f11_serving.specs.Serving.{AnswersLine, RunsScript, ServesScript, place_of};
+ghost use Rattle.f11_serving.specs.Serving.{AnswersLine, ServesScript, place_of};
 
 use crate::serves::Serves;
 use f11_bytes::Block;
@@ -81,21 +81,4 @@ pub fn serve_lines<R: Read, W: Write, S: Serves>(
             }
         }
     }
-}
-
-/// Serves the script that a reader gives, as [`serve_lines`] does.
-///
-/// # Errors
-///
-/// Those of [`serve_lines`].
-pub fn run_lines<R: Read + Drop, W: Write, S: Serves>(
-    reader: R,
-    writer: &mut W,
-    service: &mut S,
-) -> Result<u32, ScriptError>
-    ensures runs { RunsScript S.served (R.remaining reader) service.old service.new
-        (W.contents writer.old) (W.contents writer.new) result }
-{
-    let mut script = ScriptReader::new(reader);
-    serve_lines(&mut script, writer, service)
 }

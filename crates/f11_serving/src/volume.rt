@@ -5,12 +5,12 @@ ghost use Rattle.f11_serving.specs.Answering.{AnswersScript};
 ghost use Rattle.f11_serving.specs.Scripts.{KeepsScriptCosts, ServesScriptRun};
 ghost use Rattle.f11_serving.specs.Serving.{RunsScript};
 
-use crate::script::run_lines;
+use crate::script::serve_lines;
 use crate::serves::Serves;
 use f11_bytes::Block;
 use f11_dev::Device;
 use f11_fcp::Volume;
-use f11_script::ScriptError;
+use f11_script::{ScriptError, ScriptReader};
 use f11_store::{Refusal, Reply, Request, Task, Uic};
 use std::io::{Read, Write};
 
@@ -58,5 +58,6 @@ pub fn run_script<D: Device, R: Read + Drop, W: Write>(
     ensures accepted { StaysAccepted (state_in volume.new) }
     ensures lost { RequestsSpareLost volume.old volume.new }
 {
-    run_lines(reader, writer, volume)
+    let mut script = ScriptReader::new(reader);
+    serve_lines(&mut script, writer, volume)
 }

@@ -5,11 +5,10 @@ use Rattle.std.specs.List.{All}
 use Rattle.std.proofs.lemmas.Bool.{or_parts, eqb-true, not-false}
 use Rattle.std.proofs.lemmas.Option.{slice_get-get_or}
 use Rattle.f11_dev.specs.Image.{Image}
-use Rattle.rt11_volume.specs.Directory.{segment_of, count_of, extra_of, is_extra_wrong}
+use Rattle.rt11_volume.specs.Directory.{segment_of, count_of, extra_of, is_extra_wrong, KeepsData}
 use Rattle.rt11_volume.specs.Rewriting.Draft.{IsRewritten}
 use Rattle.rt11_volume.specs.Entry.{status, is_one_kind, is_protected, is_file_named}
 use Rattle.rt11_volume.specs.Files.{file_area, DeletesFile, IsProtectedFile}
-use Rattle.rt11_volume.specs.Fresh.{KeepsData}
 use Rattle.rt11_volume.specs.InHand.{KeepsOthers}
 use Rattle.rt11_volume.specs.Searching.Looking.{found_entry, IsFirstFound}
 use Rattle.rt11_volume.specs.Operations.{with_entries, with_area_emptied, without_file}

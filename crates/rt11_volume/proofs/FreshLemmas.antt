@@ -12,12 +12,13 @@ use Rattle.f11_bytes.specs.Block.{zero_block}
 use Rattle.f11_bytes.specs.Words.{word}
 use Rattle.f11_dev.specs.Image.{Image, image_block}
 use Rattle.f11_dev.proofs.ImageLemmas.{image_block-written, image_block-other}
-use Rattle.rt11_volume.specs.Directory.{count_of, IsSized, next_of, visited, segment_of, is_extra_wrong, are_extra_wrong, end_before}
+use Rattle.rt11_volume.specs.Directory.{count_of, start_of, IsSized, next_of, visited, segment_of, is_extra_wrong, are_extra_wrong}
+use Rattle.rt11_volume.specs.Directory.{end_before}
 use Rattle.rt11_volume.specs.Entry.{status, area_length, is_end, is_one_kind, empty_entry}
 use Rattle.rt11_volume.specs.Verifying.Faults.{IsDirectoryFault, IsHighestBelow, IsHighestAbove}
 use Rattle.rt11_volume.specs.Verifying.Faults.IsDirectoryFault.{links_outside, links_back, extra_wrong, no_end, status_wrong, area_outside}
 use Rattle.rt11_volume.specs.Verifying.Faults.IsDirectoryFault.{begins_early, highest_wrong}
-use Rattle.rt11_volume.specs.Fresh.{HasRoom, start_of, space_of, fresh_block, IsFreshDirectory, MayStand, IsFreshStore}
+use Rattle.rt11_volume.specs.Fresh.{HasRoom, space_of, fresh_block, IsFreshDirectory, MayStand, IsFreshStore}
 use Rattle.rt11_volume.specs.Segment.{segment_words, words_in, extra_bytes, entry_place, entry_words, entries, HasEnd, area_start}
 use Rattle.rt11_volume.specs.Store.{rt_store_of}
 use Rattle.rt11_volume.specs.Verifying.Verdict.{IsRtFault, IsRtAccepted}

@@ -1,13 +1,17 @@
 -- What the calls on an RT-11 volume do to a disk, by their outcome.
-use Rattle.std.specs.Prelude.{◌≡◌, ℕ, ◌<◌, Bool, false, IsTrue, List, length}
+use Rattle.std.specs.Prelude.{◌≡◌, ◌↔◌, ℕ, ◌<◌, Bool, true, false, ◌||◌, IsTrue, List, Result, IsErrOf, length}
 use Rattle.f11_dev.specs.Disk.{Disk}
 use Rattle.f11_dev.specs.Looked.{Looked}
 use Rattle.f11_dev.specs.declared.device.Device.{Ghosts}
 use Rattle.f11_findings.specs.Finding.{IsExactly}
 use Rattle.f11_findings.specs.declared.finding.Finding.{Finding}
+use Rattle.rt11_volume.specs.Files.{is_device_fault}
+use Rattle.rt11_volume.specs.Searching.Locating.{IsLastFound, Knows}
 use Rattle.rt11_volume.specs.Verifying.Verdict.{IsRtFault, IsRtNote, IsRtAccepted}
 use Rattle.rt11_volume.specs.declared.directory.LookFault.{LookFault}
 use Rattle.rt11_volume.specs.declared.directory.LookFault.TheVariants.{DeviceFault, NoMemory}
+use Rattle.rt11_volume.specs.declared.refusal.RtRefusal.{RtRefusal}
+use Rattle.rt11_volume.specs.declared.refusal.RtRefusal.TheVariants.{Failed}
 use Rattle.rt11_volume.specs.declared.volume.RtAccepted.{RtAccepted}
 use Rattle.rt11_volume.specs.declared.verifier.verdict.RtReport.{RtReport}
 use Rattle.rt11_volume.specs.declared.verifier.verdict.RtReport.TheVariants.{Accepted, Faulty}
@@ -57,3 +61,19 @@ Reports disk (Faulty device faults notes) old = Rejects faults notes old (disk d
 abbrev pub FailsToReport : {D : Type 0} → (D → Disk) → RtVfyError D → Disk → Type 0
 FailsToReport disk (VfyDeviceFault device) old = Looked old (disk device) most_transfers 1
 FailsToReport disk (VfyNoMemory device) old = Looked old (disk device) most_transfers 0
+
+-- A call answers `Failed` exactly where an earlier one answered `DeviceFault`, and then does nothing.
+pub record AnswersRt {D T : Type 0} {met : Ghosts D} (disk : D → Disk) (result : Result T RtRefusal)
+    (old new : RtAccepted D met) : Type 0 where
+  pub failed : IsErrOf result Failed ↔ (has_failed old ≡ true)
+  pub untouched : has_failed old ≡ true → disk (volume_device new) ≡ disk (volume_device old)
+  pub next : has_failed new ≡ (has_failed old || is_device_fault result)
+
+-- the file of this name was found last, and no directory block was written since
+abbrev pub IsKnown : {D : Type 0} {met : Ghosts D} → List ℕ → RtAccepted D met → Type 0
+IsKnown name v = IsLastFound name v.last
+
+-- a file that was found is known to the next call, which then doesn't look for it: it makes so many transfers at most
+abbrev pub KnowsFile : {D T : Type 0} {met : Ghosts D} → (D → Disk) → List ℕ → ℕ → Result T RtRefusal → RtAccepted D met →
+    RtAccepted D met → Type 0
+KnowsFile disk name most result old new = Knows name most result old.last new.last (disk old.device) (disk new.device)

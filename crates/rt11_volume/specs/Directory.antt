@@ -1,6 +1,7 @@
 -- The directory of an RT-11 volume: its segments in link order (RT-11 Volume and File Formats Manual, "Directory Structure").
 use Rattle.std.specs.Prelude.{
   ◌≡◌,
+  ◌⊎◌,
   ℕ,
   zero,
   suc,
@@ -27,7 +28,7 @@ use Rattle.std.specs.Prelude.{
   slice_index,
 }
 use Rattle.std.specs.List.{list_any, slice_get}
-use Rattle.f11_dev.specs.Image.{Image}
+use Rattle.f11_dev.specs.Image.{Image, image_block}
 use Rattle.rt11_volume.specs.Segment.{Segment, segment_words, segment_count, next_segment, extra_bytes, segment_with, areas_end}
 
 -- how many segments the directory has, as segment 1 says
@@ -35,8 +36,12 @@ abbrev pub count_of : Image → ℕ
 count_of image = segment_count (segment_words image 1)
 
 -- the first block behind the directory
+abbrev pub start_of : ℕ → ℕ
+start_of segments = 6 + 2 * segments
+
+-- that of an image
 abbrev pub data_start : Image → ℕ
-data_start image = 6 + 2 * count_of image
+data_start image = start_of (count_of image)
 
 -- A directory of so many segments has 1 to 31, and they are on a device of so many blocks (profile).
 pub record HasSize (count blocks : ℕ) : Type 0 where
@@ -95,3 +100,7 @@ pub record IsJudged (image : Image) (place k : ℕ) : Type 0 where
 unfoldable pub end_before : Image → ℕ → ℕ
 end_before image zero = data_start image
 end_before image (suc place) = areas_end (segment_of image (slice_index (visited image) place))
+
+-- no block but those of the directory is another than it was
+abbrev pub KeepsData : ℕ → Image → Image → Type 0
+KeepsData segments old new = (lbn : ℕ) → (lbn < 6) ⊎ (start_of segments ≤ lbn) → image_block new lbn ≡ image_block old lbn

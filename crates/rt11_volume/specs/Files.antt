@@ -1,38 +1,18 @@
 -- What the calls on an RT-11 volume's files answer, and what they do to its disk.
-use Rattle.std.specs.Prelude.{
-  ◌≡◌,
-  ◌↔◌,
-  ℕ,
-  ◌+◌,
-  ◌<◌,
-  ◌≤◌,
-  Bool,
-  true,
-  false,
-  ◌||◌,
-  if◌then◌else◌,
-  List,
-  Result,
-  Ok,
-  Err,
-  IsErrOf,
-  Some,
-  ⊤,
-  slice_set,
-}
+use Rattle.std.specs.Prelude.{◌≡◌, ℕ, ◌+◌, ◌<◌, ◌≤◌, Bool, true, false, if◌then◌else◌, List, Result, Ok, Err, Some, ⊤, slice_set, length}
+use Rattle.std.specs.Prelude.{map}
 use Rattle.std.specs.List.{slice_get}
 use Rattle.f11_dev.specs.Disk.{Disk}
 use Rattle.f11_dev.specs.Image.{Image}
-use Rattle.f11_dev.specs.declared.device.Device.{Ghosts}
-use Rattle.rt11_volume.specs.Calls.{volume_device, has_failed}
 use Rattle.rt11_volume.specs.Entry.{is_file_named}
-use Rattle.rt11_volume.specs.Directory.{count_of, data_start}
-use Rattle.rt11_volume.specs.Fresh.{KeepsData}
+use Rattle.rt11_volume.specs.Directory.{count_of, data_start, KeepsData}
+use Rattle.rt11_volume.specs.Named.{files_named}
 use Rattle.rt11_volume.specs.Operations.{needs_split, with_area_emptied, with_block, with_new_file}
 use Rattle.rt11_volume.specs.Searching.Search.{IsFirst, HasNone, is_empty_for}
 use Rattle.rt11_volume.specs.Segment.{Segment}
 use Rattle.rt11_volume.specs.Store.{RtStore, rt_store_of, Area, area_at}
 use Rattle.rt11_volume.specs.Verifying.Verdict.{IsRtAccepted, IsSoundDisk}
+use Rattle.rt11_volume.specs.declared.lookup.file.Located.{Located}
 use Rattle.rt11_volume.specs.declared.refusal.RtRefusal.{RtRefusal}
 use Rattle.rt11_volume.specs.declared.refusal.RtRefusal.TheVariants.{
   Failed,
@@ -45,7 +25,6 @@ use Rattle.rt11_volume.specs.declared.refusal.RtRefusal.TheVariants.{
   NoMemory,
   DeviceFault,
 }
-use Rattle.rt11_volume.specs.declared.volume.RtAccepted.{RtAccepted}
 
 -- whether a refusal is that of a transfer that failed
 abbrev pub is_fault : RtRefusal → Bool
@@ -68,13 +47,6 @@ is_device_fault (Err refusal) = is_fault refusal
 abbrev pub faults_in : {T : Type 0} → Result T RtRefusal → ℕ
 faults_in result = if is_device_fault result then 1 else 0
 
--- A call answers `Failed` exactly where an earlier one answered `DeviceFault`, and then does nothing.
-pub record AnswersRt {D T : Type 0} {met : Ghosts D} (disk : D → Disk) (result : Result T RtRefusal)
-    (old new : RtAccepted D met) : Type 0 where
-  pub failed : IsErrOf result Failed ↔ (has_failed old ≡ true)
-  pub untouched : has_failed old ≡ true → disk (volume_device new) ≡ disk (volume_device old)
-  pub next : has_failed new ≡ (has_failed old || is_device_fault result)
-
 -- The file of a name: the first permanent entry with it, in link order.
 pub record HasFile (name : List ℕ) (store : RtStore) : Type 0 where
   pub place : ℕ
@@ -96,6 +68,14 @@ pub record IsFileAt (name : List ℕ) (store : RtStore) (start length : ℕ) : T
   pub file : HasFile name store
   pub start_is : start ≡ (file_area file).start
   pub length_is : length ≡ (file_area file).length
+
+-- a file that was found lies there still: the first of its name begins at its first block and is as long, and the device has all of it
+abbrev pub IsLocated : Located → Image → Type 0
+IsLocated at image =
+    let files = files_named at.name (rt_store_of image) in
+    (slice_get (map (λ (a : Area). a.start) files) 0 ≡ Some at.start) ×
+    (slice_get (map (λ (a : Area). a.length) files) 0 ≡ Some at.length) ×
+    (at.start + at.length ≤ length image)
 
 -- why a file is not found
 abbrev pub FailsToFindFile : RtRefusal → List ℕ → Disk → Type 0

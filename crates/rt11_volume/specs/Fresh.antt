@@ -7,6 +7,7 @@ use Rattle.f11_dev.specs.Image.{Image, image_block}
 use Rattle.f11_dev.specs.Went.{Went}
 use Rattle.f11_dev.specs.declared.device.Device.{Ghosts}
 use Rattle.rt11_volume.specs.Calls.{volume_device, has_failed}
+use Rattle.rt11_volume.specs.Directory.{start_of, KeepsData}
 use Rattle.rt11_volume.specs.Entry.{empty_entry}
 use Rattle.rt11_volume.specs.Store.{RtStore, rt_store_of}
 use Rattle.rt11_volume.specs.Verifying.Verdict.{IsRtAccepted}
@@ -19,10 +20,6 @@ pub record HasRoom (segments blocks : ℕ) : Type 0 where
   pub some : 0 < segments
   pub few : segments ≤ 31
   pub room : 6 + 2 * segments < blocks
-
--- the first block behind the directory
-abbrev pub start_of : ℕ → ℕ
-start_of segments = 6 + 2 * segments
 
 -- the blocks from there to the device's end, or to block 65534
 abbrev pub space_of : ℕ → ℕ → ℕ
@@ -40,10 +37,6 @@ pub record IsFreshDirectory (segments : ℕ) (old new : Image) : Type 0 where
   pub first : image_block new 6 ≡ fresh_block segments (length old)
   pub rest : (lbn : ℕ) → 6 < lbn → lbn < start_of segments → image_block new lbn ≡ zero_block
   pub others : (lbn : ℕ) → (lbn < 6) ⊎ (start_of segments ≤ lbn) → image_block new lbn ≡ image_block old lbn
-
--- no block but those of the directory is another than it was
-abbrev pub KeepsData : ℕ → Image → Image → Type 0
-KeepsData segments old new = (lbn : ℕ) → (lbn < 6) ⊎ (start_of segments ≤ lbn) → image_block new lbn ≡ image_block old lbn
 
 -- What may stand while a fresh directory is made: no block but those of the directory is another, and its first block, which tells how
 -- many segments there are, is as it was, or else the whole directory is there.

@@ -3,6 +3,7 @@ ghost use Rattle.std.specs.Prelude.{◌≡◌, false, IfOk, IfErr, OnOk, OnErr, 
 ghost use Rattle.f11_dev.specs.Looked.{Looked};
 ghost use Rattle.f11_dev.specs.Went.{Went};
 ghost use Rattle.rt11_volume.specs.Files.{is_device_fault, faults_in, FailsToReach, HasBlock, WritesBlock, HasBlockWritten, KeepsFiles, DeletesFile, FailsToDelete, CreatesFile, FailsToCreate};
+ghost use Rattle.rt11_volume.specs.Searching.Locating.{Knows, LiesThere};
 ghost use Rattle.rt11_volume.specs.Listing.{ListsAreas, FailsToList};
 ghost use Rattle.rt11_volume.specs.Verifying.Verdict.{IsSoundDisk};
 ghost use Rattle.rt11_volume.specs.Store.{rt_store_of};
@@ -11,7 +12,7 @@ use crate::area::RtArea;
 use crate::create::file::create_file;
 use crate::delete::delete_file;
 use crate::list::list_areas;
-use crate::lookup::file::{locate, reach};
+use crate::lookup::file::{Located, locate, reach};
 use crate::name::RtName;
 use crate::refusal::RtRefusal;
 use crate::rewrite::edit::NewFile;
@@ -30,11 +31,16 @@ fn is_device_fault<T>(answer: &Result<T, RtRefusal>) -> bool
 /// Reads the block at a place of the file of a name, from 0.
 fn read_block<D: Device>(
     device: &mut D,
+    last: &mut Option<Located>,
     name: [u16; 3],
     place: u16,
     into: &mut Block,
 ) -> Result<(), RtRefusal>
+    requires { LiesThere last.old (D.disk device.old) (D.disk device.old).image }
     ensures looked { Looked (D.disk device.old) (D.disk device.new) 63 (faults_in result) }
+    ensures knows { Knows name 1 result last.old last.new
+        (D.disk device.old) (D.disk device.new) }
+    ensures lies { LiesThere last.new (D.disk device.old) (D.disk device.old).image }
     ensures read { OnOk result (IsSoundDisk (D.disk device.old)
         → HasBlock name (rt_store_of (D.disk device.old).image) place into.new) }
     ensures refused { IfErr result (λ refusal.
@@ -42,7 +48,7 @@ fn read_block<D: Device>(
     ensures kept { is_device_fault result ≡ false → OnErr result (into.new ≡ into.old) }
     ensures judged { ¬ IsErrOf result RtRefusal.Failed }
 {
-    let lbn = reach(device, name, place)?;
+    let lbn = reach(device, last, name, place)?;
     device.read(lbn, into)?;
     Ok(())
 }
@@ -50,12 +56,18 @@ fn read_block<D: Device>(
 /// Writes the block at a place of the file of a name, from 0.
 fn write_block<D: Device>(
     device: &mut D,
+    last: &mut Option<Located>,
     name: [u16; 3],
     place: u16,
     block: &Block,
 ) -> Result<(), RtRefusal>
+    requires { LiesThere last.old (D.disk device.old) (D.disk device.old).image }
     ensures went { Went (HasBlockWritten name place block.now (D.disk device.old))
         (D.disk device.old) (D.disk device.new) 63 (faults_in result) }
+    ensures knows { Knows name 1 result last.old last.new
+        (D.disk device.old) (D.disk device.new) }
+    ensures lies { is_device_fault result ≡ false
+        → LiesThere last.new (D.disk device.old) (D.disk device.new).image }
     ensures written { OnOk result (HasBlockWritten name place block.now (D.disk device.old)
         (D.disk device.new).image) }
     ensures refused { IfErr result (λ refusal.
@@ -64,14 +76,14 @@ fn write_block<D: Device>(
         (Looked (D.disk device.old) (D.disk device.new) 62 0) }
     ensures judged { ¬ IsErrOf result RtRefusal.Failed }
 {
-    let lbn = reach(device, name, place)?;
+    let lbn = reach(device, last, name, place)?;
     device.write(lbn, block)?;
     Ok(())
 }
 
 impl<D: Device> RtAccepted<D> {
-    ghost use Rattle.rt11_volume.specs.Calls.{volume_device};
-    ghost use Rattle.rt11_volume.specs.Files.{AnswersRt, IsFileAt, FailsToFindFile};
+    ghost use Rattle.rt11_volume.specs.Calls.{volume_device, AnswersRt, KnowsFile};
+    ghost use Rattle.rt11_volume.specs.Files.{IsFileAt, FailsToFindFile};
 
     /// All areas, in the order of the segments and of their entries (profile: a name is shown for a file alone). It takes memory
     /// for the list.
@@ -97,6 +109,7 @@ impl<D: Device> RtAccepted<D> {
     }
 
     /// Finds a file: the first permanent entry of this name, in link order. Answers its first block and its length in blocks.
+    /// No transfer is made where the file is the one that was found last.
     ///
     /// # Errors
     ///
@@ -107,15 +120,17 @@ impl<D: Device> RtAccepted<D> {
             (D.disk (volume_device self.new)) 62 (faults_in result) }
         ensures found { IfOk result (λ at. IsSoundDisk (D.disk (volume_device self.old))
             → IsFileAt name.now (rt_store_of (D.disk (volume_device self.old)).image) at.0 at.1) }
+        ensures knows { KnowsFile D.disk name.now 0 result self.old self.new }
         ensures refused { IfErr result (λ refusal.
             FailsToFindFile refusal name.now (D.disk (volume_device self.old))) }
     {
         if self.failed {
             return Err(RtRefusal::Failed);
         }
-        let answer = locate(&mut self.device, name.words());
+        let answer = locate(&mut self.device, &mut self.last, name.words());
         self.failed = is_device_fault(&answer);
-        answer
+        let file = answer?;
+        Ok((file.start, file.length))
     }
 
     /// Reads the block at a place of a file, from 0. Where it is refused, but for `DeviceFault`, `into` stays as it is.
@@ -131,6 +146,7 @@ impl<D: Device> RtAccepted<D> {
         ensures read { OnOk result (IsSoundDisk (D.disk (volume_device self.old))
             → HasBlock name.now (rt_store_of (D.disk (volume_device self.old)).image)
             place into.new) }
+        ensures knows { KnowsFile D.disk name.now 1 result self.old self.new }
         ensures refused { IfErr result (λ refusal.
             FailsToReach refusal name.now place (D.disk (volume_device self.old))) }
         ensures kept { is_device_fault result ≡ false → OnErr result (into.new ≡ into.old) }
@@ -138,7 +154,7 @@ impl<D: Device> RtAccepted<D> {
         if self.failed {
             return Err(RtRefusal::Failed);
         }
-        let answer = read_block(&mut self.device, name.words(), place, into);
+        let answer = read_block(&mut self.device, &mut self.last, name.words(), place, into);
         self.failed = is_device_fault(&answer);
         answer
     }
@@ -157,6 +173,7 @@ impl<D: Device> RtAccepted<D> {
             63 (faults_in result) }
         ensures written { OnOk result (HasBlockWritten name.now place block.now
             (D.disk (volume_device self.old)) (D.disk (volume_device self.new)).image) }
+        ensures knows { KnowsFile D.disk name.now 1 result self.old self.new }
         ensures refused { IfErr result (λ refusal.
             FailsToReach refusal name.now place (D.disk (volume_device self.old))) }
         ensures kept { is_device_fault result ≡ false → OnErr result
@@ -165,7 +182,7 @@ impl<D: Device> RtAccepted<D> {
         if self.failed {
             return Err(RtRefusal::Failed);
         }
-        let answer = write_block(&mut self.device, name.words(), place, block);
+        let answer = write_block(&mut self.device, &mut self.last, name.words(), place, block);
         self.failed = is_device_fault(&answer);
         answer
     }
@@ -203,6 +220,7 @@ impl<D: Device> RtAccepted<D> {
             blocks: length,
             date,
         };
+        self.last = None;
         let answer = create_file(&mut self.device, file);
         self.failed = is_device_fault(&answer);
         answer
@@ -231,6 +249,7 @@ impl<D: Device> RtAccepted<D> {
         if self.failed {
             return Err(RtRefusal::Failed);
         }
+        self.last = None;
         let answer = delete_file(&mut self.device, name.words());
         self.failed = is_device_fault(&answer);
         answer

@@ -86,6 +86,7 @@ pub fn init<D: Device>(mut device: D, segments: u16) -> Result<RtAccepted<D>, Rt
         Ok(()) => Ok(RtAccepted {
             device,
             failed: false,
+            last: None,
         }),
         Err(DeviceFault) => Err(RtInitError::DeviceFault(device)),
     }

@@ -1,7 +1,10 @@
 //! A volume that was accepted.
-ghost use Rattle.std.specs.Prelude.{◌≡◌, false, IsTrue};
+ghost use Rattle.std.specs.Prelude.{◌≡◌, false, IfSome, IsTrue};
+ghost use Rattle.std.proofs.Props.{props};
+ghost use Rattle.rt11_volume.specs.Files.{IsLocated};
 ghost use Rattle.rt11_volume.specs.Verifying.Verdict.{IsRtAccepted};
 
+use crate::lookup::file::Located;
 use f11_dev::Device;
 
 /// An RT-11 volume without faults, and its device.
@@ -14,6 +17,11 @@ pub struct RtAccepted<D: Device> {
     pub(crate) failed: bool,
     /// The image has no fault where the device is honest and no call has failed.
     pub ghost sound: { IsTrue (D.disk device).honest → failed ≡ false → IsRtAccepted (D.disk device).image },
+    /// The file that was found last, unless the directory was written since.
+    pub(crate) last: Option<Located>,
+    /// It lies there still.
+    pub ghost lies: { IsTrue (D.disk device).honest → failed ≡ false
+        → IfSome last (λ file. IsLocated file (D.disk device).image) } by { Prim.hlevel props },
 }
 
 impl<D: Device> RtAccepted<D> {

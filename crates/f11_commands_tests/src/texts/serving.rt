@@ -4,7 +4,7 @@ ghost use Rattle.std.specs.Str.Lines.{lines};
 ghost use Rattle.f11_script.specs.Asking.{requests_in};
 
 use f11_bytes::Block;
-use f11_commands::f11_serving::{Serves, laws, run_lines, serve_lines};
+use f11_commands::f11_serving::{Serves, laws, serve_lines};
 use f11_script::{ScriptError, ScriptReader};
 use f11_store::{Refusal, Reply, Request, Task, Uic};
 use std::io::{self, Cursor, ErrorKind, Read, Write};
@@ -36,7 +36,8 @@ fn requests_of<R: Read + Drop, W: Write>(reader: R, writer: &mut W) -> Result<u3
     ensures { IfOk result (λ n. IfSome (R.remaining reader)
         (λ xs. n ≡ length (requests_in (lines xs)))) }
 {
-    run_lines(reader, writer, &mut Idle)
+    let mut script = ScriptReader::new(reader);
+    serve_lines(&mut script, writer, &mut Idle)
 }
 
 /// A reader that fails behind its text.
@@ -79,7 +80,7 @@ fn scripts_break_off(rt: HostRuntime) {
     assert_eq!(rt; answers.get_ref(), b"ok\nno NoSuchAccess\n");
     let mut few = Cursor::new([0; 5]);
     assert_eq!(rt;
-        run_lines(Cursor::new(text), &mut few, &mut Idle),
+        requests_of(Cursor::new(text), &mut few),
         Err(ScriptError::WriteFault)
     );
     assert_eq!(rt; few.get_ref(), b"ok\nno");

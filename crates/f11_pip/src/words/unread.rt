@@ -44,11 +44,7 @@ fn get<'a>(given: &ArgMatches<'a>) -> Option<Remark<'a>> {
         .or(directory(given))
         .or(there(given, "name", "NAME"))
         .or(there(given, "host", "HOST"))
-        .or(unless(
-            !has_mode || !has_blocks,
-            "--blocks",
-            Why::Alone("IMAGE DIR NAME HOST"),
-        ))
+        .or(unless(!has_mode || !has_blocks, "--mode", Why::NO_MODE_BESIDE))
 }
 
 fn rt_get<'a>(given: &ArgMatches<'a>) -> Option<Remark<'a>> {

@@ -1,5 +1,5 @@
 -- A file that was found in hand is the store's.
-use Rattle.std.proofs.Common.{◌≡◌, ◌⊎◌, inl, inr, ℕ, zero, suc, ◌+◌, ◌<◌, ◌≤◌, Bool, false, min, List, [], length, get_or, Some, sym, ◌∙◌}
+use Rattle.std.proofs.Common.{◌≡◌, ℕ, zero, suc, ◌+◌, ◌<◌, ◌≤◌, Bool, false, min, List, [], length, get_or, Some, sym, ◌∙◌}
 use Rattle.std.proofs.Common.{ap, subst, arith}
 use Rattle.std.specs.List.{All, slice_get}
 use Rattle.std.specs.Option.{option_map}
@@ -8,8 +8,8 @@ use Rattle.std.proofs.lemmas.Option.{slice_get-map, slice_get_within, slice_get-
 use Rattle.f11_dev.specs.Image.{Image}
 use Rattle.rt11_volume.specs.Directory.{segment_of, visited, data_start, end_before}
 use Rattle.rt11_volume.specs.Entry.{area_length, is_file_named}
-use Rattle.rt11_volume.specs.Files.{HasFile, file_area, IsFileAt, IsBlockAt, IsPastEnd}
-use Rattle.rt11_volume.specs.Searching.Looking.{segments_of, found_segment, found_entry, IsPlaceOf, IsFirstFound}
+use Rattle.rt11_volume.specs.Files.{HasFile, file_area}
+use Rattle.rt11_volume.specs.Searching.Looking.{segments_of, found_segment, found_entry, IsFirstFound}
 use Rattle.rt11_volume.specs.Searching.Search.{IsFirst, HasNone}
 use Rattle.rt11_volume.specs.Segment.{Segment, segment_with, area_start}
 use Rattle.rt11_volume.specs.Store.{rt_store_of, area_at}
@@ -109,39 +109,3 @@ file-ends name image found sound is =
     subst (λ (seg : Segment). area_start seg found.i + area_length (get_or seg.entries found.i []) ≤ min (length image) 65535)
     (sym (found-segment (is_file_named name) image found is))
     (area-ends image is.place found.number found.i sound is.visited_at is.first.inside)
-
--- the place of the file that was found, in words
-pub located : (name : List ℕ) (image : Image) (found : Found) (start length : ℕ) → IsSoundImage image
-    → IsFirstFound (is_file_named name) image found
-    → start ≡ min (area_start (found_segment found) found.i) 65535 → length ≡ area_length (found_entry found)
-    → IsFileAt name (rt_store_of image) start length
-located name image found start length sound is begins long = record {
-  file = file-found name image found is;
-  start_is =
-      begins ∙ (let low : min (area_start (found_segment found) found.i) 65535 ≡ area_start (found_segment found) found.i =
-      omega (arith, file-ends name image found sound is) in low)
-      ∙ file-start name image found is;
-  length_is = long ∙ file-length name image found is;
-}
-
--- a block of it that was found in hand, or none
-pub reached : (name : List ℕ) (image : Image) (found : Found) (place lbn blocks : ℕ) → IsFirstFound (is_file_named name) image found
-    → IsPlaceOf found place lbn blocks
-    → IsBlockAt name (rt_store_of image) place lbn
-reached name image found place lbn blocks is at = record {
-  file = file-found name image found is;
-  inside = omega (arith, at.inside, file-length name image found is);
-  lbn_is = omega (arith, at.lbn_is, file-start name image found is);
-}
-
-pub not-reached : (name : List ℕ) (image : Image) (found : Found) (place blocks : ℕ) → IsSoundImage image → blocks ≡ length image
-    → IsFirstFound (is_file_named name) image found
-    → (area_length (found_entry found) ≤ place) ⊎ (blocks ≤ area_start (found_segment found) found.i + place)
-    → IsPastEnd name (rt_store_of image) place
-not-reached name image found place blocks sound size is none = record {
-  file = file-found name image found is;
-  past = elim none [
-    | inl past ↦ omega (arith, past, file-length name image found is)
-    | inr off ↦ omega (arith, off, size, file-length name image found is, file-ends name image found sound is)
-  ];
-}

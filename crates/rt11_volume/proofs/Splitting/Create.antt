@@ -11,11 +11,10 @@ use Rattle.std.proofs.lemmas.Option.{slice_get_within, slice_get-get_or}
 use Rattle.std.proofs.lemmas.Slice.{between_from_start}
 use Rattle.f11_dev.specs.Disk.{Disk}
 use Rattle.f11_dev.specs.Image.{Image, image_block}
-use Rattle.rt11_volume.specs.Directory.{segment_of, count_of, extra_of, visited, data_start, is_extra_wrong}
+use Rattle.rt11_volume.specs.Directory.{segment_of, count_of, extra_of, visited, data_start, is_extra_wrong, KeepsData}
 use Rattle.rt11_volume.specs.Rewriting.Draft.{IsRewritten}
 use Rattle.rt11_volume.specs.Entry.{status, is_one_kind, area_length, is_file_named}
 use Rattle.rt11_volume.specs.Files.{CreatesFile, IsDirectoryFull}
-use Rattle.rt11_volume.specs.Fresh.{KeepsData}
 use Rattle.rt11_volume.specs.Searching.Looking.{segments_of, found_segment, IsFirstFound}
 use Rattle.rt11_volume.specs.Operations.{entry_at, kept_of, most_entries, needs_split, with_new_file}
 use Rattle.rt11_volume.specs.Searching.Search.{HasNone, is_empty_for}

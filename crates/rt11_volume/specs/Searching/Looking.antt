@@ -24,13 +24,13 @@ use Rattle.f11_dev.specs.Disk.{Disk}
 use Rattle.f11_dev.specs.Image.{Image}
 use Rattle.f11_dev.specs.Looked.{Looked}
 use Rattle.rt11_volume.specs.Directory.{segment_of, visited}
-use Rattle.rt11_volume.specs.Entry.{is_file_named, area_length}
+use Rattle.rt11_volume.specs.Entry.{is_file_named}
 use Rattle.rt11_volume.specs.InHand.{ReadsSegment, WritesSegment}
 use Rattle.rt11_volume.specs.Rewriting.Draft.{IsRewritten}
 use Rattle.rt11_volume.specs.Operations.{with_file}
 use Rattle.rt11_volume.specs.declared.rewrite.edit.NewFile.{NewFile}
 use Rattle.rt11_volume.specs.Searching.Search.{is_empty_for, HasNone}
-use Rattle.rt11_volume.specs.Segment.{Segment, segment_lbn, segment_words, segment_with, area_start, extra_bytes}
+use Rattle.rt11_volume.specs.Segment.{Segment, segment_lbn, segment_words, segment_with, extra_bytes}
 use Rattle.rt11_volume.specs.Verifying.Verdict.{IsSoundDisk}
 use Rattle.rt11_volume.specs.declared.lookup.entry.Found.{Found}
 use Rattle.rt11_volume.specs.declared.lookup.entry.Wanted.{Wanted}
@@ -73,12 +73,6 @@ found_segment found = segment_with found.number found.segment
 -- the entry that was found
 abbrev pub found_entry : Found → List ℕ
 found_entry found = slice_index_or (found_segment found).entries found.i []
-
--- Its block at a place, from 0, on a device of so many blocks.
-pub record IsPlaceOf (found : Found) (place lbn blocks : ℕ) : Type 0 where
-  pub inside : place < area_length (found_entry found)
-  pub lbn_is : lbn ≡ area_start (found_segment found) found.i + place
-  pub within : lbn < blocks
 
 -- The first such entry of an image, in link order, was found.
 pub record IsFirstFound (test : List ℕ → Bool) (image : Image) (found : Found) : Type 0 where

@@ -1,10 +1,10 @@
 //! A file on a device, by its name.
 ghost use Rattle.std.specs.Prelude.{◌≡◌, ◌⊎◌, ◌+◌, ◌<◌, ◌≤◌, ◌^◌, IfOk, IfErr, IfSome, IsNone, IsErrOf, length};
 ghost use Rattle.f11_dev.specs.Looked.{Looked};
-ghost use Rattle.rt11_volume.specs.Entry.{area_length};
-ghost use Rattle.rt11_volume.specs.Files.{faults_in, FailsToFindFile, FailsToReach, IsBlockAt, IsFileAt};
+ghost use Rattle.rt11_volume.specs.Files.{faults_in, FailsToFindFile, FailsToReach, IsBlockAt};
 ghost use Rattle.rt11_volume.specs.InHand.{SaysEntry};
-ghost use Rattle.rt11_volume.specs.Searching.Looking.{found_segment, found_entry, IsPlaceOf, FindsFirst};
+ghost use Rattle.rt11_volume.specs.Searching.Looking.{found_segment, found_entry, FindsFirst};
+ghost use Rattle.rt11_volume.specs.Searching.Locating.{IsPlaceOf, Knows, LiesThere, Locates};
 ghost use Rattle.rt11_volume.specs.Verifying.Verdict.{IsSoundDisk};
 ghost use Rattle.rt11_volume.specs.Segment.{area_start};
 ghost use Rattle.rt11_volume.specs.Store.{rt_store_of};
@@ -13,6 +13,17 @@ use crate::entry::Entry;
 use crate::lookup::entry::{Found, Wanted, find_first};
 use crate::refusal::RtRefusal;
 use f11_dev::Device;
+
+/// Where a file lies that was found by its name.
+#[derive(Clone, Copy)]
+pub(crate) struct Located {
+    /// The three words of its name.
+    pub(crate) name: [u16; 3],
+    /// Its first block.
+    pub(crate) start: u16,
+    /// Its length in blocks.
+    pub(crate) length: u16,
+}
 
 impl Found {
     /// The entry.
@@ -44,33 +55,70 @@ pub(crate) fn find_file<D: Device>(device: &mut D, name: [u16; 3]) -> Result<Fou
     find_first(device, &Wanted::File(name))?.ok_or(RtRefusal::NoSuchFile)
 }
 
-/// Where the file of a name begins, and how many blocks it has.
-pub(crate) fn locate<D: Device>(device: &mut D, name: [u16; 3]) -> Result<(u16, u16), RtRefusal>
+impl Located {
+    /// Its block at a place, from 0, on a device of so many blocks.
+    fn block_at(&self, place: u16, blocks: u32) -> Option<u32>
+        ensures some { IfSome result (λ lbn. IsPlaceOf self.now place lbn blocks) }
+        ensures none { IsNone result → self.now.length ≤ place
+            ⊎ blocks ≤ self.now.start + place }
+    {
+        let lbn = u32::from(self.start) + u32::from(place);
+        (place < self.length && lbn < blocks).then_some(lbn)
+    }
+}
+
+/// Looks for the place of the file of a name.
+fn look_for<D: Device>(device: &mut D, name: [u16; 3]) -> Result<Located, RtRefusal>
     ensures looked { Looked (D.disk device.old) (D.disk device.new) 62 (faults_in result) }
-    ensures found { IfOk result (λ at. IsSoundDisk (D.disk device.old)
-        → IsFileAt name (rt_store_of (D.disk device.old).image) at.0 at.1) }
+    ensures found { IfOk result (λ file. Locates name file (D.disk device.old)) }
     ensures refused { IfErr result (λ refusal. FailsToFindFile refusal name (D.disk device.old)) }
     ensures judged { ¬ IsErrOf result RtRefusal.Failed }
 {
     let found = find_file(device, name)?;
-    let start = found.start().min(65535) as u16;
-    Ok((start, found.entry().length))
+    Ok(Located {
+        name,
+        start: found.start().min(65535) as u16,
+        length: found.entry().length,
+    })
 }
 
-/// The block at a place of a file, from 0, on a device of so many blocks.
-fn block_at(found: &Found, place: u16, blocks: u32) -> Option<u32>
-    requires { found.now.i < length (found_segment found.now).entries }
-    ensures some { IfSome result (λ lbn. IsPlaceOf found.now place lbn blocks) }
-    ensures none { IsNone result → area_length (found_entry found.now) ≤ place
-        ⊎ blocks ≤ area_start (found_segment found.now) found.now.i + place }
+/// Where the file of a name lies. It is looked for unless it is the one that was found last.
+pub(crate) fn locate<D: Device>(
+    device: &mut D,
+    last: &mut Option<Located>,
+    name: [u16; 3],
+) -> Result<Located, RtRefusal>
+    requires { LiesThere last.old (D.disk device.old) (D.disk device.old).image }
+    ensures looked { Looked (D.disk device.old) (D.disk device.new) 62 (faults_in result) }
+    ensures knows { Knows name 0 result last.old last.new
+        (D.disk device.old) (D.disk device.new) }
+    ensures lies { LiesThere last.new (D.disk device.old) (D.disk device.old).image }
+    ensures found { IfOk result (λ file. Locates name file (D.disk device.old)) }
+    ensures refused { IfErr result (λ refusal. FailsToFindFile refusal name (D.disk device.old)) }
+    ensures judged { ¬ IsErrOf result RtRefusal.Failed }
 {
-    let lbn = found.start() + u32::from(place);
-    (place < found.entry().length && lbn < blocks).then_some(lbn)
+    if let Some(file) = *last {
+        if file.name == name {
+            return Ok(file);
+        }
+    }
+    let file = look_for(device, name)?;
+    *last = Some(file);
+    Ok(file)
 }
 
 /// The block at a place of the file of a name, from 0.
-pub(crate) fn reach<D: Device>(device: &mut D, name: [u16; 3], place: u16) -> Result<u32, RtRefusal>
+pub(crate) fn reach<D: Device>(
+    device: &mut D,
+    last: &mut Option<Located>,
+    name: [u16; 3],
+    place: u16,
+) -> Result<u32, RtRefusal>
+    requires { LiesThere last.old (D.disk device.old) (D.disk device.old).image }
     ensures looked { Looked (D.disk device.old) (D.disk device.new) 62 (faults_in result) }
+    ensures knows { Knows name 0 result last.old last.new
+        (D.disk device.old) (D.disk device.new) }
+    ensures lies { LiesThere last.new (D.disk device.old) (D.disk device.old).image }
     ensures within { IfOk result (λ lbn. lbn < length (D.disk device.new).image) }
     ensures found { IfOk result (λ lbn. IsSoundDisk (D.disk device.old)
         → IsBlockAt name (rt_store_of (D.disk device.old).image) place lbn) }
@@ -78,6 +126,7 @@ pub(crate) fn reach<D: Device>(device: &mut D, name: [u16; 3], place: u16) -> Re
         FailsToReach refusal name place (D.disk device.old)) }
     ensures judged { ¬ IsErrOf result RtRefusal.Failed }
 {
-    let found = find_file(device, name)?;
-    block_at(&found, place, device.blocks()).ok_or(RtRefusal::EndOfFile)
+    let file = locate(device, last, name)?;
+    file.block_at(place, device.blocks())
+        .ok_or(RtRefusal::EndOfFile)
 }

@@ -94,6 +94,7 @@ pub fn verify<D: Device>(alloc: Global, mut device: D) -> Result<RtReport<D>, Rt
                 let volume = RtAccepted {
                     device,
                     failed: false,
+                    last: None,
                 };
                 Ok(RtReport::Accepted(volume, notes))
             } else {

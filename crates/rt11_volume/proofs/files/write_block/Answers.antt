@@ -6,6 +6,7 @@ use Rattle.rt11_volume.specs.Files.{HasBlockWritten}
 use Rattle.rt11_volume.specs.declared.refusal.RtRefusal.TheVariants.{DeviceFault}
 use Rattle.rt11_volume.proofs.AnswerLemmas.{faults-handed_on}
 use Rattle.rt11_volume.proofs.BlockLemmas.{block-lands}
+use Rattle.rt11_volume.proofs.Searching.Locating.{lies-written}
 use Rattle.rt11_volume.proofs.files.write_block.Goals as goal
 
 pub returns-in_err-lbn-clause-went : goal.returns-in_err-lbn-clause-went
@@ -46,3 +47,14 @@ returns-clause-written g c =
     let reached = c.in_ok-lbn.ensures in
     subst (HasBlockWritten c.args.name c.args.place c.args.block.now old) (sym (ap (λ (d : Disk). d.image) c.in_ok-write.ensures.writes.ok))
     (block-lands c.args.name c.args.place c.in_ok-lbn.lbn c.args.block.now old now.image reached.looked.image reached.within reached.found)
+
+pub returns-clause-lies : goal.returns-clause-lies
+returns-clause-lies g c = λ _.
+    let old = g.D.Device.disk c.args.device.now in
+    let now = g.D.Device.disk c.reach.new.device in
+    let reached = c.in_ok-lbn.ensures in
+    let written = subst (HasBlockWritten c.args.name c.args.place c.args.block.now old)
+    (sym (ap (λ (d : Disk). d.image) c.in_ok-write.ensures.writes.ok))
+    (block-lands c.args.name c.args.place c.in_ok-lbn.lbn c.args.block.now old now.image reached.looked.image reached.within reached.found)
+    in
+    lies-written c.args.name c.args.place c.args.block.now c.reach.new.last old _ written reached.lies

@@ -3,7 +3,8 @@ use Rattle.f11_dev.specs.Disk.{Disk}
 use Rattle.f11_dev.proofs.LookedLemmas.{looked_none}
 use Rattle.f11_dev.proofs.WentLemmas.{went_looked, went_write, went_failed_write, went_more, went_within}
 use Rattle.std.specs.Prelude.{slice_set}
-use Rattle.rt11_volume.specs.Fresh.{fresh_block, IsFreshDirectory, MayStand, start_of}
+use Rattle.rt11_volume.specs.Directory.{start_of}
+use Rattle.rt11_volume.specs.Fresh.{fresh_block, IsFreshDirectory, MayStand}
 use Rattle.rt11_volume.proofs.FreshLemmas.{ClearsUpTo, ClearsUpTo-none, ClearsUpTo-more, ClearsUpTo-first, MayStand-cleared, MayStand-made}
 use Rattle.rt11_volume.proofs.FreshLemmas.{OnErr-given}
 use Rattle.rt11_volume.proofs.fresh.write_fresh.Goals as goal
