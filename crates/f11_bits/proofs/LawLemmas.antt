@@ -47,6 +47,7 @@ pub Keeps-kept : (s : Storage) (old new : Image) → KeepsBitmap (bitmap_of s) o
 Keeps-kept s old new keeps before = record {
   free = before.free ∙ sym (free_blocks-kept (bitmap_of s) old new s.valid keeps);
   block = record { within = before.block.within; is_block = keeps s.kept before.block.within ∙ before.block.is_block };
+  low = λ k below. is_free-kept (bitmap_of s) old new k s.valid keeps ∙ before.low k below;
 }
 
 pub IsFor-write : (s : Storage) (disk : Disk) (passed : Bool) (lbn : ℕ) (block : List ℕ)

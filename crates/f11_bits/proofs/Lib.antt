@@ -5,6 +5,7 @@ pub mod CountLemmas
 pub mod BitmapLemmas
 pub mod SearchLemmas
 pub mod RoomLemmas
+pub mod LowLemmas
 pub mod StepLemmas
 pub mod LawLemmas
 pub mod ReplaceLemmas

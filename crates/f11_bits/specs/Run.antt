@@ -15,6 +15,10 @@ pub record IsFirstRun (free : ℕ → Bool) (from most lbn count : ℕ) : Type 0
 abbrev pub NoneFrom : (ℕ → Bool) → ℕ → Type 0
 NoneFrom free from = (k : ℕ) → from ≤ k → free k ≡ false
 
+-- no block below this one is free
+abbrev pub NoneBelow : (ℕ → Bool) → ℕ → Type 0
+NoneBelow free low = (k : ℕ) → k < low → free k ≡ false
+
 -- Where a run is, on any device: at or above `from`, below the volume's end, of 1 to 256 and at most `most` blocks.
 pub record IsRunWithin (size from most lbn count : ℕ) : Type 0 where
   pub above : from ≤ lbn

@@ -1,10 +1,11 @@
 -- What contracts know of a `Storage`.
-use Rattle.std.specs.Prelude.{◌≡◌, ℕ, ◌+◌, ◌-◌, ◌/◌, ◌<◌, ◌≤◌, length, take, IsTrue}
+use Rattle.std.specs.Prelude.{◌≡◌, ℕ, ◌+◌, ◌-◌, ◌/◌, ◌<◌, ◌≤◌, length, max, take, IsTrue}
 use Rattle.f11_dev.specs.Disk.{Disk}
 use Rattle.f11_dev.specs.Image.{Image}
 use Rattle.f11_dev.specs.Looked.{Looked}
-use Rattle.f11_bits.specs.Bitmap.{Bitmap, IsBitmapBlock, free_blocks, LiesWithin}
-use Rattle.f11_bits.specs.Transfers.{MakesFewer}
+use Rattle.f11_bits.specs.Bitmap.{Bitmap, IsBitmapBlock, free_blocks, is_free, LiesWithin}
+use Rattle.f11_bits.specs.Run.{NoneBelow}
+use Rattle.f11_bits.specs.Transfers.{MakesFewer, run_transfers, taking_transfers}
 use Rattle.f11_bits.specs.declared.storage.Storage.{Storage}
 
 -- the bitmap that it stands for
@@ -19,6 +20,10 @@ count_of s = s.free
 abbrev pub kept_at : Storage → ℕ
 kept_at s = s.kept
 
+-- where it looks for free blocks from: none below is free
+abbrev pub low_of : Storage → ℕ
+low_of s = s.low
+
 -- the bitmap block that it keeps is the image's
 pub record KeepsBlock (s : Storage) (image : Image) : Type 0 where
   pub within : s.kept < length (bitmap_of s).places
@@ -28,6 +33,7 @@ pub record KeepsBlock (s : Storage) (image : Image) : Type 0 where
 pub record Keeps (s : Storage) (image : Image) : Type 0 where
   pub free : s.free ≡ free_blocks image (bitmap_of s)
   pub block : KeepsBlock s image
+  pub low : NoneBelow (is_free image (bitmap_of s)) (low_of s)
 
 -- its blocks are on this disk, and the one that it keeps is that of the image where the disk is honest
 pub record IsOn (s : Storage) (disk : Disk) : Type 0 where
@@ -50,6 +56,17 @@ pub record LoadsBitmap (bitmap : Bitmap) (s : Storage) (old new : Disk) : Type 0
 pub record UsesKept (most lbn count : ℕ) (was now : Storage) (old new : Disk) : Type 0 where
   pub saves : kept_at was ≡ lbn / 4096 → MakesFewer most old new
   pub keeps : kept_at now ≡ (lbn + count - 1) / 4096
+
+-- A run that was looked for from a block on was looked for from the first one on that may be free; where that is the first of all,
+-- none is free then below what comes behind the run.
+pub record LooksFromLow (from lbn count : ℕ) (was now : Storage) (old new : Disk) : Type 0 where
+  pub few : new.transfers ≤ old.transfers + taking_transfers (bitmap_of was) (max from (low_of was)) lbn count
+  pub low : from ≤ low_of was → low_of now ≡ lbn + count
+
+-- n blocks in a row that were looked for were looked for from there on.
+pub record RunLooksFromLow (lbn n : ℕ) (was now : Storage) (old new : Disk) : Type 0 where
+  pub few : new.transfers ≤ old.transfers + (run_transfers lbn n - low_of was / 4096)
+  pub low : low_of now ≡ low_of was
 
 -- n blocks in a row were taken: where the bitmap block that was kept is one of those up to that of the last of them, fewer than so many
 -- transfers were made, and the one that has its bit is kept then.

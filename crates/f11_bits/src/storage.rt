@@ -1,5 +1,5 @@
 //! The bitmap of a volume's free blocks.
-ghost use Rattle.std.specs.Prelude.{◌≡◌, ◌+◌, ◌*◌, ◌-◌, ◌/◌, ◌^◌, ◌<◌, ◌≤◌, ℕ, false, length, take, min, slice_index, slice_set, IsTrue, IfOk, OnOk, OnErr, IfSome, IfNone, MatchOption};
+ghost use Rattle.std.specs.Prelude.{◌≡◌, ◌+◌, ◌*◌, ◌-◌, ◌/◌, ◌^◌, ◌<◌, ◌≤◌, ℕ, false, length, take, max, min, slice_index, slice_set, IsTrue, IfOk, OnOk, OnErr, IfSome, IfNone, MatchOption};
 ghost use Rattle.f11_bits.specs.Bitmap.{IsBitmap, IsBitmapBlock, LiesWithin, is_free};
 ghost use Rattle.f11_bits.specs.Calls.{Counts, FailsToCount};
 
@@ -25,11 +25,14 @@ pub struct Storage {
     size: u32,
     /// The number of free ones.
     free: u32,
+    /// Where free blocks are looked for from: none below is free.
+    low: u32,
     /// Which bitmap block is kept, counted from 0, and that block.
     kept: u32,
     block: Block,
     /// The blocks at its places are different, and have a bit for each block of the volume.
     pub ghost valid: { IsBitmap (record { places = take used places; size = size }) },
+    pub ghost near: { low ≤ size },
 }
 
 /// A run of free blocks, in two parts: the second has its bits in the next bitmap block.
@@ -47,7 +50,7 @@ impl Storage {
     ghost use Rattle.f11_bits.specs.Bitmap.{free_blocks, KeepsFrom};
     ghost use Rattle.f11_bits.specs.Calls.{MarksOnDisk, FailsToMark, Gives, FailsToGive, Takes, FindsNone, FailsToTake};
     ghost use Rattle.f11_bits.specs.Parts.{IsPart, HasBitOf, HasBits, FindsPart, FindsRest, FindsRun, FailsToFindPart, FailsToFindRest};
-    ghost use Rattle.f11_bits.specs.Storage.{bitmap_of, count_of, kept_at, Keeps, IsOn, IsFor, LoadsBitmap, UsesKept};
+    ghost use Rattle.f11_bits.specs.Storage.{bitmap_of, count_of, kept_at, low_of, Keeps, IsOn, IsFor, LoadsBitmap, LooksFromLow, UsesKept};
     ghost use Rattle.f11_bits.specs.Transfers.{blocks_to, blocks_touched, taking_transfers, giving_transfers, MakesFewer};
 
     /// Counts the free blocks of a volume of `size` blocks whose bitmap blocks are at `places`, in order. It reads each of
@@ -68,6 +71,7 @@ impl Storage {
             LoadsBitmap (record { places = places.now; size = size }) storage
             (D.disk device.old) (D.disk device.new)) }
         ensures keeps { IfOk result (λ storage. kept_at storage ≡ (size - 1) / 4096) }
+        ensures low { IfOk result (λ storage. low_of storage ≡ 0) }
         ensures failed { OnErr result (FailsToCount (record { places = places.now; size = size })
             (D.disk device.old) (D.disk device.new)) }
     {
@@ -78,6 +82,7 @@ impl Storage {
             used: places.len(),
             size,
             free,
+            low: 0,
             kept: (size - 1) / BITS,
             block,
         })
@@ -122,11 +127,13 @@ impl Storage {
             (Gives (bitmap_of self.old) lbn count (D.disk device.old) (D.disk device.new)) }
         ensures kept { OnOk result (UsesKept (giving_transfers lbn count) lbn count
             self.old self.new (D.disk device.old) (D.disk device.new)) }
+        ensures low { OnOk result (low_of self.new ≡ min (low_of self.old) lbn) }
         ensures failed { OnErr result
             (FailsToGive (bitmap_of self.old) lbn count (D.disk device.old) (D.disk device.new)) }
     {
         self.mark(device, lbn, count, true)?;
         self.free = self.free.saturating_add(count);
+        self.low = self.low.min(lbn);
         Ok(())
     }
 
@@ -134,8 +141,9 @@ impl Storage {
     /// their number, which are used after it. `None` where no block is free there.
     ///
     /// It reads each bitmap block from that of `from` to that of the block after the run, and where there is none to the
-    /// last, once at most, and writes each block that changes once. Where the run begins in the
-    /// bitmap block that is kept, that isn't read again. The last that was written is kept.
+    /// last, once at most, and writes each block that changes once. Those in front in which nothing is free, as far as that is
+    /// known, aren't read. Where the run begins in the bitmap block that is kept, that isn't read again. The last that was
+    /// written is kept.
     ///
     /// # Errors
     ///
@@ -156,6 +164,10 @@ impl Storage {
             (kept_at self.new ≡ kept_at self.old)
             (λ run. UsesKept (taking_transfers (bitmap_of self.old) from run.0 run.1) run.0 run.1
             self.old self.new (D.disk device.old) (D.disk device.new))) }
+        ensures low { IfOk result (λ answer. MatchOption answer
+            (low_of self.new ≡ low_of self.old)
+            (λ run. LooksFromLow from run.0 run.1
+            self.old self.new (D.disk device.old) (D.disk device.new))) }
         ensures none { IfOk result (λ answer. IfNone answer
             (FindsNone (bitmap_of self.old) from (D.disk device.old) (D.disk device.new))) }
         ensures failed { OnErr result
@@ -163,13 +175,55 @@ impl Storage {
     {
         let mut block = [0; BLOCK_SIZE];
         let mut next = [0; BLOCK_SIZE];
-        let Some(run) = self.find_run(device, from, most, &mut block, &mut next)? else {
+        let Some(run) = self.find_from_low(device, from, most, &mut block, &mut next)? else {
             return Ok(None);
         };
         self.mark_used(device, run, &mut block, &mut next)?;
         let count = run.here + run.beyond;
         self.free = self.free.saturating_sub(count);
+        self.low = self.low_behind(from, run.lbn + count);
         Ok(Some((run.lbn, count)))
+    }
+
+    /// Where free blocks are looked for from once those from `from` on were looked at up to `end`, and none is free before that.
+    fn low_behind(&self, from: u32, end: u32) -> u32
+        requires { end ≤ (bitmap_of self.now).size }
+        ensures first { from ≤ low_of self.now → result ≡ end }
+        ensures later { low_of self.now < from → result ≡ low_of self.now }
+        ensures near { result ≤ (bitmap_of self.now).size }
+    {
+        if from <= self.low { end } else { self.low }
+    }
+
+    /// The first run of free blocks, and the bitmap blocks that have its bits: it is looked for from the first block on that may be
+    /// free.
+    fn find_from_low<D: Device>(
+        &self,
+        device: &mut D,
+        from: u32,
+        most: u32,
+        block: &mut Block,
+        next: &mut Block,
+    ) -> Result<Option<Run>, DeviceFault>
+        requires storage { IsFor self.now (D.disk device.old) }
+        requires some { 0 < most }
+        ensures finds { IfOk result (λ answer. IfSome answer (λ run.
+            FindsRun (bitmap_of self.now) from most run.lbn run.here run.beyond block.new next.new
+            (D.disk device.old) (D.disk device.new))) }
+        ensures few { IfOk result (λ answer. IfSome answer (λ run.
+            Looked (D.disk device.old) (D.disk device.new)
+            (blocks_to (bitmap_of self.now) (max from (low_of self.now))
+            (run.lbn + run.here + run.beyond)) 0)) }
+        ensures saves { IfOk result (λ answer. IfSome answer (λ run.
+            kept_at self.now ≡ run.lbn / 4096
+            → MakesFewer (blocks_to (bitmap_of self.now) from (run.lbn + run.here + run.beyond))
+            (D.disk device.old) (D.disk device.new))) }
+        ensures none { IfOk result (λ answer. IfNone answer
+            (FindsNone (bitmap_of self.now) from (D.disk device.old) (D.disk device.new))) }
+        ensures failed { OnErr result
+            (FailsToFindPart (bitmap_of self.now) from (D.disk device.old) (D.disk device.new)) }
+    {
+        self.find_run(device, from.max(self.low), most, block, next)
     }
 
     /// The first run of free blocks, and the bitmap blocks that have its bits.
@@ -275,6 +329,7 @@ impl Storage {
             (D.disk device.old) }
         ensures same { bitmap_of self.new ≡ bitmap_of self.old }
         ensures free { count_of self.new ≡ count_of self.old }
+        ensures low { low_of self.new ≡ low_of self.old }
         ensures on { OnOk result (IsOn self.new (D.disk device.new)) }
         ensures marks { let count = run.here + run.beyond in
             OnOk result (MarksOnDisk false (bitmap_of self.old) run.lbn count
@@ -306,6 +361,7 @@ impl Storage {
         requires within { lbn + count ≤ (bitmap_of self.old).size }
         ensures same { bitmap_of self.new ≡ bitmap_of self.old }
         ensures free { count_of self.new ≡ count_of self.old }
+        ensures low { low_of self.new ≡ low_of self.old }
         ensures on { OnOk result (IsOn self.new (D.disk device.new)) }
         ensures marks { OnOk result (MarksOnDisk free (bitmap_of self.old) lbn count
             (giving_transfers lbn count) (D.disk device.old) (D.disk device.new)) }
@@ -337,6 +393,7 @@ impl Storage {
         requires part { IsPart (bitmap_of self.old).size 0 4096 lbn count }
         ensures same { bitmap_of self.new ≡ bitmap_of self.old }
         ensures free { count_of self.new ≡ count_of self.old }
+        ensures low { low_of self.new ≡ low_of self.old }
         ensures on { OnOk result (IsOn self.new (D.disk device.new)) }
         ensures marks { OnOk result (MarksOnDisk free (bitmap_of self.old) lbn count
             2 (D.disk device.old) (D.disk device.new)) }
@@ -368,6 +425,7 @@ impl Storage {
             → HasBitOf (D.disk device.old).image (bitmap_of self.old) lbn block.old }
         ensures same { bitmap_of self.new ≡ bitmap_of self.old }
         ensures free { count_of self.new ≡ count_of self.old }
+        ensures low { low_of self.new ≡ low_of self.old }
         ensures on { OnOk result (IsOn self.new (D.disk device.new)) }
         ensures keeps { kept_at self.new ≡ lbn / 4096 }
         ensures writes { let place = slice_index (bitmap_of self.old).places (lbn / 4096) in

@@ -8,7 +8,7 @@ use Rattle.f11_dev.proofs.LookedLemmas.{looked_none}
 use Rattle.f11_home.specs.Home.{HomeFields}
 use Rattle.f11_store.specs.declared.files.FileId.{FileId}
 use Rattle.f11_store.specs.File.{File}
-use Rattle.f11_store.specs.Causes.{first_of}
+use Rattle.f11_store.specs.Causes.{first_of, is_missing}
 use Rattle.f11_store.specs.Store.{Store, file_named}
 use Rattle.f11_store.specs.declared.refusals.Refusal.{Refusal}
 use Rattle.f11_store.specs.Directory.{is_empty, record_in, record_id}
@@ -26,6 +26,9 @@ use Rattle.f11_entries.specs.declared.spot.Spot.{Spot}
 use Rattle.f11_entries.specs.declared.spot.Looked.TheVariants as looked
 use Rattle.f11_entries.proofs.SeenLemmas.{looking_begins, looking_goes_on, looking_ends, name_is_found, block_is_there}
 use Rattle.f11_entries.proofs.LookLemmas.{spot_known}
+use Rattle.f11_chain.specs.declared.windows.Window.{Window}
+use Rattle.f11_store.specs.declared.files.Mode.TheVariants as mode
+use Rattle.f11_fcp.specs.Accesses.{Entry}
 use Rattle.f11_fcp.specs.Directories.{IsDirectoryOf, LooksThroughDirectory}
 use Rattle.f11_fcp.specs.Handles.{of_known}
 use Rattle.f11_fcp.proofs.EntryLemmas.{blocks-first}
@@ -34,6 +37,10 @@ use Rattle.f11_fcp.proofs.KnownLemmas.{known-fails, known-length}
 -- the directory
 abbrev pub directory_in : HomeFields → FileId → Disk → File
 directory_in home d old = file_named (store_of old.image home) d
+
+-- what is held of it while it is looked through
+abbrev pub held_by : FileId → Window → Entry
+held_by d w = record { file = d; mode = mode.Read; marked = false; window = w }
 
 -- so many of its blocks were looked at
 pub record IsThrough (home : HomeFields) (d : FileId) (name : List ℕ) (number : ℕ) (empty : Option Spot) (block : List ℕ) (old now : Disk) :
@@ -67,6 +74,12 @@ module _ {home : HomeFields} {d : FileId} {name : List ℕ} {count number : ℕ}
         let sum : number * (header_count f + 1) + (header_count f + 1) ≤ (number + 1) * (header_count f + 1) = omega arith in
         reads-within sum (reads-more through.reads
         (subst (λ (g : File). ReadsAtMost (header_count g + 1) now next faults) same-directory read))
+
+    -- it is there still
+    pub still-there : IsTrue now.honest → is_missing (store_of now.image home) d ≡ false
+    still-there sure =
+        subst (λ (s : Store). is_missing s d ≡ false) (sym (ap (λ i. store_of i home) through.reads.looked.image))
+        (there (sym through.reads.looked.honest ∙ sure)).there
 
     -- no more than for all records
     pub through-stops : {faults : ℕ} {next : Disk} → ReadsAtMost (header_count (directory_in home d now) + 1) now next faults

@@ -7,16 +7,20 @@ ghost use Rattle.f11_fcp.specs.Directories.{IsDirectoryOf, LooksThroughDirectory
 ghost use Rattle.f11_store.specs.Store.{file_named};
 
 use crate::answer::of_known;
+use crate::table::Held;
+use crate::windows::read_by;
 use f11_bytes::Block;
+use f11_chain::Window;
 use f11_dev::Device;
 use f11_entries::f11_dir::find;
 use f11_entries::{Looked, Spot, or_first_empty};
 use f11_files::Files;
 use f11_rad50::Name;
-use f11_store::{FileId, Refusal};
+use f11_store::{FileId, Mode, Refusal};
 
 /// Looks for a name among the `count` records of a directory. Each of its blocks is read once, in order, up to the one with the record; the
-/// last one that is read is left in `block`. It is refused only where that fails the volume.
+/// last one that is read is left in `block`. They are reached by a window, as those of an access are: a block that stands in it takes one
+/// transfer. It is refused only where that fails the volume.
 pub(crate) fn look_through<D: Device>(
     files: &mut Files<D>,
     directory: FileId,
@@ -40,9 +44,16 @@ pub(crate) fn look_through<D: Device>(
     ensures lost { CallSparesLost files.old files.new }
 {
     let mut empty: Option<Spot> = None;
+    let mut window = Window::empty();
     for number in 0..count.div_ceil(32) {
-        match files.read_block(directory, number + 1, block) {
-            Ok(()) => {}
+        let held = Held {
+            file: directory,
+            mode: Mode::Read,
+            marked: false,
+            window,
+        };
+        match read_by(files, &held, number + 1, block) {
+            Ok(next) => window = next,
             Err(refusal) => return Err(of_known(refusal)),
         }
         let upto = (count - 32 * number).min(32) as usize;

@@ -5,19 +5,19 @@ use f11_dev::f11_bytes::{BLOCK_SIZE, Block};
 use f11_dev::{Device, DeviceFault};
 
 impl Storage {
-    ghost use Rattle.std.specs.Prelude.{◌≡◌, ◌+◌, ◌-◌, ◌/◌, ◌<◌, ◌≤◌, false, length, IsTrue, IfOk, OnOk, OnErr, IfSome, IfNone, MatchOption};
+    ghost use Rattle.std.specs.Prelude.{◌≡◌, ◌+◌, ◌-◌, ◌*◌, ◌/◌, ◌<◌, ◌≤◌, false, length, IsTrue, IfOk, OnOk, OnErr, IfSome, IfNone, MatchOption};
     ghost use Rattle.f11_dev.specs.Looked.{Looked};
     ghost use Rattle.f11_bits.specs.Calls.{MarksOnDisk, FailsToMark, TakesRun, FindsNoRun, FailsToTakeRun};
     ghost use Rattle.f11_bits.specs.Parts.{HasBitOf};
     ghost use Rattle.f11_bits.specs.Room.{FindsRunOf};
-    ghost use Rattle.f11_bits.specs.Storage.{bitmap_of, count_of, kept_at, IsOn, IsFor, RunUsesKept};
+    ghost use Rattle.f11_bits.specs.Storage.{bitmap_of, count_of, kept_at, low_of, IsOn, IsFor, RunLooksFromLow, RunUsesKept};
     ghost use Rattle.f11_bits.specs.Transfers.{blocks_touched, giving_transfers, run_transfers, MakesFewer};
 
     /// Takes the first `n` free blocks in a row, which are used after it: the first of them. `None` where nowhere so many are
     /// free in a row, and then nothing is written.
     ///
-    /// It reads each bitmap block up to that of the last of them, and where there are none to the last, once at most; none where
-    /// fewer than `n` blocks are free. Each that has their bits is then read once, but for the last, which is in hand, and
+    /// It reads each bitmap block up to that of the last of them, and where there are none to the last, once at most, but none in
+    /// front in which nothing is free, as far as that is known; none where fewer than `n` blocks are free. Each that has their bits is then read once, but for the last, which is in hand, and
     /// written once, in order. The bitmap block that is kept isn't read as they are sought. The last that was written is kept.
     ///
     /// # Errors
@@ -40,6 +40,8 @@ impl Storage {
             self.old self.new (D.disk device.old) (D.disk device.new))) }
         ensures none { IfOk result (λ answer. IfNone answer
             (FindsNoRun (bitmap_of self.old) n (D.disk device.old) (D.disk device.new))) }
+        ensures low { IfOk result (λ answer. IfSome answer (λ lbn. RunLooksFromLow lbn n
+            self.old self.new (D.disk device.old) (D.disk device.new))) }
         ensures spared { count_of self.old < n
             → (D.disk device.new).transfers ≡ (D.disk device.old).transfers }
         ensures failed { OnErr result
@@ -64,11 +66,16 @@ impl Storage {
         n: u32,
         block: &mut Block,
     ) -> Result<Option<u32>, DeviceFault>
-        requires on { IsOn self.now (D.disk device.old) }
+        requires storage { IsFor self.now (D.disk device.old) }
         requires some { 0 < n }
         ensures finds { IfOk result (λ answer. IfSome answer (λ lbn.
             FindsRunOf (bitmap_of self.now) n lbn block.new
             (D.disk device.old) (D.disk device.new))) }
+        ensures above { IfOk result (λ answer. IfSome answer (λ lbn.
+            low_of self.now / 4096 * 4096 ≤ lbn)) }
+        ensures few { IfOk result (λ answer. IfSome answer (λ lbn.
+            (D.disk device.new).transfers ≤ (D.disk device.old).transfers
+            + (blocks_touched 0 (lbn + n) - low_of self.now / 4096))) }
         ensures saves { IfOk result (λ answer. IfSome answer (λ lbn.
             kept_at self.now ≤ (lbn + n - 1) / 4096 → MakesFewer (blocks_touched 0 (lbn + n))
             (D.disk device.old) (D.disk device.new))) }
@@ -77,8 +84,9 @@ impl Storage {
         ensures failed { OnErr result (Looked (D.disk device.old) (D.disk device.new)
             (length (bitmap_of self.now).places) 1) }
     {
-        let mut start = 0;
-        for index in 0..self.size.div_ceil(BITS) {
+        let first = self.low / BITS;
+        let mut start = first * BITS;
+        for index in first..self.size.div_ceil(BITS) {
             if n > self.size - start {
                 return Ok(None);
             }
@@ -107,6 +115,7 @@ impl Storage {
             → HasBitOf (D.disk device.old).image (bitmap_of self.old) (lbn + n - 1) block.old }
         ensures same { bitmap_of self.new ≡ bitmap_of self.old }
         ensures free { count_of self.new ≡ count_of self.old }
+        ensures low { low_of self.new ≡ low_of self.old }
         ensures on { OnOk result (IsOn self.new (D.disk device.new)) }
         ensures marks { OnOk result (MarksOnDisk false (bitmap_of self.old) lbn n
             (giving_transfers lbn n - 1) (D.disk device.old) (D.disk device.new)) }

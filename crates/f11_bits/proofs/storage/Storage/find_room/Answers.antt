@@ -70,7 +70,8 @@ loop-index-preserved g c =
         | inl early ↦ omega (arith, held.saves early, read.looked.transfers)
         | inr late ↦ omega (arith, held.looked.transfers, read.saves (omega (arith, kept, late)))
       ];
-      looked = looked_more held.looked read.looked;
+      above = omega (arith, held.above, next.ensures.above);
+      looked = looked_within (looked_more held.looked read.looked) (omega arith);
     }
 
 pub returns-clause-none : goal.returns-clause-none

@@ -1,8 +1,8 @@
-use Rattle.std.proofs.Common.{◌+◌, ◌*◌, ◌<◌, ◌≤◌, min, IsTrue}
+use Rattle.std.proofs.Common.{◌+◌, ◌-◌, ◌/◌, ◌*◌, ◌<◌, ◌≤◌, min, IsTrue}
 use Rattle.f11_dev.specs.Looked.{Looked}
 use Rattle.f11_bits.specs.Bitmap.{is_free}
 use Rattle.f11_bits.specs.Room.{IsFirstRoom}
-use Rattle.f11_bits.specs.Storage.{bitmap_of, kept_at}
+use Rattle.f11_bits.specs.Storage.{bitmap_of, kept_at, low_of}
 use Rattle.f11_bits.specs.Transfers.{MakesFewer}
 use Rattle.f11_bits.proofs.storage.Storage.find_room.Given as goal
 
@@ -14,8 +14,9 @@ invariant-loop-index g l =
     let bitmap = bitmap_of l.fn.self in
     record {
       room : IsTrue old.honest → IsFirstRoom (is_free old.image bitmap) l.n 0 (min (4096 * l.index) bitmap.size) l.start;
+      above : low_of l.fn.self / 4096 * 4096 ≤ l.start;
       within : l.start ≤ min (4096 * l.index) bitmap.size;
       short : min (4096 * l.index) bitmap.size < l.start + l.n;
       saves : kept_at l.fn.self < l.index → MakesFewer l.index old now;
-      looked : Looked old now l.index 0;
+      looked : Looked old now (l.index - low_of l.fn.self / 4096) 0;
     }

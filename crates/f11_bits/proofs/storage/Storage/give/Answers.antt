@@ -1,5 +1,5 @@
-use Rattle.std.proofs.Common.{Bool, IsTrue, subst, ap, arith}
-use Rattle.f11_bits.specs.Bitmap.{is_free, free_blocks}
+use Rattle.std.proofs.Common.{Bool, IsTrue, subst, ap, arith, ◌∙◌}
+use Rattle.f11_bits.specs.Bitmap.{Bitmap, is_free, free_blocks}
 use Rattle.f11_bits.specs.Storage.{bitmap_of}
 use Rattle.f11_bits.proofs.CountLemmas.{count_below-le}
 use Rattle.f11_bits.proofs.BitmapLemmas.{free_blocks-given}
@@ -30,5 +30,9 @@ returns-clause-storage g c =
               c.saturating_add-self.ensures,
             );
             block = record { within = kept.within; is_block = kept.is_block };
+            low = λ k below.
+                ap (λ (b : Bitmap). is_free now.image b k) c.mark.ensures.same
+                ∙ (made.marks.marks was_honest).before k (omega (arith, below, c.mark.ensures.low, c.min-self.ensures))
+                ∙ (c.requires.storage.keeps was_honest).low k (omega (arith, below, c.mark.ensures.low, c.min-self.ensures));
           };
     }

@@ -54,6 +54,7 @@ loop-index-preserved g c =
     record {
       same = c.mark_part.ensures.same ∙ held.same;
       free = c.mark_part.ensures.free ∙ held.free;
+      low = c.mark_part.ensures.low ∙ held.low;
       on = c.in_ok-mark_part.ensures.on;
       later = λ i from within. later i (omega arith) within ∙ held.later i (omega arith) within;
       first = λ here. absurd (omega arith);
@@ -72,3 +73,9 @@ loop-index-preserved g c =
           (Went-more c.args.free bitmap c.args.lbn _ _ _ c.args.count old _ _ held.went held.keeps held.marks next.begins next.within
           next.whole made.went) (omega arith);
     }
+
+pub returns-in_err-mark_part-clause-low : goal.returns-in_err-mark_part-clause-low
+returns-in_err-mark_part-clause-low g c = c.mark_part.ensures.low ∙ c.loop-index.invariant.low
+
+pub returns-clause-low : goal.returns-clause-low
+returns-clause-low g c = c.loop-index.invariant.low

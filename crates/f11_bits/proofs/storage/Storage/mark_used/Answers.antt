@@ -1,4 +1,5 @@
-use Rattle.std.proofs.Common.{◌≢◌, ◌+◌, ◌/◌, ◌<◌, false, inl, inr, refl, subst, sym, Bool, IsTrue, length, arith}
+use Rattle.std.proofs.Common.{◌≡◌, ◌≢◌, ◌⊎◌, ◌%◌, ◌+◌, ◌/◌, ◌<◌, false, inl, inr, refl, subst, sym, Bool, IsTrue, length, arith}
+use Rattle.std.proofs.lemmas.Bool.{cases_lt}
 use Rattle.f11_dev.proofs.WentLemmas.{went_within}
 use Rattle.f11_dev.proofs.bytes.ResultLemmas.{OnErr-given}
 use Rattle.f11_bits.specs.Bitmap.{Bitmap, LiesWithin}
@@ -31,6 +32,19 @@ write_bits-requires-then-run-gt0-clause-block g c = λ honest.
     subst (λ (b : Bitmap). HasBitOf now.image b (run.lbn + run.here) c.args.next.now) (sym c.write_bits.ensures.same)
     (HasBitOf-apart old.image _ (bitmap_of c.args.self.now) (run.lbn / 4096) (run.lbn + run.here) _ _ c.args.self.now.valid within below
     apart first.writes (bits.next_is was_honest c.if-run-gt0.true))
+
+pub returns-in_err-write_bits-clause-failed : goal.returns-in_err-write_bits-clause-failed
+returns-in_err-write_bits-clause-failed g c =
+    let old = g.D.Device.disk c.args.device.now in
+    let bitmap = bitmap_of c.args.self.now in
+    let run = c.args.run in
+    let whole : (run.here ≡ run.here + run.beyond) ⊎ ((run.lbn + run.here) % 4096 ≡ 0) = elim (cases_lt 0 run.beyond) [
+      | inl more ↦ inr (c.requires.bits.beyond_is.next more)
+      | inr none ↦ inl (omega (arith, none))
+    ] in
+    OnErr-given _ (went_within (Changing old.honest false bitmap run.lbn (run.here + run.beyond) old.image)
+    (Went-first false bitmap run.lbn run.here (run.here + run.beyond) old _ (omega arith) whole c.in_err-write_bits.ensures.failed)
+    (omega arith))
 
 pub returns-in_err-write_bits-2-clause-failed : goal.returns-in_err-write_bits-2-clause-failed
 returns-in_err-write_bits-2-clause-failed g c =

@@ -1,9 +1,11 @@
-use Rattle.std.proofs.Common.{◌+◌, ◌≤◌, false, Bool, IsTrue, subst, ap, arith}
+use Rattle.std.proofs.Common.{◌+◌, ◌≤◌, false, Bool, IsTrue, subst, ap, arith, ◌∙◌, inl, inr}
+use Rattle.std.proofs.lemmas.Bool.{cases_lt}
 use Rattle.f11_dev.specs.Image.{Image}
 use Rattle.f11_dev.proofs.bytes.ResultLemmas.{OnErr-given}
-use Rattle.f11_bits.specs.Bitmap.{Marks, free_blocks}
-use Rattle.f11_bits.specs.Storage.{bitmap_of}
+use Rattle.f11_bits.specs.Bitmap.{Bitmap, Marks, free_blocks, is_free}
+use Rattle.f11_bits.specs.Storage.{bitmap_of, low_of}
 use Rattle.f11_bits.proofs.BitmapLemmas.{free_blocks-taken}
+use Rattle.f11_bits.proofs.LowLemmas.{NoneBelow-marked, NoneBelow-taken}
 use Rattle.f11_bits.proofs.StepLemmas.{FailsToTake-marking}
 use Rattle.f11_bits.proofs.storage.Storage.take.Goals as goal
 
@@ -41,5 +43,15 @@ returns-clause-storage g c =
               c.saturating_sub-self.ensures,
             );
             block = record { within = kept.within; is_block = kept.is_block };
+            low = λ k below.
+                ap (λ (b : Bitmap). is_free new.image b k) c.mark_used.ensures.same
+                ∙ elim (cases_lt (low_of c.args.self.now) c.args.from) [
+                  | inl later ↦ NoneBelow-marked _ _ lbn count _ k
+                      (omega (arith, below, c.low_behind-self.ensures.later (omega (arith, later, c.mark_used.ensures.low)), c.mark_used.ensures.low))
+                      marks (c.requires.storage.keeps was_honest).low
+                  | inr first ↦ NoneBelow-taken _ _ c.args.from (low_of c.args.self.now) lbn count _ c.args.most k first
+                      (omega (arith, below, c.low_behind-self.ensures.first (omega (arith, first, c.mark_used.ensures.low))))
+                      marks (found.first was_honest) (c.requires.storage.keeps was_honest).low
+                ];
           };
     }

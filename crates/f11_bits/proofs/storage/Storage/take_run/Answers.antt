@@ -1,11 +1,12 @@
-use Rattle.std.proofs.Common.{false, Bool, IsTrue, subst, ap, arith}
+use Rattle.std.proofs.Common.{false, Bool, IsTrue, subst, ap, arith, ◌∙◌}
 use Rattle.f11_dev.specs.Image.{Image}
 use Rattle.f11_dev.proofs.LookedLemmas.{looked_none, looked_within}
 use Rattle.f11_dev.proofs.bytes.ResultLemmas.{OnErr-given}
-use Rattle.f11_bits.specs.Bitmap.{Marks, free_blocks}
+use Rattle.f11_bits.specs.Bitmap.{Bitmap, Marks, free_blocks, is_free}
 use Rattle.f11_bits.specs.Storage.{bitmap_of}
 use Rattle.f11_bits.proofs.BitmapLemmas.{free_blocks-taken}
 use Rattle.f11_bits.proofs.StepLemmas.{FailsToTakeRun-marking}
+use Rattle.f11_bits.proofs.LowLemmas.{NoneBelow-marked}
 use Rattle.f11_bits.proofs.RoomLemmas.{NoRunOf-few}
 use Rattle.f11_bits.proofs.storage.Storage.take_run.Goals as goal
 
@@ -43,6 +44,10 @@ returns-clause-storage g c =
               c.saturating_sub-self.ensures,
             );
             block = record { within = kept.within; is_block = kept.is_block };
+            low = λ k below.
+                ap (λ (b : Bitmap). is_free new.image b k) c.mark_run.ensures.same
+                ∙ NoneBelow-marked _ _ lbn n _ k (omega (arith, below, c.mark_run.ensures.low)) marks
+                (c.requires.storage.keeps was_honest).low;
           };
     }
 
@@ -52,3 +57,12 @@ returns-then-n-self-clause-none g c = record {
       (omega (arith, (c.requires.storage.keeps honest).free, c.if-n-self.true));
   looked = looked_within (looked_none _) (omega arith);
 }
+
+pub returns-clause-low : goal.returns-clause-low
+returns-clause-low g c =
+    let found = rw c.in-Some.is at c.in_ok-lbn.ensures.few in
+    let above = rw c.in-Some.is at c.in_ok-lbn.ensures.above in
+    record {
+      few = omega (arith, found, above, c.in_ok-mark_run.ensures.marks.went.transfers, c.requires.some);
+      low = c.mark_run.ensures.low;
+    }

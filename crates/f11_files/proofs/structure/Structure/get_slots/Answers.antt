@@ -7,6 +7,7 @@ use Rattle.f11_files.specs.Structure.{home_of, index_in, store_on}
 use Rattle.f11_files.proofs.AnswerLemmas.{each-err, each-ok, handed}
 use Rattle.f11_files.proofs.Behind.{unread-wants}
 use Rattle.f11_files.proofs.GrowingIndex.First.{confined-first, confined-looked, fails-first, got-first, lacks-fit, room-first}
+use Rattle.f11_files.proofs.Opening.Kept.{looked-for}
 use Rattle.f11_files.proofs.Opening.Space.{space-is}
 use Rattle.f11_files.proofs.structure.Structure.get_slots.Goals as goal
 
@@ -82,3 +83,7 @@ returns-clause-confined g c = λ honest.
     space-is s old c.requires.is_for honest _ _ _ c.free.ensures.free refl refl in
     confined-first s c.args.n c.args.slots old c.requires.is_for c.requires.some _ _ _ _ c.in_ok-end.ensures.end _ _ _ _ c.room_of.ensures
     c.slots_left.ensures c.do_fit-fit.ensures space c.in_ok-judge_slots.ensures.room honest c.grow_held.ensures.confined
+
+pub grow_held-requires-clause-is_for : goal.grow_held-requires-clause-is_for
+grow_held-requires-clause-is_for g c =
+    looked-for c.args.self.now _ _ _ _ c.requires.is_for c.in_ok-end.ensures.end.ends.looked.looked

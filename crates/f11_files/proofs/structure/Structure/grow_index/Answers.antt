@@ -13,8 +13,9 @@ use Rattle.f11_files.proofs.GrowingIndex.Grow.{fails-then, grows-then}
 use Rattle.f11_files.proofs.GrowingIndex.GrowIndex.{slots-after}
 use Rattle.f11_files.proofs.GrowingIndex.IndexFile.{index-named}
 use Rattle.f11_files.proofs.GrowingIndex.Room.{at-limit, finds-reads, grow-are, has-slots, lacks-slots}
+use Rattle.f11_files.proofs.Opening.Kept.{looked-for}
 use Rattle.f11_files.proofs.Opening.Space.{space-is}
-use Rattle.f11_files.proofs.WriteLemmas.{as-wanting, fails-unread}
+use Rattle.f11_files.proofs.WriteLemmas.{as-wanting, fails-unread, looked-stays}
 use Rattle.f11_files.proofs.structure.Structure.grow_index.Goals as goal
 
 pub returns-then-n-slots_left-clause-refused : goal.returns-then-n-slots_left-clause-refused
@@ -119,3 +120,11 @@ returns-in_err-end-clause-confined g c = more-looked (home_of c.args.self.now) 1
 
 pub returns-in_err-judge-clause-confined : goal.returns-in_err-judge-clause-confined
 returns-in_err-judge-clause-confined g c = more-looked (home_of c.args.self.now) 1 c.in_ok-end.ensures.end.ends.looked.looked
+
+pub grow_held-requires-clause-is_for : goal.grow_held-requires-clause-is_for
+grow_held-requires-clause-is_for g c =
+    looked-for c.args.self.now _ _ _ _ c.requires.is_for c.in_ok-end.ensures.end.ends.looked.looked
+
+pub returns-in_err-judge-clause-stays : goal.returns-in_err-judge-clause-stays
+returns-in_err-judge-clause-stays g c =
+    looked-stays c.args.self.now _ _ _ c.requires.is_for c.in_ok-end.ensures.end.ends.looked.looked
