@@ -1,7 +1,7 @@
 //! How many transfers blocks take, by the windows that accesses keep.
-use crate::requests::asks::{Ask, Records, Row, dismounted, first_wrong, mounted};
+use crate::requests::asks::{Ask, Records, Row, SIX, X, dismounted, first_wrong, mounted};
 use crate::requests::directories::{
-    Answer, DONE, MADE_SEVEN, MADE_SIX, TWO_FILES, extends_in_turn,
+    Answer, DONE, MADE_SEVEN, MADE_SIX, NO_ENTRY, TWO_FILES, extends_in_turn,
 };
 use f11_dev::Memory;
 use f11_fcp::Volume;
@@ -131,9 +131,19 @@ const KEPT: [Counted; 12] = [
     (0, Ask::ReadRecords(0, 4, ONE), DONE, Some(1)),
 ];
 
+/// A directory of nine blocks is looked through: its header is read for what it says, for its length and for a window, and then each block.
+const LOOKED: [Counted; 6] = [
+    (0, Ask::CreateDirectory, MADE_SIX, None),
+    (0, Ask::Access(FIRST, Mode::Write, 0), DONE, None),
+    (0, Ask::Extend(0, 9), Ok(Reply::Length(9)), None),
+    (0, Ask::Deaccess(0), DONE, None),
+    (0, Ask::SetEnd(FIRST, (9, 10, 0)), DONE, None),
+    (0, Ask::Find(SIX, X), NO_ENTRY, Some(12)),
+];
+
 #[test]
 fn windows_of_a_file_that_is_cut_are_empty(rt: HostRuntime) -> Result<(), Fail> {
-    for rows in [CUT.as_slice(), &KEPT] {
+    for rows in [CUT.as_slice(), &KEPT, &LOOKED] {
         let mut volume = mounted(rt.alloc(), volumes::fresh(rt.alloc(), 400)?)?;
         assert_eq!(rt; first_miscounted(&mut volume, rows), None, "{}", rows.len());
         let _ = dismounted(rt.alloc(), volume)?;
