@@ -1,6 +1,6 @@
 -- What holds of a device while the headers of a file are read one after another.
-use Rattle.std.proofs.Common.{◌≡◌, ◌≢◌, ℕ, ◌+◌, ◌-◌, ◌*◌, ◌<◌, ◌≤◌, IsTrue, List, [], ◌∷◌, ◌++◌, length, get_or, Some, Err, refl, sym, ap}
-use Rattle.std.proofs.Common.{subst, ◌∙◌, inl, inr, arith}
+use Rattle.std.proofs.Common.{◌≡◌, ◌≢◌, ℕ, ◌+◌, ◌-◌, ◌*◌, ◌<◌, ◌≤◌, IsTrue, List, [], ◌∷◌, ◌++◌, length, get_or, take, Some, Err, refl, sym, ap}
+use Rattle.std.proofs.Common.{false, subst, ◌∙◌, inl, inr, arith}
 use Rattle.std.specs.Prelude.{Result, Ok, IsErrAnd, IsErrOf}
 use Rattle.std.proofs.lemmas.Bool.{cases_lt}
 use Rattle.std.specs.List.{slice_get}
@@ -18,30 +18,32 @@ use Rattle.f11_index.specs.Headers.{headers_of, IsLastOf}
 use Rattle.f11_index.specs.IndexFile.{Index}
 use Rattle.f11_index.specs.Table.{Table, table_in, IsLive, IsNext, IsHeaderOf, IsWholeFile, LinksRightly}
 use Rattle.f11_index.proofs.InUseLemmas.{in_use-some}
+use Rattle.f11_index.proofs.ChainLemmas.{live_of-header}
 use Rattle.f11_index.proofs.SegmentLemmas.{table-bytes}
 use Rattle.f11_index.proofs.HeadersLemmas.{Comes-first, Comes-count, Comes-count-next, last-ends, last-whole}
 use Rattle.f11_chain.specs.FileHeaders.{blocks_by, blocks_before, file_blocks, block_by_vbn}
-use Rattle.f11_chain.specs.Calls.{table, HoldsHeader, HoldsFirst, ReadsFirst, FindsNoFile, ReadsNext, FindsLast, FindsWrongLink, IsNextOf}
+use Rattle.f11_chain.specs.Calls.{table, HoldsHeader, HoldsFirst, ReadsFirst, ReadsHeader, FindsNoFile, ReadsNext, FindsLast, FindsWrongLink, IsNextOf}
 use Rattle.f11_chain.specs.Calls.{FailsToReadNext, next_reads, LooksAlongFile, FailsAlong, FindsBreak, FindsDamage, HasBlockAt, ReadsLast}
-use Rattle.f11_chain.specs.Calls.{Locates, Seeks, FindsEnd}
+use Rattle.f11_chain.specs.Calls.{IsHeaderAt, Locates, Seeks, FindsEnd}
 use Rattle.f11_chain.specs.Windows.{Fills, FindsWindow, HoldsRuns, IsPast}
 use Rattle.f11_chain.specs.declared.blocks.FileEnd.{FileEnd}
+use Rattle.f11_chain.specs.declared.blocks.HeaderAt.{HeaderAt}
 use Rattle.f11_chain.specs.declared.blocks.Place.{Place}
 use Rattle.f11_chain.specs.declared.windows.Window.{Window}
 use Rattle.f11_chain.proofs.StepLemmas.{table-in_use, wrong-link}
 use Rattle.f11_chain.proofs.ChangeLemmas.{header-stands}
 use Rattle.f11_chain.proofs.WindowLemmas.{row-has, holds-block, past-block}
-use Rattle.f11_chain.proofs.ReachedLemmas.{Reached, Reached-first, Reached-next, blocks-last, blocks-behind, block-behind}
+use Rattle.f11_chain.proofs.ReachedLemmas.{Reached, Reached-at, Reached-first, Reached-next, blocks-last, blocks-behind, block-behind}
 
--- The block is header m, that of segment k of file n, and each header up to it was read once but those in hand, 0 or 1 of them. These are
--- the headers before it.
+-- The block is header m, that of segment k of file n; of the headers up to it each was read once at most, beside those in hand, 0 or 1 of
+-- them. These are the headers before it.
 pub record AlongFrom (in_hand : ℕ) (index : Index) (n m k : ℕ) (behind : List ℕ) (block : List ℕ) (old now : Disk) : Type 0 where
   pub header : HoldsHeader index m block old
   pub segment : segment_number block ≡ k
   pub few : k < 256
   pub reached : IsTrue old.honest → Reached (table index old) n m k behind
   pub reads : ℕ
-  pub count : reads + in_hand ≡ k + 1
+  pub count : reads + in_hand ≤ k + 1
   pub looked : Looked old now reads 0
 
 -- each was read
@@ -104,6 +106,42 @@ Along-in-hand index n block disk holds = record {
   looked = looked_none disk;
 }
 
+-- so was any other header of a file; these are the headers before it
+abbrev pub headers-before : Index → HeaderAt → List ℕ → Disk → List ℕ
+headers-before index at block disk = take (segment_number block) (headers_of (table index disk) at.file)
+
+pub Along-from : (index : Index) (at : HeaderAt) (block : List ℕ) (disk : Disk) → segment_number block < 256
+    → HoldsHeader index at.number block disk
+    → (IsTrue disk.honest → IsHeaderOf (table index disk) at.file at.number)
+    → AlongFrom 1 index at.file at.number (segment_number block) (headers-before index at block disk) block disk disk
+Along-from index at block disk few holds of = record {
+  header = holds;
+  segment = refl;
+  few = few;
+  reached = λ honest.
+      let t : Table = table index disk in
+      let same : segment_number (t.header at.number) ≡ segment_number block = ap segment_number (sym (holds.block_is honest)) in
+      subst (λ (k : ℕ). Reached t at.file at.number k (take k (headers_of t at.file))) same
+      (Reached-at t at.file at.number (of honest) (omega (arith, same, few)));
+  reads = 0;
+  count = omega arith;
+  looked = looked_none disk;
+}
+
+pub blocks-before-are : (index : Index) (at : HeaderAt) (block : List ℕ) (disk : Disk) → HoldsHeader index at.number block disk
+    → IsTrue disk.honest
+    → blocks_before (table index disk) at.file at.number ≡ length (blocks_by (table index disk) (headers-before index at block disk))
+blocks-before-are index at block disk holds honest =
+    ap (λ (b : List ℕ). length (blocks_by (table index disk) (take (segment_number b) (headers_of (table index disk) at.file))))
+    (sym (holds.block_is honest))
+
+-- a file's first header is one of it, behind no blocks
+pub first-at : (index : Index) (n : ℕ) (block : List ℕ) (disk : Disk) → HoldsFirst index n block disk → IsTrue disk.honest
+    → IsHeaderAt (table index disk) (record { file = n; number = n; before = 0 })
+first-at index n block disk holds honest =
+    let reached = reached-first index n block disk holds.header holds.first honest in
+    record { of_file = reached.of; before_is = sym (blocks-behind (table index disk) n n 0 [] reached) }
+
 -- it wasn't one of a file, or couldn't be read
 first-looked : (index : Index) (n : ℕ) (old new : Disk) (faults : ℕ) → 0 < n → Looked old new 1 faults
     → LooksAlongFile index n 0 old new faults
@@ -127,13 +165,13 @@ failed-first index n old new some looked = first-looked index n old new 1 some l
 pub damage-break : (index : Index) (n : ℕ) (old new : Disk) → FindsBreak index n 0 old new → FindsDamage index n old new
 damage-break index n old new finds = record { damaged = λ honest sound. finds.broken honest sound.whole; looked = finds.looked }
 
--- a call went on from a first header that was read before it
-module _ (index : Index) (n : ℕ) (block : List ℕ) (old now : Disk) (reads : ReadsFirst index n block old now) where
+-- a call went on from a header that was read before it
+module _ (index : Index) (n : ℕ) (old now : Disk) (one : Looked old now 1 0) where
   pub same : table index now ≡ table index old
-  same = table-stays index old now 1 reads.looked
+  same = table-stays index old now 1 one
 
   pub honest-now : IsTrue old.honest → IsTrue now.honest
-  honest-now = honest-stays index old now 1 reads.looked
+  honest-now = honest-stays index old now 1 one
 
   abbrev pub along-behind : (new : Disk) (faults : ℕ) → LooksAlongFile index n 1 now new faults → LooksAlongFile index n 0 old new faults
   along-behind new faults looks = record {
@@ -141,7 +179,7 @@ module _ (index : Index) (n : ℕ) (block : List ℕ) (old now : Disk) (reads : 
     few = omega (arith, looks.few);
     each_once = λ honest. let once = subst (λ (t : Table). looks.headers + 1 ≤ length (headers_of t n)) same
         (looks.each_once (honest-now honest)) in omega (arith, once);
-    looked = looked_more reads.looked looks.looked;
+    looked = looked_more one looks.looked;
   }
 
   pub end-behind : (vbn : ℕ) (new : Disk) → FindsEnd index n 1 vbn now new → FindsEnd index n 0 vbn old new
@@ -160,7 +198,7 @@ module _ (index : Index) (n : ℕ) (block : List ℕ) (old now : Disk) (reads : 
   pub last-behind : (last : FileEnd) (after : List ℕ) (new : Disk) → ReadsLast index n 1 last after now new
       → ReadsLast index n 0 last after old new
   last-behind last after new goes = record {
-    header = holds-stays index old now 1 reads.looked last.number after goes.header;
+    header = holds-stays index old now 1 one last.number after goes.header;
     no_link = goes.no_link;
     segment = goes.segment;
     few = goes.few;
@@ -173,33 +211,51 @@ module _ (index : Index) (n : ℕ) (block : List ℕ) (old now : Disk) (reads : 
     no_further = omega (arith, goes.no_further);
   }
 
-  -- a place of the file was found
-  module _ (vbn : ℕ) (place : Place) (after : List ℕ) (new : Disk) (goes : Seeks index n 1 (vbn - 1) place after now new) where
+  pub seeks-behind : (at : ℕ) (place : Place) (after : List ℕ) (new : Disk) → Seeks index n 1 at place after now new
+      → Seeks index n 0 at place after old new
+  seeks-behind at place after new goes = record {
+    header = holds-stays index old now 1 one place.number after goes.header;
+    segment = goes.segment;
+    left_within = goes.left_within;
+    left_low = goes.left_low;
+    of_file = λ honest. subst (λ (t : Table). IsHeaderOf t n place.number) same (goes.of_file (honest-now honest));
+    at_is = λ honest. subst (λ (t : Table). at ≡ blocks_before t n place.number + place.left) same (goes.at_is (honest-now honest));
+    block_is = λ honest. subst (λ (t : Table). slice_get (file_blocks t n) at ≡ slice_get (blocks_named after) place.left) same
+        (goes.block_is (honest-now honest));
+    looked = along-behind new 0 goes.looked;
+    no_further = omega (arith, goes.no_further);
+  }
+
+-- a place of the file was found
+module _ (index : Index) (n vbn : ℕ) (place : Place) (after : List ℕ) (old new : Disk) (goes : Seeks index n 0 (vbn - 1) place after old new)
+  where
     found : (lbn : ℕ) → slice_get (blocks_named after) place.left ≡ Some lbn → IsTrue old.honest
         → block_by_vbn (table index old) n vbn ≡ Some lbn
-    found lbn is honest =
-        subst (λ (t : Table). slice_get (file_blocks t n) (vbn - 1) ≡ Some lbn) same (goes.block_is (honest-now honest) ∙ is)
+    found lbn is honest = goes.block_is honest ∙ is
+
+    in-hand : IsTrue old.honest → after ≡ (table index old).header place.number
+    in-hand = goes.header.block_is
+
+    size : length new.image ≡ length old.image
+    size = ap (λ (i : Image). length i) goes.looked.looked.image
+
+    no-further : IsTrue old.honest → goes.looked.headers ≤ segment_number ((table index old).header place.number) + 1
+    no-further honest = let segment = ap segment_number (in-hand honest) in omega (arith, goes.no_further, goes.segment, segment)
 
     pub locates : (lbn : ℕ) → HasBlockAt after place.left (length new.image) lbn → Locates index n vbn lbn old new
     locates lbn has = record {
       header = place.number;
-      of_file = λ honest. subst (λ (t : Table). IsHeaderOf t n place.number) same (goes.of_file (honest-now honest));
+      of_file = goes.of_file;
       named = λ honest.
           let here : List ℕ = blocks_named ((table index old).header place.number) in
-          let at : slice_get here place.left ≡ Some lbn = ap (λ (b : List ℕ). slice_get (blocks_named b) place.left) (sym (there honest))
+          let at : slice_get here place.left ≡ Some lbn = ap (λ (b : List ℕ). slice_get (blocks_named b) place.left) (sym (in-hand honest))
           ∙ has.named in
           (place.left, slice_get_within here place.left lbn at, get_or_from_slice_get here place.left lbn lbn at);
       block_is = found lbn has.named;
-      within = rw sizes at has.within;
-      looked = along-behind new 0 goes.looked;
-      no_further = λ honest. let segment = ap segment_number (there honest) in omega (arith, goes.no_further, goes.segment, segment);
+      within = rw size at has.within;
+      looked = goes.looked;
+      no_further = no-further;
     }
-      where
-        there : IsTrue old.honest → after ≡ (table index old).header place.number
-        there honest = (holds-stays index old now 1 reads.looked place.number after goes.header).block_is honest
-
-        sizes : length new.image ≡ length old.image
-        sizes = ap (λ (i : Image). length i) (goes.looked.looked.image ∙ reads.looked.image)
 
     -- but it isn't on the device
     pub damage-outside : ((lbn : ℕ) → ¬ HasBlockAt after place.left (length new.image) lbn) → FindsDamage index n old new
@@ -211,34 +267,25 @@ module _ (index : Index) (n : ℕ) (block : List ℕ) (old now : Disk) (reads : 
           let at : slice_get (file_blocks (table index old) n) (vbn - 1) ≡ Some lbn = found lbn is honest in
           let within = sound.within (vbn - 1) 0 (slice_get_within _ _ _ at) in
           let here = get_or_from_slice_get (file_blocks (table index old) n) (vbn - 1) lbn 0 at in
-          let size = ap (λ (i : Image). length i) (goes.looked.looked.image ∙ reads.looked.image) in
           none lbn (record { named = is; within = omega (arith, within, here, size) });
-      looked = along-behind new 0 goes.looked;
+      looked = goes.looked;
     }
 
     -- the window of that place
     module _ (some : 0 < vbn) where
-      size : length new.image ≡ length old.image
-      size = ap (λ (i : Image). length i) (goes.looked.looked.image ∙ reads.looked.image)
-
-      in-hand : IsTrue old.honest → after ≡ (table index old).header place.number
-      in-hand honest = (holds-stays index old now 1 reads.looked place.number after goes.header).block_is honest
-
       pub finds-window : (w : Window) → Fills after place.left vbn (length new.image) w → FindsWindow index n vbn w old new
       finds-window w fills = record {
         window_is = λ honest. record {
           header = place.number;
-          of_file = subst (λ (t : Table). IsHeaderOf t n place.number) same (goes.of_file (honest-now honest));
+          of_file = goes.of_file honest;
           left = place.left;
-          vbn_is =
-              let at = subst (λ (t : Table). vbn - 1 ≡ blocks_before t n place.number + place.left) same (goes.at_is (honest-now honest)) in
-              omega (arith, some, at);
+          vbn_is = let at = goes.at_is honest in omega (arith, some, at);
           holds = subst (λ (b : List ℕ). HoldsRuns b place.left vbn w) (in-hand honest) fills.holds;
         };
         holds = holds-block after place.left vbn w fills.holds;
         on = rw size at fills.on;
-        looked = along-behind new 0 goes.looked;
-        no_further = λ honest. let segment = ap segment_number (in-hand honest) in omega (arith, goes.no_further, goes.segment, segment);
+        looked = goes.looked;
+        no_further = no-further;
       }
 
       -- but it isn't on the device
@@ -247,7 +294,7 @@ module _ (index : Index) (n : ℕ) (block : List ℕ) (old now : Disk) (reads : 
         damaged = λ honest sound.
             let t : Table = table index old in
             let (k, lbn, beyond, at) = past-block after place.left (length new.image) past in
-            let of = subst (λ (t : Table). IsHeaderOf t n place.number) same (goes.of_file (honest-now honest)) in
+            let of = goes.of_file honest in
             let few = table-bytes old.image index image place.number in
             let here : slice_get (blocks_named (t.header place.number)) k ≡ Some lbn = ap (λ (b : List ℕ). slice_get (blocks_named b) k)
             (sym (in-hand honest)) ∙ at in
@@ -257,8 +304,34 @@ module _ (index : Index) (n : ℕ) (block : List ℕ) (old now : Disk) (reads : 
             let within = sound.within (blocks_before t n place.number + k) 0 (slice_get_within _ _ _ there) in
             let is = get_or_from_slice_get (file_blocks t n) (blocks_before t n place.number + k) lbn 0 there in
             absurd (omega (arith, within, is, beyond, size));
-        looked = along-behind new 0 goes.looked;
+        looked = goes.looked;
       }
+
+-- a header of the file couldn't be read, or isn't valid
+module _ (index : Index) (at : HeaderAt) (old new : Disk) (image : IsImage old.image)
+    (is : IsTrue old.honest → IsHeaderAt (table index old) at) where
+  header-looked : (faults : ℕ) → Looked old new 1 faults → LooksAlongFile index at.file 0 old new faults
+  header-looked faults looked = record {
+    headers = 1;
+    few = omega arith;
+    each_once = λ honest.
+        let t : Table = table index old in
+        let few = table-bytes old.image index image at.number in
+        let reached = Reached-at t at.file at.number (is honest).of_file few in
+        let some = in_use-some index at.number (sym (table-in_use index old at.number) ∙ (live_of-header (is honest).of_file).in_use) in
+        let count = Comes-count t at.file at.number _ _ reached.comes some few in
+        omega (arith, count);
+    looked = looked;
+  }
+
+  pub failed-header : Looked old new 1 1 → FailsAlong index at.file 0 old new
+  failed-header = header-looked 1
+
+  pub no-header : (block : List ℕ) → ReadsHeader index at.number false block old new → FindsBreak index at.file 0 old new
+  no-header block reads = record {
+    broken = λ honest. absurd (reads.not_live refl honest (live_of-header (is honest).of_file));
+    looked = header-looked 0 reads.looked;
+  }
 
 -- an error handed on is the one that came
 same_error : {T E : Type 0} (e f : E) → IsErrOf {T = T} (Err e) f → e ≡ f

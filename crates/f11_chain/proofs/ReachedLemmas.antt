@@ -1,5 +1,5 @@
 -- The headers of a file were gone along.
-use Rattle.std.proofs.Common.{◌≡◌, ℕ, ◌+◌, ◌-◌, ◌<◌, List, [], ◌∷◌, ◌++◌, length, take, get_or, refl, sym, ap, ◌∙◌, arith, append_assoc}
+use Rattle.std.proofs.Common.{◌≡◌, ℕ, ◌+◌, ◌-◌, ◌<◌, subst, List, [], ◌∷◌, ◌++◌, length, take, get_or, refl, sym, ap, ◌∙◌, arith, append_assoc}
 use Rattle.std.specs.List.{slice_get}
 use Rattle.std.proofs.Math.Seq.{take-append_seam}
 use Rattle.std.proofs.lemmas.List.{append-nil}
@@ -9,7 +9,7 @@ use Rattle.f11_index.proofs.map.MapLemmas.{slice_get-append_back}
 use Rattle.f11_index.specs.map.HeaderBlock.{segment_number, blocks_named}
 use Rattle.f11_index.specs.Headers.{headers_from, headers_of}
 use Rattle.f11_index.specs.Table.{Table, IsFile, IsNext, IsHeaderOf, first, next}
-use Rattle.f11_index.proofs.HeadersLemmas.{link_number, Comes, Comes-first, Comes-next, Comes-split, Comes-last}
+use Rattle.f11_index.proofs.HeadersLemmas.{link_number, Comes, Comes-first, Comes-header, Comes-next, Comes-split, Comes-last}
 use Rattle.f11_index.proofs.PlaceLemmas.{slice_get-append_front}
 use Rattle.f11_chain.specs.FileHeaders.{blocks_by, file_blocks, blocks_before}
 
@@ -21,6 +21,21 @@ pub record Reached (t : Table) (n m k : ℕ) (behind : List ℕ) : Type 0 where
 
 pub Reached-first : (t : Table) (n : ℕ) → IsFile t n → Reached t n n 0 []
 Reached-first t n file = record { of = first file; segment = file.first; comes = Comes-first t n }
+
+-- so is each header of the file, behind as many as its segment number says
+pub Reached-at : (t : Table) (n m : ℕ) → IsHeaderOf t n m → segment_number (t.header m) < 256
+    → Reached t n m (segment_number (t.header m)) (take (segment_number (t.header m)) (headers_of t n))
+Reached-at t n m of few =
+    let (behind, comes) = Comes-header of few in
+    let k = segment_number (t.header m) in
+    let taken : take k (headers_of t n) ≡ behind =
+    ap (take k) comes.list ∙ ap (λ (c : ℕ). take c (behind ++ headers_from (256 - k) t m)) (sym comes.count)
+    ∙ take-append_seam behind (headers_from (256 - k) t m) in
+    record {
+      of = of;
+      segment = refl;
+      comes = subst (Comes t n m k) (sym taken) comes;
+    }
 
 module _ (t : Table) (n m k : ℕ) (behind : List ℕ) (at : Reached t n m k behind) (some : 0 < m) (few : k < 256) where
   pub Reached-next : (to : ℕ) → IsNext t m to → Reached t n to (k + 1) (behind ++ m ∷ [])

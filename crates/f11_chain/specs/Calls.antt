@@ -11,6 +11,7 @@ use Rattle.f11_index.specs.IndexFile.{Index, is_in_use}
 use Rattle.f11_index.specs.Table.{Table, table_in, IsLive, IsFile, IsHeaderOf, IsWholeFile}
 use Rattle.f11_chain.specs.FileHeaders.{file_blocks, blocks_before, block_by_vbn, IsSoundFile}
 use Rattle.f11_chain.specs.declared.blocks.FileEnd.{FileEnd}
+use Rattle.f11_chain.specs.declared.blocks.HeaderAt.{HeaderAt}
 use Rattle.f11_chain.specs.declared.blocks.Place.{Place}
 
 -- the headers that a disk has by this index
@@ -81,6 +82,11 @@ pub record FailsToReadNext (before : List ℕ) (old new : Disk) : Type 0 where
 pub record HoldsFirst (index : Index) (n : ℕ) (block : List ℕ) (disk : Disk) : Type 0 where
   pub header : HoldsHeader index n block disk
   pub first : segment_number block ≡ 0
+
+-- A header is one of its file, behind so many blocks.
+pub record IsHeaderAt (t : Table) (at : HeaderAt) : Type 0 where
+  pub of_file : IsHeaderOf t at.file at.number
+  pub before_is : at.before ≡ blocks_before t at.file at.number
 
 -- Headers of file n were read beside those in hand, 0 or 1 of them, each once at most; so many transfers failed.
 pub record LooksAlongFile (index : Index) (n in_hand : ℕ) (old new : Disk) (faults : ℕ) : Type 0 where

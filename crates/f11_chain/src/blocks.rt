@@ -1,13 +1,14 @@
 //! A file's blocks by virtual block number (VBN), and its last header.
 ghost use Rattle.std.specs.Prelude.{◌≡◌, ◌<◌, ◌≤◌, ◌+◌, ℕ, length, IfOk, IsErrOf, IsTrue, MatchOption};
-ghost use Rattle.f11_chain.specs.Calls.{HoldsFirst, Locates, Seeks, FindsEnd, FindsDamage, FindsBreak, FailsAlong, HasBlockAt, ReadsLast};
+ghost use Rattle.f11_chain.specs.Calls.{table, HoldsFirst, HoldsHeader, IsHeaderAt, Locates, Seeks, FindsEnd, FindsDamage, FindsBreak, FailsAlong, HasBlockAt, ReadsLast};
 ghost use Rattle.f11_chain.specs.Windows.{FindsWindow};
 ghost use Rattle.f11_index.specs.header.Header.{holds_header};
+ghost use Rattle.f11_index.specs.map.HeaderBlock.{segment_number};
 ghost use Rattle.f11_index.specs.IndexFile.{slots};
 ghost use Rattle.f11_index.specs.Kept.{index_kept, IndexLiesWithin};
 
 use crate::fault::ChainFault;
-use crate::step::{first, next};
+use crate::step::{first, next, read_header};
 use crate::windows::{Window, window_at};
 use f11_dev::Device;
 use f11_index::IndexFile;
@@ -107,6 +108,17 @@ pub struct Place {
     pub left: u32,
 }
 
+/// A header of a file, and how many of the file's blocks the headers before it name.
+#[derive(Clone, Copy, Debug, PartialEq, Eq)]
+pub struct HeaderAt {
+    /// The number of the file.
+    pub file: u16,
+    /// That of the header.
+    pub number: u16,
+    /// How many blocks the headers before it name.
+    pub before: u32,
+}
+
 /// Goes from the first header of file `n`, which the block holds, to the one that names block number `at` of the file, from 0: that
 /// header is in the block then. It reads the headers behind the first up to that one, each once.
 ///
@@ -132,7 +144,47 @@ pub fn seek<D: Device>(
     ensures failed { IsErrOf result ChainFault.DeviceFault
         → FailsAlong (index_kept index.now) n 1 (D.disk device.old) (D.disk device.new) }
 {
-    let (mut number, mut left) = (n, at);
+    let first = HeaderAt {
+        file: n,
+        number: n,
+        before: 0,
+    };
+    go_on(device, index, &first, at, block)
+}
+
+/// Goes from a header of a file, which the block holds, to the one that names block number `at` of the file, from 0, as [`seek`] does.
+///
+/// # Errors
+///
+/// Those of [`seek`].
+fn go_on<D: Device>(
+    device: &mut D,
+    index: &IndexFile,
+    from: &HeaderAt,
+    at: u32,
+    block: &mut Block,
+) -> Result<Place, ChainFault>
+    requires header { HoldsHeader (index_kept index.now) from.now.number block.old
+        (D.disk device.old) }
+    requires is_at { IsTrue (D.disk device.old).honest
+        → IsHeaderAt (table (index_kept index.now) (D.disk device.old)) from.now }
+    requires behind { from.now.before ≤ at }
+    requires within { IndexLiesWithin (index_kept index.now) (length (D.disk device.old).image) }
+    ensures seeks { IfOk result (λ place. Seeks (index_kept index.now) from.now.file 1 at place
+        block.new (D.disk device.old) (D.disk device.new)) }
+    ensures near { IfOk result (λ place. (D.disk device.new).transfers + segment_number block.old
+        ≤ (D.disk device.old).transfers + place.segment) }
+    ensures end { IsErrOf result ChainFault.EndOfFile
+        → FindsEnd (index_kept index.now) from.now.file 1 (at + 1)
+        (D.disk device.old) (D.disk device.new) }
+    ensures damaged { IsErrOf result ChainFault.Damaged
+        → FindsBreak (index_kept index.now) from.now.file 1
+        (D.disk device.old) (D.disk device.new) }
+    ensures failed { IsErrOf result ChainFault.DeviceFault
+        → FailsAlong (index_kept index.now) from.now.file 1
+        (D.disk device.old) (D.disk device.new) }
+{
+    let (mut number, mut left) = (from.number, at - from.before);
     for _ in 0..MOST_HEADERS {
         let named = len_blocks(block);
         if left < named {
@@ -149,6 +201,45 @@ pub fn seek<D: Device>(
         number = to;
     }
     Err(ChainFault::Damaged)
+}
+
+/// Reads a header of a file into the block, and goes on from there to the one that names block number `at` of the file, from 0, none of
+/// those before it: that header is in the block then. It reads the headers from the first of both to the second, each once.
+///
+/// # Errors
+///
+/// Those of [`seek`].
+pub fn seek_on<D: Device>(
+    device: &mut D,
+    index: &IndexFile,
+    from: &HeaderAt,
+    at: u32,
+    block: &mut Block,
+) -> Result<Place, ChainFault>
+    requires is_at { IsTrue (D.disk device.old).honest
+        → IsHeaderAt (table (index_kept index.now) (D.disk device.old)) from.now }
+    requires behind { from.now.before ≤ at }
+    requires within { IndexLiesWithin (index_kept index.now) (length (D.disk device.old).image) }
+    ensures seeks { IfOk result (λ place. Seeks (index_kept index.now) from.now.file 0 at place
+        block.new (D.disk device.old) (D.disk device.new)) }
+    ensures near { IfOk result (λ place. IsTrue (D.disk device.old).honest
+        → (D.disk device.new).transfers + segment_number
+        ((table (index_kept index.now) (D.disk device.old)).header from.now.number)
+        ≤ (D.disk device.old).transfers + place.segment + 1) }
+    ensures end { IsErrOf result ChainFault.EndOfFile
+        → FindsEnd (index_kept index.now) from.now.file 0 (at + 1)
+        (D.disk device.old) (D.disk device.new) }
+    ensures damaged { IsErrOf result ChainFault.Damaged
+        → FindsBreak (index_kept index.now) from.now.file 0
+        (D.disk device.old) (D.disk device.new) }
+    ensures failed { IsErrOf result ChainFault.DeviceFault
+        → FailsAlong (index_kept index.now) from.now.file 0
+        (D.disk device.old) (D.disk device.new) }
+{
+    if !read_header(device, index, from.number, block)? {
+        return Err(ChainFault::Damaged);
+    }
+    go_on(device, index, from, at, block)
 }
 
 /// Where a file ends.

@@ -95,7 +95,7 @@ pub fn next<D: Device>(
 }
 
 /// Reads header `n` into the block where its slot is in use, and says whether it is valid. One transfer at most.
-fn read_header<D: Device>(
+pub(crate) fn read_header<D: Device>(
     device: &mut D,
     index: &IndexFile,
     n: u16,

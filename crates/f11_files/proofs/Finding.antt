@@ -3,4 +3,5 @@ pub mod First
 pub mod Named
 pub mod Held
 pub mod Locate
+pub mod Reached
 pub mod Windows

@@ -3,3 +3,4 @@ pub mod First
 pub mod Blocks
 pub mod Length
 pub mod Windows
+pub mod Reached

@@ -1,5 +1,5 @@
 -- What contracts know of the files of an open volume.
-use Rattle.std.specs.Prelude.{◌≡◌, ℕ, ◌≤◌, ◌||◌, Bool, true, IsTrue, Result, IsErrOf}
+use Rattle.std.specs.Prelude.{◌≡◌, ℕ, ◌≤◌, ◌||◌, Bool, true, IsTrue, Option, Result, IsErrOf}
 use Rattle.f11_dev.specs.Disk.{Disk}
 use Rattle.f11_dev.specs.declared.device.Device.{Ghosts}
 use Rattle.f11_home.specs.Home.{HomeFields}
@@ -12,6 +12,7 @@ use Rattle.f11_files.specs.Answers.{is_fatal, is_clean, is_refused}
 use Rattle.f11_image_store.specs.StoreOf.{store_of}
 use Rattle.f11_files.specs.Structure.{counts_of, home_of}
 use Rattle.f11_files.specs.declared.files.Files.{Files}
+use Rattle.f11_files.specs.declared.find.reach.Seen.{Seen}
 
 -- the device
 abbrev pub device_in : {D : Type 0} {met : Ghosts D} → Files D met → D
@@ -36,6 +37,10 @@ disk_in {met = met} files = met.disk files.device
 -- the store of the image
 abbrev pub store_in : {D : Type 0} {met : Ghosts D} → Files D met → Store
 store_in files = store_of (disk_in files).image (home_in files)
+
+-- the header that a call on blocks reached last, if no header was written since
+abbrev pub seen_in : {D : Type 0} {met : Ghosts D} → Files D met → Option Seen
+seen_in files = files.seen
 
 -- whether what is read is what is there
 abbrev pub is_honest : {D : Type 0} {met : Ghosts D} → Files D met → Type 0

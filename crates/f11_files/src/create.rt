@@ -173,6 +173,7 @@ impl<D: Device> Files<D> {
         if self.failed {
             return Err(Refusal::VolumeFailed);
         }
+        self.seen = None;
         let answer = self
             .structure
             .create(&mut self.device, owner, protection, ident, attr);

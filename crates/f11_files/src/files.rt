@@ -1,8 +1,11 @@
 //! The files of a volume.
 ghost use Rattle.std.specs.Prelude.{◌≡◌, false, length, IsTrue};
+ghost use Rattle.std.proofs.Props.{props};
+ghost use Rattle.f11_files.specs.Finding.Reached.{LiesSeen};
 ghost use Rattle.f11_files.specs.Structure.{home_of, FitsOn, IsStructureOf, HasNoOtherHome};
 ghost use Rattle.f11_volume.specs.Verdict.{IsAccepted};
 
+use crate::find::reach::Seen;
 use crate::structure::Structure;
 use f11_dev::Device;
 
@@ -16,6 +19,8 @@ pub struct Files<D: Device> {
     pub(crate) structure: Structure,
     /// Whether a call has answered `DeviceFault` or `Damaged`.
     pub(crate) failed: bool,
+    /// The header that a call on blocks reached last, unless a header was written since.
+    pub(crate) seen: Option<Seen>,
     /// While no call has failed, what is kept lies on the device.
     pub ghost lies: { failed ≡ false → FitsOn structure (length (D.disk device).image) },
     /// The image has no fault where the device is honest,
@@ -24,6 +29,8 @@ pub struct Files<D: Device> {
     pub ghost home: { IsTrue (D.disk device).honest → HasNoOtherHome (D.disk device).image (home_of structure) },
     /// While no call has failed, what is kept is the image's, too.
     pub ghost keeps: { IsTrue (D.disk device).honest → failed ≡ false → IsStructureOf structure (D.disk device).image },
+    /// That header is there still.
+    pub ghost lies_seen: { failed ≡ false → LiesSeen seen (home_of structure) (D.disk device) } by { Prim.hlevel props },
 }
 
 impl<D: Device> Files<D> {

@@ -4,4 +4,5 @@ pub(crate) mod blocks;
 pub(crate) mod first;
 pub(crate) mod length;
 pub(crate) mod locate;
+pub(crate) mod reach;
 pub(crate) mod windows;

@@ -121,6 +121,7 @@ impl<D: Device> Files<D> {
                 device,
                 structure,
                 failed: false,
+                seen: None,
             }),
             Err(StructureFault::DeviceFault) => Err(OpenFault::DeviceFault(device)),
             Err(StructureFault::Damaged) => Err(OpenFault::Damaged(device)),

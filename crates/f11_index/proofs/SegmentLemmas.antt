@@ -24,11 +24,13 @@ image_block-bytes image lbn i is = elim (cases_lt lbn (length image)) [
   | inr past ↦ let none = ap (λ (b : List ℕ). slice_index b i) (get_or_past image lbn [] past) in omega (arith, none)
 ]
 
-pub segment_number-byte : (image : Image) (lbn : ℕ) → IsImage image → segment_number (image_block image lbn) < 256
+-- a segment number is one of its bytes
+pub segment-low : (b : List ℕ) → ((i : ℕ) → slice_index b i < 256) → segment_number b < 256
 unfolding segment_number
-segment_number-byte image lbn is =
-    let b : List ℕ = image_block image lbn in
-    byte-first b (2 * map_offset b) (510 - 2 * map_offset b) (λ i. image_block-bytes image lbn i is)
+segment-low b bytes = byte-first b (2 * map_offset b) (510 - 2 * map_offset b) bytes
+
+pub segment_number-byte : (image : Image) (lbn : ℕ) → IsImage image → segment_number (image_block image lbn) < 256
+segment_number-byte image lbn is = segment-low (image_block image lbn) (λ i. image_block-bytes image lbn i is)
 
 pub table-bytes : (image : Image) (index : Index) → IsImage image → HasByteSegments (table_in image index)
 unfolding table_in

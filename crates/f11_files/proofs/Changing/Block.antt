@@ -13,7 +13,7 @@ use Rattle.f11_store.specs.declared.files.FileId.{FileId}
 use Rattle.f11_store.specs.declared.refusals.Refusal.TheVariants.{DeviceFault}
 use Rattle.f11_store.specs.Lags.{LagsBy}
 use Rattle.f11_store.proofs.LagLaws.{change_lags}
-use Rattle.f11_volume.specs.Volume.{volume_of}
+use Rattle.f11_volume.specs.Volume.{Volume, volume_of}
 use Rattle.f11_writes.specs.Kept.{WritesBlock}
 use Rattle.f11_writes.proofs.OtherLemmas.{file-keeps}
 use Rattle.f11_image_store.specs.Allocation.{KeepsBlocks}
@@ -87,6 +87,13 @@ module _ (s : Structure) (f : FileId) (vbn lbn : ℕ) (block : List ℕ) (old no
           (keeps honest);
       writes = writes-behind finds.reads (went_write P now new lbn block is moment);
     }
+
+    -- no header is another
+    pub stored-table : new ≡ with_transfer true (with_block_at lbn block now) → IsTrue old.honest
+        → table_of new.image (home_of s) ≡ table_of old.image (home_of s)
+    unfolding volume_of
+    stored-table is honest =
+        ap (λ (d : Disk). table_of d.image (home_of s)) is ∙ ap (λ (v : Volume). v.table) (writes honest).keeps.volume
 
     pub stored-stays : new ≡ with_transfer true (with_block_at lbn block now) → StaysFor false s s new
     stored-stays is = served-stays s (block_work f vbn block) old new false for (stores-block is).writes.went

@@ -1,10 +1,11 @@
 -- A block of a file that is written by a window.
-use Rattle.std.proofs.Common.{◌≡◌, ◌⊎◌, ◌<◌, ℕ, Bool, true, false, List, length, inl, inr, refl, arith}
+use Rattle.std.proofs.Common.{◌≡◌, ◌⊎◌, ◌<◌, ℕ, Bool, true, false, IsTrue, List, length, inl, inr, refl, arith}
 use Rattle.f11_chain.specs.Windows.{HoldsAt}
 use Rattle.f11_chain.specs.declared.windows.Window.{Window}
 use Rattle.f11_dev.specs.Disk.{Disk, with_block_at, with_transfer}
 use Rattle.f11_home.specs.Home.{HomeFields}
 use Rattle.f11_index.specs.IndexFile.{index_of}
+use Rattle.f11_index.specs.Table.{table_of}
 use Rattle.f11_store.specs.declared.files.FileId.{FileId}
 use Rattle.f11_store.specs.declared.refusals.Refusal.TheVariants.{DeviceFault, VolumeFailed}
 use Rattle.f11_volume.specs.Space.{storage_bitmap}
@@ -15,7 +16,7 @@ use Rattle.f11_files.specs.Finding.Windows.{FailsToStoreBy, IsOfFile, IsWindowOn
 use Rattle.f11_files.specs.Structure.{home_of, IsStructureFor, StaysFor}
 use Rattle.f11_files.specs.declared.structure.Structure.{Structure}
 use Rattle.f11_files.proofs.Bounded.{one-failed}
-use Rattle.f11_files.proofs.Changing.Block.{fails-stays, fails-store, in-blocks, stored-order, stored-stays, stores-block, unstored-order}
+use Rattle.f11_files.proofs.Changing.Block.{fails-stays, fails-store, in-blocks, stored-order, stored-stays, stored-table, stores-block, unstored-order}
 use Rattle.f11_files.proofs.Confining.Confines.{confines-none}
 use Rattle.f11_files.proofs.Confining.Parts.{other-failed, other-wrote, to-only}
 use Rattle.f11_files.proofs.Finding.Windows.{finds-in-window, in-place}
@@ -45,6 +46,9 @@ module _ (s : Structure) (w : Window) (vbn lbn : ℕ) (block : List ℕ) (old ne
 
     pub stored-by-stays : IsOfFile (home_of s) w old → StaysFor false s s new
     stored-by-stays of = stored-stays s of.file vbn lbn block old old for of.is.id.number (finds of.file of.is) new is
+
+    pub stored-by-table : IsOfFile (home_of s) w old → IsTrue old.honest → table_of new.image (home_of s) ≡ table_of old.image (home_of s)
+    stored-by-table of = stored-table s of.file vbn lbn block old old for of.is.id.number (finds of.file of.is) new is
 
   -- the transfer failed
   module _ (is : (new ≡ with_transfer false old) ⊎ (new ≡ with_transfer false (with_block_at lbn block old))) where

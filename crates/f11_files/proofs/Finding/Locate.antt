@@ -28,14 +28,15 @@ use Rattle.f11_volume.proofs.FileLemmas.{image-files, file-headers-are, file-blo
 use Rattle.f11_writes.specs.Kept.{file_in}
 use Rattle.f11_files.specs.Answers.{ReadsAtMost, FailsToRead, refusal_for}
 use Rattle.f11_files.specs.Finding.Blocks.{FindsBlock}
-use Rattle.f11_files.specs.Finding.First.{FindsFile, HoldsFile}
+use Rattle.f11_files.specs.Finding.First.{FindsFile, HoldsFile, IsFileOf}
 use Rattle.f11_files.specs.Finding.Length.{CountsBlocks}
 use Rattle.f11_files.specs.Operations.{file_causes, length_causes}
 use Rattle.f11_files.specs.Structure.{index_in, home_of, store_on, IsStructureFor}
 use Rattle.f11_files.specs.declared.structure.Structure.{Structure}
 use Rattle.f11_files.proofs.AnswerLemmas.{right-cause, right-fault, right-damaged}
 use Rattle.f11_files.proofs.Finding.First.{table-of}
-use Rattle.f11_files.proofs.Finding.Named.{held-named, is-file, found-named, no-file-cause, seen-same, there}
+use Rattle.f11_image_store.specs.StoreOf.{as_seen}
+use Rattle.f11_files.proofs.Finding.Named.{is-file, found-named, no-file-cause, seen-same}
 use Rattle.f11_image_store.proofs.StoreLemmas.{seen-own}
 
 -- the first header was read
@@ -43,90 +44,123 @@ pub reads-first : (index : Index) (f : FileId) (block : List ℕ) (old new : Dis
     → ReadsFirst index f.number block old new
 reads-first index f block old new finds = record { header = finds.holds.header; first = finds.holds.is_first.first; looked = finds.looked }
 
--- a file's first header in hand, on an honest disk
-module _ (s : Structure) (f : FileId) (block : List ℕ) (disk : Disk) (for : IsStructureFor s disk)
-    (holds : HoldsFile (index_in s) f block disk) (honest : IsTrue disk.honest) where
+-- a file that is there, on an honest disk
+module _ (s : Structure) (f : FileId) (disk : Disk) (for : IsStructureFor s disk) (honest : IsTrue disk.honest)
+    (is : IsFileOf f (index_in s) disk) where
   abbrev t : Table
   t = table_of disk.image (home_of s)
 
   abbrev named : File
   named = file_named (store_on s disk) f
 
-  pub same : table (index_in s) disk ≡ t
-  same = table-of s disk for honest
+  same-table : table (index_in s) disk ≡ t
+  same-table = table-of s disk for honest
 
-  -- the file is sound
-  pub sound-file : IsSoundFile (table (index_in s) disk) f.number (length disk.image)
-  sound-file =
-      let file = (is-file s f block disk for holds honest).file in
-      subst (λ (u : Table). IsSoundFile u f.number (length disk.image)) (sym same)
-      ((image-files disk.image (home_of s) (for.sound honest)).each f.number (subst (λ (u : Table). IsFile u f.number) same file))
+  pub named-of : named ≡ as_seen f.number (file_in (home_of s) f.number disk.image)
+  named-of = (found-named s f disk for honest is).1
 
-  pub whole : IsWholeFile t f.number
-  whole = subst (λ (u : Table). IsWholeFile u f.number) same sound-file.whole
+  pub file-of : IsFile t f.number
+  file-of = subst (λ (u : Table). IsFile u f.number) same-table is.file
+
+  -- it is sound
+  pub sound-of : IsSoundFile (table (index_in s) disk) f.number (length disk.image)
+  sound-of =
+      subst (λ (u : Table). IsSoundFile u f.number (length disk.image)) (sym same-table)
+      ((image-files disk.image (home_of s) (for.sound honest)).each f.number file-of)
+
+  pub whole-of : IsWholeFile t f.number
+  whole-of = subst (λ (u : Table). IsWholeFile u f.number) same-table sound-of.whole
 
   -- the store has its headers,
-  pub held-are : named.held ≡ headers_of t f.number
-  held-are =
-      ap (λ (g : File). g.held) (held-named s f block disk for holds honest)
+  pub held-of : named.held ≡ headers_of t f.number
+  held-of =
+      ap (λ (g : File). g.held) named-of
       ∙ seen-same (λ (g : File). g.held) (λ g. refl) f.number (file_in (home_of s) f.number disk.image)
-      ∙ file-headers-are disk.image t f.number whole
+      ∙ file-headers-are disk.image t f.number whole-of
 
-  pub headers-counted : length (headers_of (table (index_in s) disk) f.number) ≤ header_count named
-  headers-counted =
-      let count = ap (λ (u : Table). length (headers_of u f.number)) same in
-      let held = ap (λ (hs : List ℕ). length hs) held-are in
+  pub counted-of : length (headers_of (table (index_in s) disk) f.number) ≤ header_count named
+  counted-of =
+      let count = ap (λ (u : Table). length (headers_of u f.number)) same-table in
+      let held = ap (λ (hs : List ℕ). length hs) held-of in
       omega (arith, count, held)
 
   -- and where requests reach it, its blocks
-  pub length-named : 4 ≤ f.number → length_of named ≡ length (file_blocks (table (index_in s) disk) f.number)
-  length-named own =
-      ap length_of (held-named s f block disk for holds honest ∙ seen-own f.number (file_in (home_of s) f.number disk.image) own)
-      ∙ ap (λ (bs : List (List ℕ)). length bs) (file-blocks-are disk.image t f.number whole) ∙ length-map (file_blocks t f.number) _
-      ∙ ap (λ (u : Table). length (file_blocks u f.number)) (sym same)
+  pub length-of : 4 ≤ f.number → length_of named ≡ length (file_blocks (table (index_in s) disk) f.number)
+  length-of own =
+      ap length_of (named-of ∙ seen-own f.number (file_in (home_of s) f.number disk.image) own)
+      ∙ ap (λ (bs : List (List ℕ)). length bs) (file-blocks-are disk.image t f.number whole-of) ∙ length-map (file_blocks t f.number) _
+      ∙ ap (λ (u : Table). length (file_blocks u f.number)) (sym same-table)
 
   -- the causes against a block of it
+  pub causes-of : 4 ≤ f.number → (vbn : ℕ)
+      → first_of (length_causes (store_on s disk) f vbn) ≡ cond (ltb (length (file_blocks (table (index_in s) disk) f.number)) vbn)
+      (Some EndOfFile) None
+  causes-of own vbn =
+      ap (λ (b : Bool). cond b (Some NoSuchFile) (cond (ltb (length_of named) vbn) (Some EndOfFile) None))
+      (found-named s f disk for honest is).0
+      ∙ ap (λ (n : ℕ). cond (ltb n vbn) (Some EndOfFile) None) (length-of own)
+
+-- so of one whose first header is in hand
+module _ (s : Structure) (f : FileId) (block : List ℕ) (disk : Disk) (for : IsStructureFor s disk)
+    (holds : HoldsFile (index_in s) f block disk) (honest : IsTrue disk.honest) where
+  is : IsFileOf f (index_in s) disk
+  is = is-file s f block disk for holds honest
+
+  pub sound-file : IsSoundFile (table (index_in s) disk) f.number (length disk.image)
+  sound-file = sound-of s f disk for honest is
+
+  pub whole : IsWholeFile (table_of disk.image (home_of s)) f.number
+  whole = whole-of s f disk for honest is
+
+  pub held-are : (file_named (store_on s disk) f).held ≡ headers_of (table_of disk.image (home_of s)) f.number
+  held-are = held-of s f disk for honest is
+
+  pub length-named : 4 ≤ f.number → length_of (file_named (store_on s disk) f) ≡ length (file_blocks (table (index_in s) disk) f.number)
+  length-named = length-of s f disk for honest is
+
   pub length-first : 4 ≤ f.number → (vbn : ℕ)
       → first_of (length_causes (store_on s disk) f vbn) ≡ cond (ltb (length (file_blocks (table (index_in s) disk) f.number)) vbn)
       (Some EndOfFile) None
-  length-first own vbn =
-      ap (λ (b : Bool). cond b (Some NoSuchFile) (cond (ltb (length_of named) vbn) (Some EndOfFile) None))
-      (found-named s f disk for honest (is-file s f block disk for holds honest)).0
-      ∙ ap (λ (n : ℕ). cond (ltb n vbn) (Some EndOfFile) None) (length-named own)
+  length-first = causes-of s f disk for honest is
 
 -- headers of it were read, no more than there are
-pub reads-along : (s : Structure) (f : FileId) (block : List ℕ) (old new : Disk) (faults : ℕ) → IsStructureFor s old
-    → HoldsFile (index_in s) f block old → LooksAlongFile (index_in s) f.number 0 old new faults
+pub reads-headers : (s : Structure) (f : FileId) (old new : Disk) (faults : ℕ) → IsStructureFor s old
+    → (IsTrue old.honest → IsFileOf f (index_in s) old) → LooksAlongFile (index_in s) f.number 0 old new faults
     → ReadsAtMost (header_count (file_named (store_on s old) f)) old new faults
-reads-along s f block old new faults for holds looks = record {
+reads-headers s f old new faults for there looks = record {
   reads = looks.headers;
   looked = looks.looked;
-  few = λ honest. let once = looks.each_once honest in let count = headers-counted s f block old for holds honest in
+  few = λ honest. let once = looks.each_once honest in let count = counted-of s f old for honest (there honest) in
       omega (arith, once, count);
 }
 
+pub reads-along : (s : Structure) (f : FileId) (block : List ℕ) (old new : Disk) (faults : ℕ) → IsStructureFor s old
+    → HoldsFile (index_in s) f block old → LooksAlongFile (index_in s) f.number 0 old new faults
+    → ReadsAtMost (header_count (file_named (store_on s old) f)) old new faults
+reads-along s f block old new faults for holds = reads-headers s f old new faults for (is-file s f block old for holds)
+
 -- a walk to a block of it failed
-module _ (s : Structure) (f : FileId) (block : List ℕ) (old new : Disk) (for : IsStructureFor s old)
-    (holds : HoldsFile (index_in s) f block old) (own : 4 ≤ f.number) (vbn : ℕ) where
+module _ (s : Structure) (f : FileId) (old new : Disk) (for : IsStructureFor s old)
+    (is-there : IsTrue old.honest → IsFileOf f (index_in s) old) (own : 4 ≤ f.number) (vbn : ℕ) where
   abbrev Fails : Refusal → Type 0
   Fails refusal = FailsToRead false (length_causes (store_on s old) f vbn) (header_count (file_named (store_on s old) f)) refusal old new
 
   pub fails-end : FindsEnd (index_in s) f.number 0 vbn old new → Fails EndOfFile
   fails-end finds = record {
     right = right-cause _ _ _ (λ is. omega (arith, is)) (λ is. omega (arith, is)) refl
-        (λ honest. length-first s f block old for holds honest own vbn ∙ ap (λ (b : Bool). cond b (Some EndOfFile) None)
+        (λ honest. causes-of s f old for honest (is-there honest) own vbn ∙ ap (λ (b : Bool). cond b (Some EndOfFile) None)
         (lt-ltb _ _ (finds.fewer honest)));
-    reads = reads-along s f block old new 0 for holds finds.looked;
+    reads = reads-headers s f old new 0 for is-there finds.looked;
   }
 
   pub fails-damaged : FindsDamage (index_in s) f.number old new → Fails Damaged
   fails-damaged finds = record {
-    right = right-damaged _ _ (λ honest. finds.damaged honest (sound-file s f block old for holds honest));
-    reads = reads-along s f block old new 0 for holds finds.looked;
+    right = right-damaged _ _ (λ honest. finds.damaged honest (sound-of s f old for honest (is-there honest)));
+    reads = reads-headers s f old new 0 for is-there finds.looked;
   }
 
   pub fails-fault : LooksAlongFile (index_in s) f.number 0 old new 1 → Fails DeviceFault
-  fails-fault looks = record { right = right-fault _ _; reads = reads-along s f block old new 1 for holds looks }
+  fails-fault looks = record { right = right-fault _ _; reads = reads-headers s f old new 1 for is-there looks }
 
   pub fails-walk : (fault : ChainFault) → (fault ≡ chain.EndOfFile → FindsEnd (index_in s) f.number 0 vbn old new)
       → (fault ≡ chain.Damaged → FindsDamage (index_in s) f.number old new)
@@ -141,14 +175,14 @@ module _ (s : Structure) (f : FileId) (block : List ℕ) (old new : Disk) (for :
     no_cause = λ honest.
         let within : vbn - 1 < length (file_blocks (table (index_in s) old) f.number) = slice_get_within _ _ lbn (locates.block_is honest)
         in
-        length-first s f block old for holds honest own vbn
+        causes-of s f old for honest (is-there honest) own vbn
         ∙ ap (λ (b : Bool). cond b (Some EndOfFile) None) (le-ltb _ _ (omega (arith, within, some)));
-    named = λ honest. held-named s f block old for holds honest ∙ seen-own f.number (file_in (home_of s) f.number old.image) own;
-    file = there s f block old for holds;
+    named = λ honest. named-of s f old for honest (is-there honest) ∙ seen-own f.number (file_in (home_of s) f.number old.image) own;
+    file = λ honest. file-of s f old for honest (is-there honest);
     block_is = λ honest. subst (λ (u : Table). block_by_vbn u f.number vbn ≡ Some lbn) (table-of s old for honest)
         (locates.block_is honest);
     within = locates.within;
-    reads = reads-along s f block old new 0 for holds locates.looked;
+    reads = reads-headers s f old new 0 for is-there locates.looked;
   }
 
 -- what was read there is the file's block

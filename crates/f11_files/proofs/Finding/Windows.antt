@@ -28,7 +28,7 @@ use Rattle.f11_writes.specs.Kept.{file_in}
 use Rattle.f11_image_store.proofs.StoreLemmas.{first-is-tested, seen-own}
 use Rattle.f11_image_store.specs.StoreOf.{is_first, store_of}
 use Rattle.f11_files.specs.Finding.Blocks.{FindsBlock}
-use Rattle.f11_files.specs.Finding.First.{HoldsFile}
+use Rattle.f11_files.specs.Finding.First.{IsFileOf}
 use Rattle.f11_files.specs.Finding.Windows.{FailsToReadBy, FindsFileWindow, HasWindow, IsWindowOn, ReadsBy}
 use Rattle.f11_files.specs.Open.{IsIdFrom}
 use Rattle.f11_files.specs.Operations.{length_causes}
@@ -36,9 +36,9 @@ use Rattle.f11_files.specs.Structure.{home_of, index_in, store_on, IsStructureFo
 use Rattle.f11_files.specs.declared.structure.Structure.{Structure}
 use Rattle.f11_files.proofs.AnswerLemmas.{reads-looked, reads-within}
 use Rattle.f11_files.proofs.Finding.First.{table-of}
-use Rattle.f11_files.proofs.Finding.Locate.{block-read, reads-along}
+use Rattle.f11_files.proofs.Finding.Locate.{block-read, reads-headers}
 use Rattle.f11_files.proofs.Opening.Kept.{looked-for}
-use Rattle.f11_files.proofs.Finding.Named.{found-named, is-file, named-is, not-named}
+use Rattle.f11_files.proofs.Finding.Named.{found-named, named-is, not-named}
 
 -- a file that the store has is there
 pub is-there : (image : Image) (home : HomeFields) (f : FileId) → is_missing (store_of image home) f ≡ false
@@ -152,17 +152,17 @@ module _ (s : Structure) (w : Window) (vbn : ℕ) (block : List ℕ) (old new : 
   read-stays (Ok x) is = looked-for s old new 1 0 for (looked_read old new is.reads.counts)
   read-stays (Err e) is = looked-for s old new 1 1 for (looked_failed_read old new is.reads.counts)
 
--- the window was found behind the first header in hand
-module _ (s : Structure) (f : FileId) (block : List ℕ) (old new : Disk) (for : IsStructureFor s old)
-    (holds : HoldsFile (index_in s) f block old) (id : IsIdFrom 4 f) (vbn : ℕ) (w : Window)
+-- the window was found
+module _ (s : Structure) (f : FileId) (old new : Disk) (for : IsStructureFor s old)
+    (is : IsTrue old.honest → IsFileOf f (index_in s) old) (id : IsIdFrom 4 f) (vbn : ℕ) (w : Window)
     (image : IsImage old.image) (finds : FindsWindow (index_in s) f.number vbn w old new) where
   has-window : IsTrue old.honest → HasWindow (home_of s) f w old.image
   has-window honest =
-      let is : IsWindowAt (table (index_in s) old) f.number vbn w = finds.window_is honest in
+      let window : IsWindowAt (table (index_in s) old) f.number vbn w = finds.window_is honest in
       record {
-        there = (found-named s f old for honest (is-file s f block old for holds honest)).0;
+        there = (found-named s f old for honest (is honest)).0;
         window = subst (λ (t : Table). IsWindowOf t f.number w) (table-of s old for honest)
-            (window-stands (table (index_in s) old) f.number vbn w is (table-bytes old.image (index_in s) image is.header));
+            (window-stands (table (index_in s) old) f.number vbn w window (table-bytes old.image (index_in s) image window.header));
       }
 
   window-on : IsWindowOn (home_of s) f w old
@@ -177,5 +177,5 @@ module _ (s : Structure) (f : FileId) (block : List ℕ) (old new : Disk) (for :
     has = has-window;
     holds = finds.holds;
     on = finds.on;
-    reads = reads-along s f block old new 0 for holds finds.looked;
+    reads = reads-headers s f old new 0 for is finds.looked;
   }

@@ -164,6 +164,7 @@ impl<D: Device> Files<D> {
         if self.failed {
             return Err(Refusal::VolumeFailed);
         }
+        self.seen = None;
         let answer = self.structure.write_attr(&mut self.device, f, change);
         self.failed = is_fatal(&answer);
         answer
@@ -189,6 +190,7 @@ impl<D: Device> Files<D> {
         if self.failed {
             return Err(Refusal::VolumeFailed);
         }
+        self.seen = None;
         let answer = self.structure.mark(&mut self.device, f);
         self.failed = is_fatal(&answer);
         answer

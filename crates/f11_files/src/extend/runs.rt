@@ -303,6 +303,7 @@ impl<D: Device> Files<D> {
         if self.failed {
             return Err(Refusal::VolumeFailed);
         }
+        self.seen = None;
         let answer = self.structure.extend(&mut self.device, f, n);
         self.failed = is_fatal(&answer);
         answer

@@ -2,6 +2,7 @@
 ghost use Rattle.std.specs.Prelude.{◌≡◌, ◌+◌, ◌<◌, ◌≤◌, false, IfErr, OnOk, OnErr, IsTrue};
 ghost use Rattle.f11_files.specs.Answers.{FailsToRead, blocks_of, is_fatal, is_refused, MakesAtMost, WritesBlocksOf};
 ghost use Rattle.f11_files.specs.Finding.Blocks.{ReadsBlock, StoresBlock, FailsToStore};
+ghost use Rattle.f11_files.specs.Finding.Reached.{LiesSeen};
 ghost use Rattle.f11_image_store.specs.Confines.{no_header};
 ghost use Rattle.f11_files.specs.Operations.{length_causes};
 ghost use Rattle.f11_files.specs.Structure.{home_of, store_on, IsStructureFor, StaysFor, ConfinesTo};
@@ -10,6 +11,7 @@ ghost use Rattle.f11_store.specs.Store.{file_named};
 
 use crate::answer::is_fatal;
 use crate::files::Files;
+use crate::find::reach::Seen;
 use crate::structure::Structure;
 use f11_bytes::Block;
 use f11_dev::Device;
@@ -26,11 +28,14 @@ impl Structure {
         device: &mut D,
         f: FileId,
         vbn: u32,
+        seen: &mut Option<Seen>,
         block: &mut Block,
     ) -> Result<(), Refusal>
         requires is_for { IsStructureFor self.now (D.disk device.old) }
         requires own { 4 ≤ f.number }
         requires some { 0 < vbn }
+        requires seen { LiesSeen seen.old (home_of self.now) (D.disk device.old) }
+        ensures seen { LiesSeen seen.new (home_of self.now) (D.disk device.old) }
         ensures read { OnOk result (ReadsBlock (home_of self.now) f vbn block.new
             (D.disk device.old) (D.disk device.new)) }
         ensures refused { IfErr result (λ refusal. FailsToRead false
@@ -40,7 +45,7 @@ impl Structure {
         ensures kept { is_refused is_fatal result ≡ false → OnErr result (block.new ≡ block.old) }
         ensures bounded { MakesAtMost 257 (D.disk device.old) (D.disk device.new) }
     {
-        let lbn = self.locate(device, f, vbn)?;
+        let lbn = self.locate(device, f, vbn, seen)?;
         match device.read(lbn, block) {
             Ok(()) => Ok(()),
             Err(_) => Err(Refusal::DeviceFault),
@@ -57,11 +62,15 @@ impl Structure {
         device: &mut D,
         f: FileId,
         vbn: u32,
+        seen: &mut Option<Seen>,
         block: &Block,
     ) -> Result<(), Refusal>
         requires is_for { IsStructureFor self.now (D.disk device.old) }
         requires own { 4 ≤ f.number }
         requires some { 0 < vbn }
+        requires seen { LiesSeen seen.old (home_of self.now) (D.disk device.old) }
+        ensures seen { is_refused is_fatal result ≡ false
+            → LiesSeen seen.new (home_of self.now) (D.disk device.new) }
         ensures stored { OnOk result (StoresBlock (home_of self.now) f vbn block.now
             (D.disk device.old) (D.disk device.new)) }
         ensures refused { IfErr result (λ refusal. FailsToStore false (home_of self.now) f vbn
@@ -73,7 +82,7 @@ impl Structure {
             (D.disk device.old) (D.disk device.new) }
         ensures bounded { MakesAtMost 257 (D.disk device.old) (D.disk device.new) }
     {
-        let lbn = self.locate(device, f, vbn)?;
+        let lbn = self.locate(device, f, vbn, seen)?;
         match device.write(lbn, block) {
             Ok(()) => Ok(()),
             Err(_) => Err(Refusal::DeviceFault),
@@ -111,7 +120,9 @@ impl<D: Device> Files<D> {
         if self.failed {
             return Err(Refusal::VolumeFailed);
         }
-        let answer = self.structure.read_block(&mut self.device, f, vbn, block);
+        let answer = self
+            .structure
+            .read_block(&mut self.device, f, vbn, &mut self.seen, block);
         self.failed = is_fatal(&answer);
         answer
     }
@@ -137,7 +148,9 @@ impl<D: Device> Files<D> {
         if self.failed {
             return Err(Refusal::VolumeFailed);
         }
-        let answer = self.structure.write_block(&mut self.device, f, vbn, block);
+        let answer = self
+            .structure
+            .write_block(&mut self.device, f, vbn, &mut self.seen, block);
         self.failed = is_fatal(&answer);
         answer
     }

@@ -1,24 +1,27 @@
 //! Windows over a file's blocks.
-ghost use Rattle.std.specs.Prelude.{◌≡◌, ◌<◌, ◌≤◌, false, length, IfErr, IfOk, OnOk};
+ghost use Rattle.std.specs.Prelude.{◌≡◌, ◌<◌, ◌≤◌, false, length, IfErr, IfOk, OnOk, Option};
 ghost use Rattle.f11_chain.specs.Windows.{HoldsBlock, LiesOn, ReadsIn};
 ghost use Rattle.f11_files.specs.Answers.{FailsToRead, is_fatal, is_refused, MakesAtMost};
 ghost use Rattle.f11_files.specs.Finding.Windows.{FailsToReadBy, FailsToStoreBy, FindsFileWindow, IsOfFile, ReadsBy, StoresBy};
+ghost use Rattle.f11_files.specs.Finding.Reached.{LiesSeen, ReachesOn};
+ghost use Rattle.f11_files.specs.declared.find.reach.Seen.{Seen};
 ghost use Rattle.f11_files.specs.Open.{IsIdFrom};
 ghost use Rattle.f11_files.specs.Operations.{length_causes};
 ghost use Rattle.f11_files.specs.Structure.{home_of, store_on, IsStructureFor, StaysFor};
 ghost use Rattle.f11_store.specs.Cost.{header_count};
 ghost use Rattle.f11_store.specs.Store.{file_named};
 
-use crate::answer::{is_fatal, refusal_for};
+use crate::answer::is_fatal;
 use crate::files::Files;
+use crate::find::reach::Seen;
 use crate::structure::Structure;
 use f11_bytes::{BLOCK_SIZE, Block};
-use f11_chain::{Window, seek, window_at};
+use f11_chain::{Window, window_at};
 use f11_dev::Device;
 use f11_store::{FileId, Refusal};
 
 impl Structure {
-    /// The window of block `vbn` of a file, from 1. It reads the file's headers up to the one that names the block, each once.
+    /// The window of block `vbn` of a file, from 1. It reads the headers that [`Structure::reach`] does.
     ///
     /// # Errors
     ///
@@ -29,11 +32,16 @@ impl Structure {
         device: &mut D,
         f: FileId,
         vbn: u32,
+        seen: &mut Option<Seen>,
     ) -> Result<Window, Refusal>
         requires is_for { IsStructureFor self.now (D.disk device.old) }
         requires id { IsIdFrom 4 f }
         requires some { 0 < vbn }
+        requires seen { LiesSeen seen.old (home_of self.now) (D.disk device.old) }
         ensures found { IfOk result (λ window. FindsFileWindow (home_of self.now) f vbn window
+            (D.disk device.old) (D.disk device.new)) }
+        ensures seen { LiesSeen seen.new (home_of self.now) (D.disk device.old) }
+        ensures near { OnOk result (ReachesOn f vbn seen.old seen.new (home_of self.now)
             (D.disk device.old) (D.disk device.new)) }
         ensures refused { IfErr result (λ refusal. FailsToRead false
             (length_causes (store_on self.now (D.disk device.old)) f vbn)
@@ -42,11 +50,7 @@ impl Structure {
         ensures bounded { MakesAtMost 256 (D.disk device.old) (D.disk device.new) }
     {
         let mut block = [0; BLOCK_SIZE];
-        self.read_first(device, f, &mut block)?;
-        let place = match seek(device, &self.index, f.number, vbn - 1, &mut block) {
-            Ok(place) => place,
-            Err(fault) => return Err(refusal_for(fault)),
-        };
+        let place = self.reach(device, f, vbn, seen, &mut block)?;
         match window_at(&block, place.left, vbn, device.blocks()) {
             Some(window) => Ok(window),
             None => Err(Refusal::Damaged),
@@ -75,6 +79,9 @@ impl Structure {
             window.now vbn block.now refusal (D.disk device.old) (D.disk device.new)) }
         ensures stays { StaysFor (is_refused is_fatal result) self.now self.now
             (D.disk device.new) }
+        ensures seen { is_refused is_fatal result ≡ false → (seen : Option Seen)
+            → LiesSeen seen (home_of self.now) (D.disk device.old)
+            → LiesSeen seen (home_of self.now) (D.disk device.new) }
     {
         match window.write_in(device, vbn, block) {
             Ok(()) => Ok(()),
@@ -107,11 +114,12 @@ fn read_in<D: Device>(
 }
 
 impl<D: Device> Files<D> {
-    ghost use Rattle.f11_files.specs.Open.{counts_in, disk_in, has_failed, home_in, store_in, AnswersCall, CallSparesLost};
+    ghost use Rattle.f11_files.specs.Open.{counts_in, disk_in, has_failed, home_in, seen_in, store_in, AnswersCall, CallSparesLost};
     ghost use Rattle.std.specs.Prelude.{OnErr};
 
     /// The window of block `vbn` of a file, from 1: the retrieval pointer that names the block, and those that follow it in its header,
-    /// seven at most. It reads the file's headers up to that one, each once and on any device 256 at most.
+    /// seven at most. It reads the file's headers up to that one, each once and on any device 256 at most: from the one that a call on
+    /// blocks reached last, where that is one of the file and not behind it, and no call has written a header since.
     ///
     /// # Errors
     ///
@@ -129,13 +137,17 @@ impl<D: Device> Files<D> {
             (length_causes (store_in self.old) f vbn)
             (header_count (file_named (store_in self.old) f)) refusal
             (disk_in self.old) (disk_in self.new)) }
+        ensures near { OnOk result (ReachesOn f vbn (seen_in self.old) (seen_in self.new)
+            (home_in self.old) (disk_in self.old) (disk_in self.new)) }
         ensures lost { CallSparesLost self.old self.new }
         ensures bounded { MakesAtMost 256 (disk_in self.old) (disk_in self.new) }
     {
         if self.failed {
             return Err(Refusal::VolumeFailed);
         }
-        let answer = self.structure.window(&mut self.device, f, vbn);
+        let answer = self
+            .structure
+            .window(&mut self.device, f, vbn, &mut self.seen);
         self.failed = is_fatal(&answer);
         answer
     }

@@ -194,6 +194,7 @@ impl<D: Device> Files<D> {
         if self.failed {
             return Err(Refusal::VolumeFailed);
         }
+        self.seen = None;
         let answer = self.structure.grow_index(&mut self.device, n);
         self.failed = is_fatal(&answer);
         answer

@@ -219,6 +219,7 @@ impl<D: Device> Files<D> {
         if self.failed {
             return Err(Refusal::VolumeFailed);
         }
+        self.seen = None;
         let answer = self.structure.contiguous(&mut self.device, f, n);
         self.failed = is_fatal(&answer);
         answer

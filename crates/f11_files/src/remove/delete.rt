@@ -66,6 +66,7 @@ impl<D: Device> Files<D> {
         if self.failed {
             return Err(Refusal::VolumeFailed);
         }
+        self.seen = None;
         let answer = self.structure.delete(&mut self.device, f);
         self.failed = is_fatal(&answer);
         answer

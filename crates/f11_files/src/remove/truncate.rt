@@ -136,6 +136,7 @@ impl<D: Device> Files<D> {
         if self.failed {
             return Err(Refusal::VolumeFailed);
         }
+        self.seen = None;
         let answer = self.structure.truncate(&mut self.device, f, to);
         self.failed = is_fatal(&answer);
         answer

@@ -11,10 +11,10 @@ returns-in_err-first-clause-failed g c =
     λ is. failed-first _ _ _ _ c.requires.slot.0 (c.in_err-first.ensures.failed (handed-on _ _ _ c.from_residual.ensures.1 is))
 
 pub returns-clause-reads : goal.returns-clause-reads
-returns-clause-reads g c = IfOk-weaker _ _ _ (λ last. last-behind _ _ _ _ _ c.in_ok-first.ensures.reads last _ _) c.last_from.ensures.reads
+returns-clause-reads g c = IfOk-weaker _ _ _ (λ last. last-behind _ _ _ _ c.in_ok-first.ensures.reads.looked last _ _) c.last_from.ensures.reads
 
 pub returns-clause-damaged : goal.returns-clause-damaged
-returns-clause-damaged g c = λ is. break-behind _ _ _ _ _ c.in_ok-first.ensures.reads _ (c.last_from.ensures.damaged is)
+returns-clause-damaged g c = λ is. break-behind _ _ _ _ c.in_ok-first.ensures.reads.looked _ (c.last_from.ensures.damaged is)
 
 pub returns-clause-failed : goal.returns-clause-failed
-returns-clause-failed g c = λ is. along-behind _ _ _ _ _ c.in_ok-first.ensures.reads _ _ (c.last_from.ensures.failed is)
+returns-clause-failed g c = λ is. along-behind _ _ _ _ c.in_ok-first.ensures.reads.looked _ _ (c.last_from.ensures.failed is)

@@ -1,5 +1,5 @@
 use Rattle.std.proofs.Common.{◌≡◌, ◌+◌, ◌-◌, arith}
-use Rattle.f11_chain.proofs.AlongLemmas.{break-first, damage-break, failed-first, handed-on, along-behind, end-behind, break-behind}
+use Rattle.f11_chain.proofs.AlongLemmas.{break-first, damage-break, failed-first, handed-on, along-behind, end-behind, break-behind, seeks-behind}
 use Rattle.f11_chain.proofs.AlongLemmas.{locates, damage-outside}
 use Rattle.f11_chain.proofs.blocks.locate.Goals as goal
 
@@ -15,24 +15,24 @@ returns-in_err-first-clause-failed g c =
 pub returns-in_err-place-clause-end : goal.returns-in_err-place-clause-end
 returns-in_err-place-clause-end g c = λ is.
     let vbn : c.args.vbn - 1 + 1 ≡ c.args.vbn = omega (arith, c.requires.some) in
-    rw vbn at (end-behind _ _ _ _ _ c.in_ok-first.ensures.reads _ _
+    rw vbn at (end-behind _ _ _ _ c.in_ok-first.ensures.reads.looked _ _
     (c.in_err-place.ensures.end (handed-on _ _ _ c.from_residual-in_err-place.ensures.1 is)))
 
 pub returns-in_err-place-clause-damaged : goal.returns-in_err-place-clause-damaged
 returns-in_err-place-clause-damaged g c = λ is.
-    damage-break _ _ _ _ (break-behind _ _ _ _ _ c.in_ok-first.ensures.reads _
+    damage-break _ _ _ _ (break-behind _ _ _ _ c.in_ok-first.ensures.reads.looked _
     (c.in_err-place.ensures.damaged (handed-on _ _ _ c.from_residual-in_err-place.ensures.1 is)))
 
 pub returns-in_err-place-clause-failed : goal.returns-in_err-place-clause-failed
 returns-in_err-place-clause-failed g c = λ is.
-    along-behind _ _ _ _ _ c.in_ok-first.ensures.reads _ _
+    along-behind _ _ _ _ c.in_ok-first.ensures.reads.looked _ _
     (c.in_err-place.ensures.failed (handed-on _ _ _ c.from_residual-in_err-place.ensures.1 is))
 
 pub returns-in-Some-clause-locates : goal.returns-in-Some-clause-locates
 returns-in-Some-clause-locates g c =
-    locates _ _ _ _ _ c.in_ok-first.ensures.reads _ _ _ _ c.in_ok-place.ensures.seeks _ (rw c.blocks-2.ensures.count at c.in-Some.ensures)
+    locates _ _ _ _ _ _ _ (seeks-behind _ _ _ _ c.in_ok-first.ensures.reads.looked _ _ _ _ c.in_ok-place.ensures.seeks) _ (rw c.blocks-2.ensures.count at c.in-Some.ensures)
 
 pub returns-in-None-clause-damaged : goal.returns-in-None-clause-damaged
 returns-in-None-clause-damaged g c = λ _.
-    damage-outside _ _ _ _ _ c.in_ok-first.ensures.reads _ _ _ _ c.in_ok-place.ensures.seeks
+    damage-outside _ _ _ _ _ _ _ (seeks-behind _ _ _ _ c.in_ok-first.ensures.reads.looked _ _ _ _ c.in_ok-place.ensures.seeks)
     (rw c.blocks-2.ensures.count at c.in-None.ensures)

@@ -1,43 +1,7 @@
-use Rattle.std.proofs.Common.{[], ◌∷◌, ◌++◌, length, refl, arith}
+use Rattle.std.proofs.Common.{refl}
 use Rattle.f11_index.specs.Kept.{index_kept}
-use Rattle.f11_chain.specs.FileHeaders.{blocks_by}
-use Rattle.f11_chain.specs.Calls.{table}
-use Rattle.f11_chain.proofs.AlongLemmas.{Along-in-hand, Along-next, break-next, failed-next, handed-on, counted-more, seeks, finds-end}
+use Rattle.f11_chain.proofs.AlongLemmas.{first-at}
 use Rattle.f11_chain.proofs.blocks.seek.Goals as goal
 
-pub loop-init : goal.loop-init
-loop-init g c = record { behind = []; along = Along-in-hand _ _ _ _ c.requires.first; low = omega arith; left_is = λ honest. omega arith }
-
-pub returns-then-left-named-clause-seeks : goal.returns-then-left-named-clause-seeks
-returns-then-left-named-clause-seeks g c =
-    seeks _ _ _ _ _ _ _ _ c.loop.invariant.along _ _ _ c.loop.invariant.left_is
-    (omega (arith, c.if-left-named.true, c.len_blocks-named.ensures.count)) c.segment.ensures c.loop.invariant.low
-
-pub returns-in_err-to-clause-damaged : goal.returns-in_err-to-clause-damaged
-returns-in_err-to-clause-damaged g c = λ is.
-    break-next _ _ _ _ _ _ _ _ c.loop.invariant.along _ (c.in_err-to.ensures.damaged (handed-on _ _ _ c.from_residual.ensures.1 is))
-
-pub returns-in_err-to-clause-failed : goal.returns-in_err-to-clause-failed
-returns-in_err-to-clause-failed g c = λ is.
-    failed-next _ _ _ _ _ _ _ _ c.loop.invariant.along _ (c.in_err-to.ensures.failed (handed-on _ _ _ c.from_residual.ensures.1 is))
-
-pub returns-in_default-clause-end : goal.returns-in_default-clause-end
-returns-in_default-clause-end g c = λ _.
-    finds-end _ _ _ _ _ _ _ _ c.loop.invariant.along _ _ _ _ c.loop.invariant.left_is
-    (omega (arith, c.if-left-named.false, c.len_blocks-named.ensures.count))
-    (rw c.in_default.is at c.in_ok-to.ensures.last)
-
-pub loop-preserved : goal.loop-preserved
-loop-preserved g c = record {
-  behind = c.loop.invariant.behind ++ c.loop.number ∷ [];
-  along = Along-next _ _ _ _ _ _ _ _ c.loop.invariant.along _ _ _ (rw c.in-Some.is at c.in_ok-to.ensures.reads);
-  low = omega (arith, c.loop.invariant.low);
-  left_is = λ honest.
-      let more = counted-more _ _ _ _ _ _ _ _ c.loop.invariant.along
-      (length (blocks_by (table (index_kept c.args.index.now) (g.D.Device.disk c.args.device.now)) c.loop.invariant.behind)) _
-      (λ _. refl) c.len_blocks-named.ensures.count honest in
-      omega (arith, more, c.loop.invariant.left_is honest, c.if-left-named.false);
-}
-
-pub returns-clause-damaged : goal.returns-clause-damaged
-returns-clause-damaged g c = λ _. let few = c.loop.invariant.along.few in absurd (omega (arith, few, c.loop-test.false))
+pub go_on-requires-clause-is_at : goal.go_on-requires-clause-is_at
+go_on-requires-clause-is_at g c = first-at (index_kept c.args.index.now) c.args.n c.args.block.now (g.D.Device.disk c.args.device.now) c.requires.first

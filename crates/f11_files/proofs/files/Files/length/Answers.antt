@@ -5,6 +5,7 @@ use Rattle.f11_files.specs.Answers.{is_fatal, is_refused}
 use Rattle.f11_files.specs.Open.{disk_in, has_failed}
 use Rattle.f11_files.proofs.Lost.Beside.{reads-beside}
 use Rattle.f11_files.proofs.Lost.Calls.{as-answered}
+use Rattle.f11_files.proofs.Finding.Reached.{seen-looked}
 use Rattle.f11_files.proofs.files.Files.length.Goals as goal
 
 pub length-answer-requires-clause-is_for : goal.length-answer-requires-clause-is_for
@@ -16,7 +17,15 @@ invariant_of-self g c =
     let for = answered c.length-answer.result _ _ c.length-answer.ensures.counts c.length-answer.ensures.refused
     (λ _ is. looked-for _ _ _ _ _ was is.reads.looked) (λ _ is. looked-for _ _ _ _ _ was is.reads.looked) in
     let is = for-opened c.args.self.now.structure c.is_fatal-self.result _ (g.met.D.Device.is_image c.length-answer.new.device) for in
-    record { lies = is.lies; accepted = is.accepted; home = is.home; keeps = is.keeps }
+    record {
+      lies = is.lies;
+      accepted = is.accepted;
+      home = is.home;
+      keeps = is.keeps;
+      lies_seen = λ _. answered c.length-answer.result _ _ c.length-answer.ensures.counts c.length-answer.ensures.refused
+          (λ _ is. seen-looked _ _ _ _ is.reads.looked (c.args.self.now.lies_seen c.if-self.false))
+          (λ _ is. seen-looked _ _ _ _ is.reads.looked (c.args.self.now.lies_seen c.if-self.false));
+    }
 
 pub returns-then-self-clause-lost : goal.returns-then-self-clause-lost
 returns-then-self-clause-lost g c = lost-none (has_failed c.args.self.now) (disk_in c.args.self.now)

@@ -21,7 +21,7 @@ invariant_of-self g c =
     let stays : StaysFor failed c.args.self.now.structure c.args.self.now.structure (g.D.Device.disk c.write_attr-answer.new.device) =
     rw c.is_fatal-self.ensures c.write_attr-answer.ensures.stays in
     let is = stays-opened _ _ failed _ (g.met.D.Device.is_image c.write_attr-answer.new.device) stays in
-    record { lies = is.lies; accepted = is.accepted; home = is.home; keeps = is.keeps }
+    record { lies = is.lies; accepted = is.accepted; home = is.home; keeps = is.keeps; lies_seen = λ _. tt }
 
 pub returns-then-self-clause-refused : goal.returns-then-self-clause-refused
 returns-then-self-clause-refused g c = had-failed _ c.if-self.true

@@ -1,3 +1,4 @@
+use Rattle.std.proofs.Common.{sym, ◌∙◌}
 use Rattle.f11_files.specs.Open.{disk_in, has_failed, home_in}
 use Rattle.f11_files.proofs.Opening.Values.{files-for}
 use Rattle.f11_files.specs.Structure.{StaysFor}
@@ -19,7 +20,13 @@ invariant_of-self g c =
     let stays : StaysFor failed c.args.self.now.structure c.args.self.now.structure (g.D.Device.disk c.write_block-answer.new.device) =
     rw c.is_fatal-self.ensures c.write_block-answer.ensures.stays in
     let is = stays-opened _ _ failed _ (g.met.D.Device.is_image c.write_block-answer.new.device) stays in
-    record { lies = is.lies; accepted = is.accepted; home = is.home; keeps = is.keeps }
+    record {
+      lies = is.lies;
+      accepted = is.accepted;
+      home = is.home;
+      keeps = is.keeps;
+      lies_seen = λ alive. c.write_block-answer.ensures.seen (sym c.is_fatal-self.ensures ∙ alive);
+    }
 
 pub returns-then-self-clause-refused : goal.returns-then-self-clause-refused
 returns-then-self-clause-refused g c = had-failed _ c.if-self.true

@@ -9,10 +9,10 @@ returns-in-Err-clause-refused g c =
     let first = reads-first _ _ _ _ _ found in
     let last = c.in-Err.ensures in
     rw c.refusal_for.ensures (fails-last c.args.self.now c.args.f _ _ _ c.requires.is_for found.holds c.in-Err.fault
-    (λ is. last.no_end (ap Err is)) (λ is. break-behind _ _ _ _ _ first _ (last.damaged (ap Err is)))
-    (λ is. along-behind _ _ _ _ _ first _ _ (last.failed (ap Err is))))
+    (λ is. last.no_end (ap Err is)) (λ is. break-behind _ _ _ _ first.looked _ (last.damaged (ap Err is)))
+    (λ is. along-behind _ _ _ _ first.looked _ _ (last.failed (ap Err is))))
 
 pub returns-in-Ok-clause-end : goal.returns-in-Ok-clause-end
 returns-in-Ok-clause-end g c =
     let found = c.in_ok-read_first.ensures.found in
-    record { holds = found.holds; ends = last-behind _ _ _ _ _ (reads-first _ _ _ _ _ found) _ _ _ c.in-Ok.ensures.reads }
+    record { holds = found.holds; ends = last-behind _ _ _ _ found.looked _ _ _ c.in-Ok.ensures.reads }

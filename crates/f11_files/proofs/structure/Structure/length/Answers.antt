@@ -8,7 +8,7 @@ pub returns-in-Ok-clause-counts : goal.returns-in-Ok-clause-counts
 returns-in-Ok-clause-counts g c =
     let found = c.in_ok-read_first.ensures.found in
     counts-last c.args.self.now c.args.f _ _ _ c.requires.is_for found.holds c.requires.own c.in-Ok.last _
-    (last-behind _ _ _ _ _ (reads-first _ _ _ _ _ found) _ _ _ c.in-Ok.ensures.reads)
+    (last-behind _ _ _ _ found.looked _ _ _ c.in-Ok.ensures.reads)
 
 pub returns-in-Err-clause-refused : goal.returns-in-Err-clause-refused
 returns-in-Err-clause-refused g c =
@@ -16,8 +16,8 @@ returns-in-Err-clause-refused g c =
     let first = reads-first _ _ _ _ _ found in
     let last = c.in-Err.ensures in
     rw c.refusal_for.ensures (fails-last c.args.self.now c.args.f _ _ _ c.requires.is_for found.holds c.in-Err.fault
-    (λ is. last.no_end (ap Err is)) (λ is. break-behind _ _ _ _ _ first _ (last.damaged (ap Err is)))
-    (λ is. along-behind _ _ _ _ _ first _ _ (last.failed (ap Err is))))
+    (λ is. last.no_end (ap Err is)) (λ is. break-behind _ _ _ _ first.looked _ (last.damaged (ap Err is)))
+    (λ is. along-behind _ _ _ _ first.looked _ _ (last.failed (ap Err is))))
 
 pub returns-in-Ok-clause-bounded : goal.returns-in-Ok-clause-bounded
 returns-in-Ok-clause-bounded g c =

@@ -1,7 +1,8 @@
 use Rattle.f11_files.proofs.AnswerLemmas.{handed}
 use Rattle.f11_files.proofs.WriteLemmas.{fails-unread}
-use Rattle.f11_files.proofs.Changing.Block.{in-blocks, stores-block, stored-order, stored-stays, fails-store, fails-stays, unstored-order}
-use Rattle.std.proofs.Common.{ap, arith}
+use Rattle.f11_files.proofs.Changing.Block.{in-blocks, stores-block, stored-order, stored-stays, stored-table, fails-store, fails-stays, unstored-order}
+use Rattle.f11_files.proofs.Finding.Reached.{seen-as}
+use Rattle.std.proofs.Common.{ap, arith, sym, ◌∙◌}
 use Rattle.f11_store.proofs.StoreLemmas.{none_first}
 use Rattle.f11_files.specs.Answers.{blocks_of}
 use Rattle.f11_files.specs.Structure.{home_of}
@@ -72,3 +73,13 @@ returns-in-Err-clause-bounded g c =
 pub returns-in_err-lbn-clause-refused : goal.returns-in_err-lbn-clause-refused
 returns-in_err-lbn-clause-refused g c =
     handed _ c.from_residual.result _ c.from_residual.ensures.1 (fails-unread (omega arith) c.in_err-lbn.ensures.refused)
+
+pub returns-in-Ok-clause-seen : goal.returns-in-Ok-clause-seen
+returns-in-Ok-clause-seen g c = λ _.
+    let s = c.args.self.now in
+    let old = g.D.Device.disk c.args.device.now in
+    let written = c.in-Ok.ensures.writes.ok in
+    let looked = c.in_ok-lbn.ensures.found.reads.looked in
+    seen-as c.locate.new.seen (home_of s) old (g.D.Device.disk c.write.new.self) (λ honest. sym looked.honest ∙ sym (ap (λ (d : Disk). d.honest) written) ∙ honest)
+    (stored-table s c.args.f c.args.vbn _ _ _ _ c.requires.is_for c.requires.own c.in_ok-lbn.ensures.found _ written)
+    c.in_ok-lbn.ensures.seen
