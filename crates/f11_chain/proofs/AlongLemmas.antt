@@ -1,5 +1,6 @@
 -- What holds of a device while the headers of a file are read one after another.
-use Rattle.std.proofs.Common.{◌≡◌, ◌≢◌, ℕ, ◌+◌, ◌-◌, ◌*◌, ◌<◌, ◌≤◌, IsTrue, List, [], ◌∷◌, ◌++◌, length, get_or, take, Some, Err, refl, sym, ap}
+use Rattle.std.proofs.Common.{◌≡◌, ◌≢◌, ℕ, ◌+◌, ◌-◌, ◌*◌, ◌<◌, ◌≤◌, IsTrue, List, [], ◌∷◌, ◌++◌, length, get_or, take, Some, Err, refl, sym}
+use Rattle.std.proofs.Common.{ap}
 use Rattle.std.proofs.Common.{false, subst, ◌∙◌, inl, inr, arith}
 use Rattle.std.specs.Prelude.{Result, Ok, IsErrAnd, IsErrOf}
 use Rattle.std.proofs.lemmas.Bool.{cases_lt}
@@ -22,7 +23,8 @@ use Rattle.f11_index.proofs.ChainLemmas.{live_of-header}
 use Rattle.f11_index.proofs.SegmentLemmas.{table-bytes}
 use Rattle.f11_index.proofs.HeadersLemmas.{Comes-first, Comes-count, Comes-count-next, last-ends, last-whole}
 use Rattle.f11_chain.specs.FileHeaders.{blocks_by, blocks_before, file_blocks, block_by_vbn}
-use Rattle.f11_chain.specs.Calls.{table, HoldsHeader, HoldsFirst, ReadsFirst, ReadsHeader, FindsNoFile, ReadsNext, FindsLast, FindsWrongLink, IsNextOf}
+use Rattle.f11_chain.specs.Calls.{table, HoldsHeader, HoldsFirst, ReadsFirst, ReadsHeader, FindsNoFile, ReadsNext, FindsLast}
+use Rattle.f11_chain.specs.Calls.{FindsWrongLink, IsNextOf}
 use Rattle.f11_chain.specs.Calls.{FailsToReadNext, next_reads, LooksAlongFile, FailsAlong, FindsBreak, FindsDamage, HasBlockAt, ReadsLast}
 use Rattle.f11_chain.specs.Calls.{IsHeaderAt, Locates, Seeks, FindsEnd}
 use Rattle.f11_chain.specs.Windows.{Fills, FindsWindow, HoldsRuns, IsPast}
@@ -227,7 +229,8 @@ module _ (index : Index) (n : ℕ) (old now : Disk) (one : Looked old now 1 0) w
   }
 
 -- a place of the file was found
-module _ (index : Index) (n vbn : ℕ) (place : Place) (after : List ℕ) (old new : Disk) (goes : Seeks index n 0 (vbn - 1) place after old new)
+module _ (index : Index) (n vbn : ℕ) (place : Place) (after : List ℕ) (old new : Disk)
+    (goes : Seeks index n 0 (vbn - 1) place after old new)
   where
     found : (lbn : ℕ) → slice_get (blocks_named after) place.left ≡ Some lbn → IsTrue old.honest
         → block_by_vbn (table index old) n vbn ≡ Some lbn

@@ -11,7 +11,9 @@ pub mod laws;
 mod step;
 mod windows;
 
-pub use blocks::{FileEnd, HeaderAt, Place, block_at, last, last_from, locate, seek, seek_on, window};
+pub use blocks::{
+    FileEnd, HeaderAt, Place, block_at, last, last_from, locate, seek, seek_on, window,
+};
 pub use f11_index::f11_map;
 pub use fault::ChainFault;
 pub use step::{first, next};

@@ -16,7 +16,8 @@ use Rattle.f11_files.specs.Finding.Windows.{FailsToStoreBy, IsOfFile, IsWindowOn
 use Rattle.f11_files.specs.Structure.{home_of, IsStructureFor, StaysFor}
 use Rattle.f11_files.specs.declared.structure.Structure.{Structure}
 use Rattle.f11_files.proofs.Bounded.{one-failed}
-use Rattle.f11_files.proofs.Changing.Block.{fails-stays, fails-store, in-blocks, stored-order, stored-stays, stored-table, stores-block, unstored-order}
+use Rattle.f11_files.proofs.Changing.Block.{fails-stays, fails-store, in-blocks, stored-order, stored-stays, stored-table, stores-block}
+use Rattle.f11_files.proofs.Changing.Block.{unstored-order}
 use Rattle.f11_files.proofs.Confining.Confines.{confines-none}
 use Rattle.f11_files.proofs.Confining.Parts.{other-failed, other-wrote, to-only}
 use Rattle.f11_files.proofs.Finding.Windows.{finds-in-window, in-place}

@@ -58,7 +58,8 @@ reached-seen s f vbn place block old new for image reaches honest =
     let seeks = reaches.seeks in
     let file = reaches.there honest in
     let at = seeks.at_is honest in
-    subst (λ (t : Table). IsSeen t (record { sequence = f.sequence; at = record { file = f.number; number = place.number; before = vbn - 1 - place.left } }))
+    subst (λ (t : Table). IsSeen t
+    (record { sequence = f.sequence; at = record { file = f.number; number = place.number; before = vbn - 1 - place.left } }))
     (table-of s old for honest) (
       (first-is-tested u f.number).1 file.file,
       file.sequence,

@@ -53,11 +53,11 @@ const IN_TWO_HEADERS: [Counted; 15] = [
     (1, Ask::Read(0, 101), DONE, Some(2)),
     (1, Ask::Read(0, 102), DONE, Some(1)),
     (1, Ask::Read(0, 103), DONE, Some(3)),
-    // an access begins with none
+    // an access begins with none, but goes on from the header that was reached last
     (1, Ask::Read(0, 103), DONE, Some(1)),
     (1, Ask::Deaccess(0), DONE, Some(0)),
     (1, Ask::Access(FIRST, Mode::Read, 0), DONE, None),
-    (1, Ask::Read(0, 103), DONE, Some(3)),
+    (1, Ask::Read(0, 103), DONE, Some(2)),
 ];
 
 /// A block that is written is reached as one that is read.

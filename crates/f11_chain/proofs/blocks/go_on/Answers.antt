@@ -4,7 +4,8 @@ use Rattle.f11_chain.specs.FileHeaders.{blocks_by}
 use Rattle.f11_chain.specs.Calls.{table}
 use Rattle.f11_index.proofs.SegmentLemmas.{segment-low}
 use Rattle.f11_index.specs.map.HeaderBlock.{segment_number}
-use Rattle.f11_chain.proofs.AlongLemmas.{AlongFrom, Along-from, headers-before, blocks-before-are, Along-next, break-next, failed-next, handed-on, counted-more, seeks, finds-end}
+use Rattle.f11_chain.proofs.AlongLemmas.{AlongFrom, Along-from, headers-before, blocks-before-are, Along-next, break-next, failed-next}
+use Rattle.f11_chain.proofs.AlongLemmas.{handed-on, counted-more, seeks, finds-end}
 use Rattle.f11_chain.proofs.blocks.go_on.Goals as goal
 
 pub loop-init : goal.loop-init
@@ -12,7 +13,8 @@ loop-init g c =
     let old = g.D.Device.disk c.args.device.now in
     let index = index_kept c.args.index.now in
     let none : segment_number c.args.block.now ≡ segment_number c.args.block.now + 0 = omega arith in
-    let begun = Along-from index c.args.from.now c.args.block.now old (segment-low c.args.block.now c.fits-block) c.requires.header (λ honest. (c.requires.is_at honest).of_file) in
+    let begun = Along-from index c.args.from.now c.args.block.now old (segment-low c.args.block.now c.fits-block) c.requires.header
+    (λ honest. (c.requires.is_at honest).of_file) in
     record {
       behind = headers-before index c.args.from.now c.args.block.now old;
       along = subst (λ (k : ℕ). AlongFrom 1 index c.args.from.now.file c.args.from.now.number k

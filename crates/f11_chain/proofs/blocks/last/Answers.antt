@@ -11,7 +11,8 @@ returns-in_err-first-clause-failed g c =
     λ is. failed-first _ _ _ _ c.requires.slot.0 (c.in_err-first.ensures.failed (handed-on _ _ _ c.from_residual.ensures.1 is))
 
 pub returns-clause-reads : goal.returns-clause-reads
-returns-clause-reads g c = IfOk-weaker _ _ _ (λ last. last-behind _ _ _ _ c.in_ok-first.ensures.reads.looked last _ _) c.last_from.ensures.reads
+returns-clause-reads g c =
+    IfOk-weaker _ _ _ (λ last. last-behind _ _ _ _ c.in_ok-first.ensures.reads.looked last _ _) c.last_from.ensures.reads
 
 pub returns-clause-damaged : goal.returns-clause-damaged
 returns-clause-damaged g c = λ is. break-behind _ _ _ _ c.in_ok-first.ensures.reads.looked _ (c.last_from.ensures.damaged is)

@@ -1,7 +1,6 @@
-use Rattle.std.proofs.Common.{IfOk}
 use Rattle.std.proofs.lemmas.Result.{IfOk-weaker}
 use Rattle.f11_index.specs.Kept.{index_kept}
-use Rattle.f11_chain.proofs.AlongLemmas.{along-behind, break-behind, end-behind, failed-header, handed-on, no-header, seeks-behind}
+use Rattle.f11_chain.proofs.AlongLemmas.{along-behind, break-behind, end-behind, failed-header, seeks-behind}
 use Rattle.f11_chain.proofs.blocks.seek_on.Goals as goal
 
 pub returns-in_err-read_header-clause-failed : goal.returns-in_err-read_header-clause-failed

@@ -1,5 +1,6 @@
 use Rattle.std.proofs.Common.{◌≡◌, ◌+◌, ◌-◌, arith}
-use Rattle.f11_chain.proofs.AlongLemmas.{break-first, damage-break, failed-first, handed-on, along-behind, end-behind, break-behind, seeks-behind}
+use Rattle.f11_chain.proofs.AlongLemmas.{break-first, damage-break, failed-first, handed-on, along-behind, end-behind, break-behind}
+use Rattle.f11_chain.proofs.AlongLemmas.{seeks-behind}
 use Rattle.f11_chain.proofs.AlongLemmas.{finds-window, damage-past}
 use Rattle.f11_chain.proofs.blocks.window.Goals as goal
 
@@ -30,7 +31,8 @@ returns-in_err-place-clause-failed g c = λ is.
 
 pub returns-in-Some-clause-finds : goal.returns-in-Some-clause-finds
 returns-in-Some-clause-finds g c =
-    finds-window _ _ _ _ _ _ _ (seeks-behind _ _ _ _ c.in_ok-first.ensures.reads.looked _ _ _ _ c.in_ok-place.ensures.seeks) c.requires.some _
+    finds-window _ _ _ _ _ _ _ (seeks-behind _ _ _ _ c.in_ok-first.ensures.reads.looked _ _ _ _ c.in_ok-place.ensures.seeks) c.requires.some
+    _
     (rw c.blocks-2.ensures.count at c.in-Some.ensures)
 
 pub returns-in-None-clause-damaged : goal.returns-in-None-clause-damaged

@@ -22,7 +22,8 @@ returns-in-Err-clause-refused g c =
     let to : c.args.to - 1 + 1 ≡ c.args.to = omega (arith, c.if-to-eq0.false) in
     let seek = c.in-Err.ensures in
     rw c.refusal_for.ensures
-    (fails-walk c.args.self.now c.args.f old _ c.requires.is_for (is-file _ _ _ _ c.requires.is_for found.holds) c.requires.own c.args.to c.in-Err.fault
+    (fails-walk c.args.self.now c.args.f old _ c.requires.is_for (is-file _ _ _ _ c.requires.is_for found.holds) c.requires.own c.args.to
+    c.in-Err.fault
     (λ is. rw to at (end-behind _ _ _ _ first.looked _ _ (seek.end (ap Err is))))
     (λ is. damage-break _ _ _ _ (break-behind _ _ _ _ first.looked _ (seek.damaged (ap Err is))))
     (λ is. along-behind _ _ _ _ first.looked _ _ (seek.failed (ap Err is))))

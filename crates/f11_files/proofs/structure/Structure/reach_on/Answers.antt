@@ -7,7 +7,8 @@ use Rattle.f11_files.proofs.Finding.Reached.{seen-at, seen-file}
 use Rattle.f11_files.proofs.structure.Structure.reach_on.Goals as goal
 
 pub seek_on-requires-clause-is_at : goal.seek_on-requires-clause-is_at
-seek_on-requires-clause-is_at g c = seen-at c.args.self.now c.args.f c.args.vbn c.args.at.now _ c.requires.is_for c.requires.before c.requires.seen
+seek_on-requires-clause-is_at g c =
+    seen-at c.args.self.now c.args.f c.args.vbn c.args.at.now _ c.requires.is_for c.requires.before c.requires.seen
 
 pub returns-in-Ok-clause-reached : goal.returns-in-Ok-clause-reached
 returns-in-Ok-clause-reached g c = record {

@@ -1,6 +1,7 @@
 use Rattle.f11_files.proofs.AnswerLemmas.{handed}
 use Rattle.f11_files.proofs.WriteLemmas.{fails-unread}
-use Rattle.f11_files.proofs.Changing.Block.{in-blocks, stores-block, stored-order, stored-stays, stored-table, fails-store, fails-stays, unstored-order}
+use Rattle.f11_files.proofs.Changing.Block.{in-blocks, stores-block, stored-order, stored-stays, stored-table, fails-store, fails-stays}
+use Rattle.f11_files.proofs.Changing.Block.{unstored-order}
 use Rattle.f11_files.proofs.Finding.Reached.{seen-as}
 use Rattle.std.proofs.Common.{ap, arith, sym, ◌∙◌}
 use Rattle.f11_store.proofs.StoreLemmas.{none_first}
@@ -80,6 +81,7 @@ returns-in-Ok-clause-seen g c = λ _.
     let old = g.D.Device.disk c.args.device.now in
     let written = c.in-Ok.ensures.writes.ok in
     let looked = c.in_ok-lbn.ensures.found.reads.looked in
-    seen-as c.locate.new.seen (home_of s) old (g.D.Device.disk c.write.new.self) (λ honest. sym looked.honest ∙ sym (ap (λ (d : Disk). d.honest) written) ∙ honest)
+    seen-as c.locate.new.seen (home_of s) old (g.D.Device.disk c.write.new.self)
+    (λ honest. sym looked.honest ∙ sym (ap (λ (d : Disk). d.honest) written) ∙ honest)
     (stored-table s c.args.f c.args.vbn _ _ _ _ c.requires.is_for c.requires.own c.in_ok-lbn.ensures.found _ written)
     c.in_ok-lbn.ensures.seen

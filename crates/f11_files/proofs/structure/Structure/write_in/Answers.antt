@@ -30,6 +30,7 @@ returns-in-Err-clause-stays g c =
 pub returns-in-Ok-clause-seen : goal.returns-in-Ok-clause-seen
 returns-in-Ok-clause-seen g c = λ _ seen.
     let writes = c.in-Ok.ensures.writes in
-    seen-as seen (home_of c.args.self.now) (g.D.Device.disk c.args.device.now) (g.D.Device.disk c.write_in.new.device) (λ honest. sym (ap (λ (d : Disk). d.honest) writes.writes.ok) ∙ honest)
+    seen-as seen (home_of c.args.self.now) (g.D.Device.disk c.args.device.now) (g.D.Device.disk c.write_in.new.device)
+    (λ honest. sym (ap (λ (d : Disk). d.honest) writes.writes.ok) ∙ honest)
     (stored-by-table c.args.self.now _ _ writes.lbn _ _ _ c.requires.is_for c.requires.on.first writes.held writes.within
     writes.writes.ok c.requires.of_file)
