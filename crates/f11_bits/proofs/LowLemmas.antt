@@ -35,11 +35,13 @@ IsFirstRoom-low free low n begin none some below = record {
   above = omega arith;
   within = omega arith;
   room = λ j above near inside. absurd (omega (arith, above, inside));
-  first = λ j above early room. both_ways (free j) (none j (omega (arith, early, below))) (room j (omega arith) (omega (arith, some)) early);
+  first = λ j above early room. both_ways (free j) (none j (omega (arith, early, below)))
+      (room j (omega arith) (omega (arith, some)) early);
 }
 
 -- blocks that are taken are no lower free ones
-pub NoneBelow-marked : (old new : Image) (lbn count : ℕ) (bitmap : Bitmap) (k : ℕ) {low : ℕ} → k < low → Marks false bitmap lbn count old new
+pub NoneBelow-marked : (old new : Image) (lbn count : ℕ) (bitmap : Bitmap) (k : ℕ) {low : ℕ} → k < low
+    → Marks false bitmap lbn count old new
     → NoneBelow (is_free old bitmap) low → is_free new bitmap k ≡ false
 NoneBelow-marked old new lbn count bitmap k below marks none = elim (cases_lt k lbn) [
   | inl before ↦ marks.before k before ∙ none k below

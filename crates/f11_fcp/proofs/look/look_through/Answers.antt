@@ -8,7 +8,8 @@ use Rattle.f11_store.specs.Store.{file_named}
 use Rattle.f11_files.specs.image_store.StoreOf.{store_of}
 use Rattle.f11_store.specs.declared.refusals.Refusal.{Refusal}
 use Rattle.f11_files.proofs.writes.LostLemmas.{lost-none, lost-then}
-use Rattle.f11_fcp.proofs.LookLemmas.{through-begins, through-fails, through-finds, through-goes-on, through-ends, read-at-home, still-there}
+use Rattle.f11_fcp.proofs.LookLemmas.{through-begins, through-fails, through-finds, through-goes-on, through-ends, read-at-home}
+use Rattle.f11_fcp.proofs.LookLemmas.{still-there}
 use Rattle.f11_fcp.proofs.LookLemmas.{fails-at-home}
 use Rattle.f11_fcp.proofs.WindowLemmas.{empty-kept}
 use Rattle.f11_fcp.proofs.look.look_through.Goals as goal

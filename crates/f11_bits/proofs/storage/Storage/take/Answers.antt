@@ -47,7 +47,12 @@ returns-clause-storage g c =
                 ap (λ (b : Bitmap). is_free new.image b k) c.mark_used.ensures.same
                 ∙ elim (cases_lt (low_of c.args.self.now) c.args.from) [
                   | inl later ↦ NoneBelow-marked _ _ lbn count _ k
-                      (omega (arith, below, c.low_behind-self.ensures.later (omega (arith, later, c.mark_used.ensures.low)), c.mark_used.ensures.low))
+                      (omega (
+                        arith,
+                        below,
+                        c.low_behind-self.ensures.later (omega (arith, later, c.mark_used.ensures.low)),
+                        c.mark_used.ensures.low,
+                      ))
                       marks (c.requires.storage.keeps was_honest).low
                   | inr first ↦ NoneBelow-taken _ _ c.args.from (low_of c.args.self.now) lbn count _ c.args.most k first
                       (omega (arith, below, c.low_behind-self.ensures.first (omega (arith, first, c.mark_used.ensures.low))))
