@@ -23,8 +23,8 @@ use Rattle.f11_serving.specs.vfy.Verify.{Examines}
 -- A script was served on an image. Where the disk is honest the image was accepted before, is then, and so was each that stood meanwhile;
 -- blocks were written in order, and those that are fixed or were lost are as they were. What was written are the answers of its requests,
 -- from the store of the image, in which nobody holds an access, to that of the image then, with what tasks held at the end. On an honest
--- disk one of them failed the volume exactly where a transfer failed; where none did, they are steps of the plain store. Behind a transfer
--- that failed none was made.
+-- disk one of them failed the volume exactly where a transfer failed; where none did, they are steps of the plain store. Behind the last
+-- transfer that failed none was made: where the volume failed, that may be the one that tells the system to write all out.
 pub record ServesImage {W : Type 0} (result : Result ℕ ScriptError) (remaining : Option (List ℕ)) (old new : Disk)
     (contents : W → Option (List ℕ)) (before after : W) : Type 0 where
   pub home : HomeFields

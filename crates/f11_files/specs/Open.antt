@@ -38,7 +38,7 @@ disk_in {met = met} files = met.disk files.device
 abbrev pub store_in : {D : Type 0} {met : Ghosts D} → Files D met → Store
 store_in files = store_of (disk_in files).image (home_in files)
 
--- the header that a call on blocks reached last, if no header was written since
+-- the header that a call on blocks reached last, if it is kept
 abbrev pub seen_in : {D : Type 0} {met : Ghosts D} → Files D met → Option Seen
 seen_in files = files.seen
 

@@ -19,7 +19,7 @@ pub struct Files<D: Device> {
     pub(crate) structure: Structure,
     /// Whether a call has answered `DeviceFault` or `Damaged`.
     pub(crate) failed: bool,
-    /// The header that a call on blocks reached last, unless a header was written since.
+    /// The header that a call on blocks reached last, unless a call that may write one was made since.
     pub(crate) seen: Option<Seen>,
     /// While no call has failed, what is kept lies on the device.
     pub ghost lies: { failed ≡ false → FitsOn structure (length (D.disk device).image) },

@@ -69,7 +69,7 @@ pub record AnswersRt {D T : Type 0} {met : Ghosts D} (disk : D → Disk) (result
   pub untouched : has_failed old ≡ true → disk (volume_device new) ≡ disk (volume_device old)
   pub next : has_failed new ≡ (has_failed old || is_device_fault result)
 
--- the file of this name was found last, and no directory block was written since
+-- the file of this name is the one that was found last, and is kept
 abbrev pub IsKnown : {D : Type 0} {met : Ghosts D} → List ℕ → RtAccepted D met → Type 0
 IsKnown name v = IsLastFound name v.last
 

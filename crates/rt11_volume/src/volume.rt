@@ -17,7 +17,7 @@ pub struct RtAccepted<D: Device> {
     pub(crate) failed: bool,
     /// The image has no fault where the device is honest and no call has failed.
     pub ghost sound: { IsTrue (D.disk device).honest → failed ≡ false → IsRtAccepted (D.disk device).image },
-    /// The file that was found last, unless the directory was written since.
+    /// The file that was found last, unless a call that may write the directory was made since.
     pub(crate) last: Option<Located>,
     /// It lies there still.
     pub ghost lies: { IsTrue (D.disk device).honest → failed ≡ false

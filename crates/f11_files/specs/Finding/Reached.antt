@@ -44,8 +44,8 @@ GoesOn seen f vbn segment home old new =
     (s : Seen) → seen ≡ Some s → IsBefore f vbn s → IsTrue old.honest →
     new.transfers + segment_number ((table_of old.image home).header s.at.number) ≤ old.transfers + segment + 1
 
--- The header that names block `vbn` of the file was reached, and is kept; where the one that was kept before is of the file and not behind
--- the block, no header before that one was read.
+-- A header of the file that isn't behind its block `vbn` is kept, and where the one that was kept before was such a header, too, only those
+-- from it up to the one that is kept now were read.
 pub record ReachesOn (f : FileId) (vbn : ℕ) (was now : Option Seen) (home : HomeFields) (old new : Disk) : Type 0 where
   pub seen : Seen
   pub seen_is : now ≡ Some seen

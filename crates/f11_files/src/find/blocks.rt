@@ -94,8 +94,8 @@ impl<D: Device> Files<D> {
     ghost use Rattle.f11_files.specs.Open.{counts_in, disk_in, has_failed, home_in, store_in, AnswersCall, IsIdFrom, CallSparesLost};
 
     /// Reads block `vbn` of a file, from 1, into the block that is lent, which stays as it is where the call is refused for another cause
-    /// than `DeviceFault` and `Damaged`. It reads the file's headers up to the one that names the block, each once and on any device 256 at
-    /// most, and the block.
+    /// than `DeviceFault` and `Damaged`. It reads the file's headers up to the one that names the block, from where [`Files::window`] goes
+    /// on, each once and on any device 256 at most, and the block.
     ///
     /// # Errors
     ///
@@ -127,8 +127,8 @@ impl<D: Device> Files<D> {
         answer
     }
 
-    /// Writes block `vbn` of a file, from 1. It reads the file's headers up to the one that names the block, each once and on any device 256
-    /// at most, and writes the block. Where it is refused, but for `DeviceFault` and `Damaged`, nothing is written.
+    /// Writes block `vbn` of a file, from 1. It reads the file's headers up to the one that names the block, from where [`Files::window`]
+    /// goes on, each once and on any device 256 at most, and writes the block. Where it is refused, but for `DeviceFault` and `Damaged`, nothing is written.
     ///
     /// # Errors
     ///

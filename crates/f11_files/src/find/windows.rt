@@ -119,7 +119,7 @@ impl<D: Device> Files<D> {
 
     /// The window of block `vbn` of a file, from 1: the retrieval pointer that names the block, and those that follow it in its header,
     /// seven at most. It reads the file's headers up to that one, each once and on any device 256 at most: from the one that a call on
-    /// blocks reached last, where that is one of the file and not behind it, and no call has written a header since.
+    /// blocks reached last, where that is one of the file and not behind it, and no call that may write a header was made since.
     ///
     /// # Errors
     ///

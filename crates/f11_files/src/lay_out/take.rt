@@ -9,7 +9,7 @@ use f11_dev::{Device, DeviceFault};
 
 impl Structure {
     /// Marks the first `n` free blocks in a row used, and gives the first of them; `None` where nowhere so many are free in a row, and then
-    /// nothing is written. Each bitmap block up to that of the last of them is read, and each that has their bits is read and written then.
+    /// nothing is written. Each bitmap block from where one may be free up to that of the last of them is read, and each that has their bits is read and written then.
     ///
     /// # Errors
     ///
