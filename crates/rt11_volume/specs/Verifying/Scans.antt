@@ -11,16 +11,14 @@ use Rattle.std.specs.Prelude.{
   [],
   length,
   min,
-  Some,
   slice_index,
   slice_index_or,
 }
-use Rattle.std.specs.List.{slice_get}
 use Rattle.f11_dev.specs.Image.{Image}
 use Rattle.f11_findings.specs.Finding.{finding}
 use Rattle.f11_findings.specs.Found.{Where, Either, FoundOfEach}
 use Rattle.rt11_volume.specs.Directory.{count_of, next_of, visited, is_extra_wrong, segment_of, end_before}
-use Rattle.rt11_volume.specs.Entry.{status, name_words, is_one_kind, is_tentative, is_permanent, is_file_named}
+use Rattle.rt11_volume.specs.Entry.{status, name_words, is_one_kind, is_tentative, is_permanent}
 use Rattle.rt11_volume.specs.InHand.{visit_at}
 use Rattle.rt11_volume.specs.RtName.{IsRtName}
 use Rattle.rt11_volume.specs.Segment.{Segment, segment_words, extra_bytes, entries, HasEnd, area_start}
@@ -65,14 +63,6 @@ SegmentFaults image place k = Either (Where (is_extra_wrong image k ≡ true) (f
 -- the highest segment in use is wrong, where no segment's extra bytes are
 abbrev pub IsHighestWrong : Image → Type 0
 IsHighestWrong image = ((k : ℕ) → ¬ IsWrong image k) × (IsHighestBelow image ⊎ IsHighestAbove image)
-
--- One of the first entries is that of a file of this name.
-pub record HasFile (name : List ℕ) (es : List (List ℕ)) (upto : ℕ) : Type 0 where
-  pub at : ℕ
-  pub before : at < upto
-  pub entry : List ℕ
-  pub entry_is : slice_get es at ≡ Some entry
-  pub named : is_file_named name entry ≡ true
 
 -- the notes of entry i of segment k, visited at a place
 abbrev pub EntryNotes : Image → ℕ → ℕ → ℕ → ℕ → ℕ → ℕ → Type 0

@@ -8,12 +8,12 @@ use Rattle.rt11_volume.proofs.Verifying.Tests.{less-tells}
 use Rattle.rt11_volume.proofs.Walking.Places.{at-place}
 use Rattle.rt11_volume.proofs.verifier.notes.add_visit_notes.Goals as goal
 
-pub returns-then-is_wrong_at : goal.returns-then-is_wrong_at
-returns-then-is_wrong_at c = λ image is. finds-none _ _
+pub returns-then-is_wrong_at-clause-notes : goal.returns-then-is_wrong_at-clause-notes
+returns-then-is_wrong_at-clause-notes c = λ image is known. finds-none _ _
     (λ code a b f. both_ways _ f.0 (sym (c.is_wrong_at.ensures image is) ∙ c.if-is_wrong_at.true))
 
-pub returns : goal.returns
-returns c = λ image is.
+pub returns-clause-notes : goal.returns-clause-notes
+returns-clause-notes c = λ image is known.
     let at = at-place image c.args.visited.now c.args.j is c.requires in
     let here = c.visit_at-here.ensures ∙ at.here in
     let first = c.from.ensures ∙ c.first.ensures ∙ ap (λ (v : Visited). first_block v.segment) here in
@@ -21,4 +21,4 @@ returns c = λ image is.
     (finds-both
     (finds-where (less-tells (c.end_ahead.ensures image is) first)
     (c.finding.ensures ∙ ap (λ (v : Visited). finding 4 v.number 0) here) c.in_ok-add_if.ensures.adds)
-    (c.in_ok-add_notes_of_entries.ensures image is))
+    (c.in_ok-add_notes_of_entries.ensures.notes image is known))
