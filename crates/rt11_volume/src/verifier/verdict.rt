@@ -79,7 +79,8 @@ fn look<D: Device>(alloc: Global, device: &mut D) -> Result<(Faults, Notes), Loo
 }
 
 /// Looks for all faults and notes of an RT-11 volume (profile: which they are). It writes nothing, reads each block of the
-/// directory once at most, of at most 31 segments, and takes memory for these and for the lists.
+/// directory once at most, of at most 31 segments, and takes memory for these, for the names of their files and for the
+/// lists.
 ///
 /// # Errors
 ///
