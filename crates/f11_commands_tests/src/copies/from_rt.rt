@@ -107,7 +107,7 @@ fn fails_source(alloc: Global, mode: CopyMode, at: u64, is_made: bool) -> Result
     )
 }
 
-/// The file is found by two transfers, and each block is read by three: those of a text once more before the file is made.
+/// The file is found by two transfers, and each block is read by one: those of a text once more before the file is made.
 fn fails_at_each_of_source(alloc: Global, mode: CopyMode, judged: u64) -> Result<bool, Fail> {
     let known = counted(alloc, mode)?;
     for transfer in 1..=known.rt {
@@ -120,7 +120,7 @@ fn fails_at_each_of_source(alloc: Global, mode: CopyMode, judged: u64) -> Result
             return Ok(false);
         }
     }
-    Ok(known.rt == judged.saturating_add(6))
+    Ok(known.rt == judged.saturating_add(2))
 }
 
 #[test]
@@ -134,6 +134,6 @@ fn a_transfer_of_the_new_file_fails(rt: HostRuntime) -> Result<(), Fail> {
 #[test]
 fn a_transfer_of_the_source_fails(rt: HostRuntime) -> Result<(), Fail> {
     assert!(rt; fails_at_each_of_source(rt.alloc(), CopyMode::Image, 2)?);
-    assert!(rt; fails_at_each_of_source(rt.alloc(), CopyMode::Text, 8)?);
+    assert!(rt; fails_at_each_of_source(rt.alloc(), CopyMode::Text, 4)?);
     Ok(())
 }
