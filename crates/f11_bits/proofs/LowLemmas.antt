@@ -5,6 +5,8 @@ use Rattle.f11_dev.specs.Image.{Image}
 use Rattle.f11_bits.specs.Bitmap.{Bitmap, Marks, is_free}
 use Rattle.f11_bits.specs.Room.{IsFirstRoom}
 use Rattle.f11_bits.specs.Run.{IsFirstRun, NoneBelow, NoneFrom}
+use Rattle.f11_bits.specs.Storage.{StandsAlike}
+use Rattle.f11_bits.specs.declared.storage.Storage.{Storage}
 
 -- it is the first of all from a block on
 pub IsFirstRun-low : (free : ℕ → Bool) (low from most lbn count : ℕ) → NoneBelow free low → IsFirstRun free (max from low) most lbn count
@@ -62,3 +64,11 @@ NoneBelow-taken old new from low lbn count bitmap most k first below marks run n
   ]
   | inr from ↦ marks.inside k from below
 ]
+
+-- one that stands alike stands as what it stands like does
+pub stands-on : {was now new : Storage} → StandsAlike now new → StandsAlike was now → StandsAlike was new
+stands-on second first = record {
+  bitmap = second.bitmap ∙ first.bitmap;
+  free = second.free ∙ first.free;
+  low = second.low ∙ first.low;
+}

@@ -152,6 +152,19 @@ Went-first free bitmap lbn n count old now within whole went =
           };
     }) went
 
+-- a disk was looked at, and then they were marked
+pub MarksOnDisk-looked : {free : Bool} {bitmap : Bitmap} {lbn count looks most total : ℕ} {old now new : Disk} → Looked old now looks 0
+    → MarksOnDisk free bitmap lbn count most now new → looks + most ≤ total → MarksOnDisk free bitmap lbn count total old new
+MarksOnDisk-looked {free} {bitmap} {lbn} {count} {old = old} {now} {new} looked marked few =
+    let P : Image → Type 0 = Changing old.honest free bitmap lbn count old.image in
+    record {
+      marks = λ honest. subst (λ (before : Image). Marks free bitmap lbn count before new.image) looked.image
+          (marked.marks (subst (λ (b : Bool). IsTrue b) (sym looked.honest) honest));
+      went = went_within P (went_more P (went_looked P looked) (went_weaker (Changing now.honest free bitmap lbn count now.image) P
+          (λ image changing. subst (λ (b : Bool). Changing b free bitmap lbn count old.image image) looked.honest
+          (subst (λ (before : Image). Changing now.honest free bitmap lbn count before image) looked.image changing)) marked.went)) few;
+    }
+
 -- the first run was found, and a transfer failed while it was being marked
 pub FailsToTake-marking : {bitmap : Bitmap} {from most lbn here beyond : ℕ} {block next : List ℕ} {old now new : Disk}
     → FindsRun bitmap from most lbn here beyond block next old now → FailsToMark false bitmap lbn (here + beyond) 2 now new

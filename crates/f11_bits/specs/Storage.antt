@@ -4,6 +4,7 @@ use Rattle.f11_dev.specs.Disk.{Disk}
 use Rattle.f11_dev.specs.Image.{Image}
 use Rattle.f11_dev.specs.Looked.{Looked}
 use Rattle.f11_bits.specs.Bitmap.{Bitmap, IsBitmapBlock, free_blocks, is_free, LiesWithin}
+use Rattle.f11_bits.specs.Calls.{Takes, FindsNone, TakesRun, FindsNoRun}
 use Rattle.f11_bits.specs.Run.{NoneBelow}
 use Rattle.f11_bits.specs.Transfers.{MakesFewer, run_transfers, taking_transfers}
 use Rattle.f11_bits.specs.declared.storage.Storage.{Storage}
@@ -23,6 +24,12 @@ kept_at s = s.kept
 -- where it looks for free blocks from: none below is free
 abbrev pub low_of : Storage → ℕ
 low_of s = s.low
+
+-- It stands for the same bitmap as it did, keeps the same number of free blocks, and looks for them from the same block on.
+pub record StandsAlike (was now : Storage) : Type 0 where
+  pub bitmap : bitmap_of now ≡ bitmap_of was
+  pub free : count_of now ≡ count_of was
+  pub low : low_of now ≡ low_of was
 
 -- the bitmap block that it keeps is the image's
 pub record KeepsBlock (s : Storage) (image : Image) : Type 0 where
@@ -57,11 +64,12 @@ pub record UsesKept (most lbn count : ℕ) (was now : Storage) (old new : Disk) 
   pub saves : kept_at was ≡ lbn / 4096 → MakesFewer most old new
   pub keeps : kept_at now ≡ (lbn + count - 1) / 4096
 
--- A run that was looked for from a block on was looked for from the first one on that may be free; where that is the first of all,
--- none is free then below what comes behind the run.
+-- A run that was looked for from a block on was looked for from the first one on that may be free. Where that is the first of all,
+-- none is free then below what comes behind the run; where the run was looked for behind that one, it stays the one to look from.
 pub record LooksFromLow (from lbn count : ℕ) (was now : Storage) (old new : Disk) : Type 0 where
   pub few : new.transfers ≤ old.transfers + taking_transfers (bitmap_of was) (max from (low_of was)) lbn count
   pub low : from ≤ low_of was → low_of now ≡ lbn + count
+  pub later : low_of was < from → low_of now ≡ low_of was
 
 -- n blocks in a row that were looked for were looked for from there on.
 pub record RunLooksFromLow (lbn n : ℕ) (was now : Storage) (old new : Disk) : Type 0 where
@@ -73,3 +81,25 @@ pub record RunLooksFromLow (lbn n : ℕ) (was now : Storage) (old new : Disk) : 
 pub record RunUsesKept (most lbn n : ℕ) (was now : Storage) (old new : Disk) : Type 0 where
   pub saves : kept_at was ≤ (lbn + n - 1) / 4096 → MakesFewer most old new
   pub keeps : kept_at now ≡ (lbn + n - 1) / 4096
+
+-- A run was taken, the first from a block on: what that did to the disk, which bitmap block is kept, and where free ones are looked for.
+pub record TakesFrom (from most lbn count : ℕ) (was now : Storage) (old new : Disk) : Type 0 where
+  pub takes : Takes (bitmap_of was) from most lbn count old new
+  pub kept : UsesKept (taking_transfers (bitmap_of was) from lbn count) lbn count was now old new
+  pub low : LooksFromLow from lbn count was now old new
+
+-- None was found from there on, and all that is kept stays.
+pub record FindsNoneFrom (from : ℕ) (was now : Storage) (old new : Disk) : Type 0 where
+  pub none : FindsNone (bitmap_of was) from old new
+  pub kept : now ≡ was
+
+-- n blocks in a row were taken: what that did to the disk, which bitmap block is kept, and where free ones are looked for.
+pub record TakesRunOf (n lbn : ℕ) (was now : Storage) (old new : Disk) : Type 0 where
+  pub takes : TakesRun (bitmap_of was) n lbn old new
+  pub kept : RunUsesKept (run_transfers lbn n) lbn n was now old new
+  pub low : RunLooksFromLow lbn n was now old new
+
+-- So many were found nowhere, and all that is kept stays.
+pub record FindsNoRunOf (n : ℕ) (was now : Storage) (old new : Disk) : Type 0 where
+  pub none : FindsNoRun (bitmap_of was) n old new
+  pub kept : now ≡ was

@@ -48,10 +48,10 @@ impl Storage {
     ghost use Rattle.f11_dev.specs.Image.{Image};
     ghost use Rattle.f11_dev.specs.Looked.{Looked};
     ghost use Rattle.f11_bits.specs.Bitmap.{free_blocks, KeepsFrom};
-    ghost use Rattle.f11_bits.specs.Calls.{MarksOnDisk, FailsToMark, Gives, FailsToGive, Takes, FindsNone, FailsToTake};
+    ghost use Rattle.f11_bits.specs.Calls.{MarksOnDisk, FailsToMark, Gives, FailsToGive, FindsNone, FailsToTake};
     ghost use Rattle.f11_bits.specs.Parts.{IsPart, HasBitOf, HasBits, FindsPart, FindsRest, FindsRun, FailsToFindPart, FailsToFindRest};
-    ghost use Rattle.f11_bits.specs.Storage.{bitmap_of, count_of, kept_at, low_of, Keeps, IsOn, IsFor, LoadsBitmap, LooksFromLow, UsesKept};
-    ghost use Rattle.f11_bits.specs.Transfers.{blocks_to, blocks_touched, taking_transfers, giving_transfers, MakesFewer};
+    ghost use Rattle.f11_bits.specs.Storage.{bitmap_of, count_of, kept_at, low_of, Keeps, IsOn, IsFor, LoadsBitmap, StandsAlike, UsesKept, FindsNoneFrom, TakesFrom};
+    ghost use Rattle.f11_bits.specs.Transfers.{blocks_to, blocks_touched, giving_transfers, MakesFewer};
 
     /// Counts the free blocks of a volume of `size` blocks whose bitmap blocks are at `places`, in order. It reads each of
     /// them once at most, keeps the last, and takes no memory.
@@ -158,18 +158,10 @@ impl Storage {
         requires some { 0 < most }
         ensures same { bitmap_of self.new ≡ bitmap_of self.old }
         ensures storage { OnOk result (IsFor self.new (D.disk device.new)) }
-        ensures takes { IfOk result (λ answer. IfSome answer (λ run.
-            Takes (bitmap_of self.old) from most run.0 run.1 (D.disk device.old) (D.disk device.new))) }
-        ensures kept { IfOk result (λ answer. MatchOption answer
-            (kept_at self.new ≡ kept_at self.old)
-            (λ run. UsesKept (taking_transfers (bitmap_of self.old) from run.0 run.1) run.0 run.1
+        ensures found { IfOk result (λ answer. MatchOption answer
+            (FindsNoneFrom from self.old self.new (D.disk device.old) (D.disk device.new))
+            (λ run. TakesFrom from most run.0 run.1
             self.old self.new (D.disk device.old) (D.disk device.new))) }
-        ensures low { IfOk result (λ answer. MatchOption answer
-            (low_of self.new ≡ low_of self.old)
-            (λ run. LooksFromLow from run.0 run.1
-            self.old self.new (D.disk device.old) (D.disk device.new))) }
-        ensures none { IfOk result (λ answer. IfNone answer
-            (FindsNone (bitmap_of self.old) from (D.disk device.old) (D.disk device.new))) }
         ensures failed { OnErr result
             (FailsToTake (bitmap_of self.old) from most (D.disk device.old) (D.disk device.new)) }
     {
@@ -327,9 +319,7 @@ impl Storage {
         requires within { LiesWithin (bitmap_of self.old) (length (D.disk device.old).image) }
         requires bits { HasBits (bitmap_of self.old) run.lbn run.here run.beyond block.old next.old
             (D.disk device.old) }
-        ensures same { bitmap_of self.new ≡ bitmap_of self.old }
-        ensures free { count_of self.new ≡ count_of self.old }
-        ensures low { low_of self.new ≡ low_of self.old }
+        ensures stands { StandsAlike self.old self.new }
         ensures on { OnOk result (IsOn self.new (D.disk device.new)) }
         ensures marks { let count = run.here + run.beyond in
             OnOk result (MarksOnDisk false (bitmap_of self.old) run.lbn count
@@ -359,9 +349,7 @@ impl Storage {
         requires on { IsOn self.old (D.disk device.old) }
         requires some { 0 < count }
         requires within { lbn + count ≤ (bitmap_of self.old).size }
-        ensures same { bitmap_of self.new ≡ bitmap_of self.old }
-        ensures free { count_of self.new ≡ count_of self.old }
-        ensures low { low_of self.new ≡ low_of self.old }
+        ensures stands { StandsAlike self.old self.new }
         ensures on { OnOk result (IsOn self.new (D.disk device.new)) }
         ensures marks { OnOk result (MarksOnDisk free (bitmap_of self.old) lbn count
             (giving_transfers lbn count) (D.disk device.old) (D.disk device.new)) }
@@ -391,9 +379,7 @@ impl Storage {
     ) -> Result<(), DeviceFault>
         requires on { IsOn self.old (D.disk device.old) }
         requires part { IsPart (bitmap_of self.old).size 0 4096 lbn count }
-        ensures same { bitmap_of self.new ≡ bitmap_of self.old }
-        ensures free { count_of self.new ≡ count_of self.old }
-        ensures low { low_of self.new ≡ low_of self.old }
+        ensures stands { StandsAlike self.old self.new }
         ensures on { OnOk result (IsOn self.new (D.disk device.new)) }
         ensures marks { OnOk result (MarksOnDisk free (bitmap_of self.old) lbn count
             2 (D.disk device.old) (D.disk device.new)) }
@@ -423,9 +409,7 @@ impl Storage {
         requires part { IsPart (bitmap_of self.old).size 0 4096 lbn count }
         requires block { IsTrue (D.disk device.old).honest
             → HasBitOf (D.disk device.old).image (bitmap_of self.old) lbn block.old }
-        ensures same { bitmap_of self.new ≡ bitmap_of self.old }
-        ensures free { count_of self.new ≡ count_of self.old }
-        ensures low { low_of self.new ≡ low_of self.old }
+        ensures stands { StandsAlike self.old self.new }
         ensures on { OnOk result (IsOn self.new (D.disk device.new)) }
         ensures keeps { kept_at self.new ≡ lbn / 4096 }
         ensures writes { let place = slice_index (bitmap_of self.old).places (lbn / 4096) in

@@ -7,18 +7,19 @@ use f11_dev::{Device, DeviceFault};
 impl Storage {
     ghost use Rattle.std.specs.Prelude.{◌≡◌, ◌+◌, ◌-◌, ◌*◌, ◌/◌, ◌<◌, ◌≤◌, false, length, IsTrue, IfOk, OnOk, OnErr, IfSome, IfNone, MatchOption};
     ghost use Rattle.f11_dev.specs.Looked.{Looked};
-    ghost use Rattle.f11_bits.specs.Calls.{MarksOnDisk, FailsToMark, TakesRun, FindsNoRun, FailsToTakeRun};
+    ghost use Rattle.f11_bits.specs.Calls.{MarksOnDisk, FailsToMark, FindsNoRun, FailsToTakeRun};
     ghost use Rattle.f11_bits.specs.Parts.{HasBitOf};
     ghost use Rattle.f11_bits.specs.Room.{FindsRunOf};
-    ghost use Rattle.f11_bits.specs.Storage.{bitmap_of, count_of, kept_at, low_of, IsOn, IsFor, RunLooksFromLow, RunUsesKept};
-    ghost use Rattle.f11_bits.specs.Transfers.{blocks_touched, giving_transfers, run_transfers, MakesFewer};
+    ghost use Rattle.f11_bits.specs.Storage.{bitmap_of, count_of, kept_at, low_of, IsOn, IsFor, StandsAlike, FindsNoRunOf, TakesRunOf};
+    ghost use Rattle.f11_bits.specs.Transfers.{blocks_touched, giving_transfers, MakesFewer};
 
     /// Takes the first `n` free blocks in a row, which are used after it: the first of them. `None` where nowhere so many are
     /// free in a row, and then nothing is written.
     ///
     /// It reads each bitmap block up to that of the last of them, and where there are none to the last, once at most, but none in
-    /// front in which nothing is free, as far as that is known; none where fewer than `n` blocks are free. Each that has their bits is then read once, but for the last, which is in hand, and
-    /// written once, in order. The bitmap block that is kept isn't read as they are sought. The last that was written is kept.
+    /// front in which nothing is free, as far as that is known; none where fewer than `n` blocks are free. Each that has their
+    /// bits is then read once, but for the last, which is in hand, and written once, in order. The bitmap block that is kept isn't
+    /// read as they are sought. The last that was written is kept.
     ///
     /// # Errors
     ///
@@ -32,16 +33,9 @@ impl Storage {
         requires some { 0 < n }
         ensures same { bitmap_of self.new ≡ bitmap_of self.old }
         ensures storage { OnOk result (IsFor self.new (D.disk device.new)) }
-        ensures takes { IfOk result (λ answer. IfSome answer (λ lbn.
-            TakesRun (bitmap_of self.old) n lbn (D.disk device.old) (D.disk device.new))) }
-        ensures kept { IfOk result (λ answer. MatchOption answer
-            (self.new ≡ self.old)
-            (λ lbn. RunUsesKept (run_transfers lbn n) lbn n
-            self.old self.new (D.disk device.old) (D.disk device.new))) }
-        ensures none { IfOk result (λ answer. IfNone answer
-            (FindsNoRun (bitmap_of self.old) n (D.disk device.old) (D.disk device.new))) }
-        ensures low { IfOk result (λ answer. IfSome answer (λ lbn. RunLooksFromLow lbn n
-            self.old self.new (D.disk device.old) (D.disk device.new))) }
+        ensures found { IfOk result (λ answer. MatchOption answer
+            (FindsNoRunOf n self.old self.new (D.disk device.old) (D.disk device.new))
+            (λ lbn. TakesRunOf n lbn self.old self.new (D.disk device.old) (D.disk device.new))) }
         ensures spared { count_of self.old < n
             → (D.disk device.new).transfers ≡ (D.disk device.old).transfers }
         ensures failed { OnErr result
@@ -113,9 +107,7 @@ impl Storage {
         requires within { lbn + n ≤ (bitmap_of self.old).size }
         requires block { IsTrue (D.disk device.old).honest
             → HasBitOf (D.disk device.old).image (bitmap_of self.old) (lbn + n - 1) block.old }
-        ensures same { bitmap_of self.new ≡ bitmap_of self.old }
-        ensures free { count_of self.new ≡ count_of self.old }
-        ensures low { low_of self.new ≡ low_of self.old }
+        ensures stands { StandsAlike self.old self.new }
         ensures on { OnOk result (IsOn self.new (D.disk device.new)) }
         ensures marks { OnOk result (MarksOnDisk false (bitmap_of self.old) lbn n
             (giving_transfers lbn n - 1) (D.disk device.old) (D.disk device.new)) }

@@ -18,21 +18,21 @@ returns-clause-storage g c =
           let more = free_blocks-given bitmap c.args.lbn c.args.count old.image now.image c.requires.within (made.marks.marks was_honest)
           (c.requires.used was_honest) in
           let kept = made.on.block honest in
-          let same = ap (free_blocks now.image) c.mark.ensures.same in
+          let same = ap (free_blocks now.image) c.mark.ensures.stands.bitmap in
           record {
             free = omega (
               arith,
               more,
               same,
               (c.requires.storage.keeps was_honest).free,
-              c.mark.ensures.free,
+              c.mark.ensures.stands.free,
               count_below-le (is_free now.image bitmap) bitmap.size,
               c.saturating_add-self.ensures,
             );
             block = record { within = kept.within; is_block = kept.is_block };
             low = λ k below.
-                ap (λ (b : Bitmap). is_free now.image b k) c.mark.ensures.same
-                ∙ (made.marks.marks was_honest).before k (omega (arith, below, c.mark.ensures.low, c.min-self.ensures))
-                ∙ (c.requires.storage.keeps was_honest).low k (omega (arith, below, c.mark.ensures.low, c.min-self.ensures));
+                ap (λ (b : Bitmap). is_free now.image b k) c.mark.ensures.stands.bitmap
+                ∙ (made.marks.marks was_honest).before k (omega (arith, below, c.mark.ensures.stands.low, c.min-self.ensures))
+                ∙ (c.requires.storage.keeps was_honest).low k (omega (arith, below, c.mark.ensures.stands.low, c.min-self.ensures));
           };
     }

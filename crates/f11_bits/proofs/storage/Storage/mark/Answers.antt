@@ -6,6 +6,7 @@ use Rattle.f11_bits.specs.Bitmap.{Bitmap, KeepsFrom}
 use Rattle.f11_bits.specs.Changes.{Changing}
 use Rattle.f11_bits.specs.Storage.{bitmap_of}
 use Rattle.f11_bits.proofs.BitmapLemmas.{KeepsOthers-trans}
+use Rattle.f11_bits.proofs.LowLemmas.{stands-on}
 use Rattle.f11_bits.proofs.StepLemmas.{KeepsOthers-went, Marks-next, Went-more}
 use Rattle.f11_bits.proofs.storage.Storage.mark.Goals as goal
 
@@ -38,23 +39,21 @@ returns-in_err-mark_part-clause-failed g c =
     (omega arith) (omega arith) (omega arith) in
     OnErr-given _ (went_within (Changing old.honest c.args.free bitmap c.args.lbn c.args.count old.image)
     (Went-more c.args.free bitmap c.args.lbn _ _ _ c.args.count old _ _ held.went held.keeps held.marks next.begins next.within next.whole
-    (rw held.same at c.in_err-mark_part.ensures.failed)) (omega arith))
+    (rw held.stands.bitmap at c.in_err-mark_part.ensures.failed)) (omega arith))
 
 pub loop-index-preserved : goal.loop-index-preserved
 loop-index-preserved g c =
     let old = g.D.Device.disk c.args.device.now in
     let bitmap = bitmap_of c.args.self.now in
     let held = c.loop-index.invariant in
-    let made = rw held.same at c.in_ok-mark_part.ensures.marks in
+    let made = rw held.stands.bitmap at c.in_ok-mark_part.ensures.marks in
     let at : c.max-start.result / 4096 ≡ c.loop-index.index = omega arith in
     let later = subst (λ (b : Bitmap). KeepsFrom b (c.max-start.result / 4096 + 1) (g.D.Device.disk c.loop-index.device).image
-    (g.D.Device.disk c.mark_part.new.device).image) held.same c.in_ok-mark_part.ensures.later in
+    (g.D.Device.disk c.mark_part.new.device).image) held.stands.bitmap c.in_ok-mark_part.ensures.later in
     let next = step c.args.lbn c.args.count c.loop-index.index c.max-start.result c.min-stop.result c.requires.some (omega arith)
     (omega arith) (omega arith) (omega arith) in
     record {
-      same = c.mark_part.ensures.same ∙ held.same;
-      free = c.mark_part.ensures.free ∙ held.free;
-      low = c.mark_part.ensures.low ∙ held.low;
+      stands = stands-on c.mark_part.ensures.stands held.stands;
       on = c.in_ok-mark_part.ensures.on;
       later = λ i from within. later i (omega arith) within ∙ held.later i (omega arith) within;
       first = λ here. absurd (omega arith);
@@ -74,8 +73,5 @@ loop-index-preserved g c =
           next.whole made.went) (omega arith);
     }
 
-pub returns-in_err-mark_part-clause-low : goal.returns-in_err-mark_part-clause-low
-returns-in_err-mark_part-clause-low g c = c.mark_part.ensures.low ∙ c.loop-index.invariant.low
-
-pub returns-clause-low : goal.returns-clause-low
-returns-clause-low g c = c.loop-index.invariant.low
+pub returns-in_err-mark_part-clause-stands : goal.returns-in_err-mark_part-clause-stands
+returns-in_err-mark_part-clause-stands g c = stands-on c.mark_part.ensures.stands c.loop-index.invariant.stands

@@ -3,7 +3,7 @@ use Rattle.f11_dev.specs.Went.{Went}
 use Rattle.f11_bits.specs.Bitmap.{KeepsFrom, KeepsOthers, Marks}
 use Rattle.f11_bits.specs.Changes.{Changing}
 use Rattle.f11_bits.specs.Transfers.{MakesFewer}
-use Rattle.f11_bits.specs.Storage.{bitmap_of, count_of, kept_at, low_of, IsOn}
+use Rattle.f11_bits.specs.Storage.{bitmap_of, kept_at, IsOn, StandsAlike}
 use Rattle.f11_bits.proofs.storage.Storage.mark.Given as goal
 
 -- the blocks so far are marked, each bitmap block was read once at most and written once, and the last is kept
@@ -13,9 +13,7 @@ invariant-loop-index g l =
     let now = g.D.Device.disk l.device in
     let bitmap = bitmap_of l.fn.self in
     record {
-      same : bitmap_of l.self ≡ bitmap;
-      free : count_of l.self ≡ count_of l.fn.self;
-      low : low_of l.self ≡ low_of l.fn.self;
+      stands : StandsAlike l.fn.self l.self;
       on : IsOn l.self now;
       first : l.index ≡ l.lbn / 4096 → kept_at l.self ≡ kept_at l.fn.self;
       last : l.lbn / 4096 < l.index → kept_at l.self ≡ l.index - 1;

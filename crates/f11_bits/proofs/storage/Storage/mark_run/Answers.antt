@@ -44,7 +44,7 @@ returns-in_err-write_bits-2-clause-failed g c =
     (Went-more false bitmap lbn (cut - lbn) cut (lbn + n - cut) n old _ _
     (Went-first false bitmap lbn (cut - lbn) n old _ parts.front (inr parts.edge) first.went)
     (KeepsOthers-went first.went) first.marks parts.begins (omega (arith, parts.all)) (inl parts.all)
-    (rw c.mark.ensures.same at c.in_err-write_bits-2.ensures.failed)) parts.fewer)
+    (rw c.mark.ensures.stands.bitmap at c.in_err-write_bits-2.ensures.failed)) parts.fewer)
 
 pub returns-clause-marks : goal.returns-clause-marks
 returns-clause-marks g c =
@@ -55,7 +55,7 @@ returns-clause-marks g c =
     let cut : ℕ = (lbn + n - 1) / 4096 * 4096 in
     let parts = is_cut lbn n cut c.requires.some (omega arith) (omega (arith, c.if-last-lbn.false)) in
     let first = c.in_ok-mark.ensures.marks in
-    let then = rw c.mark.ensures.same at c.in_ok-write_bits-2.ensures.marks in
+    let then = rw c.mark.ensures.stands.bitmap at c.in_ok-write_bits-2.ensures.marks in
     record {
       marks = Marks-next false bitmap lbn (cut - lbn) cut (lbn + n - cut) n old (g.D.Device.disk c.mark.new.device)
           (g.D.Device.disk c.write_bits-2.new.device) first.went.honest first.marks parts.begins parts.all then.marks;

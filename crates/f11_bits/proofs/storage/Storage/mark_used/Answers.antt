@@ -13,7 +13,7 @@ use Rattle.f11_bits.proofs.storage.Storage.mark_used.Goals as goal
 pub write_bits-requires-then-run-gt0-clause-within : goal.write_bits-requires-then-run-gt0-clause-within
 write_bits-requires-then-run-gt0-clause-within g c =
     let now = g.D.Device.disk c.write_bits.new.device in
-    subst (λ (b : Bitmap). LiesWithin b (length now.image)) (sym c.write_bits.ensures.same)
+    subst (λ (b : Bitmap). LiesWithin b (length now.image)) (sym c.write_bits.ensures.stands.bitmap)
     (LiesWithin-kept (bitmap_of c.args.self.now) _ _ c.requires.within (KeepsOthers-went c.in_ok-write_bits.ensures.marks.went))
 
 pub write_bits-requires-then-run-gt0-clause-block : goal.write_bits-requires-then-run-gt0-clause-block
@@ -29,7 +29,7 @@ write_bits-requires-then-run-gt0-clause-block g c = λ honest.
     let below : run.lbn + run.here < (bitmap_of c.args.self.now).size = omega (arith, bits.beyond_is.within, c.if-run-gt0.true) in
     let apart : (run.lbn + run.here) / 4096 ≢ run.lbn / 4096 = omega (arith, edge, bits.here_is.some) in
     let now = g.D.Device.disk c.write_bits.new.device in
-    subst (λ (b : Bitmap). HasBitOf now.image b (run.lbn + run.here) c.args.next.now) (sym c.write_bits.ensures.same)
+    subst (λ (b : Bitmap). HasBitOf now.image b (run.lbn + run.here) c.args.next.now) (sym c.write_bits.ensures.stands.bitmap)
     (HasBitOf-apart old.image _ (bitmap_of c.args.self.now) (run.lbn / 4096) (run.lbn + run.here) _ _ c.args.self.now.valid within below
     apart first.writes (bits.next_is was_honest c.if-run-gt0.true))
 
@@ -56,7 +56,7 @@ returns-in_err-write_bits-2-clause-failed g c =
     OnErr-given _ (Went-more false bitmap run.lbn run.here _ run.beyond (run.here + run.beyond) old _ _
     (Went-first false bitmap run.lbn run.here (run.here + run.beyond) old _ (omega arith) (inr edge) first.went)
     (KeepsOthers-went first.went) first.marks refl (omega arith) (inl refl)
-    (rw c.write_bits.ensures.same at c.in_err-write_bits-2.ensures.failed))
+    (rw c.write_bits.ensures.stands.bitmap at c.in_err-write_bits-2.ensures.failed))
 
 pub returns-in_ok-write_bits-2-clause-marks : goal.returns-in_ok-write_bits-2-clause-marks
 returns-in_ok-write_bits-2-clause-marks g c =
@@ -64,7 +64,7 @@ returns-in_ok-write_bits-2-clause-marks g c =
     let bitmap = bitmap_of c.args.self.now in
     let run = c.args.run in
     let first = c.in_ok-write_bits.ensures.marks in
-    let then = rw c.write_bits.ensures.same at c.in_ok-write_bits-2.ensures.marks in
+    let then = rw c.write_bits.ensures.stands.bitmap at c.in_ok-write_bits-2.ensures.marks in
     let edge = c.requires.bits.beyond_is.next c.if-run-gt0.true in
     record {
       marks = Marks-next false bitmap run.lbn run.here _ run.beyond (run.here + run.beyond) old (g.D.Device.disk c.write_bits.new.device)

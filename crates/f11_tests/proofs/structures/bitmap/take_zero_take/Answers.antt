@@ -15,7 +15,7 @@ none_of_its_own bitmap now image lbn same free used =
 
 pub take-requires-2-clause-storage : goal.take-requires-2-clause-storage
 take-requires-2-clause-storage g c =
-    let takes = rw c.in-Some.is at c.in_ok-lbn.ensures.takes in
+    let takes = (rw c.in-Some.is at c.in_ok-lbn.ensures.found).takes in
     subst (IsFor c.take.new.self) (sym c.in_ok-write.ensures.writes.ok) (IsFor-write c.take.new.self _ true c.in-Some.lbn _ (λ honest.
     let before = sym takes.marked.went.honest ∙ honest in
     let first = takes.first before in
