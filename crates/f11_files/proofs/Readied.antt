@@ -22,7 +22,7 @@ use Rattle.f11_store.proofs.SlotsFirst.{gained-is-ready, ready-lags}
 use Rattle.f11_volume.specs.Volume.{volume_of, Volume}
 use Rattle.f11_image_store.specs.StoreOf.{store_of}
 use Rattle.f11_files.specs.Answers.{faults_of, is_fatal, Does, FailsOrWants, IsUnderWay, KeepsUnused, Meanwhile, WritesAtMost}
-use Rattle.f11_files.specs.GrowingIndex.Headroom.{ready_work, ConfinesSlots, ReadiesHeaders, WritesAfterSlots}
+use Rattle.f11_files.specs.GrowingIndex.Headroom.{ready_work, ConfinesSlots, HasReadied, ReadiesHeaders, WritesAfterSlots}
 use Rattle.f11_files.specs.Overall.{AllotsAfter}
 use Rattle.f11_files.proofs.AnswerLemmas.{reads-within}
 use Rattle.f11_writes.specs.Order.{WritesInOrder}
@@ -31,6 +31,10 @@ use Rattle.f11_files.proofs.Confining.Confines.{confines-none, in-order-if}
 use Rattle.f11_files.proofs.Extending.Cleared.{fatal-right}
 use Rattle.f11_files.proofs.GrowingIndex.ZeroSlots.{unused-after}
 use Rattle.f11_files.proofs.WriteLemmas.{as-wanting, breaks-off, writes-within}
+
+-- slots that came first are there
+pub has-got : {home : HomeFields} {headers n : ℕ} {old new : Disk} → ReadiesHeaders home headers n old new → HasReadied headers home old new
+has-got readies honest = record { makes = readies.does.makes honest; allots = readies.does.allots honest }
 
 -- while the slots that come first are added, the whole is under way
 pub first-lags : (s t : Store) (headers : ℕ) (work : Work) → LagsBy (with_headers_first s headers no_work) t s

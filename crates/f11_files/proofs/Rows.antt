@@ -39,19 +39,27 @@ use Rattle.f11_files.specs.Rows.{KeepsRows, LaidOutKeepsRows, ReplacedKeepsRows,
 use Rattle.f11_files.proofs.Finding.Windows.{is-there}
 
 -- the headers of a file of the plain store, where there is one
-abbrev held_of : Option File → Option (List ℕ)
+abbrev pub held_of : Option File → Option (List ℕ)
 held_of o = option_map (λ (f : File). f.held) o
 
+-- file f has the headers in the store that it had
+abbrev pub HeldStays : HomeFields → Image → Image → ℕ → Type 0
+HeldStays home old new f = held_of ((store_of new home).file f) ≡ held_of ((store_of old home).file f)
+
 -- a file that isn't the one that changes has the headers that it had
-held-other : (s : Store) (k n : ℕ) (f : Option File) → n ≢ k → held_of ((with_file s k f).file n) ≡ held_of (s.file n)
+pub held-other : (s : Store) (k n : ℕ) (f : Option File) → n ≢ k → held_of ((with_file s k f).file n) ≡ held_of (s.file n)
 held-other s k n f away = ap (λ (b : Bool). held_of (cond b f (s.file n))) (ne_eqb n k away)
 
 -- and the one that changes has those that it is given
-held-here : (s : Store) (k : ℕ) (f : File) → held_of ((with_file s k (Some f)).file k) ≡ Some f.held
+pub held-here : (s : Store) (k : ℕ) (f : File) → held_of ((with_file s k (Some f)).file k) ≡ Some f.held
 held-here s k f = ap (λ (b : Bool). held_of (cond b (Some f) (s.file k))) (eq-eqb k k refl)
 
+-- or it is gone
+pub held-gone : (s : Store) (k : ℕ) → held_of ((with_file s k None).file k) ≡ None
+held-gone s k = ap (λ (b : Bool). held_of (cond b None (s.file k))) (eq-eqb k k refl)
+
 -- each has them where the change leaves them
-held-changed : (s : Store) (k : ℕ) (change : File → File) → ((f : File) → (change f).held ≡ f.held)
+pub held-changed : (s : Store) (k : ℕ) (change : File → File) → ((f : File) → (change f).held ≡ f.held)
     → (n : ℕ) → held_of ((with_change s k change).file n) ≡ held_of (s.file n)
 held-changed s k change same n = elim (cases_eq n k) [
   | inl here ↦
@@ -65,15 +73,15 @@ held-changed s k change same n = elim (cases_eq n k) [
     go (Some f) = ap Some (same f)
 
 -- where a file grows, or is cut, each other has the headers that it had
-held-grown : (s t : Store) (k n : ℕ) (blocks : List (List ℕ)) → Grows s k n blocks t
+pub held-grown : (s t : Store) (k n : ℕ) (blocks : List (List ℕ)) → Grows s k n blocks t
     → (m : ℕ) → m ≢ k → held_of (t.file m) ≡ held_of (s.file m)
 held-grown s t k n blocks grows m away = ap (λ (x : Store). held_of (x.file m)) grows.store_is ∙ held-other s k m _ away
 
-held-cut : (s t : Store) (k to : ℕ) → Truncates s k to t → (m : ℕ) → m ≢ k → held_of (t.file m) ≡ held_of (s.file m)
+pub held-cut : (s t : Store) (k to : ℕ) → Truncates s k to t → (m : ℕ) → m ≢ k → held_of (t.file m) ≡ held_of (s.file m)
 held-cut s t k to cut m away = ap (λ (x : Store). held_of (x.file m)) cut.store_is ∙ held-other s k m _ away
 
 -- a slot that isn't the first of the free ones is another than the least
-not-least : (slots : List ℕ) (n : ℕ) → (length slots == 0) ≡ false → is_in (take 1 slots) n ≡ false → n ≢ slice_index slots 0
+pub not-least : (slots : List ℕ) (n : ℕ) → (length slots == 0) ≡ false → is_in (take 1 slots) n ≡ false → n ≢ slice_index slots 0
 not-least [] n some out same = absurd cc
 not-least (m ∷ slots) n some out same =
     let is : (m == n) ≡ true = eq-eqb m n (sym same) in
@@ -85,7 +93,7 @@ pub none-in : (ns : List ℕ) (n : ℕ) → ((m : ℕ) → Contains ns m → m �
 none-in ns n away = list_any_none (λ m. m == n) ns (all-from (λ m. (m == n) ≡ false) ns (λ m has. ne_eqb m n (away m has)))
 
 -- what is replaced leaves a file's headers
-replacement-held : (change : Change) (f : File) → (with_replacement change f).held ≡ f.held
+pub replacement-held : (change : Change) (f : File) → (with_replacement change f).held ≡ f.held
 replacement-held (change.Attr attr) f = refl
 replacement-held (change.Ident ident) f = refl
 replacement-held (change.Protect word) f = refl
@@ -111,14 +119,10 @@ module _ (home : HomeFields) (old new : Image) (sound : HasSoundVolume old home)
   abbrev u : Table
   u = table_of new home
 
-  -- file f has the headers in the store that it had
-  abbrev HeldStays : ℕ → Type 0
-  HeldStays f = held_of ((store_of new home).file f) ≡ held_of ((store_of old home).file f)
-
-  there-still : (f : ℕ) → IsFile t f → HeldStays f → IsFile u f
+  there-still : (f : ℕ) → IsFile t f → HeldStays home old new f → IsFile u f
   there-still f file held = is-stored new home f (headers_of t f) (held ∙ held-stored old home f sound file)
 
-  header-still : (f n : ℕ) → IsFile t f → HeldStays f → IsHeaderOf t f n → IsHeaderOf u f n
+  pub header-still : (f n : ℕ) → IsFile t f → HeldStays home old new f → IsHeaderOf t f n → IsHeaderOf u f n
   header-still f n file held of =
       let now : IsFile u f = there-still f file held in
       let same : headers_of u f ≡ headers_of t f =
@@ -126,12 +130,12 @@ module _ (home : HomeFields) (old new : Image) (sound : HasSoundVolume old home)
       listed-are u f n ((image-files new home sound').each f now).whole
       (subst (λ (l : List ℕ). Contains l n) (sym same) (header-listed t f n of (small-segment old home sound f n of)))
 
-  row-still : (f : ℕ) → IsFile t f → HeldStays f → ((n : ℕ) → IsHeaderOf t f n → named_by u n ≡ named_by t n)
+  row-still : (f : ℕ) → IsFile t f → HeldStays home old new f → ((n : ℕ) → IsHeaderOf t f n → named_by u n ≡ named_by t n)
       → BeginsWith (file_blocks u f) (file_blocks t f)
   row-still f file held names = ([], file-keeps-blocks home old new f sound sound' file held names ∙ sym (append-nil (file_blocks t f)))
 
   -- each file has the headers that it had, and each header names what it named
-  rows-same : ((f : ℕ) → IsFile t f → HeldStays f) → KeepsBlocks (volume_of old home) (volume_of new home)
+  rows-same : ((f : ℕ) → IsFile t f → HeldStays home old new f) → KeepsBlocks (volume_of old home) (volume_of new home)
       → KeepsRows no_number home old new
   unfolding volume_of
   rows-same held keeps = record {
@@ -140,7 +144,7 @@ module _ (home : HomeFields) (old new : Image) (sound : HasSoundVolume old home)
   }
 
   -- file f has blocks more behind its own
-  rows-more : (f : ℕ) (ownership : Uic × ℕ) (lbns : List ℕ) → ((g : ℕ) → g ≢ f → HeldStays g) → NamesMore f ownership lbns t u
+  rows-more : (f : ℕ) (ownership : Uic × ℕ) (lbns : List ℕ) → ((g : ℕ) → g ≢ f → HeldStays home old new g) → NamesMore f ownership lbns t u
       → KeepsRows no_number home old new
   rows-more f ownership lbns held names = record {
     there = λ g _ file. elim (cases_eq g f) [
@@ -154,13 +158,13 @@ module _ (home : HomeFields) (old new : Image) (sound : HasSoundVolume old home)
     ];
   }
 
-  rows-gain : (f n : ℕ) (ownership : Uic × ℕ) → ((g : ℕ) → g ≢ f → HeldStays g)
+  rows-gain : (f n : ℕ) (ownership : Uic × ℕ) → ((g : ℕ) → g ≢ f → HeldStays home old new g)
       → GainsBlocksAs f ownership n (volume_of old home) (volume_of new home) → KeepsRows no_number home old new
   unfolding volume_of
   rows-gain f n ownership held gains = rows-more f ownership _ held gains.names
 
   -- headers of file f name less, or are gone
-  rows-but : (f : ℕ) → ((g : ℕ) → g ≢ f → HeldStays g) → ((n : ℕ) → ¬ IsHeaderOf t f n → named_by u n ≡ named_by t n)
+  rows-but : (f : ℕ) → ((g : ℕ) → g ≢ f → HeldStays home old new g) → ((n : ℕ) → ¬ IsHeaderOf t f n → named_by u n ≡ named_by t n)
       → KeepsRows (this_number f) home old new
   rows-but f held names = record {
     there = λ g other file. there-still g file (held g (eqb-false g f other));
@@ -169,12 +173,12 @@ module _ (home : HomeFields) (old new : Image) (sound : HasSoundVolume old home)
         row-still g file (held g away) (λ n of. names n (λ its. away (chained-apart (image-files old home sound).chained of its)));
   }
 
-  rows-cut : (f to : ℕ) → ((g : ℕ) → g ≢ f → HeldStays g) → LosesBlocks f to (volume_of old home) (volume_of new home)
+  rows-cut : (f to : ℕ) → ((g : ℕ) → g ≢ f → HeldStays home old new g) → LosesBlocks f to (volume_of old home) (volume_of new home)
       → KeepsRows (this_number f) home old new
   unfolding volume_of
   rows-cut f to held loses = rows-but f held loses.others
 
-  rows-gone : (f : ℕ) → IsFile t f → ((g : ℕ) → g ≢ f → HeldStays g)
+  rows-gone : (f : ℕ) → IsFile t f → ((g : ℕ) → g ≢ f → HeldStays home old new g)
       → LosesHeaders (headers_of t f) (volume_of old home) (volume_of new home) → KeepsRows (this_number f) home old new
   unfolding volume_of
   rows-gone f file held loses = rows-but f held (λ n none.

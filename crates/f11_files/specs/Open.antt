@@ -60,6 +60,11 @@ pub record AnswersCall {D T : Type 0} {met : Ghosts D} (result : Result T Refusa
   pub home : home_in new ≡ home_in old
   pub counts : is_refused is_clean result ≡ true → counts_in new ≡ counts_in old
 
+-- A call keeps the counts that are told, and which header a call on blocks reached last.
+pub record KeepsTold {D : Type 0} {met : Ghosts D} (old new : Files D met) : Type 0 where
+  pub counts : counts_in new ≡ counts_in old
+  pub seen : seen_in new ≡ seen_in old
+
 -- A call spares the lost blocks of the volume: what was lost before it is as it was, and lost still unless a call has failed the volume.
 -- Blocks are written in order.
 abbrev pub CallSparesLost : {D : Type 0} {met : Ghosts D} → Files D met → Files D met → Type 0

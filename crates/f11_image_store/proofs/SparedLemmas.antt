@@ -15,6 +15,8 @@ use Rattle.f11_volume.specs.Sound.{HasSoundVolume}
 use Rattle.f11_volume.specs.Space.{bitmap_file}
 use Rattle.f11_volume.specs.Volume.{volume_of, IsNamed}
 use Rattle.f11_volume.proofs.FileLemmas.{image-files, place-at}
+use Rattle.f11_volume.proofs.MemberLemmas.{contained}
+use Rattle.f11_writes.specs.Lost.{IsUsedInNoFile}
 use Rattle.f11_writes.proofs.OwnerLemmas.{in-index-file, in-bitmap-file, named-of}
 use Rattle.f11_image_store.specs.ConfinesLaws.{IsSpared}
 
@@ -87,6 +89,13 @@ module _ (image : Image) (home : HomeFields) (is : HasSoundVolume image home) wh
   unnamed-spared lbn none =
       spared lbn (λ j there. none (named-of t 1 lbn (in-index-file image home is (2 + j) lbn there)))
       (λ j there. none (named-of t 2 lbn (in-bitmap-file image home is (1 + j) lbn there)))
+
+  -- or that no file contains
+  pub fileless-spared : (lbn : ℕ) → IsUsedInNoFile (volume_of image home) lbn → IsSpared image home lbn
+  unfolding volume_of
+  fileless-spared lbn lost =
+      spared lbn (λ j there. lost.of_none 1 one (contained (file_blocks t 1) (2 + j) lbn (as-file-one (2 + j) lbn there)))
+      (λ j there. lost.of_none 2 two (contained (file_blocks t 2) (1 + j) lbn there))
 
   none-behind : (lbn : ℕ) → (volume_of image home).size ≤ lbn → ¬ IsNamed t lbn
   unfolding volume_of

@@ -7,12 +7,39 @@ use Rattle.f11_dev.specs.Image.{Image}
 use Rattle.f11_dev.specs.Looked.{Looked}
 use Rattle.f11_dev.specs.Went.{newest}
 use Rattle.f11_volume.specs.home.Home.{HomeFields}
-use Rattle.f11_volume.specs.Notes.{IsLost}
 use Rattle.f11_volume.specs.Sound.{HasSoundVolume}
-use Rattle.f11_volume.specs.Volume.{volume_of}
-use Rattle.f11_writes.specs.Lost.{KeepsLost, KeepsLostThroughout, SparesLost}
+use Rattle.f11_volume.proofs.MemberLemmas.{at-place}
+use Rattle.f11_volume.specs.chain.FileHeaders.{file_blocks}
+use Rattle.f11_writes.specs.Lost.{KeepsLost, KeepsLostThroughout, NotedAreUsedInNoFile, OrphansAreUsedInNoFile, SparesLost, StayLost}
+use Rattle.f11_index.specs.Table.{IsHeaderOf}
+use Rattle.f11_index.proofs.ChainLemmas.{live_of-header}
+use Rattle.f11_volume.specs.Volume.{IsCell}
+use Rattle.f11_volume.specs.map.HeaderBlock.{blocks_named}
+use Rattle.f11_writes.proofs.OwnerLemmas.{named-in, named-of}
 use Rattle.f11_writes.specs.Order.{WritesInOrder}
 use Rattle.f11_writes.proofs.InOrderLemmas.{each-sound, newest-append, order-looked, order-none, order-then}
+
+-- a block that no header names is in no file
+pub noted-lost : NotedAreUsedInNoFile
+noted-lost v lbn sound lost = record {
+  inside = lost.inside;
+  used = lost.used;
+  of_none = λ f file has.
+      lost.unnamed (named-of v.table f lbn (named-in v sound f has.0 lbn file (at-place (file_blocks v.table f) lbn has)));
+}
+
+-- nor is one that a header of no file names
+pub orphan-lost : OrphansAreUsedInNoFile
+orphan-lost v n place lbn sound cell of_none = record {
+  inside = sound.inside n place lbn cell;
+  used = sound.taken n place lbn cell;
+  of_none = λ f file has.
+      let named = named-in v sound f has.0 lbn file (at-place (file_blocks v.table f) lbn has) in
+      let other : IsCell v.table named.0 named.2.0 lbn =
+      record { live = live_of-header named.1; names = at-place (blocks_named (v.table.header named.0)) lbn named.2 } in
+      let same = (sound.apart n place named.0 named.2.0 lbn cell other).0 in
+      of_none (record { file = f; of = subst (IsHeaderOf v.table f) (sym same) named.1 });
+}
 
 -- the last image keeps what each does
 keeps-newest : (home : HomeFields) (old : Image) (since : List Image) → All (KeepsLost home old) since
@@ -24,6 +51,20 @@ pub made-last : (home : HomeFields) (old new : Disk) → KeepsLostThroughout hom
 made-last home old new made =
     subst (KeepsLost home old.image) (sym made.image) (keeps-newest home old.image made.since made.each)
 
+-- blocks are lost still where the image is the same
+stay-none : (home : HomeFields) (image : Image) → StayLost home image image
+stay-none home image = record { in_no_file = λ lbn lost. lost; unnamed = λ lbn lost. lost }
+
+pub stay-same : (home : HomeFields) (old new : Image) → new ≡ old → StayLost home old new
+stay-same home old new same = subst (StayLost home old) (sym same) (stay-none home old)
+
+-- and where they were twice
+pub stay-then : (home : HomeFields) (a b c : Image) → StayLost home a b → StayLost home b c → StayLost home a c
+stay-then home a b c one two = record {
+  in_no_file = λ lbn lost. two.in_no_file lbn (one.in_no_file lbn lost);
+  unnamed = λ lbn lost. two.unnamed lbn (one.unnamed lbn lost);
+}
+
 -- nothing was written
 pub lost-looked : (failed fails : Bool) (old new : Disk) (most faults : ℕ) → (failed ≡ true → fails ≡ true) → Looked old new most faults
     → SparesLost failed fails old new
@@ -31,7 +72,7 @@ lost-looked failed fails old new most faults lasts looked = record {
   ordered = order-looked old new most faults looked;
   kept = λ honest home sound.
       record { since = []; history = looked.history; image = looked.image; each = All-nil (KeepsLost home old.image) };
-  stay = λ alive honest home sound lbn lost. subst (λ (i : Image). IsLost (volume_of i home) lbn) (sym looked.image) lost;
+  stay = λ alive honest home sound. stay-same home old.image new.image looked.image;
   spent = λ is. (lasts is, looked.image, looked.history);
 }
 
@@ -39,7 +80,7 @@ pub lost-none : (failed : Bool) (disk : Disk) → SparesLost failed failed disk 
 lost-none failed disk = record {
   ordered = order-none disk;
   kept = λ honest home sound. record { since = []; history = refl; image = refl; each = All-nil (KeepsLost home disk.image) };
-  stay = λ alive honest home sound lbn lost. lost;
+  stay = λ alive honest home sound. stay-none home disk.image;
   spent = λ is. (is, refl, refl);
 }
 
@@ -87,11 +128,11 @@ lost-then failed false fails a b c one two = record {
             ∙ sym (append_assoc second.since first.since a.history);
         image = second.image ∙ ap (newest second.since) first.image ∙ sym (newest-append second.since first.since a.image);
         each = All-append (KeepsLost home a.image) second.since first.since
-            (λ k d within lbn lost. second.each k d within lbn (one.stay refl honest home sound lbn lost)
+            (λ k d within lbn lost. second.each k d within lbn ((one.stay refl honest home sound).in_no_file lbn lost)
             ∙ made-last home a b first lbn lost) first.each;
       };
-  stay = λ alive honest home sound lbn lost.
+  stay = λ alive honest home sound.
       let then = sound-behind a b home honest one.ordered sound in
-      two.stay alive then.0 home then.1 lbn (one.stay refl honest home sound lbn lost);
+      stay-then home a.image b.image c.image (one.stay refl honest home sound) (two.stay alive then.0 home then.1);
   spent = λ is. absurd (false≢true (one.spent is).0);
 }

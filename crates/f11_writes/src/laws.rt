@@ -119,8 +119,10 @@ pub fn ordered_calls()
     ensures accepted { moments.SparingLostIsAccepted }
 {}
 
-/// Calls that write beside lost blocks.
+/// Blocks in no file, and calls that spare them.
 pub fn lost_blocks()
+    ensures noted { lost.NotedAreUsedInNoFile }
+    ensures orphans { lost.OrphansAreUsedInNoFile }
     ensures looked { lost.LooksSpareLost }
     ensures kept { lost.SparingLostIsKept }
 {}

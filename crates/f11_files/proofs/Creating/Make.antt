@@ -50,7 +50,7 @@ use Rattle.f11_files.specs.Operations.{slot_causes}
 use Rattle.f11_files.specs.Structure.{bitmap_in, home_of, index_in, StaysFor, WritesParts}
 use Rattle.f11_files.specs.declared.structure.Structure.{Structure}
 use Rattle.f11_files.proofs.Confining.Confines.{confines-none}
-use Rattle.f11_files.proofs.Readied.{fails-first, fails-ready, honest-ready, is-ready}
+use Rattle.f11_files.proofs.Readied.{fails-first, fails-ready, has-got, honest-ready, is-ready}
 
 -- what fails where a file is entered, but for want of a header, fails the volume
 pub fatal-enter : (honest : Bool) (s : Store) (r : Refusal) → IsRight false honest (slot_causes s) r → (refusal_number r == 17) ≡ false
@@ -134,7 +134,7 @@ pub make-confined :
     → ReadiesHeaders (home_of s) 1 0 old mid → WritesParts t (new_header (index_in t)) mid new →
     WritesAfterSlots 1 (WritesNewHeaders (home_of s)) (home_of s) old new
 make-confined s t old mid new stays slots readies parts =
-    record { ready = mid; slots = slots; readied = inr readies.does.allots; rest = rest }
+    record { ready = mid; slots = slots; readied = inr (has-got readies); rest = rest }
   where
     rest : WritesNewHeaders (home_of s) mid new
     rest honest =

@@ -7,9 +7,8 @@ use Rattle.f11_dev.proofs.LookedLemmas.{looked_none}
 use Rattle.f11_home.specs.Home.{HomeFields}
 use Rattle.f11_image_store.specs.StoreOf.{store_of}
 use Rattle.f11_store.specs.Headroom.{slots_first}
-use Rattle.f11_volume.specs.Volume.{volume_of}
 use Rattle.f11_files.specs.Answers.{WritesMoreOf}
-use Rattle.f11_files.specs.GrowingIndex.Headroom.{AllotsSlots, ConfinesSlots, HasReadied, WritesAfterSlots, WritesSlots}
+use Rattle.f11_files.specs.GrowingIndex.Headroom.{ConfinesSlots, HasGotSlots, HasReadied, WritesAfterSlots, WritesSlots}
 use Rattle.f11_files.proofs.Behind.{more-looked, slots-behind}
 use Rattle.f11_files.proofs.GrowingIndex.First.{confined-looked}
 
@@ -37,10 +36,8 @@ after-slots home headers h f a b c d looked same slots readied rest = record {
   readied = elim readied [
     | inl unwritten ↦ inl unwritten
     | inr has ↦ inr (λ honest.
-        subst (λ (k : ℕ). AllotsSlots (slots_first (store_of a.image home) k) (volume_of a.image home) (volume_of c.image home))
-        (sym (same honest))
-        (subst (λ (i : Image). AllotsSlots (slots_first (store_of i home) h) (volume_of i home) (volume_of c.image home)) looked.image
-        (has (looked.honest ∙ honest))))
+        subst (λ (k : ℕ). HasGotSlots (slots_first (store_of a.image home) k) home a.image c.image) (sym (same honest))
+        (subst (λ (i : Image). HasGotSlots (slots_first (store_of i home) h) home i c.image) looked.image (has (looked.honest ∙ honest))))
   ];
   rest = rest;
 }

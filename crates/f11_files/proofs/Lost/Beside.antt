@@ -9,17 +9,16 @@ use Rattle.f11_index.specs.IndexFile.{index_of}
 use Rattle.f11_store.specs.Changes.{is_in}
 use Rattle.f11_store.specs.Headroom.{slots_first}
 use Rattle.f11_store.specs.Pieces.{file_numbered}
-use Rattle.f11_volume.specs.Notes.{IsLost}
 use Rattle.f11_volume.specs.Sound.{HasSoundVolume}
 use Rattle.f11_volume.specs.Space.{storage_bitmap}
 use Rattle.f11_volume.specs.Volume.{volume_of}
-use Rattle.f11_writes.specs.Lost.{KeepsLost, KeepsLostThroughout, StayLost, SparesLost}
+use Rattle.f11_writes.specs.Lost.{IsUsedInNoFile, KeepsLost, KeepsLostThroughout, StayLost, SparesLost}
 use Rattle.f11_writes.proofs.InOrderLemmas.{at-home}
-use Rattle.f11_writes.proofs.LostLemmas.{lost-looked, lost-then, sound-behind}
+use Rattle.f11_writes.proofs.LostLemmas.{lost-looked, lost-then, sound-behind, stay-same}
 use Rattle.f11_image_store.specs.Allocation.{free_list}
 use Rattle.f11_image_store.specs.Confines.{either, new_header, no_header, Spares}
 use Rattle.f11_image_store.specs.StoreOf.{store_of}
-use Rattle.f11_image_store.proofs.SparedLemmas.{unnamed-spared}
+use Rattle.f11_image_store.proofs.SparedLemmas.{fileless-spared}
 use Rattle.f11_files.specs.Answers.{WritesOnly}
 use Rattle.f11_files.specs.GrowingIndex.Headroom.{ConfinesSlots, HasReadied, WritesAfterSlots}
 use Rattle.f11_files.proofs.Confining.Confines.{in-order-if}
@@ -27,7 +26,7 @@ use Rattle.f11_files.proofs.Lost.Stay.{not-listed, slots-stay}
 
 -- none of these blocks is lost
 abbrev pub NoneLost : HomeFields → Image → List ℕ → Type 0
-NoneLost home image others = (lbn : ℕ) → IsLost (volume_of image home) lbn → is_in others lbn ≡ false
+NoneLost home image others = (lbn : ℕ) → IsUsedInNoFile (volume_of image home) lbn → is_in others lbn ≡ false
 
 pub free-none-lost : (home : HomeFields) (image : Image) → NoneLost home image (free_list (volume_of image home))
 free-none-lost home image lbn lost = not-listed (volume_of image home) lbn lost.used
@@ -35,12 +34,11 @@ free-none-lost home image lbn lost = not-listed (volume_of image home) lbn lost.
 -- a lost block is none of a call's own
 spared-lost : (home : HomeFields) (headers : ℕ → Bool) (others : List ℕ) (old image : Image) → HasSoundVolume old home
     → NoneLost home old others → Spares headers (index_of old home) (storage_bitmap old home) others old image → KeepsLost home old image
-unfolding volume_of
 spared-lost home headers others old image sound out spares lbn lost =
-    spares lbn (unnamed-spared old home sound lbn lost.unnamed headers) (out lbn lost)
+    spares lbn (fileless-spared old home sound lbn lost headers) (out lbn lost)
 
 pub looked-stay : (home : HomeFields) (old new : Disk) {most faults : ℕ} → Looked old new most faults → StayLost home old.image new.image
-looked-stay home old new looked lbn lost = subst (λ (i : Image). IsLost (volume_of i home) lbn) (sym looked.image) lost
+looked-stay home old new looked = stay-same home old.image new.image looked.image
 
 -- blocks were read
 pub reads-beside : (fails : Bool) {old new : Disk} {most faults : ℕ} → Looked old new most faults → SparesLost false fails old new
@@ -113,7 +111,7 @@ module _ (home : HomeFields) (headers : ℕ) (Rest : Disk → Disk → Type 0) (
   either-way : IsTrue old.honest → (new ≡ after.ready) ⊎ HasReadied headers home old after.ready → SparesLost false true old new
   either-way honest (inl same) = subst (SparesLost false true old) (sym same) (slots true (λ is. absurd (false≢true (sym is))))
   either-way honest (inr readied) =
-      let first = slots false (λ alive sure there. slots-stay home old.image after.ready.image (sound sure) there _ (readied sure)) in
+      let first = slots false (λ alive sure there. slots-stay _ home old.image after.ready.image (sound sure) there (readied sure)) in
       lost-then false false true old after.ready new first
       (rest after.ready (sound-behind old after.ready home honest first.ordered (sound honest)).1 after.rest)
 

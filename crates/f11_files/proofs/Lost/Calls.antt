@@ -1,5 +1,5 @@
 -- What each call on files leaves of lost blocks, where the volume hadn't failed.
-use Rattle.std.proofs.Common.{◌≡◌, ℕ, Bool, true, false, cond, IsTrue, List, [], refl, sym, ap, subst, ◌∙◌}
+use Rattle.std.proofs.Common.{◌≡◌, ℕ, Bool, true, false, cond, IsTrue, List, [], None, refl, sym, ap, subst, ◌∙◌}
 use Rattle.std.specs.Prelude.{IfErr, IfOk, OnOk, Result, Ok, Err}
 use Rattle.std.proofs.lemmas.Bool.{false≢true}
 use Rattle.f11_chain.specs.FileHeaders.{file_blocks}
@@ -12,10 +12,10 @@ use Rattle.f11_home.specs.Home.{HomeFields}
 use Rattle.f11_index.specs.IndexFile.{index_of}
 use Rattle.f11_index.specs.Table.{table_of, IsFile}
 use Rattle.f11_store.specs.Causes.{is_missing}
-use Rattle.f11_store.specs.Changes.{is_in}
+use Rattle.f11_store.specs.Changes.{is_in, with_block}
 use Rattle.f11_store.specs.File.{File}
 use Rattle.f11_store.specs.Pieces.{file_numbered}
-use Rattle.f11_store.specs.Store.{file_named}
+use Rattle.f11_store.specs.Store.{file_named, Store}
 use Rattle.f11_store.specs.declared.callers.Uic.{Uic}
 use Rattle.f11_store.specs.declared.files.FileId.{FileId}
 use Rattle.f11_store.specs.declared.refusals.Refusal.{Refusal}
@@ -23,6 +23,7 @@ use Rattle.f11_store.proofs.StoreLemmas.{none_first}
 use Rattle.f11_volume.specs.Sound.{HasSoundVolume}
 use Rattle.f11_volume.specs.Volume.{volume_of}
 use Rattle.f11_writes.specs.Lost.{StayLost, SparesLost}
+use Rattle.f11_writes.proofs.LostLemmas.{stay-then}
 use Rattle.f11_image_store.specs.Allocation.{free_list}
 use Rattle.f11_image_store.specs.Confines.{either, new_header, no_header, only_header}
 use Rattle.f11_image_store.specs.StoreOf.{store_of}
@@ -40,7 +41,10 @@ use Rattle.f11_files.specs.Removing.Delete.{Deletes, FailsToDelete}
 use Rattle.f11_files.specs.Removing.Truncate.{Cuts, FailsToCut}
 use Rattle.f11_files.proofs.Finding.Windows.{is-there}
 use Rattle.f11_files.proofs.Lost.Beside.{after-beside, confined-beside, free-none-lost, looked-stay, NoneLost, reads-beside}
-use Rattle.f11_files.proofs.Lost.Stay.{cut-stay, gained-stay, gone-stay, kept-stay, out-of-file, run-stay, slots-stay}
+use Rattle.f11_files.proofs.Lost.Stay.{all-kept-stay, cut-stay, entered-stay, gained-stay, gone-stay, index-stay, not-in, run-stay}
+use Rattle.f11_files.proofs.Lost.Stay.{slots-stay}
+use Rattle.f11_files.proofs.Readied.{has-got}
+use Rattle.f11_files.proofs.Rows.{held-changed, held-cut, held-gone, held-grown, held-other, held_of}
 
 -- a call of which this is the answer, on a volume that hadn't failed
 pub as-answered : (failed fails fatal : Bool) (old new : Disk) → failed ≡ false → fails ≡ fatal → SparesLost false fatal old new
@@ -54,10 +58,6 @@ pub read-beside : (old new : Disk) (w : Window) (vbn : ℕ) (block : List ℕ) (
 read-beside old new w vbn block (Ok x) is = reads-beside _ (looked_read old new is.reads.counts)
 read-beside old new w vbn block (Err e) is = reads-beside _ (looked_failed_read old new is.reads.counts)
 
--- one volume after another
-stay-then : (home : HomeFields) (a b c : Image) → StayLost home a b → StayLost home b c → StayLost home a c
-stay-then home a b c one two lbn lost = two lbn (one lbn lost)
-
 module _ (home : HomeFields) (old new : Disk) (sound : IsTrue old.honest → HasSoundVolume old.image home) where
   -- blocks are lost still unless the volume has failed
   abbrev StayUnless : Bool → Type 0
@@ -68,22 +68,30 @@ module _ (home : HomeFields) (old new : Disk) (sound : IsTrue old.honest → Has
   file-there f there = (is-there old.image home f there).0
 
   -- a first header is written
-  altered-stay : {T : Type 0} (change : File → File) (f : FileId) (r : Result T Refusal) → OnOk r (Alters change home f old new)
-      → IfErr r (λ e. FailsToAlter false change home f e old new) → StayUnless (is_refused is_fatal r)
-  altered-stay change f (Ok x) does fails clean honest there = kept-stay home old.image new.image (sound honest) (does.allots honest)
-  altered-stay change f (Err e) does fails clean honest there = looked-stay home old new (fails.unchanged clean).looked
+  altered-stay : {T : Type 0} (change : File → File) → ((g : File) → (change g).held ≡ g.held) → (f : FileId) (r : Result T Refusal)
+      → OnOk r (Alters change home f old new) → IfErr r (λ e. FailsToAlter false change home f e old new)
+      → StayUnless (is_refused is_fatal r)
+  altered-stay change leaves f (Ok x) does fails clean honest there =
+      all-kept-stay home old.image new.image (sound honest) there
+      (λ g. ap (λ (s : Store). held_of (s.file g)) (does.makes honest) ∙ held-changed (store_of old.image home) f.number change leaves g)
+      (does.allots honest)
+  altered-stay change leaves f (Err e) does fails clean honest there = looked-stay home old new (fails.unchanged clean).looked
 
-  pub altered-beside : {T : Type 0} (change : File → File) (f : FileId) (r : Result T Refusal) → OnOk r (Alters change home f old new)
-      → IfErr r (λ e. FailsToAlter false change home f e old new) → WritesFirstOf f home old new
+  pub altered-beside : {T : Type 0} (change : File → File) → ((g : File) → (change g).held ≡ g.held) → (f : FileId) (r : Result T Refusal)
+      → OnOk r (Alters change home f old new) → IfErr r (λ e. FailsToAlter false change home f e old new) → WritesFirstOf f home old new
       → SparesLost false (is_refused is_fatal r) old new
-  altered-beside change f r does fails confined =
-      confined-beside home _ old new sound (altered-stay change f r does fails) (only_header f.number) [] (λ honest lbn lost. refl) confined
+  altered-beside change leaves f r does fails confined =
+      confined-beside home _ old new sound (altered-stay change leaves f r does fails) (only_header f.number) []
+      (λ honest lbn lost. refl) confined
 
   -- a block of a file is
   stored-stay : {T : Type 0} (f : FileId) (vbn : ℕ) (block : List ℕ) (r : Result T Refusal) → OnOk r (StoresBlock home f vbn block old new)
       → IfErr r (λ e. FailsToStore false home f vbn block e old new) → StayUnless (is_refused is_fatal r)
   stored-stay f vbn block (Ok x) does fails clean honest there =
-      kept-stay home old.image new.image (sound honest) (does.allots honest)
+      all-kept-stay home old.image new.image (sound honest) there
+      (λ g. ap (λ (s : Store). held_of (s.file g)) (does.makes honest)
+      ∙ held-changed (store_of old.image home) f.number (with_block vbn block) (λ _. refl) g)
+      (does.allots honest)
   stored-stay f vbn block (Err e) does fails clean honest there = looked-stay home old new (fails.unchanged clean).looked
 
   blocks-none-lost : (f : FileId) → IsTrue old.honest → NoneLost home old.image (blocks_of home f old.image)
@@ -95,7 +103,7 @@ module _ (home : HomeFields) (old new : Disk) (sound : IsTrue old.honest → Has
           ap (λ (b : Bool). is_in (cond b [] (file_blocks (table_of old.image home) f.number)) lbn) missing
       by_missing false there =
           ap (λ (b : Bool). is_in (cond b [] (file_blocks (table_of old.image home) f.number)) lbn) there
-          ∙ out-of-file (volume_of old.image home) (sound honest).sound f.number lbn (file-there f there) lost.unnamed
+          ∙ not-in (file_blocks (table_of old.image home) f.number) lbn (lost.of_none f.number (file-there f there))
 
   pub stored-beside : {T : Type 0} (f : FileId) (vbn : ℕ) (block : List ℕ) (r : Result T Refusal)
       → OnOk r (StoresBlock home f vbn block old new) → IfErr r (λ e. FailsToStore false home f vbn block e old new)
@@ -118,7 +126,9 @@ module _ (home : HomeFields) (old new : Disk) (sound : IsTrue old.honest → Has
       → IfErr r (λ e. FailsToDelete false home f e old new) → StayUnless (is_refused is_fatal r)
   unfolding volume_of
   deleted-stay f (Ok x) does fails clean honest there =
-      gone-stay home old.image new.image (sound honest) f.number (file-there f (none_first _ _ _ (does.no_cause honest)))
+      gone-stay home old.image new.image (sound honest) there f.number (file-there f (none_first _ _ _ (does.no_cause honest)))
+      (λ g away. ap (λ (s : Store). held_of (s.file g)) (does.makes honest) ∙ held-other (store_of old.image home) f.number g None away)
+      (ap (λ (s : Store). held_of (s.file f.number)) (does.makes honest) ∙ held-gone (store_of old.image home) f.number)
       (does.allots honest)
   deleted-stay f (Err e) does fails clean honest there = looked-stay home old new (fails.unchanged clean).looked
 
@@ -134,8 +144,8 @@ module _ (home : HomeFields) (old new : Disk) (sound : IsTrue old.honest → Has
       → IfErr r (λ e. FailsToCut false home f to e old new) → StayUnless (is_refused is_fatal r)
   unfolding volume_of
   cut-still f to (Ok x) does fails clean honest there =
-      cut-stay home old.image new.image (sound honest) f.number to (file-there f (none_first _ _ _ (does.1.no_cause honest)))
-      (does.1.allots honest)
+      cut-stay home old.image new.image (sound honest) there f.number to (file-there f (none_first _ _ _ (does.1.no_cause honest)))
+      (held-cut (store_of old.image home) (store_of new.image home) f.number to (does.1.makes honest)) (does.1.allots honest)
   cut-still f to (Err e) does fails clean honest there = looked-stay home old new (fails.unchanged clean).looked
 
   pub cut-beside : (f : FileId) (to : ℕ) (r : Result ℕ Refusal) → IfOk r (λ blocks. (blocks ≡ to) × Cuts home f to old new)
@@ -156,7 +166,10 @@ module _ (home : HomeFields) (old new : Disk) (sound : IsTrue old.honest → Has
   laid-stay : (f : FileId) (n : ℕ) (r : Result ℕ Refusal) → IfOk r (λ blocks. (blocks ≡ n) × LaysOutFile home f n old new)
       → IfErr r (λ e. FailsToLayOut false home f n e old new) → StayUnless (is_refused is_fatal r)
   laid-stay f n (Ok x) does fails clean honest there =
-      run-stay home old.image new.image (sound honest) there f.number n _ (does.1.allots honest).allots
+      let made = does.1.makes honest in
+      run-stay home old.image new.image (sound honest) there f.number n _
+      (λ g away. ap (λ (s : Store). held_of (s.file g)) made.store_is ∙ held-other (store_of old.image home) f.number g _ away)
+      (does.1.allots honest).allots
   laid-stay f n (Err e) does fails clean honest there = looked-stay home old new (fails.unchanged clean).looked
 
   pub laid-beside : (f : FileId) (n : ℕ) (r : Result ℕ Refusal) → IfOk r (λ blocks. (blocks ≡ n) × LaysOutFile home f n old new)
@@ -168,7 +181,7 @@ module _ (home : HomeFields) (old new : Disk) (sound : IsTrue old.honest → Has
   grown-stay : (n : ℕ) (r : Result ℕ Refusal) → IfOk r (λ slots. IsSlotsAfter home n old slots × GrowsIndexFile home n old new)
       → IfErr r (λ e. FailsToGrow false home n e old new) → StayUnless (is_refused is_fatal r)
   grown-stay n (Ok x) does fails clean honest there =
-      gained-stay home old.image new.image (sound honest) there 1 n _ (does.1.allots honest).blocks
+      index-stay n home old.image new.image (sound honest) there (does.1.makes honest) (does.1.allots honest)
   grown-stay n (Err e) does fails clean honest there = looked-stay home old new (fails.unchanged clean).looked
 
   pub grown-beside : (n : ℕ) (r : Result ℕ Refusal) → IfOk r (λ slots. IsSlotsAfter home n old slots × GrowsIndexFile home n old new)
@@ -182,8 +195,8 @@ module _ (home : HomeFields) (old new : Disk) (sound : IsTrue old.honest → Has
   readied-stay read ready headers n honest same sure readies =
       let now = subst IsTrue (sym sure) honest in
       subst (λ (i : Image). StayLost home i ready.image) same
-      (slots-stay home read.image ready.image (subst (λ (i : Image). HasSoundVolume i home) (sym same) (sound honest))
-      (readies.sound now) _ (readies.does.allots now))
+      (slots-stay _ home read.image ready.image (subst (λ (i : Image). HasSoundVolume i home) (sym same) (sound honest))
+      (readies.sound now) (has-got readies now))
 
   -- a file is made
   made-stay : (owner : Uic) (protection : ℕ) (ident attr : List ℕ) (r : Result FileId Refusal)
@@ -192,7 +205,8 @@ module _ (home : HomeFields) (old new : Disk) (sound : IsTrue old.honest → Has
   made-stay owner protection ident attr (Ok f) does fails clean honest there =
       let sure = does.readies.does.writes.went.honest ∙ honest in
       stay-then home old.image does.ready.image new.image (readied-stay old does.ready 1 0 honest refl refl does.readies)
-      (kept-stay home does.ready.image new.image (does.readies.sound honest) (does.enters.does.allots sure).allots)
+      (entered-stay home does.ready.image new.image (does.readies.sound honest) there owner protection ident attr
+      (none_first _ _ _ (does.enters.does.no_cause sure)) (does.enters.does.makes sure) (does.enters.does.allots sure).allots)
   made-stay owner protection ident attr (Err e) does fails clean honest there = looked-stay home old new (fails.unchanged clean).looked
 
   pub made-beside : (owner : Uic) (protection : ℕ) (ident attr : List ℕ) (r : Result FileId Refusal)
@@ -216,7 +230,9 @@ module _ (home : HomeFields) (old new : Disk) (sound : IsTrue old.honest → Has
       let surely = e.readies.does.writes.went.honest ∙ sure in
       stay-then home old.image e.ready.image new.image
       (readied-stay e.read e.ready (headers_for home f n old) n honest e.reads.looked.image e.reads.looked.honest e.readies)
-      (gained-stay home e.ready.image new.image (e.readies.sound sure) there f.number n _ (e.extends.allots surely).allots)
+      (gained-stay home e.ready.image new.image (e.readies.sound sure) there f.number n _
+      (held-grown (store_of e.ready.image home) (store_of new.image home) f.number n _ (e.extends.makes surely))
+      (e.extends.allots surely).allots)
   extended-stay f n (Err e) does fails clean honest there = looked-stay home old new (fails.unchanged clean).looked
 
   pub extended-beside : (f : FileId) (n : ℕ) (r : Result ℕ Refusal)

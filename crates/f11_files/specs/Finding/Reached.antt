@@ -1,5 +1,5 @@
 -- How the header that names a block of a file is reached: from the one that was reached last, or from the file's first (profile).
-use Rattle.std.specs.Prelude.{◌≡◌, ℕ, ◌+◌, ◌-◌, ◌<◌, ◌≤◌, true, IsTrue, List, Option, Some, IfSome}
+use Rattle.std.specs.Prelude.{◌≡◌, ℕ, ◌+◌, ◌-◌, ◌<◌, ◌≤◌, true, IsTrue, List, length, Option, Some, IfSome}
 use Rattle.std.specs.List.{slice_get}
 use Rattle.f11_chain.specs.Calls.{Seeks}
 use Rattle.f11_chain.specs.FileHeaders.{blocks_before}
@@ -8,7 +8,7 @@ use Rattle.f11_dev.specs.Disk.{Disk}
 use Rattle.f11_home.specs.Home.{HomeFields}
 use Rattle.f11_index.specs.Headers.{headers_of}
 use Rattle.f11_index.specs.Table.{Table, table_of, last_sequence}
-use Rattle.f11_map.specs.HeaderBlock.{segment_number}
+use Rattle.f11_map.specs.HeaderBlock.{blocks_named, segment_number}
 use Rattle.f11_store.specs.declared.files.FileId.{FileId}
 use Rattle.f11_image_store.specs.StoreOf.{is_first}
 use Rattle.f11_files.specs.Finding.First.{IsFileOf}
@@ -44,12 +44,13 @@ GoesOn seen f vbn segment home old new =
     (s : Seen) → seen ≡ Some s → IsBefore f vbn s → IsTrue old.honest →
     new.transfers + segment_number ((table_of old.image home).header s.at.number) ≤ old.transfers + segment + 1
 
--- A header of the file that isn't behind its block `vbn` is kept, and where the one that was kept before was such a header, too, only those
--- from it up to the one that is kept now were read.
+-- The header of the file that names its block `vbn` is kept. Where the one that was kept before is one of the file, too, and doesn't begin
+-- behind that block, only those from it up to the one that is kept now were read.
 pub record ReachesOn (f : FileId) (vbn : ℕ) (was now : Option Seen) (home : HomeFields) (old new : Disk) : Type 0 where
   pub seen : Seen
   pub seen_is : now ≡ Some seen
   pub of : IsBefore f vbn seen
+  pub names : IsTrue old.honest → vbn ≤ seen.at.before + length (blocks_named ((table_of old.image home).header seen.at.number))
   pub few : (s : Seen) → was ≡ Some s → IsBefore f vbn s → IsTrue old.honest →
       new.transfers + segment_number ((table_of old.image home).header s.at.number) ≤
       old.transfers + segment_number ((table_of old.image home).header seen.at.number) + 1

@@ -1,6 +1,7 @@
 -- Headers that are to be taken: where too few are free, the index file gets slots first (profile).
 use Rattle.std.specs.Prelude.{◌≡◌, ◌⊎◌, ℕ, zero, suc, ◌≤◌, Bool, IsTrue, []}
 use Rattle.f11_dev.specs.Disk.{Disk}
+use Rattle.f11_dev.specs.Image.{Image}
 use Rattle.f11_home.specs.Home.{HomeFields}
 use Rattle.f11_store.specs.Causes.{header_causes}
 use Rattle.f11_store.specs.Changes.{GetsSlots}
@@ -49,10 +50,15 @@ ConfinesSlots (suc n) home old new = WritesMoreOf 1 home old new
 abbrev pub WritesSlots : ℕ → HomeFields → Disk → Disk → Type 0
 WritesSlots headers home old new = IsTrue old.honest → ConfinesSlots (slots_first (store_of old.image home) headers) home old new
 
--- The index file has got the slots that come first where so many headers are to be taken.
+-- The index file has got so many slots,
+pub record HasGotSlots (n : ℕ) (home : HomeFields) (old ready : Image) : Type 0 where
+  pub makes : GetsSlots n (store_of old home) (store_of ready home)
+  pub allots : AllotsSlots n (volume_of old home) (volume_of ready home)
+
+-- those that come first where so many headers are to be taken.
 abbrev pub HasReadied : ℕ → HomeFields → Disk → Disk → Type 0
-HasReadied headers home old ready = IsTrue old.honest →
-    AllotsSlots (slots_first (store_of old.image home) headers) (volume_of old.image home) (volume_of ready.image home)
+HasReadied headers home old ready =
+    IsTrue old.honest → HasGotSlots (slots_first (store_of old.image home) headers) home old.image ready.image
 
 -- First those, so that so many headers are free, and then what else a call writes: nothing where it hasn't got them.
 pub record WritesAfterSlots (headers : ℕ) (Rest : Disk → Disk → Type 0) (home : HomeFields) (old new : Disk) : Type 0 where

@@ -116,7 +116,7 @@ impl Structure {
 }
 
 impl<D: Device> Files<D> {
-    ghost use Rattle.f11_files.specs.Open.{counts_in, disk_in, has_failed, home_in, store_in, AnswersCall, IsIdFrom, CallSparesLost};
+    ghost use Rattle.f11_files.specs.Open.{disk_in, has_failed, home_in, store_in, AnswersCall, IsIdFrom, CallSparesLost, KeepsTold};
 
     /// What a file's header says of it, of one that is marked for delete too, and of the volume's own files. One transfer at most.
     ///
@@ -127,7 +127,7 @@ impl<D: Device> Files<D> {
     pub fn read_attr(&mut self, f: FileId) -> Result<Attr, Refusal>
         requires id { IsIdFrom 1 f }
         ensures answers { AnswersCall result self.old self.new }
-        ensures told { counts_in self.new ≡ counts_in self.old }
+        ensures told { KeepsTold self.old self.new }
         ensures read { IfOk result (λ attr.
             ReadsAttr (home_in self.old) f attr (disk_in self.old) (disk_in self.new)) }
         ensures refused { IfErr result (λ refusal. FailsToRead (has_failed self.old)

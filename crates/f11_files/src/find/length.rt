@@ -1,5 +1,5 @@
 //! How many blocks a file has.
-ghost use Rattle.std.specs.Prelude.{◌≡◌, ◌≤◌, false, IfErr, IfOk};
+ghost use Rattle.std.specs.Prelude.{◌≤◌, false, IfErr, IfOk};
 ghost use Rattle.f11_files.specs.Answers.{FailsToRead, MakesAtMost};
 ghost use Rattle.f11_files.specs.Finding.Length.{CountsBlocks};
 ghost use Rattle.f11_files.specs.Operations.{file_causes};
@@ -43,7 +43,7 @@ impl Structure {
 }
 
 impl<D: Device> Files<D> {
-    ghost use Rattle.f11_files.specs.Open.{counts_in, disk_in, has_failed, home_in, store_in, AnswersCall, IsIdFrom, CallSparesLost};
+    ghost use Rattle.f11_files.specs.Open.{disk_in, has_failed, home_in, store_in, AnswersCall, IsIdFrom, CallSparesLost, KeepsTold};
 
     /// How many blocks a file has. It reads each of the file's headers once, on any device 256 at most.
     ///
@@ -54,7 +54,7 @@ impl<D: Device> Files<D> {
     pub fn length(&mut self, f: FileId) -> Result<u32, Refusal>
         requires id { IsIdFrom 4 f }
         ensures answers { AnswersCall result self.old self.new }
-        ensures told { counts_in self.new ≡ counts_in self.old }
+        ensures told { KeepsTold self.old self.new }
         ensures counts { IfOk result (λ blocks. CountsBlocks (home_in self.old) f blocks
             (disk_in self.old) (disk_in self.new)) }
         ensures refused { IfErr result (λ refusal. FailsToRead (has_failed self.old)

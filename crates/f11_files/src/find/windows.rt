@@ -114,7 +114,7 @@ fn read_in<D: Device>(
 }
 
 impl<D: Device> Files<D> {
-    ghost use Rattle.f11_files.specs.Open.{counts_in, disk_in, has_failed, home_in, seen_in, store_in, AnswersCall, CallSparesLost};
+    ghost use Rattle.f11_files.specs.Open.{counts_in, disk_in, has_failed, home_in, seen_in, store_in, AnswersCall, CallSparesLost, KeepsTold};
     ghost use Rattle.std.specs.Prelude.{OnErr};
 
     /// The window of block `vbn` of a file, from 1: the retrieval pointer that names the block, and those that follow it in its header,
@@ -162,7 +162,7 @@ impl<D: Device> Files<D> {
         requires on { LiesOn window.now (length (disk_in self.old).image) }
         requires holds { HoldsBlock window.now vbn }
         ensures answers { AnswersCall result self.old self.new }
-        ensures told { counts_in self.new ≡ counts_in self.old }
+        ensures told { KeepsTold self.old self.new }
         ensures read { OnOk result (ReadsBy (home_in self.old) window.now vbn block.new
             (disk_in self.old) (disk_in self.new)) }
         ensures refused { IfErr result (λ refusal. FailsToReadBy (has_failed self.old) refusal
@@ -189,7 +189,7 @@ impl<D: Device> Files<D> {
         requires on { LiesOn window.now (length (disk_in self.old).image) }
         requires holds { HoldsBlock window.now vbn }
         ensures answers { AnswersCall result self.old self.new }
-        ensures told { counts_in self.new ≡ counts_in self.old }
+        ensures told { KeepsTold self.old self.new }
         ensures stored { OnOk result (StoresBy (home_in self.old) window.now vbn block.now
             (disk_in self.old) (disk_in self.new)) }
         ensures refused { IfErr result (λ refusal. FailsToStoreBy (has_failed self.old)

@@ -5,6 +5,7 @@ use Rattle.f11_fcp.specs.Places.{entry_of}
 use Rattle.f11_files.specs.Finding.Windows.{ReadsBy}
 use Rattle.f11_dev.specs.Disk.{Disk}
 use Rattle.f11_fcp.proofs.ReachedLemmas.{once-none, reached-keeps, read-through, unread-through}
+use Rattle.f11_files.proofs.writes.LostLemmas.{lost-then}
 use Rattle.f11_fcp.proofs.windows.read_by.Goals as goal
 
 pub returns-in-Err-clause-once : goal.returns-in-Err-clause-once
@@ -54,3 +55,9 @@ returns-in-Err-read_in-clause-refused g c =
     unread-through (home_in old) e c.args.vbn c.in-Ok.window (disk_in old) (disk_in mid) id finds c.in-Err-read_in.refusal (disk_in new)
     c.requires.held.alive
     (c.in-Ok.ensures.answers.next ∙ ap (λ b. b || false) c.requires.held.alive) c.in-Err-read_in.ensures.refused
+
+pub returns-in-Ok-read_in-clause-lost : goal.returns-in-Ok-read_in-clause-lost
+returns-in-Ok-read_in-clause-lost g c = lost-then _ _ _ _ _ _ c.next_window.ensures.lost c.read_in.ensures.lost
+
+pub returns-in-Err-read_in-clause-lost : goal.returns-in-Err-read_in-clause-lost
+returns-in-Err-read_in-clause-lost g c = lost-then _ _ _ _ _ _ c.next_window.ensures.lost c.read_in.ensures.lost

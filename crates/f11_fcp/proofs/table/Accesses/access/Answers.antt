@@ -35,14 +35,15 @@ returns-in-Err-clause-handles g c =
     access-unread c.args.task c.args.lun c.args.caller c.args.file c.args.mode (state_of (access_table_of c.args.self.now) c.args.files.now)
     (sym c.is_bad.ensures ∙ c.if-is_bad.false) (sym c.in-None.ensures.value) c.if-file-lt4.false c.in-Err.refusal
     (state_of (access_table_of c.args.self.now) c.read_attr.new.self) c.requires.open.alive c.in-Err.ensures.refused
-    c.in-Err.ensures.answers.home refl c.in-Err.ensures.told
+    c.in-Err.ensures.answers.home refl c.in-Err.ensures.told.counts
 
 pub returns-then-is_marked-clause-handles : goal.returns-then-is_marked-clause-handles
 returns-then-is_marked-clause-handles g c =
     access-marked c.args.task c.args.lun c.args.caller c.args.file c.args.mode (state_of (access_table_of c.args.self.now) c.args.files.now)
     (sym c.is_bad.ensures ∙ c.if-is_bad.false) (sym c.in-None.ensures.value) c.if-file-lt4.false c.in-Ok.attr
     (state_of (access_table_of c.args.self.now) c.read_attr.new.self) c.in-Ok.ensures.read.reads c.in-Ok.ensures.read.no_cause
-    c.in-Ok.ensures.read.attr_is c.in-Ok.ensures.answers.home c.in-Ok.ensures.told refl (sym c.is_marked.ensures ∙ c.if-is_marked.true)
+    c.in-Ok.ensures.read.attr_is c.in-Ok.ensures.answers.home c.in-Ok.ensures.told.counts refl
+    (sym c.is_marked.ensures ∙ c.if-is_marked.true)
 
 pub returns-then-lacks_for-clause-handles : goal.returns-then-lacks_for-clause-handles
 returns-then-lacks_for-clause-handles g c =
@@ -50,14 +51,14 @@ returns-then-lacks_for-clause-handles g c =
     (state_of (access_table_of c.args.self.now) c.args.files.now) (sym c.is_bad.ensures ∙ c.if-is_bad.false)
     (sym c.in-None.ensures.value) c.if-file-lt4.false c.in-Ok.attr (state_of (access_table_of c.args.self.now) c.read_attr.new.self)
     c.in-Ok.ensures.read.reads c.in-Ok.ensures.read.no_cause c.in-Ok.ensures.read.attr_is c.in-Ok.ensures.answers.home
-    c.in-Ok.ensures.told (sym c.is_marked.ensures ∙ c.if-is_marked.false) refl (sym c.lacks_for.ensures ∙ c.if-lacks_for.true)
+    c.in-Ok.ensures.told.counts (sym c.is_marked.ensures ∙ c.if-is_marked.false) refl (sym c.lacks_for.ensures ∙ c.if-lacks_for.true)
 
 pub returns-then-is_barred-clause-handles : goal.returns-then-is_barred-clause-handles
 returns-then-is_barred-clause-handles g c =
     access-barred c.args.task c.args.lun c.args.caller c.args.file c.args.mode (state_of (access_table_of c.args.self.now) c.args.files.now)
     (sym c.is_bad.ensures ∙ c.if-is_bad.false) (sym c.in-None.ensures.value) c.if-file-lt4.false c.in-Ok.attr
     (state_of (access_table_of c.args.self.now) c.read_attr.new.self) c.in-Ok.ensures.read.reads c.in-Ok.ensures.read.no_cause
-    c.in-Ok.ensures.read.attr_is c.in-Ok.ensures.answers.home c.in-Ok.ensures.told (sym c.is_marked.ensures ∙ c.if-is_marked.false)
+    c.in-Ok.ensures.read.attr_is c.in-Ok.ensures.answers.home c.in-Ok.ensures.told.counts (sym c.is_marked.ensures ∙ c.if-is_marked.false)
     (sym c.lacks_for.ensures ∙ c.if-lacks_for.false) refl (sym c.if-is_barred.true ∙ c.is_barred.ensures)
 
 pub returns-in-Err-clause-open : goal.returns-in-Err-clause-open
@@ -89,7 +90,7 @@ returns-clause-handles g c =
     access-taken c.args.task c.args.lun c.args.caller c.args.file c.args.mode (state_of (access_table_of c.args.self.now) c.args.files.now)
     (sym c.is_bad.ensures ∙ c.if-is_bad.false) (sym c.in-None.ensures.value) c.if-file-lt4.false c.in-Ok.attr
     (state_of (access_table_of c.set.new.self) c.read_attr.new.self) c.in-Ok.ensures.read.reads c.in-Ok.ensures.read.no_cause
-    c.in-Ok.ensures.read.attr_is c.in-Ok.ensures.answers.home c.in-Ok.ensures.told (sym c.is_marked.ensures ∙ c.if-is_marked.false)
+    c.in-Ok.ensures.read.attr_is c.in-Ok.ensures.answers.home c.in-Ok.ensures.told.counts (sym c.is_marked.ensures ∙ c.if-is_marked.false)
     (sym c.lacks_for.ensures ∙ c.if-lacks_for.false) _ c.set.ensures.value (sym c.if-is_barred.false ∙ c.is_barred.ensures)
 
 pub returns-clause-open : goal.returns-clause-open
@@ -106,7 +107,7 @@ returns-clause-open g c = λ _. record {
       access-kept c.args.task c.args.lun c.args.caller c.args.file c.args.mode (state_of (access_table_of c.args.self.now) c.args.files.now)
       (sym c.is_bad.ensures ∙ c.if-is_bad.false) (sym c.in-None.ensures.value) c.if-file-lt4.false c.in-Ok.attr
       (state_of (access_table_of c.set.new.self) c.read_attr.new.self) c.in-Ok.ensures.read.reads c.in-Ok.ensures.read.no_cause
-      c.in-Ok.ensures.read.attr_is c.in-Ok.ensures.answers.home c.in-Ok.ensures.told (sym c.is_marked.ensures ∙ c.if-is_marked.false)
+      c.in-Ok.ensures.read.attr_is c.in-Ok.ensures.answers.home c.in-Ok.ensures.told.counts (sym c.is_marked.ensures ∙ c.if-is_marked.false)
       (sym c.lacks_for.ensures ∙ c.if-lacks_for.false) (access_table_of c.set.new.self) (store_in c.read_attr.new.self)
       (ap (λ (i : Image). store_of i (home_in c.read_attr.new.self)) looked.image
       ∙ ap (λ (h : HomeFields). store_of (disk_in c.args.files.now).image h) c.in-Ok.ensures.answers.home) _ c.set.ensures.value was

@@ -49,7 +49,7 @@ returns-then-not-may-clause-handles g c =
     lay-unprivileged c.args.task c.args.lun c.args.caller (state_of t c.args.files.now) (entry_of c.in-Some.held) c.in-Some.ensures.some.0
     c.args.n (ne_eqb _ _ c.if-n-eq0.false) c.in-Some.ensures.some.1
     c.in-Ok.attr (state_of t c.read_attr.new.self) c.in-Ok.ensures.read.reads c.in-Ok.ensures.read.attr_is
-    (sym c.may.ensures ∙ c.if-not-may.true) c.in-Ok.ensures.answers.home refl c.in-Ok.ensures.told
+    (sym c.may.ensures ∙ c.if-not-may.true) c.in-Ok.ensures.answers.home refl c.in-Ok.ensures.told.counts
 
 pub returns-then-not-may-clause-open : goal.returns-then-not-may-clause-open
 returns-then-not-may-clause-open g c =
@@ -94,7 +94,8 @@ returns-in-Err-contiguous-clause-handles g c =
     c.in-Some.ensures.within.0 c.in-Some.ensures.within.1 c.in-Some.ensures.some.0)
     c.in-Ok.ensures.answers.home c.in-Err-contiguous.ensures.answers.home refl c.in-Err-contiguous.refusal
     c.of_accessed-in-Err-contiguous.result
-    (c.in-Ok.ensures.answers.next ∙ ap (λ b. b || false) c.requires.open.alive) c.in-Err-contiguous.ensures.refused c.in-Ok.ensures.told
+    (c.in-Ok.ensures.answers.next ∙ ap (λ b. b || false) c.requires.open.alive) c.in-Err-contiguous.ensures.refused
+    c.in-Ok.ensures.told.counts
     c.in-Err-contiguous.ensures.answers.counts c.of_accessed-in-Err-contiguous.ensures
 
 pub returns-in-Err-contiguous-clause-open : goal.returns-in-Err-contiguous-clause-open

@@ -34,7 +34,7 @@ returns-in-Err-clause-handles g c =
     delete-unread c.args.task c.args.caller c.args.file (state_of (access_table_of c.args.self.now) c.args.files.now)
     (sym c.is_bad.ensures ∙ c.if-is_bad.false) c.if-file-lt6.false c.in-Err.refusal
     (state_of (access_table_of c.args.self.now) c.read_attr.new.self) c.requires.open.alive c.in-Err.ensures.refused
-    c.in-Err.ensures.answers.home refl c.in-Err.ensures.told
+    c.in-Err.ensures.answers.home refl c.in-Err.ensures.told.counts
 
 pub returns-in-Err-clause-open : goal.returns-in-Err-clause-open
 returns-in-Err-clause-open g c =
@@ -47,7 +47,7 @@ returns-then-is_going-clause-handles g c =
     delete-marked c.args.task c.args.caller c.args.file (state_of (access_table_of c.args.self.now) c.args.files.now)
     (sym c.is_bad.ensures ∙ c.if-is_bad.false) c.if-file-lt6.false c.in-Ok.attr
     (state_of (access_table_of c.args.self.now) c.read_attr.new.self) c.in-Ok.ensures.read.reads c.in-Ok.ensures.read.no_cause
-    c.in-Ok.ensures.read.attr_is c.in-Ok.ensures.answers.home c.in-Ok.ensures.told refl c.is_accessed-accessed.result
+    c.in-Ok.ensures.read.attr_is c.in-Ok.ensures.answers.home c.in-Ok.ensures.told.counts refl c.is_accessed-accessed.result
     c.is_accessed-accessed.ensures (sym c.is_going.ensures ∙ c.if-is_going.true)
 
 pub returns-then-is_going-clause-open : goal.returns-then-is_going-clause-open
@@ -61,7 +61,7 @@ returns-then-not-may-clause-handles g c =
     delete-unprivileged c.args.task c.args.caller c.args.file (state_of (access_table_of c.args.self.now) c.args.files.now)
     (sym c.is_bad.ensures ∙ c.if-is_bad.false) c.if-file-lt6.false c.in-Ok.attr
     (state_of (access_table_of c.args.self.now) c.read_attr.new.self) c.in-Ok.ensures.read.reads c.in-Ok.ensures.read.no_cause
-    c.in-Ok.ensures.read.attr_is c.in-Ok.ensures.answers.home c.in-Ok.ensures.told refl c.is_accessed-accessed.result
+    c.in-Ok.ensures.read.attr_is c.in-Ok.ensures.answers.home c.in-Ok.ensures.told.counts refl c.is_accessed-accessed.result
     c.is_accessed-accessed.ensures (sym c.is_going.ensures ∙ c.if-is_going.false) (sym c.may.ensures ∙ c.if-not-may.true)
 
 pub returns-then-not-may-clause-open : goal.returns-then-not-may-clause-open
@@ -75,7 +75,7 @@ returns-in-Ok-delete-clause-handles g c =
     deleted c.args.task c.args.caller c.args.file (state_of (access_table_of c.args.self.now) c.args.files.now)
     (sym c.is_bad.ensures ∙ c.if-is_bad.false) c.if-file-lt6.false c.in-Ok.attr
     (state_of (access_table_of c.args.self.now) c.read_attr.new.self) c.in-Ok.ensures.read.reads c.in-Ok.ensures.read.no_cause
-    c.in-Ok.ensures.read.attr_is c.in-Ok.ensures.answers.home c.in-Ok.ensures.told refl c.is_accessed-accessed.result
+    c.in-Ok.ensures.read.attr_is c.in-Ok.ensures.answers.home c.in-Ok.ensures.told.counts refl c.is_accessed-accessed.result
     c.is_accessed-accessed.ensures (sym c.is_going.ensures ∙ c.if-is_going.false) (sym c.may.ensures ∙ c.if-not-may.false)
     (state_of (access_table_of c.args.self.now) c.delete.new.self) c.in-Ok-delete.ensures.answers.home c.if-not-accessed.true refl
     c.in-Ok-delete.ensures.deleted
@@ -87,12 +87,12 @@ returns-in-Ok-delete-clause-open g c =
       delete-there c.args.task c.args.caller c.args.file (state_of (access_table_of c.args.self.now) c.args.files.now)
           (sym c.is_bad.ensures ∙ c.if-is_bad.false) c.if-file-lt6.false c.in-Ok.attr
           (state_of (access_table_of c.args.self.now) c.read_attr.new.self) c.in-Ok.ensures.read.reads c.in-Ok.ensures.read.no_cause
-          c.in-Ok.ensures.read.attr_is c.in-Ok.ensures.answers.home c.in-Ok.ensures.told refl c.is_accessed-accessed.result
+          c.in-Ok.ensures.read.attr_is c.in-Ok.ensures.answers.home c.in-Ok.ensures.told.counts refl c.is_accessed-accessed.result
           c.is_accessed-accessed.ensures honest,
       unheld-still c.args.task c.args.caller c.args.file
           (state_of (access_table_of c.args.self.now) c.args.files.now) (sym c.is_bad.ensures ∙ c.if-is_bad.false) c.if-file-lt6.false
           c.in-Ok.attr (state_of (access_table_of c.args.self.now) c.read_attr.new.self) c.in-Ok.ensures.read.reads
-          c.in-Ok.ensures.read.no_cause c.in-Ok.ensures.read.attr_is c.in-Ok.ensures.answers.home c.in-Ok.ensures.told refl
+          c.in-Ok.ensures.read.no_cause c.in-Ok.ensures.read.attr_is c.in-Ok.ensures.answers.home c.in-Ok.ensures.told.counts refl
           c.is_accessed-accessed.result c.is_accessed-accessed.ensures (sym c.is_going.ensures ∙ c.if-is_going.false)
           (sym c.may.ensures ∙ c.if-not-may.false) (state_of (access_table_of c.args.self.now) c.delete.new.self)
           c.in-Ok-delete.ensures.answers.home c.if-not-accessed.true refl,
@@ -107,7 +107,7 @@ returns-in-Ok-delete-clause-open g c =
     (λ honest. delete-there c.args.task c.args.caller c.args.file (state_of (access_table_of c.args.self.now) c.args.files.now)
     (sym c.is_bad.ensures ∙ c.if-is_bad.false) c.if-file-lt6.false c.in-Ok.attr
     (state_of (access_table_of c.args.self.now) c.read_attr.new.self) c.in-Ok.ensures.read.reads c.in-Ok.ensures.read.no_cause
-    c.in-Ok.ensures.read.attr_is c.in-Ok.ensures.answers.home c.in-Ok.ensures.told refl c.is_accessed-accessed.result
+    c.in-Ok.ensures.read.attr_is c.in-Ok.ensures.answers.home c.in-Ok.ensures.told.counts refl c.is_accessed-accessed.result
     c.is_accessed-accessed.ensures honest)
     (cut-behind c.args.files.now c.read_attr.new.self c.delete.new.self c.args.file c.in-Ok.ensures.answers.home looked.honest looked.image
     (deleted-leaves c.read_attr.new.self c.delete.new.self (g.met.D.Device.is_image c.read_attr.new.self.device)
@@ -119,7 +119,7 @@ returns-in-Err-delete-clause-handles g c =
     not-deleted c.args.task c.args.caller c.args.file (state_of (access_table_of c.args.self.now) c.args.files.now)
     (sym c.is_bad.ensures ∙ c.if-is_bad.false) c.if-file-lt6.false c.in-Ok.attr
     (state_of (access_table_of c.args.self.now) c.read_attr.new.self) c.in-Ok.ensures.read.reads c.in-Ok.ensures.read.no_cause
-    c.in-Ok.ensures.read.attr_is c.in-Ok.ensures.answers.home c.in-Ok.ensures.told refl c.is_accessed-accessed.result
+    c.in-Ok.ensures.read.attr_is c.in-Ok.ensures.answers.home c.in-Ok.ensures.told.counts refl c.is_accessed-accessed.result
     c.is_accessed-accessed.ensures (sym c.is_going.ensures ∙ c.if-is_going.false) (sym c.may.ensures ∙ c.if-not-may.false)
     (state_of (access_table_of c.args.self.now) c.delete.new.self) c.in-Err-delete.ensures.answers.home c.if-not-accessed.true refl
     c.in-Err-delete.refusal (c.in-Ok.ensures.answers.next ∙ ap (λ b. b || false) c.requires.open.alive) c.in-Err-delete.ensures.refused
@@ -137,7 +137,7 @@ returns-in-Ok-mark-clause-handles g c =
     marked c.args.task c.args.caller c.args.file (state_of (access_table_of c.args.self.now) c.args.files.now)
     (sym c.is_bad.ensures ∙ c.if-is_bad.false) c.if-file-lt6.false c.in-Ok.attr
     (state_of (access_table_of c.args.self.now) c.read_attr.new.self) c.in-Ok.ensures.read.reads c.in-Ok.ensures.read.no_cause
-    c.in-Ok.ensures.read.attr_is c.in-Ok.ensures.answers.home c.in-Ok.ensures.told refl c.is_accessed-accessed.result
+    c.in-Ok.ensures.read.attr_is c.in-Ok.ensures.answers.home c.in-Ok.ensures.told.counts refl c.is_accessed-accessed.result
     c.is_accessed-accessed.ensures (sym c.is_going.ensures ∙ c.if-is_going.false) (sym c.may.ensures ∙ c.if-not-may.false)
     (state_of (access_table_of c.set_marks.new.self) c.mark.new.self) c.in-Ok-mark.ensures.answers.home c.if-not-accessed.false
     c.set_marks.ensures c.in-Ok-mark.ensures.altered
@@ -170,7 +170,7 @@ returns-in-Ok-mark-clause-open g c = λ _. record {
       (delete-there c.args.task c.args.caller c.args.file (state_of (access_table_of c.args.self.now) c.args.files.now)
       (sym c.is_bad.ensures ∙ c.if-is_bad.false) c.if-file-lt6.false c.in-Ok.attr
       (state_of (access_table_of c.args.self.now) c.read_attr.new.self) c.in-Ok.ensures.read.reads c.in-Ok.ensures.read.no_cause
-      c.in-Ok.ensures.read.attr_is c.in-Ok.ensures.answers.home c.in-Ok.ensures.told refl c.is_accessed-accessed.result
+      c.in-Ok.ensures.read.attr_is c.in-Ok.ensures.answers.home c.in-Ok.ensures.told.counts refl c.is_accessed-accessed.result
       c.is_accessed-accessed.ensures was) (c.requires.open.kept was)));
 }
 
@@ -179,7 +179,7 @@ returns-in-Err-mark-clause-handles g c =
     not-marked c.args.task c.args.caller c.args.file (state_of (access_table_of c.args.self.now) c.args.files.now)
     (sym c.is_bad.ensures ∙ c.if-is_bad.false) c.if-file-lt6.false c.in-Ok.attr
     (state_of (access_table_of c.args.self.now) c.read_attr.new.self) c.in-Ok.ensures.read.reads c.in-Ok.ensures.read.no_cause
-    c.in-Ok.ensures.read.attr_is c.in-Ok.ensures.answers.home c.in-Ok.ensures.told refl c.is_accessed-accessed.result
+    c.in-Ok.ensures.read.attr_is c.in-Ok.ensures.answers.home c.in-Ok.ensures.told.counts refl c.is_accessed-accessed.result
     c.is_accessed-accessed.ensures (sym c.is_going.ensures ∙ c.if-is_going.false) (sym c.may.ensures ∙ c.if-not-may.false)
     (state_of (access_table_of c.args.self.now) c.mark.new.self) c.in-Err-mark.ensures.answers.home c.if-not-accessed.false
     c.in-Err-mark.refusal (c.in-Ok.ensures.answers.next ∙ ap (λ b. b || false) c.requires.open.alive) c.in-Err-mark.ensures.refused refl

@@ -17,7 +17,7 @@ returns-in-Ok-clause-measures g c =
     measured c.args.task c.args.lun (state_of t c.args.files.now) (entry_of c.in-Some.held) (sym c.in-Some.ensures.value)
     (λ honest. there-held t (store_in c.args.files.now) c.args.task c.args.lun (entry_of c.in-Some.held) (c.requires.open.kept honest)
     c.in-Some.ensures.within.0 c.in-Some.ensures.within.1 (sym c.in-Some.ensures.value))
-    c.in-Ok.blocks (state_of t c.length.new.self) c.in-Ok.ensures.counts c.in-Ok.ensures.answers.home refl c.in-Ok.ensures.told
+    c.in-Ok.blocks (state_of t c.length.new.self) c.in-Ok.ensures.counts c.in-Ok.ensures.answers.home refl c.in-Ok.ensures.told.counts
 
 pub returns-in-Ok-clause-open : goal.returns-in-Ok-clause-open
 returns-in-Ok-clause-open g c clean =
@@ -32,7 +32,7 @@ returns-in-Err-clause-measures g c =
     (λ honest. there-held t (store_in c.args.files.now) c.args.task c.args.lun (entry_of c.in-Some.held) (c.requires.open.kept honest)
     c.in-Some.ensures.within.0 c.in-Some.ensures.within.1 (sym c.in-Some.ensures.value))
     c.in-Err.refusal c.of_accessed.result (state_of t c.length.new.self) c.requires.open.alive c.in-Err.ensures.refused
-    c.in-Err.ensures.answers.home refl c.in-Err.ensures.told c.of_accessed.ensures
+    c.in-Err.ensures.answers.home refl c.in-Err.ensures.told.counts c.of_accessed.ensures
 
 pub returns-in-Err-clause-open : goal.returns-in-Err-clause-open
 returns-in-Err-clause-open g c clean =

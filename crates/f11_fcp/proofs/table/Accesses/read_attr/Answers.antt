@@ -33,7 +33,7 @@ returns-in-Err-clause-handles g c =
     let t = access_table_of c.args.self.now in
     attr-unread c.args.task c.args.caller c.args.file (state_of t c.args.files.now) (sym c.is_bad.ensures ∙ c.if-is_bad.false)
     c.in-Err.refusal (state_of t c.read_attr.new.self) c.requires.open.alive c.in-Err.ensures.refused c.in-Err.ensures.answers.home refl
-    c.in-Err.ensures.told
+    c.in-Err.ensures.told.counts
 
 pub returns-in-Err-clause-open : goal.returns-in-Err-clause-open
 returns-in-Err-clause-open g c =

@@ -25,7 +25,7 @@ returns-in-Err-clause-handles g c =
     change-unread c.args.task c.args.caller c.args.file c.args.change.now (state_of (access_table_of c.args.self.now) c.args.files.now)
     (sym c.is_bad.ensures ∙ c.if-is_bad.false) c.if-file-lt4.false c.in-Err.refusal
     (state_of (access_table_of c.args.self.now) c.read_attr.new.self) c.requires.open.alive c.in-Err.ensures.refused
-    c.in-Err.ensures.answers.home refl c.in-Err.ensures.told
+    c.in-Err.ensures.answers.home refl c.in-Err.ensures.told.counts
 
 pub returns-in-Err-clause-open : goal.returns-in-Err-clause-open
 returns-in-Err-clause-open g c =
@@ -38,7 +38,8 @@ returns-then-is_marked-clause-handles g c =
     change-marked c.args.task c.args.caller c.args.file c.args.change.now (state_of (access_table_of c.args.self.now) c.args.files.now)
     (sym c.is_bad.ensures ∙ c.if-is_bad.false) c.if-file-lt4.false c.in-Ok.attr
     (state_of (access_table_of c.args.self.now) c.read_attr.new.self) c.in-Ok.ensures.read.reads c.in-Ok.ensures.read.no_cause
-    c.in-Ok.ensures.read.attr_is c.in-Ok.ensures.answers.home c.in-Ok.ensures.told refl (sym c.is_marked.ensures ∙ c.if-is_marked.true)
+    c.in-Ok.ensures.read.attr_is c.in-Ok.ensures.answers.home c.in-Ok.ensures.told.counts refl
+    (sym c.is_marked.ensures ∙ c.if-is_marked.true)
 
 pub returns-then-is_marked-clause-open : goal.returns-then-is_marked-clause-open
 returns-then-is_marked-clause-open g c =
@@ -51,7 +52,7 @@ returns-then-lacks_change-clause-handles g c =
     change-unprivileged c.args.task c.args.caller c.args.file c.args.change.now
     (state_of (access_table_of c.args.self.now) c.args.files.now) (sym c.is_bad.ensures ∙ c.if-is_bad.false) c.if-file-lt4.false
     c.in-Ok.attr (state_of (access_table_of c.args.self.now) c.read_attr.new.self) c.in-Ok.ensures.read.reads
-    c.in-Ok.ensures.read.no_cause c.in-Ok.ensures.read.attr_is c.in-Ok.ensures.answers.home c.in-Ok.ensures.told refl
+    c.in-Ok.ensures.read.no_cause c.in-Ok.ensures.read.attr_is c.in-Ok.ensures.answers.home c.in-Ok.ensures.told.counts refl
     (sym c.is_marked.ensures ∙ c.if-is_marked.false) (sym c.lacks_change.ensures ∙ c.if-lacks_change.true)
 
 pub returns-then-lacks_change-clause-open : goal.returns-then-lacks_change-clause-open
@@ -65,7 +66,8 @@ returns-in-Ok-write_attr-clause-handles g c =
     changed c.args.task c.args.caller c.args.file c.args.change.now (state_of (access_table_of c.args.self.now) c.args.files.now)
     (sym c.is_bad.ensures ∙ c.if-is_bad.false) c.if-file-lt4.false c.in-Ok.attr
     (state_of (access_table_of c.args.self.now) c.read_attr.new.self) c.in-Ok.ensures.read.reads c.in-Ok.ensures.read.no_cause
-    c.in-Ok.ensures.read.attr_is c.in-Ok.ensures.answers.home c.in-Ok.ensures.told refl (sym c.is_marked.ensures ∙ c.if-is_marked.false)
+    c.in-Ok.ensures.read.attr_is c.in-Ok.ensures.answers.home c.in-Ok.ensures.told.counts refl
+    (sym c.is_marked.ensures ∙ c.if-is_marked.false)
     (sym c.lacks_change.ensures ∙ c.if-lacks_change.false) (state_of (access_table_of c.args.self.now) c.write_attr.new.self)
     c.in-Ok-write_attr.ensures.answers.home refl c.in-Ok-write_attr.ensures.altered
 
@@ -88,7 +90,8 @@ returns-in-Err-write_attr-clause-handles g c =
     not-changed c.args.task c.args.caller c.args.file c.args.change.now (state_of (access_table_of c.args.self.now) c.args.files.now)
     (sym c.is_bad.ensures ∙ c.if-is_bad.false) c.if-file-lt4.false c.in-Ok.attr
     (state_of (access_table_of c.args.self.now) c.read_attr.new.self) c.in-Ok.ensures.read.reads c.in-Ok.ensures.read.no_cause
-    c.in-Ok.ensures.read.attr_is c.in-Ok.ensures.answers.home c.in-Ok.ensures.told refl (sym c.is_marked.ensures ∙ c.if-is_marked.false)
+    c.in-Ok.ensures.read.attr_is c.in-Ok.ensures.answers.home c.in-Ok.ensures.told.counts refl
+    (sym c.is_marked.ensures ∙ c.if-is_marked.false)
     (sym c.lacks_change.ensures ∙ c.if-lacks_change.false) (state_of (access_table_of c.args.self.now) c.write_attr.new.self)
     c.in-Err-write_attr.ensures.answers.home refl c.in-Err-write_attr.refusal
     (c.in-Ok.ensures.answers.next ∙ ap (λ b. b || false) c.requires.open.alive) c.in-Err-write_attr.ensures.refused

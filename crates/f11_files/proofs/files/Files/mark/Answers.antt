@@ -6,7 +6,7 @@ use Rattle.f11_files.proofs.WriteLemmas.{had-failed}
 use Rattle.f11_writes.proofs.LostLemmas.{lost-none}
 use Rattle.f11_files.specs.Answers.{is_fatal, is_refused}
 use Rattle.f11_store.specs.Changes.{with_delete_mark}
-use Rattle.std.proofs.Common.{[]}
+use Rattle.std.proofs.Common.{[], refl}
 use Rattle.f11_image_store.specs.Confines.{only_header}
 use Rattle.f11_files.proofs.Confining.Parts.{to-only}
 use Rattle.f11_files.proofs.Lost.Calls.{as-answered, altered-beside}
@@ -35,6 +35,7 @@ returns-clause-lost g c =
     let old = disk_in c.args.self.now in
     let new = g.D.Device.disk c.mark-answer.new.device in
     as-answered _ c.is_fatal-self.result (is_refused is_fatal c.mark-answer.result) old new c.if-self.false c.is_fatal-self.ensures
-    (altered-beside (home_in c.args.self.now) old new for.sound with_delete_mark c.args.f c.mark-answer.result c.mark-answer.ensures.altered
+    (altered-beside (home_in c.args.self.now) old new for.sound with_delete_mark (λ _. refl) c.args.f c.mark-answer.result
+    c.mark-answer.ensures.altered
     c.mark-answer.ensures.refused
     (to-only c.args.self.now.structure (only_header c.args.f.number) [] old new for (λ _. c.mark-answer.ensures.confined)))

@@ -10,6 +10,7 @@ use Rattle.std.proofs.Common.{[]}
 use Rattle.f11_image_store.specs.Confines.{only_header}
 use Rattle.f11_files.proofs.Confining.Parts.{to-only}
 use Rattle.f11_files.proofs.Lost.Calls.{as-answered, altered-beside}
+use Rattle.f11_files.proofs.Rows.{replacement-held}
 use Rattle.f11_files.proofs.files.Files.write_attr.Goals as goal
 
 pub write_attr-answer-requires-clause-is_for : goal.write_attr-answer-requires-clause-is_for
@@ -35,6 +36,7 @@ returns-clause-lost g c =
     let old = disk_in c.args.self.now in
     let new = g.D.Device.disk c.write_attr-answer.new.device in
     as-answered _ c.is_fatal-self.result (is_refused is_fatal c.write_attr-answer.result) old new c.if-self.false c.is_fatal-self.ensures
-    (altered-beside (home_in c.args.self.now) old new for.sound (with_replacement c.args.change.now) c.args.f c.write_attr-answer.result
+    (altered-beside (home_in c.args.self.now) old new for.sound (with_replacement c.args.change.now) (replacement-held c.args.change.now)
+    c.args.f c.write_attr-answer.result
     c.write_attr-answer.ensures.altered c.write_attr-answer.ensures.refused
     (to-only c.args.self.now.structure (only_header c.args.f.number) [] old new for (λ _. c.write_attr-answer.ensures.confined)))

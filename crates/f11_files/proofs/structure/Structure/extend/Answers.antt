@@ -11,6 +11,7 @@ use Rattle.f11_files.proofs.Extending.Whole.{end-again, extends-then, fails-agai
 use Rattle.f11_files.proofs.Extending.Whole.{need-is, readies-file, room-ready, too-long, unfound, unready}
 use Rattle.f11_files.proofs.Extending.Still.{ends-still, never-still}
 use Rattle.f11_files.proofs.Extending.WholeConfined.{after-read, after-slots}
+use Rattle.f11_files.proofs.Readied.{has-got}
 use Rattle.f11_files.proofs.Removing.Freeing.{stays-for, stays-then}
 use Rattle.f11_files.proofs.WriteLemmas.{looked-stays}
 use Rattle.f11_files.proofs.structure.Structure.extend.Goals as goal
@@ -216,7 +217,7 @@ returns-in_err-extend_held-clause-confined g c =
     (need-is s f n c.in_ok-end.end c.find_end.new.first c.find_end.new.last old read c.requires.is_for c.requires.own
     c.in_ok-end.ensures.end c.room_of-room.result c.room_of-room.ensures)
     (rw c.need.ensures.need at c.ready_headers.ensures.confined)
-    (inr (rw c.need.ensures.need at c.in_ok-ready_headers.ensures.ready).does.allots)
+    (inr (has-got (rw c.need.ensures.need at c.in_ok-ready_headers.ensures.ready)))
     (more-of t (home_of s) f.number ready (g.D.Device.disk c.extend_held.new.device) c.in_ok-ready_headers.ensures.stays.home
     (stays-for c.in_ok-ready_headers.ensures.stays)
     (λ honest. file_of-header (end-again s f n c.in_ok-end.end c.find_end.new.first c.find_end.new.last old read c.requires.is_for
@@ -270,7 +271,7 @@ returns-clause-confined g c =
     (need-is s f n c.in_ok-end.end c.find_end.new.first c.find_end.new.last old read c.requires.is_for c.requires.own
     c.in_ok-end.ensures.end c.room_of-room.result c.room_of-room.ensures)
     (rw c.need.ensures.need at c.ready_headers.ensures.confined)
-    (inr (rw c.need.ensures.need at c.in_ok-ready_headers.ensures.ready).does.allots)
+    (inr (has-got (rw c.need.ensures.need at c.in_ok-ready_headers.ensures.ready)))
     (more-of t (home_of s) f.number ready (g.D.Device.disk c.extend_held.new.device) c.in_ok-ready_headers.ensures.stays.home
     (stays-for c.in_ok-ready_headers.ensures.stays)
     (λ honest. file_of-header (end-again s f n c.in_ok-end.end c.find_end.new.first c.find_end.new.last old read c.requires.is_for

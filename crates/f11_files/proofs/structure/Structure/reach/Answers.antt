@@ -1,7 +1,7 @@
 use Rattle.f11_files.proofs.Finding.Reached.{reached-seen}
-use Rattle.std.proofs.Common.{refl, ap, arith}
+use Rattle.std.proofs.Common.{ℕ, List, length, refl, ap, arith}
 use Rattle.f11_index.specs.Table.{Table}
-use Rattle.f11_map.specs.HeaderBlock.{segment_number}
+use Rattle.f11_map.specs.HeaderBlock.{blocks_named, segment_number}
 use Rattle.f11_files.proofs.Finding.First.{table-of}
 use Rattle.f11_files.proofs.structure.Structure.reach.Goals as goal
 
@@ -18,6 +18,11 @@ returns-clause-near g c =
       seen = _;
       seen_is = refl;
       of = record { file = refl; sequence = refl; before = omega (arith, c.requires.some) };
+      names = λ honest.
+          let named = ap (λ (b : List ℕ). length (blocks_named b)) (reached.seeks.header.block_is honest) in
+          let header = ap (λ (t : Table). length (blocks_named (t.header c.in_ok-place.place.number)))
+          (table-of c.args.self.now old c.requires.is_for honest) in
+          omega (arith, reached.seeks.left_within, reached.seeks.left_low, c.requires.some, named, header);
       few = λ s is before honest.
           let segment = ap segment_number (reached.seeks.header.block_is honest) in
           let header = ap (λ (t : Table). segment_number (t.header c.in_ok-place.place.number))
