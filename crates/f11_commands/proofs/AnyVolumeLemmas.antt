@@ -1,18 +1,16 @@
 -- What holds of commands that serve any volume: what was read or verified before.
-use Rattle.std.proofs.Common.{◌≡◌, ℕ, Bool, IsTrue, List, Option, not, ap, subst, sym, ◌∙◌}
+use Rattle.std.proofs.Common.{◌≡◌, ℕ, Bool, IsTrue, List, Option, ap, subst, sym, ◌∙◌}
 use Rattle.f11_catalog.proofs.ListingLemmas.{reads-then}
 use Rattle.f11_catalog.specs.Records.{Reads}
 use Rattle.f11_catalog.specs.chain.Calls.{table}
 use Rattle.f11_dev.specs.Disk.{Disk}
 use Rattle.f11_dev.specs.Image.{Image}
-use Rattle.f11_findings.specs.declared.finding.Finding.{Finding}
 use Rattle.f11_home.specs.Home.{HomeFields}
 use Rattle.f11_index.specs.IndexFile.{Index, index_of}
 use Rattle.f11_index.specs.Table.{Table, table_in, table_of}
-use Rattle.f11_serving.specs.vfy.Verify.{Examines}
+use Rattle.f11_serving.specs.vfy.Verify.{TellsVerdict}
 use Rattle.f11_commands.specs.AnyVolume.{CannotBeRead, FailsToServe, FindsVolume, IsVerified, TellsFault}
 use Rattle.f11_commands.specs.DumpCommand.{HasFault}
-use Rattle.f11_commands.specs.VfyCommand.{IsVerdict}
 use Rattle.f11_commands.specs.declared.outcome.Answer.{Answer}
 use Rattle.f11_commands.specs.declared.outcome.Failure.{Failure}
 use Rattle.f11_commands.specs.declared.outcome.Failure.TheVariants.{DeviceFault, NoMemory, CannotWrite}
@@ -32,10 +30,9 @@ index-of-volume home index old new found honest =
     found.is_for.keeps (found.looked.honest ∙ honest) ∙ ap (λ (i : Image). index_of i home) found.looked.image
 
 -- the volume was verified
-pub verified-first : (told faulty : Bool) (faults notes : List Finding) (old new : Disk) → Examines faults notes old new
-    → IsVerdict (not faulty) faults → told ≡ faulty → IsVerified told old
-verified-first told faulty faults notes old new examines verdict same = subst (λ (b : Bool). IsVerified b old) (sym same)
-    (record { faults = faults; notes = notes; verifies = examines.verifies; verdict = verdict })
+pub verified-first : (told faulty : Bool) (old new : Disk) → TellsVerdict faulty old new → told ≡ faulty → IsVerified told old
+verified-first told faulty old new tells same =
+    subst (λ (b : Bool). IsVerified b old) (sym same) (record { verdict = tells.verdict })
 
 -- what hinders a look at a volume behind another
 pub hindered-behind : (fault : VolumeFault) (old mid new : Disk) → Reads old mid 0 → CannotBeRead fault mid new

@@ -15,7 +15,7 @@ use Rattle.f11_index.specs.IndexFile.{Index, all_in_use}
 use Rattle.f11_index.specs.Table.{Table, table_of}
 use Rattle.f11_store.specs.declared.files.FileId.{FileId}
 use Rattle.f11_store.specs.declared.refusals.Refusal.{Refusal}
-use Rattle.f11_serving.specs.vfy.Verify.{Examines}
+use Rattle.f11_serving.specs.vfy.Verify.{TellsVerdict}
 use Rattle.f11_commands.specs.Copying.{master_directory}
 use Rattle.f11_commands.specs.AnyVolume.{FailsToServe, FindsVolume, IsReadable, unless_refused}
 use Rattle.f11_commands.specs.LsCommand.{FailsToListIndex, IsNotListed, ListsIndex, ListsVolume, lists, tells}
@@ -116,12 +116,11 @@ fails-to-list NoMemory old mid new contents before after reads fails = absurd fa
 fails-to-list CannotWrite old mid new contents before after reads fails = reads-then reads fails
 
 -- the volume was verified before: it has faults, or has none
-pub judged-listing : {W : Type 0} (directory : Option (List ℕ)) (served : Served) (faulty : Bool) (faults notes : List Finding)
-    (old mid new : Disk)
-    (contents : W → Option (List ℕ)) (before after : W) → Examines faults notes old mid → IsVerdict (not faulty) faults
+pub judged-listing : {W : Type 0} (directory : Option (List ℕ)) (served : Served) (faulty : Bool) (old mid new : Disk)
+    (contents : W → Option (List ℕ)) (before after : W) → TellsVerdict faulty old mid
     → (served.faulty ≡ faulty) × ListsVolume directory served.answer mid new contents before after
     → PrintsListing directory served old new contents before after
-judged-listing directory served faulty faults notes old mid new contents before after examines verdict all = record {
-  verified = verified-first served.faulty faulty faults notes old mid examines verdict all.0;
-  lists = volume-behind directory served.answer old mid new contents before after (_, examines.looked.looked) all.1;
+judged-listing directory served faulty old mid new contents before after told all = record {
+  verified = verified-first served.faulty faulty old mid told all.0;
+  lists = volume-behind directory served.answer old mid new contents before after (_, told.looked.looked) all.1;
 }

@@ -1,12 +1,11 @@
 -- What commands do that serve any volume, faulty or not (profile).
-use Rattle.std.specs.Prelude.{◌≡◌, ℕ, IsTrue, List, Bool, not, Option, Result, Ok, Err}
+use Rattle.std.specs.Prelude.{◌≡◌, ◌↔◌, ℕ, false, IsTrue, List, Bool, Option, Result, Ok, Err}
 use Rattle.std.specs.Io.KnownBytes.{Keeps}
 use Rattle.f11_catalog.specs.Listing.{id_entered}
 use Rattle.f11_catalog.specs.Records.{Reads}
 use Rattle.f11_dev.specs.Disk.{Disk}
 use Rattle.f11_dev.specs.Image.{Image}
 use Rattle.f11_dev.specs.Looked.{Looked}
-use Rattle.f11_findings.specs.declared.finding.Finding.{Finding}
 use Rattle.f11_home.specs.Home.{HomeFields, IsHomeOf}
 use Rattle.f11_index.specs.IndexFile.{Index}
 use Rattle.f11_index.specs.Kept.{IsIndexFor}
@@ -14,11 +13,10 @@ use Rattle.f11_index.specs.Sound.{IsIndexFile}
 use Rattle.f11_index.specs.Table.{Table}
 use Rattle.f11_store.specs.declared.files.FileId.{FileId}
 use Rattle.f11_store.specs.declared.refusals.Refusal.{Refusal}
-use Rattle.f11_serving.specs.vfy.Verify.{Verifies}
+use Rattle.f11_volume.specs.Verdict.{IsAccepted}
 use Rattle.f11_commands.specs.Copying.{master_directory}
 use Rattle.f11_commands.specs.DumpCommand.{HasFault, fault_line, index_reads}
 use Rattle.f11_commands.specs.Output.{WriterTakes}
-use Rattle.f11_commands.specs.VfyCommand.{IsVerdict}
 use Rattle.f11_commands.specs.declared.outcome.Answer.{Answer}
 use Rattle.f11_commands.specs.declared.outcome.Answer.TheVariants.{Fault}
 use Rattle.f11_commands.specs.declared.outcome.Failure.{Failure}
@@ -35,12 +33,9 @@ unless_refused next (Err refusal) = Err refusal
 abbrev pub directory_named : Index → Image → Table → List ℕ → Result FileId Refusal
 directory_named wide image t directory = id_entered wide image t master_directory directory
 
--- The volume was verified: it has faults, or has none.
+-- The volume was verified: where the disk is honest, it is accepted exactly where it was found to have no fault.
 pub record IsVerified (faulty : Bool) (disk : Disk) : Type 0 where
-  pub faults : List Finding
-  pub notes : List Finding
-  pub verifies : IsTrue disk.honest → Verifies disk.image faults notes
-  pub verdict : IsVerdict (not faulty) faults
+  pub verdict : IsTrue disk.honest → (faulty ≡ false) ↔ IsAccepted disk.image
 
 -- The home block and the index file of a volume are as they should be, whatever else is.
 pub record IsReadable (image : Image) (home : HomeFields) : Type 0 where

@@ -16,7 +16,7 @@ use Rattle.f11_home.specs.Home.{HomeFields, IsHomeOf}
 use Rattle.f11_catalog.specs.image_store.StoreOf.{store_of}
 use Rattle.f11_store.specs.declared.refusals.Refusal.{Refusal}
 use Rattle.f11_store.specs.declared.refusals.Refusal.TheVariants as files_refusal
-use Rattle.f11_serving.specs.vfy.Verify.{Examines}
+use Rattle.f11_serving.specs.vfy.Verify.{Passes}
 use Rattle.f11_volume.specs.Verdict.{IsAccepted}
 use Rattle.f11_serving.specs.writes.Moments.{StandsAccepted}
 use Rattle.rt11_volume.specs.Calls.{Accepts, Rejects, most_transfers}
@@ -144,7 +144,7 @@ pub record AnswersCopy {W : Type 0} (c : Copying) (told : Result FileAnswer Fail
 
 -- An image was verified and has no fault: of a Files-11 volume, and of an RT-11 one.
 abbrev pub VerifiesFiles : Disk → Disk → Type 0
-VerifiesFiles old new = (notes : List Finding) × Examines [] notes old new
+VerifiesFiles old new = Passes old new
 
 abbrev pub VerifiesRt : Disk → Disk → Type 0
 VerifiesRt old new = (notes : List Finding) × Accepts notes old new

@@ -1,7 +1,8 @@
 -- What `vfy --update` does to an image, and what it writes (profile).
-use Rattle.std.specs.Prelude.{◌≡◌, ◌⊎◌, ℕ, true, false, List, [], ◌∷◌, ◌++◌, Option, Result, Ok, Err, codes}
+use Rattle.std.specs.Prelude.{◌≡◌, ◌⊎◌, ℕ, Bool, nat_le, true, false, List, [], ◌∷◌, ◌++◌, Option, Result, Ok, Err, codes}
 use Rattle.std.specs.Io.KnownBytes.{Keeps}
 use Rattle.f11_dev.specs.Disk.{Disk}
+use Rattle.f11_findings.specs.declared.finding.Finding.{Finding}
 use Rattle.f11_commands.specs.Output.{WriterTakes}
 use Rattle.f11_commands.specs.Syncing.{FailsToSync}
 use Rattle.f11_commands.specs.VfyCommand.{PrintsReport, FailsToPrintReport}
@@ -14,6 +15,11 @@ use Rattle.f11_serving.specs.vfy.Reclaiming.Whole.{IsSoundWith, GoesOn, LacksRoo
 -- the line between the two reports
 abbrev pub updated_line : List ℕ
 updated_line = codes "updated" ++ 10 ∷ []
+
+-- notes tell of lost blocks, dead headers or orphans: their codes are the first three, so the first note is of one then
+abbrev pub tells_idle : List Finding → Bool
+tells_idle [] = false
+tells_idle (first ∷ notes) = nat_le first.code 3
 
 -- how a report ended, by what is told
 abbrev pub EndsReport : {W : Type 0} → Result Answer Failure → Disk → Disk → (W → Option (List ℕ)) → W → W → Type 0
@@ -32,7 +38,7 @@ pub record PrintsAgain {W : Type 0} (told : Result Answer Failure) (old new : Di
 abbrev pub EndsAgain : {W : Type 0} → Result Answer Failure → Disk → Disk → (W → Option (List ℕ)) → W → W → Type 0
 EndsAgain told old new contents before after = PrintsAgain told old new contents before after ⊎ ((told ≡ Err CannotWrite) × (new ≡ old))
 
--- A volume was reclaimed, and then verified again.
+-- A volume was reclaimed, and then its report was written again.
 pub record UpdatesVolume {W : Type 0} (told : Result Answer Failure) (old new : Disk)
     (contents : W → Option (List ℕ)) (before after : W) : Type 0 where
   pub between : Disk

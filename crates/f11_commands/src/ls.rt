@@ -13,7 +13,7 @@ use f11_catalog::{ListFault, find, list_directories, list_directory};
 use f11_dev::{Device, DeviceFault};
 use f11_index::IndexFile;
 use f11_rad50::Name;
-use f11_serving::f11_vfy::{Report, VfyError, verify};
+use f11_serving::f11_vfy::{VfyError, is_faulty};
 use f11_store::Refusal;
 use std::alloc::Global;
 use std::io::Write;
@@ -51,15 +51,8 @@ pub fn print_ls<D: Device, W: Write>(
     ensures failed { IfErr result.1 (λ failure. FailsToServe failure
         (D.disk device) (D.disk result.0) W.contents writer.old writer.new) }
 {
-    match verify(alloc, device) {
-        Ok(Report::Accepted(accepted, _)) => list(
-            alloc,
-            accepted.device(),
-            false,
-            writer,
-            directory,
-        ),
-        Ok(Report::Faulty(device, _, _)) => list(alloc, device, true, writer, directory),
+    match is_faulty(alloc, device) {
+        Ok((device, faulty)) => list(alloc, device, faulty, writer, directory),
         Err(VfyError::DeviceFault(device)) => (device, Err(Failure::DeviceFault)),
         Err(VfyError::NoMemory(device)) => (device, Err(Failure::NoMemory)),
     }

@@ -11,7 +11,7 @@ use f11_dev::Device;
 use f11_script::ScriptError;
 use f11_serving::f11_fcp::{Failed, Volume};
 use f11_serving::f11_files::OpenFault;
-use f11_serving::f11_vfy::{Accepted, Report, VfyError, verify};
+use f11_serving::f11_vfy::{Accepted, Verdict, VfyError, judge};
 use f11_serving::run_script;
 use std::alloc::Global;
 use std::io::{Read, Write};
@@ -54,9 +54,9 @@ pub fn print_run<D: Device, R: Read + Drop, W: Write>(
     ensures runs { EndsRun result.1 (R.remaining script)
         (D.disk device) (D.disk result.0) W.contents writer.old writer.new }
 {
-    match verify(alloc, device) {
-        Ok(Report::Accepted(accepted, _)) => serve(alloc, accepted, script, writer),
-        Ok(Report::Faulty(device, faults, notes)) => {
+    match judge(alloc, device) {
+        Ok(Verdict::Accepted(accepted)) => serve(alloc, accepted, script, writer),
+        Ok(Verdict::Faulty(device, faults, notes)) => {
             match write_faulty(writer, System::Files11, &faults, &notes) {
                 Ok(answer) => (device, Ok(answer)),
                 Err(failure) => (device, Err(failure.into())),

@@ -13,3 +13,4 @@ pub mod Space
 pub mod Course
 pub mod Whole
 pub mod Behind
+pub mod Nothing

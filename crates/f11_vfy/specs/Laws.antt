@@ -1,7 +1,8 @@
 -- Laws of what the verifier reads, of what `init` leaves and of what reclaiming does, which show that the words for it say what is meant
 -- (profile).
-use Rattle.std.specs.Prelude.{◌≡◌, ◌⊎◌, ℕ, ◌≤◌, length}
+use Rattle.std.specs.Prelude.{◌≡◌, ◌⊎◌, ℕ, ◌≤◌, IsTrue, length}
 use Rattle.f11_bits.specs.Bitmap.{KeepsBitmap}
+use Rattle.f11_dev.specs.Disk.{Disk}
 use Rattle.f11_dev.specs.Image.{Image, IsImage}
 use Rattle.f11_header.specs.Writing.{dead_header}
 use Rattle.f11_home.specs.Home.{HomeFields, HasNoHome}
@@ -13,11 +14,11 @@ use Rattle.f11_store.specs.Directory.{is_directory}
 use Rattle.f11_volume.specs.Contents.{file_of}
 use Rattle.f11_volume.specs.Fresh.{MayStand}
 use Rattle.f11_volume.specs.Space.{storage_bitmap}
-use Rattle.f11_volume.specs.Verdict.{IsAccepted}
+use Rattle.f11_volume.specs.Verdict.{IsAccepted, IsNote}
 use Rattle.f11_volume.specs.Volume.{volume_of}
 use Rattle.f11_vfy.specs.Reclaiming.Moments.{IsReclaiming}
 use Rattle.f11_vfy.specs.Reclaiming.Slots.{IsOrphan, IsIdle}
-use Rattle.f11_vfy.specs.Reclaiming.Whole.{HasReclaimed}
+use Rattle.f11_vfy.specs.Reclaiming.Whole.{HasReclaimed, Reclaims}
 use Rattle.f11_vfy.specs.Scanning.Reading.{volume_in}
 use Rattle.f11_vfy.specs.Surveying.Slot.{says_directory}
 
@@ -50,6 +51,11 @@ FilesGainNone = (home : HomeFields) (old image : Image) → IsReclaiming home ol
 abbrev pub OrphansAreKilled : Type 0
 OrphansAreKilled = (home : HomeFields) (old new : Image) → HasReclaimed home old new → (n : ℕ) → IsOrphan (table_of old home) n →
     (table_of new home).header n ≡ dead_header ((table_of old home).header n)
+
+-- a volume of which no lost block, dead header or orphan is noted is reclaimed as it is
+abbrev pub NoneIsIdle : Type 0
+NoneIsIdle = (disk : Disk) → IsImage disk.image → (IsTrue disk.honest → (code a b : ℕ) → code ≤ 3 → ¬ IsNote disk.image code a b) →
+    Reclaims disk disk
 
 -- as long as there is an orphan, the index bitmap is as it was
 abbrev pub OrphansGoFirst : Type 0

@@ -12,11 +12,13 @@ pub fn readings()
     ensures volume { laws.VolumeIsRead }
 {}
 
-/// Reclaiming keeps the headers of files at each moment, and kills the orphans, before any slot leaves use, which is before any block becomes free.
+/// Reclaiming keeps the headers of files at each moment, and kills the orphans, before any slot leaves use, which is before any block
+/// becomes free. Where nothing is noted of what it gives back, there is nothing to do.
 pub fn reclaiming()
     ensures files { laws.FilesKeepHeaders }
     ensures no_more { laws.FilesGainNone }
     ensures orphans { laws.OrphansAreKilled }
+    ensures none { laws.NoneIsIdle }
     ensures first { laws.OrphansGoFirst }
     ensures last { laws.BlocksGoLast }
 {}

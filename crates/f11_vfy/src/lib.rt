@@ -32,4 +32,4 @@ pub use frame::framing::{Frame, Framing};
 pub use frame::read::read_frame;
 pub use fresh::{InitError, init};
 pub use reclaimer::whole::reclaim;
-pub use verifier::{Faults, Notes, Report, VfyError, verify};
+pub use verifier::{Faults, Notes, Report, Verdict, VfyError, is_faulty, judge, verify};

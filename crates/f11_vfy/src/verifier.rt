@@ -1,9 +1,9 @@
 //! The verifier: all faults and all notes of an image.
-ghost use Rattle.std.specs.Prelude.{◌≡◌, ◌∷◌, [], length, IfOk, IfErr, IsErrOf};
+ghost use Rattle.std.specs.Prelude.{◌≡◌, ◌↔◌, ◌∷◌, [], length, IfOk, IfErr, IsErrOf, IsTrue};
 ghost use Rattle.f11_findings.specs.Finding.{finding, AddsFindings};
 ghost use Rattle.f11_vfy.specs.Frames.Read.{frame_index, frame_bitmap};
 ghost use Rattle.f11_vfy.specs.Frames.Frame.{LieOn};
-ghost use Rattle.f11_vfy.specs.Verify.{Examines, ExaminesVolume, LooksOver, LooksOverVolume, IsReport, HasNoReport};
+ghost use Rattle.f11_vfy.specs.Verify.{AreWanted, Judges, JudgesVolume, LooksOver, LooksOverVolume, IsJudged, IsReport, HasNoReport, TellsVerdict};
 
 use crate::accepted::Accepted;
 use crate::fault::ReadFault;
@@ -29,6 +29,26 @@ pub enum Report<D: Device> {
     Accepted(Accepted<D>, Notes),
     /// It has these faults, and these notes.
     Faulty(D, Faults, Notes),
+}
+
+/// What is judged of an image. The device comes back.
+#[derive(Drop)]
+pub enum Verdict<D: Device> {
+    /// The image has no fault.
+    Accepted(Accepted<D>),
+    /// It has these faults, and these notes.
+    Faulty(D, Faults, Notes),
+}
+
+/// Of which images the notes are wanted.
+#[derive(Clone, Copy, Debug, PartialEq, Eq)]
+enum NotesOf {
+    /// Of each.
+    Any,
+    /// Of those that have a fault.
+    Faulty,
+    /// Of none.
+    None,
 }
 
 /// Why an image could not be verified. The device comes back.
@@ -69,7 +89,7 @@ pub fn verify<D: Device>(alloc: Global, device: D) -> Result<Report<D>, VfyError
     ensures failed { IfErr result (λ error. HasNoReport D.disk (D.disk device) error) }
 {
     let mut device = device;
-    match examine(alloc, &mut device) {
+    match examine(alloc, &mut device, NotesOf::Any) {
         Ok((faults, notes)) => {
             if faults.is_empty() {
                 Ok(Report::Accepted(Accepted::again(device), notes))
@@ -82,31 +102,78 @@ pub fn verify<D: Device>(alloc: Global, device: D) -> Result<Report<D>, VfyError
     }
 }
 
-/// The faults and the notes of an image.
-fn examine<D: Device>(alloc: Global, device: &mut D) -> Result<(Faults, Notes), ReadFault>
-    ensures examines { IfOk result (λ found.
-        Examines found.0 found.1 (D.disk device.old) (D.disk device.new)) }
+/// Judges the image of a device, as [`verify`] does, but for the notes of one without a fault: these aren't made, and its directories not
+/// read. It writes nothing, and takes the same memory at most.
+///
+/// # Errors
+///
+/// `DeviceFault` where a transfer failed, and `NoMemory` where there was no memory.
+pub fn judge<D: Device>(alloc: Global, device: D) -> Result<Verdict<D>, VfyError<D>>
+    ensures judged { IfOk result (λ verdict. IsJudged D.disk (D.disk device) verdict) }
+    ensures failed { IfErr result (λ error. HasNoReport D.disk (D.disk device) error) }
+{
+    let mut device = device;
+    match examine(alloc, &mut device, NotesOf::Faulty) {
+        Ok((faults, notes)) => {
+            if faults.is_empty() {
+                Ok(Verdict::Accepted(Accepted::again(device)))
+            } else {
+                Ok(Verdict::Faulty(device, faults, notes))
+            }
+        }
+        Err(ReadFault::DeviceFault) => Err(VfyError::DeviceFault(device)),
+        Err(ReadFault::NoMemory) => Err(VfyError::NoMemory(device)),
+    }
+}
+
+/// Whether the image of a device has a fault, found out as [`verify`] does, but without notes, so that its directories aren't read. The
+/// device comes back. It writes nothing, and takes the same memory at most.
+///
+/// # Errors
+///
+/// `DeviceFault` where a transfer failed, and `NoMemory` where there was no memory.
+pub fn is_faulty<D: Device>(alloc: Global, device: D) -> Result<(D, bool), VfyError<D>>
+    ensures told { IfOk result (λ told. TellsVerdict told.1 (D.disk device) (D.disk told.0)) }
+    ensures failed { IfErr result (λ error. HasNoReport D.disk (D.disk device) error) }
+{
+    let mut device = device;
+    match examine(alloc, &mut device, NotesOf::None) {
+        Ok((faults, _)) => Ok((device, !faults.is_empty())),
+        Err(ReadFault::DeviceFault) => Err(VfyError::DeviceFault(device)),
+        Err(ReadFault::NoMemory) => Err(VfyError::NoMemory(device)),
+    }
+}
+
+/// The faults of an image, and its notes where they are wanted.
+fn examine<D: Device>(
+    alloc: Global,
+    device: &mut D,
+    of: NotesOf,
+) -> Result<(Faults, Notes), ReadFault>
+    ensures judges { IfOk result (λ found.
+        Judges of found.0 found.1 (D.disk device.old) (D.disk device.new)) }
     ensures failed { IsErrOf result ReadFault.DeviceFault
         → LooksOver (D.disk device.old) (D.disk device.new) 1 }
     ensures no_memory { IsErrOf result ReadFault.NoMemory
         → LooksOver (D.disk device.old) (D.disk device.new) 0 }
 {
     match read_frame(alloc, device)? {
-        Framing::Framed(frame) => examine_volume(alloc, device, &frame),
+        Framing::Framed(frame) => examine_volume(alloc, device, &frame, of),
         Framing::Faulty { code, a } => Ok((one_fault(alloc, code, a)?, Findings::new(alloc))),
     }
 }
 
-/// The faults and the notes of a volume whose frame is as it should be.
+/// The faults of a volume whose frame is as it should be, and its notes where they are wanted.
 fn examine_volume<D: Device>(
     alloc: Global,
     device: &mut D,
     frame: &Frame,
+    of: NotesOf,
 ) -> Result<(Faults, Notes), ReadFault>
     requires { LieOn (frame_index frame.now) (frame_bitmap frame.now)
         (length (D.disk device.old).image) }
-    ensures examines { IfOk result (λ found.
-        ExaminesVolume (frame_index frame.now) (frame_bitmap frame.now) found.0 found.1
+    ensures judges { IfOk result (λ found.
+        JudgesVolume of (frame_index frame.now) (frame_bitmap frame.now) found.0 found.1
         (D.disk device.old) (D.disk device.new)) }
     ensures failed { IsErrOf result ReadFault.DeviceFault
         → LooksOverVolume (frame_index frame.now) (frame_bitmap frame.now)
@@ -118,10 +185,23 @@ fn examine_volume<D: Device>(
     let index = &frame.index;
     let mut kept = Kept::none(alloc);
     let reading = Reading::read(alloc, device, index, frame.places(), frame.size, &mut kept)?;
-    let mut notes = reading.notes(alloc)?;
-    reading.add_directory_notes(alloc, device, index, &mut notes)?;
-    reading.add_last_notes(&mut notes)?;
-    Ok((reading.into_faults(alloc)?, notes))
+    let faults = reading.faults(alloc)?;
+    if !are_wanted(of, &faults) {
+        return Ok((faults, Findings::new(alloc)));
+    }
+    let notes = reading.all_notes(alloc, device, index)?;
+    Ok((faults, notes))
+}
+
+/// Whether the notes of an image with these faults are wanted.
+fn are_wanted(of: NotesOf, faults: &Faults) -> bool
+    ensures { IsTrue result ↔ AreWanted of faults.now }
+{
+    match of {
+        NotesOf::Any => true,
+        NotesOf::Faulty => !faults.is_empty(),
+        NotesOf::None => false,
+    }
 }
 
 /// A list of one fault.

@@ -12,7 +12,7 @@ use crate::outcome::Failure;
 use crate::report::{System, write_faulty};
 use f11_dev::Device;
 use f11_findings::Findings;
-use f11_serving::f11_vfy::{Accepted, Report, VfyError, verify};
+use f11_serving::f11_vfy::{Accepted, Verdict, VfyError, judge};
 use rt11_volume::{RtAccepted, RtReport, RtVfyError};
 use std::alloc::Global;
 use std::io::Write;
@@ -31,9 +31,9 @@ pub fn accept_files<D: Device, W: Write>(
     ensures ended { IfErr result (λ end.
         EndsFiles end.1 (D.disk device) (D.disk end.0) W.contents writer.old writer.new) }
 {
-    match verify(alloc, device) {
-        Ok(Report::Accepted(accepted, _notes)) => Ok(accepted),
-        Ok(Report::Faulty(device, faults, notes)) => {
+    match judge(alloc, device) {
+        Ok(Verdict::Accepted(accepted)) => Ok(accepted),
+        Ok(Verdict::Faulty(device, faults, notes)) => {
             let told = write_report(writer, System::Files11, &faults, &notes);
             Err((device, told))
         }

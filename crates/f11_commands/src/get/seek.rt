@@ -26,7 +26,7 @@ use f11_catalog::find;
 use f11_dev::{Device, DeviceFault};
 use f11_index::IndexFile;
 use f11_rad50::Name;
-use f11_serving::f11_vfy::{Report, VfyError, verify};
+use f11_serving::f11_vfy::{VfyError, is_faulty};
 use f11_store::{FileId, Refusal};
 use std::alloc::Global;
 use std::io::Write;
@@ -65,11 +65,8 @@ pub fn seek_file<D: Device, W: Write>(
     ensures failed { IfErr result (λ failed. FailsToSeek failed.1 directory.now name.now
         (D.disk device) (D.disk failed.0) writer.old writer.new) }
 {
-    match verify(alloc, device) {
-        Ok(Report::Accepted(accepted, _)) => {
-            seek(alloc, accepted.device(), false, writer, directory, name)
-        }
-        Ok(Report::Faulty(device, _, _)) => seek(alloc, device, true, writer, directory, name),
+    match is_faulty(alloc, device) {
+        Ok((device, faulty)) => seek(alloc, device, faulty, writer, directory, name),
         Err(VfyError::DeviceFault(device)) => Err((device, Failure::DeviceFault)),
         Err(VfyError::NoMemory(device)) => Err((device, Failure::NoMemory)),
     }

@@ -4,6 +4,7 @@ use Rattle.f11_bits.specs.Bitmap.{Bitmap}
 use Rattle.f11_dev.specs.Disk.{Disk}
 use Rattle.f11_dev.specs.Image.{Image}
 use Rattle.f11_dev.specs.Looked.{Looked}
+use Rattle.f11_findings.specs.Finding.{IsExactly}
 use Rattle.f11_findings.specs.declared.finding.Finding.{Finding}
 use Rattle.f11_map.specs.HeaderBlock.{segment_number}
 use Rattle.f11_index.specs.Headers.{is_live}
@@ -79,6 +80,12 @@ pub record LooksThrough (index : Index) (r : Reading) (old new : Disk) (faults :
   pub looked : Looked old new reads faults
   pub few : IsTrue old.honest → (bitmap : Bitmap) → ShowsVolume (volume_in old.image index bitmap) r →
       reads ≤ directory_reads old.image (table_in old.image index)
+
+-- These are all notes of the volume.
+pub record NotesVolume (index : Index) (r : Reading) (notes : List Finding) (old new : Disk) : Type 0 where
+  pub exact : IsTrue old.honest → (bitmap : Bitmap) → ShowsVolume (volume_in old.image index bitmap) r
+      → IsExactly (IsVolumeNote old.image (volume_in old.image index bitmap)) notes
+  pub looked : LooksThrough index r old new 0
 
 -- The notes of the directories were added.
 pub record AddsDirectoryNotes (index : Index) (r : Reading) (found_old found_new : List Finding) (old new : Disk) : Type 0 where

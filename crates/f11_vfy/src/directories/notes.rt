@@ -65,7 +65,7 @@ fn add_unentered(found: &mut Findings, slots: &[Slot], entered: &Bits) -> Result
 }
 
 impl Reading {
-    ghost use Rattle.f11_vfy.specs.Directory.Notes.{AddsDirectoryNotes, LooksThrough, LooksAt, JudgesSlot, JudgesUpTo};
+    ghost use Rattle.f11_vfy.specs.Directory.Notes.{AddsDirectoryNotes, NotesVolume, LooksThrough, LooksAt, JudgesSlot, JudgesUpTo};
 
     /// Judges slot `k + 1`: it reads the directory that the slot has, if it has one.
     fn judge_slot<D: Device>(
@@ -156,5 +156,32 @@ impl Reading {
         add_all(found, repeated)?;
         add_all(found, no_name)?;
         Ok(())
+    }
+
+    /// All notes of the volume, in the order of their codes and numbers. It reads the directories.
+    ///
+    /// # Errors
+    ///
+    /// `DeviceFault` where a transfer failed; `NoMemory` where there was no memory for a directory's names or for a note.
+    pub(crate) fn all_notes<D: Device>(
+        &self,
+        alloc: Global,
+        device: &mut D,
+        index: &IndexFile,
+    ) -> Result<Findings, ReadFault>
+        requires within { IndexLiesWithin (index_kept index.now) (length (D.disk device.old).image) }
+        ensures notes { IfOk result (λ notes. NotesVolume (index_kept index.now) self.now notes
+            (D.disk device.old) (D.disk device.new)) }
+        ensures failed { IsErrOf result ReadFault.DeviceFault
+            → LooksThrough (index_kept index.now) self.now (D.disk device.old)
+            (D.disk device.new) 1 }
+        ensures no_memory { IsErrOf result ReadFault.NoMemory
+            → LooksThrough (index_kept index.now) self.now (D.disk device.old)
+            (D.disk device.new) 0 }
+    {
+        let mut notes = self.notes(alloc)?;
+        self.add_directory_notes(alloc, device, index, &mut notes)?;
+        self.add_last_notes(&mut notes)?;
+        Ok(notes)
     }
 }

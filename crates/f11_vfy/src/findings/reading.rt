@@ -8,7 +8,7 @@ ghost use Rattle.f11_vfy.specs.Surveying.Bits.{has};
 use crate::chains::{Chains, find_chains};
 use crate::fault::ReadFault;
 use crate::findings::kept::Kept;
-use crate::findings::scans::{Kind, add_all, add_headers, add_lost, add_marked};
+use crate::findings::scans::{Kind, add_each, add_headers, add_lost, add_marked};
 use crate::survey::bits::Bits;
 use crate::survey::headers::{Survey, survey_headers};
 use crate::survey::space::free_blocks;
@@ -96,30 +96,26 @@ impl Reading {
     /// # Errors
     ///
     /// `NoMemory` where there is no memory for them.
-    pub fn into_faults(self, alloc: Global) -> Result<Findings, NoMemory>
-        ensures exact { IfOk result (λ found. (v : Volume) → ShowsVolume v self
+    pub fn faults(&self, alloc: Global) -> Result<Findings, NoMemory>
+        ensures exact { IfOk result (λ found. (v : Volume) → ShowsVolume v self.now
             → IsExactly (IsVolumeFault v) found) }
     {
-        let Reading {
-            survey,
-            chains,
-            free,
-        } = self;
         let Survey {
             tally,
             outside,
             slots,
-        } = survey;
-        let named_free = tally.once.common(alloc, &free)?;
+        } = &self.survey;
+        let chains = &self.chains;
+        let named_free = tally.once.common(alloc, &self.free)?;
         let mut found = Findings::new(alloc);
-        add_headers(&mut found, Kind::BadHeader, &slots, &chains)?;
-        add_all(&mut found, outside)?;
+        add_headers(&mut found, Kind::BadHeader, slots, chains)?;
+        add_each(&mut found, outside)?;
         add_marked(&mut found, NAMED_TWICE, &tally.twice)?;
         add_marked(&mut found, NAMED_FREE, &named_free)?;
-        add_headers(&mut found, Kind::WrongLink, &slots, &chains)?;
+        add_headers(&mut found, Kind::WrongLink, slots, chains)?;
         add_marked(&mut found, LINKED_TWICE, &chains.linked.twice)?;
-        add_headers(&mut found, Kind::LinkPastLast, &slots, &chains)?;
-        add_headers(&mut found, Kind::LinkToVolume, &slots, &chains)?;
+        add_headers(&mut found, Kind::LinkPastLast, slots, chains)?;
+        add_headers(&mut found, Kind::LinkToVolume, slots, chains)?;
         Ok(found)
     }
 

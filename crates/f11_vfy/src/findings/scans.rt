@@ -236,6 +236,18 @@ pub(crate) fn add_all(found: &mut Findings, more: Findings) -> Result<(), NoMemo
     ensures { OnOk result (Finds (λ code a b. Contains more (finding code a b))
         found.old found.new) }
 {
+    add_each(found, &more)
+}
+
+/// Adds other findings, which stay.
+///
+/// # Errors
+///
+/// `NoMemory` where there is no memory for them.
+pub(crate) fn add_each(found: &mut Findings, more: &Findings) -> Result<(), NoMemory>
+    ensures { OnOk result (Finds (λ code a b. Contains more.now (finding code a b))
+        found.old found.new) }
+{
     for i in 0..more.len() {
         let Some(finding) = more.get(i) else {
             return Ok(());

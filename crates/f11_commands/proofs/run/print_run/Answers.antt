@@ -3,7 +3,7 @@ use Rattle.f11_commands.proofs.run.print_run.Goals as goal
 
 pub returns-in-Ok-Accepted : goal.returns-in-Ok-Accepted
 returns-in-Ok-Accepted g c =
-    let report = rw c.in-Ok-Accepted.field-0-is at c.in-Ok-Accepted.ensures.report in
+    let report = rw c.in-Ok-Accepted.field-0-is at c.in-Ok-Accepted.ensures.judged in
     record {
       runs =
           ends-behind (g.R.Read.remaining c.args.script) g.W.Write.contents c.args.writer.now c.serve.new.writer
@@ -13,7 +13,7 @@ returns-in-Ok-Accepted g c =
 
 pub returns-in-Ok-Faulty : goal.returns-in-Ok-Faulty
 returns-in-Ok-Faulty g c =
-    let report = rw c.in-Ok-Faulty.field-0-is at c.in-Ok-Faulty.ensures.report in
+    let report = rw c.in-Ok-Faulty.field-0-is at c.in-Ok-Faulty.ensures.judged in
     record {
       runs =
           ends-unwritten (g.R.Read.remaining c.args.script) g.W.Write.contents c.args.writer.now c.write_faulty.new.writer

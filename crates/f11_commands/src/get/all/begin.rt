@@ -16,7 +16,7 @@ use f11_bytes::NoMemory;
 use f11_catalog::{AllFiles, WalkFault};
 use f11_dev::{Device, DeviceFault};
 use f11_index::IndexFile;
-use f11_serving::f11_vfy::{Report, VfyError, verify};
+use f11_serving::f11_vfy::{VfyError, is_faulty};
 use std::alloc::Global;
 use std::io::Write;
 
@@ -49,9 +49,8 @@ pub fn begin_all<D: Device, W: Write>(
     ensures failed { IfErr result (λ told. IfErr told.1 (λ failure.
         FailsToBeginAll failure (D.disk device) (D.disk told.0) writer.old writer.new)) }
 {
-    match verify(alloc, device) {
-        Ok(Report::Accepted(accepted, _)) => begin(alloc, accepted.device(), false, writer),
-        Ok(Report::Faulty(device, _, _)) => begin(alloc, device, true, writer),
+    match is_faulty(alloc, device) {
+        Ok((device, faulty)) => begin(alloc, device, faulty, writer),
         Err(VfyError::DeviceFault(device)) => Err((device, Err(Failure::DeviceFault))),
         Err(VfyError::NoMemory(device)) => Err((device, Err(Failure::NoMemory))),
     }

@@ -1,11 +1,12 @@
 use Rattle.std.proofs.lemmas.Result.{IfOk-weaker}
-use Rattle.f11_vfy.proofs.Surveying.Over.{over-volume, examines-volume, examines-frame}
+use Rattle.f11_vfy.proofs.Surveying.Over.{over-volume, judges-volume, judges-frame}
 use Rattle.f11_vfy.proofs.verifier.examine.Goals as goal
 
-pub returns-in-Framed-clause-examines : goal.returns-in-Framed-clause-examines
-returns-in-Framed-clause-examines g c =
+pub returns-in-Framed-clause-judges : goal.returns-in-Framed-clause-judges
+returns-in-Framed-clause-judges g c =
     IfOk-weaker c.examine_volume.result _ _
-    (λ found is. examines-volume _ _ _ _ _ _ _ (rw c.in-Framed.is at c.in_ok-frame.ensures.frames) is) c.examine_volume.ensures.examines
+    (λ found is. judges-volume _ _ _ _ _ (rw c.in-Framed.is at c.in_ok-frame.ensures.frames) c.args.of _ _ is)
+    c.examine_volume.ensures.judges
 
 pub returns-in-Framed-clause-failed : goal.returns-in-Framed-clause-failed
 returns-in-Framed-clause-failed g c is =
@@ -15,6 +16,7 @@ pub returns-in-Framed-clause-no_memory : goal.returns-in-Framed-clause-no_memory
 returns-in-Framed-clause-no_memory g c is =
     over-volume _ _ _ _ _ 0 (rw c.in-Framed.is at c.in_ok-frame.ensures.frames) (c.examine_volume.ensures.no_memory is)
 
-pub returns-in_ok-one_fault-in-Faulty-clause-examines : goal.returns-in_ok-one_fault-in-Faulty-clause-examines
-returns-in_ok-one_fault-in-Faulty-clause-examines g c =
-    rw c.new.ensures (examines-frame _ _ _ _ _ (rw c.in-Faulty.is at c.in_ok-frame.ensures.frames) c.in_ok-one_fault-in-Faulty.ensures)
+pub returns-in_ok-one_fault-in-Faulty-clause-judges : goal.returns-in_ok-one_fault-in-Faulty-clause-judges
+returns-in_ok-one_fault-in-Faulty-clause-judges g c =
+    rw c.new.ensures
+    (judges-frame c.args.of _ _ _ _ _ (rw c.in-Faulty.is at c.in_ok-frame.ensures.frames) c.in_ok-one_fault-in-Faulty.ensures)
