@@ -3,4 +3,5 @@ pub mod LookedLemmas
 pub mod WentLemmas
 pub mod ImageLemmas
 pub mod FileLemmas
+pub mod RunLemmas
 pub use Rattle.f11_bytes.proofs as bytes

@@ -1,6 +1,7 @@
 pub mod Image
 pub mod Disk
 pub mod Looked
+pub mod Run
 pub mod Went
 pub mod Outcomes
 pub mod Memory

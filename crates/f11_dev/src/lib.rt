@@ -16,6 +16,7 @@ pub mod laws;
 mod liar;
 mod memory;
 mod outcomes;
+mod run;
 mod written;
 
 pub use device::{Device, DeviceFault};
@@ -26,3 +27,5 @@ pub use file_image::{CannotOpen, Fault, FileImage, MAX_BLOCKS};
 pub use fuse::Fuse;
 pub use liar::Liar;
 pub use memory::Memory;
+pub use outcomes::Outcomes;
+pub use run::ReadsRuns;

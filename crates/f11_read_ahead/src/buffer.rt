@@ -1,0 +1,170 @@
+//! Blocks of a device that are kept.
+ghost use Rattle.std.specs.Prelude.{◌≡◌, ◌+◌, ◌<◌, ◌≤◌, length, IsTrue, MatchOption};
+ghost use Rattle.f11_dev.specs.Image.{Image, image_block};
+ghost use Rattle.f11_dev.specs.Run.{StandsAt};
+ghost use Rattle.f11_read_ahead.specs.Asked.{Gives, IsAsked};
+
+use f11_dev::f11_bytes::zeros;
+use f11_dev::{Block, DeviceFault, ReadsRuns};
+use std::alloc::Global;
+
+/// The most blocks that a buffer keeps.
+const MOST: usize = 64;
+
+/// Blocks that follow one another on a device, and are kept.
+#[derive(Drop)]
+pub struct Buffer {
+    /// The first `count` of these are kept.
+    blocks: Vec<Block>,
+    /// Which block of the device the first one is.
+    first: u32,
+    count: u32,
+    ghost few: { count ≤ length blocks.items },
+}
+
+impl Buffer {
+    ghost use Rattle.f11_read_ahead.specs.Buffer.{AfterWrite, Holds, IsKeptAt, IsNotKept, Keeps};
+
+    /// A buffer that keeps nothing yet, and never will where there is no memory for it.
+    pub fn new(alloc: Global) -> Buffer
+        ensures { (image : Image) → Keeps image result }
+    {
+        Buffer {
+            blocks: room(alloc),
+            first: 0,
+            count: 0,
+        }
+    }
+
+    /// Where a block is kept.
+    fn place(&self, lbn: u32) -> Option<u32>
+        ensures { MatchOption result (IsNotKept self.now lbn) (λ at. IsKeptAt self.now lbn at) }
+    {
+        if lbn < self.first {
+            return None;
+        }
+        let at = lbn - self.first;
+        if at < self.count { Some(at) } else { None }
+    }
+
+    /// Gives a block if it is kept.
+    pub fn give(&self, lbn: u32, into: &mut Block) -> bool
+        ensures { IsTrue result → Holds self.now lbn into.new }
+    {
+        match self.place(lbn) {
+            Some(at) => {
+                *into = self.blocks[at as usize];
+                true
+            }
+            None => false,
+        }
+    }
+
+    /// Puts what was written in the place of the block, if it is kept. A block of which a write failed is forgotten, and those behind it.
+    pub fn written(&mut self, lbn: u32, from: &Block, passed: bool)
+        ensures { AfterWrite passed lbn from.now self.old self.new }
+    {
+        let Some(at) = self.place(lbn) else {
+            return;
+        };
+        if passed {
+            self.blocks[at as usize] = *from;
+            return;
+        }
+        self.count = at;
+    }
+
+    /// Whether a block is the one behind those that are kept.
+    pub fn is_followed_by(&self, lbn: u32) -> bool {
+        lbn >= self.first && lbn - self.first == self.count
+    }
+
+    /// Reads a block, and keeps it: alone, or with twice as many as were kept where it is the one behind them. Where these can't be
+    /// read at once it is read alone, too.
+    pub fn read<D: ReadsRuns>(
+        &mut self,
+        device: &mut D,
+        lbn: u32,
+        into: &mut Block,
+    ) -> Result<(), DeviceFault>
+        requires { lbn < length (D.disk device.old).image }
+        ensures gives { Gives result lbn into.new (D.disk device.old) (D.disk device.new) }
+        ensures keeps { IsTrue (D.disk device.old).honest → Keeps (D.disk device.old).image self.new }
+    {
+        let ahead = self.wanted(lbn);
+        self.fill(device, lbn, ahead);
+        if self.give(lbn, into) {
+            return Ok(());
+        }
+        match device.read(lbn, into) {
+            Ok(()) => {
+                self.keep(lbn, into);
+                Ok(())
+            }
+            Err(fault) => Err(fault),
+        }
+    }
+
+    /// How many blocks are worth reading at once from one on that isn't kept: none where it doesn't follow those that are.
+    fn wanted(&self, lbn: u32) -> usize {
+        if self.is_followed_by(lbn) {
+            (self.count as usize).saturating_mul(2)
+        } else {
+            0
+        }
+    }
+
+    /// Keeps so many blocks from `lbn` on in the place of all others, or as many as fit and the device has; none where they can't be
+    /// read at once.
+    fn fill<D: ReadsRuns>(&mut self, device: &mut D, lbn: u32, wanted: usize)
+        requires { lbn < length (D.disk device.old).image }
+        ensures asked { IsAsked (D.disk device.old) (D.disk device.new) }
+        ensures keeps { IsTrue (D.disk device.old).honest → Keeps (D.disk device.old).image self.new }
+    {
+        self.count = 0;
+        let left = (device.blocks() - lbn) as usize;
+        let count = left.min(wanted).min(self.blocks.len());
+        if count <= 1 {
+            return;
+        }
+        if !read_front(device, lbn, self.blocks.as_mut_slice(), count) {
+            return;
+        }
+        self.first = lbn;
+        self.count = count as u32;
+    }
+
+    /// Keeps one block, and no other.
+    fn keep(&mut self, lbn: u32, block: &Block)
+        ensures { (image : Image) → image_block image lbn ≡ block.now → Keeps image self.new }
+    {
+        self.count = 0;
+        if self.blocks.is_empty() {
+            return;
+        }
+        self.blocks[0] = *block;
+        self.first = lbn;
+        self.count = 1;
+    }
+}
+
+/// Reads blocks into the first so many of these, at once, and tells whether it could.
+fn read_front<D: ReadsRuns>(device: &mut D, lbn: u32, blocks: &mut [Block], count: usize) -> bool
+    requires some { 0 < count }
+    requires room { count ≤ length blocks.old }
+    requires within { lbn + count ≤ length (D.disk device.old).image }
+    ensures asked { IsAsked (D.disk device.old) (D.disk device.new) }
+    ensures size { length blocks.new ≡ length blocks.old }
+    ensures stands { IsTrue result → IsTrue (D.disk device.old).honest
+        → StandsAt (D.disk device.old).image lbn count blocks.new }
+{
+    device.read_run(lbn, &mut blocks[..count]).is_ok()
+}
+
+/// Room for the blocks of a buffer; none where there is no memory.
+fn room(alloc: Global) -> Vec<Block> {
+    match vec![in alloc; zeros(); MOST] {
+        Ok(blocks) => blocks,
+        Err(_) => Vec::new(alloc),
+    }
+}
