@@ -3,13 +3,14 @@ ghost use Rattle.std.specs.Prelude.{◌≡◌, ◌+◌, ◌<◌, ◌≤◌, leng
 ghost use Rattle.f11_dev.specs.Image.{Image, image_block};
 ghost use Rattle.f11_dev.specs.Run.{StandsAt};
 ghost use Rattle.f11_read_ahead.specs.Asked.{Gives, IsAsked};
+ghost use Rattle.f11_read_ahead.specs.declared.buffer.TheConstants.{MOST};
 
 use f11_dev::f11_bytes::zeros;
 use f11_dev::{Block, DeviceFault, ReadsRuns};
 use std::alloc::Global;
 
-/// The most blocks that a buffer keeps.
-const MOST: usize = 64;
+/// The most blocks that a buffer keeps, and that are read at once.
+pub const MOST: usize = 64;
 
 /// Blocks that follow one another on a device, and are kept.
 #[derive(Drop)]
@@ -20,6 +21,7 @@ pub struct Buffer {
     first: u32,
     count: u32,
     ghost few: { count ≤ length blocks.items },
+    ghost most: { length blocks.items ≤ MOST },
 }
 
 impl Buffer {
@@ -88,7 +90,7 @@ impl Buffer {
         into: &mut Block,
     ) -> Result<(), DeviceFault>
         requires { lbn < length (D.disk device.old).image }
-        ensures gives { Gives result lbn into.new (D.disk device.old) (D.disk device.new) }
+        ensures gives { Gives result lbn into.new (D.disk device.old) (D.disk device.new) (MOST + 1) }
         ensures keeps { IsTrue (D.disk device.old).honest → Keeps (D.disk device.old).image self.new }
     {
         let ahead = self.wanted(lbn);
@@ -118,7 +120,7 @@ impl Buffer {
     /// read at once.
     fn fill<D: ReadsRuns>(&mut self, device: &mut D, lbn: u32, wanted: usize)
         requires { lbn < length (D.disk device.old).image }
-        ensures asked { IsAsked (D.disk device.old) (D.disk device.new) }
+        ensures asked { IsAsked (D.disk device.old) (D.disk device.new) MOST }
         ensures keeps { IsTrue (D.disk device.old).honest → Keeps (D.disk device.old).image self.new }
     {
         self.count = 0;
@@ -153,7 +155,7 @@ fn read_front<D: ReadsRuns>(device: &mut D, lbn: u32, blocks: &mut [Block], coun
     requires some { 0 < count }
     requires room { count ≤ length blocks.old }
     requires within { lbn + count ≤ length (D.disk device.old).image }
-    ensures asked { IsAsked (D.disk device.old) (D.disk device.new) }
+    ensures asked { IsAsked (D.disk device.old) (D.disk device.new) count }
     ensures size { length blocks.new ≡ length blocks.old }
     ensures stands { IsTrue result → IsTrue (D.disk device.old).honest
         → StandsAt (D.disk device.old).image lbn count blocks.new }
@@ -162,7 +164,9 @@ fn read_front<D: ReadsRuns>(device: &mut D, lbn: u32, blocks: &mut [Block], coun
 }
 
 /// Room for the blocks of a buffer; none where there is no memory.
-fn room(alloc: Global) -> Vec<Block> {
+fn room(alloc: Global) -> Vec<Block>
+    ensures { length result.items ≤ MOST }
+{
     match vec![in alloc; zeros(); MOST] {
         Ok(blocks) => blocks,
         Err(_) => Vec::new(alloc),

@@ -1,9 +1,10 @@
 //! A device that reads ahead.
-ghost use Rattle.std.specs.Prelude.{◌≡◌, ◌<◌, length, IsTrue};
-ghost use Rattle.f11_dev.specs.Disk.{Reads, Writes};
+ghost use Rattle.std.specs.Prelude.{◌≡◌, ◌+◌, ◌<◌, length, IsTrue};
+ghost use Rattle.f11_dev.specs.Disk.{Reads, Syncs, Writes};
 ghost use Rattle.f11_dev.specs.Outcomes.{without_transfers};
 ghost use Rattle.f11_read_ahead.specs.Asked.{Gives};
 ghost use Rattle.f11_read_ahead.specs.Buffer.{Keeps};
+ghost use Rattle.f11_read_ahead.specs.declared.buffer.TheConstants.{MOST};
 
 use crate::buffer::Buffer;
 use f11_dev::{Block, Device, DeviceFault, Outcomes, ReadsRuns};
@@ -13,8 +14,8 @@ use std::mem;
 /// A device around another that keeps blocks which follow one another, in two buffers: where they are read in order, it reads 2, 4, 8 and
 /// so on up to 64 of them at once. A write is passed on as it comes, and what is kept follows it.
 ///
-/// It counts the transfers through it, a block each, and not those of the device within, which may be fewer, or more: where blocks can't be
-/// read at once the one that was asked is read alone.
+/// It counts the transfers through it, a block each, and not those of the device within, which may be fewer, or more, at most 65 a read: where
+/// blocks can't be read at once the one that was asked is read alone.
 ///
 /// That a device is honest is to hold as long as a block is kept: where somebody else writes it meanwhile, that may be missed.
 #[derive(Drop)]
@@ -47,7 +48,7 @@ impl<D: ReadsRuns> ReadAhead<D> {
     /// Gives a block: one that is kept, or one that is read then.
     fn look(&mut self, lbn: u32, into: &mut Block) -> Result<(), DeviceFault>
         requires { lbn < length (D.disk (behind_ahead self.old)).image }
-        ensures gives { Gives result lbn into.new (D.disk (behind_ahead self.old)) (D.disk (behind_ahead self.new)) }
+        ensures gives { Gives result lbn into.new (D.disk (behind_ahead self.old)) (D.disk (behind_ahead self.new)) (MOST + 1) }
         ensures outcomes { ahead_outcomes self.new ≡ ahead_outcomes self.old }
     {
         if self.recent.give(lbn, into) {
@@ -91,7 +92,7 @@ impl<D: ReadsRuns> Device for ReadAhead<D> {
     fn read(&mut self, lbn: u32, into: &mut Block) -> Result<(), DeviceFault>
         requires { lbn < length (ahead_disk D.disk self.old).image }
         ensures reads { Reads result lbn into.new (ahead_disk D.disk self.old) (ahead_disk D.disk self.new) }
-        ensures inner { Gives result lbn into.new (D.disk (behind_ahead self.old)) (D.disk (behind_ahead self.new)) }
+        ensures inner { Gives result lbn into.new (D.disk (behind_ahead self.old)) (D.disk (behind_ahead self.new)) (MOST + 1) }
     {
         let done = self.look(lbn, into);
         self.outcomes.add(done.is_ok());
@@ -111,7 +112,10 @@ impl<D: ReadsRuns> Device for ReadAhead<D> {
         done
     }
 
-    fn sync(&mut self) -> Result<(), DeviceFault> {
+    fn sync(&mut self) -> Result<(), DeviceFault>
+        ensures syncs { Syncs result (ahead_disk D.disk self.old) (ahead_disk D.disk self.new) }
+        ensures inner { Syncs result (D.disk (behind_ahead self.old)) (D.disk (behind_ahead self.new)) }
+    {
         match self.inner.sync() {
             Ok(()) => Ok(()),
             Err(fault) => {
