@@ -1,6 +1,6 @@
 //! A device that reads ahead.
 ghost use Rattle.std.specs.Prelude.{◌≡◌, ◌+◌, ◌<◌, length, IsTrue};
-ghost use Rattle.f11_dev.specs.Disk.{Reads, Syncs, Writes};
+ghost use Rattle.f11_dev.specs.Disk.{Syncs, Writes};
 ghost use Rattle.f11_dev.specs.Outcomes.{without_transfers};
 ghost use Rattle.f11_read_ahead.specs.Asked.{Gives};
 ghost use Rattle.f11_read_ahead.specs.Buffer.{Keeps};
@@ -48,7 +48,8 @@ impl<D: ReadsRuns> ReadAhead<D> {
     /// Gives a block: one that is kept, or one that is read then.
     fn look(&mut self, lbn: u32, into: &mut Block) -> Result<(), DeviceFault>
         requires { lbn < length (D.disk (behind_ahead self.old)).image }
-        ensures gives { Gives result lbn into.new (D.disk (behind_ahead self.old)) (D.disk (behind_ahead self.new)) (MOST + 1) }
+        ensures gives { Gives result lbn into.new
+            (D.disk (behind_ahead self.old)) (D.disk (behind_ahead self.new)) (MOST + 1) }
         ensures outcomes { ahead_outcomes self.new ≡ ahead_outcomes self.old }
     {
         if self.recent.give(lbn, into) {
@@ -79,7 +80,7 @@ impl<D: ReadsRuns> ReadAhead<D> {
 }
 
 impl<D: ReadsRuns> Device for ReadAhead<D> {
-    ghost use Rattle.f11_read_ahead.specs.ReadAhead.{ahead_disk, behind_ahead};
+    ghost use Rattle.f11_read_ahead.specs.ReadAhead.{ahead_disk, PassesOn, ReadsAhead};
 
     ghost disk = { ahead_disk D.disk };
 
@@ -91,8 +92,7 @@ impl<D: ReadsRuns> Device for ReadAhead<D> {
 
     fn read(&mut self, lbn: u32, into: &mut Block) -> Result<(), DeviceFault>
         requires { lbn < length (ahead_disk D.disk self.old).image }
-        ensures reads { Reads result lbn into.new (ahead_disk D.disk self.old) (ahead_disk D.disk self.new) }
-        ensures inner { Gives result lbn into.new (D.disk (behind_ahead self.old)) (D.disk (behind_ahead self.new)) (MOST + 1) }
+        ensures read { ReadsAhead D.disk result lbn into.new self.old self.new }
     {
         let done = self.look(lbn, into);
         self.outcomes.add(done.is_ok());
@@ -101,8 +101,7 @@ impl<D: ReadsRuns> Device for ReadAhead<D> {
 
     fn write(&mut self, lbn: u32, from: &Block) -> Result<(), DeviceFault>
         requires { lbn < length (ahead_disk D.disk self.old).image }
-        ensures writes { Writes result lbn from.now (ahead_disk D.disk self.old) (ahead_disk D.disk self.new) }
-        ensures inner { Writes result lbn from.now (D.disk (behind_ahead self.old)) (D.disk (behind_ahead self.new)) }
+        ensures write { PassesOn D.disk (Writes result lbn from.now) self.old self.new }
     {
         let done = self.inner.write(lbn, from);
         let passed = done.is_ok();
@@ -113,8 +112,7 @@ impl<D: ReadsRuns> Device for ReadAhead<D> {
     }
 
     fn sync(&mut self) -> Result<(), DeviceFault>
-        ensures syncs { Syncs result (ahead_disk D.disk self.old) (ahead_disk D.disk self.new) }
-        ensures inner { Syncs result (D.disk (behind_ahead self.old)) (D.disk (behind_ahead self.new)) }
+        ensures sync { PassesOn D.disk (Syncs result) self.old self.new }
     {
         match self.inner.sync() {
             Ok(()) => Ok(()),
