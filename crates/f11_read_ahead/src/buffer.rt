@@ -1,5 +1,5 @@
 //! Blocks of a device that are kept.
-ghost use Rattle.std.specs.Prelude.{◌≡◌, ◌+◌, ◌<◌, ◌≤◌, length, IsTrue, MatchOption};
+ghost use Rattle.std.specs.Prelude.{◌≡◌, ◌+◌, ◌*◌, ◌<◌, ◌≤◌, ◌↔◌, false, length, IsTrue, MatchOption};
 ghost use Rattle.f11_dev.specs.Image.{Image, image_block};
 ghost use Rattle.f11_dev.specs.Run.{StandsAt};
 ghost use Rattle.f11_read_ahead.specs.Asked.{Gives, IsAsked};
@@ -25,11 +25,23 @@ pub struct Buffer {
 }
 
 impl Buffer {
-    ghost use Rattle.f11_read_ahead.specs.Buffer.{AfterWrite, Holds, IsKeptAt, IsNotKept, Keeps};
+    ghost use Rattle.f11_read_ahead.specs.Buffer.{
+      AfterWrite,
+      Fills,
+      HasRoom,
+      Holds,
+      IsElsewhere,
+      IsKeptAt,
+      IsNext,
+      IsNotKept,
+      Keeps,
+      KeepsFrom,
+      ReadsOn,
+    };
 
     /// A buffer that keeps nothing yet, and never will where there is no memory for it.
     pub fn new(alloc: Global) -> Buffer
-        ensures { (image : Image) → Keeps image result }
+        ensures { result.count ≡ 0 }
     {
         Buffer {
             blocks: room(alloc),
@@ -51,7 +63,8 @@ impl Buffer {
 
     /// Gives a block if it is kept.
     pub fn give(&self, lbn: u32, into: &mut Block) -> bool
-        ensures { IsTrue result → Holds self.now lbn into.new }
+        ensures given { IsTrue result → Holds self.now lbn into.new }
+        ensures none { result ≡ false → IsNotKept self.now lbn }
     {
         match self.place(lbn) {
             Some(at) => {
@@ -77,7 +90,9 @@ impl Buffer {
     }
 
     /// Whether a block is the one behind those that are kept.
-    pub fn is_followed_by(&self, lbn: u32) -> bool {
+    pub fn is_followed_by(&self, lbn: u32) -> bool
+        ensures { IsTrue result ↔ IsNext self.now lbn }
+    {
         lbn >= self.first && lbn - self.first == self.count
     }
 
@@ -92,6 +107,7 @@ impl Buffer {
         requires { lbn < length (D.disk device.old).image }
         ensures gives { Gives result lbn into.new (D.disk device.old) (D.disk device.new) (MOST + 1) }
         ensures keeps { IsTrue (D.disk device.old).honest → Keeps (D.disk device.old).image self.new }
+        ensures reads { HasRoom self.old → ReadsOn result lbn self.old self.new (D.disk device.old) (D.disk device.new) }
     {
         let ahead = self.wanted(lbn);
         self.fill(device, lbn, ahead);
@@ -108,7 +124,10 @@ impl Buffer {
     }
 
     /// How many blocks are worth reading at once from one on that isn't kept: none where it doesn't follow those that are.
-    fn wanted(&self, lbn: u32) -> usize {
+    fn wanted(&self, lbn: u32) -> usize
+        ensures next { IsNext self.now lbn → result ≡ 2 * self.now.count }
+        ensures elsewhere { IsElsewhere self.now lbn → result ≡ 0 }
+    {
         if self.is_followed_by(lbn) {
             (self.count as usize).saturating_mul(2)
         } else {
@@ -122,6 +141,7 @@ impl Buffer {
         requires { lbn < length (D.disk device.old).image }
         ensures asked { IsAsked (D.disk device.old) (D.disk device.new) MOST }
         ensures keeps { IsTrue (D.disk device.old).honest → Keeps (D.disk device.old).image self.new }
+        ensures fills { Fills wanted lbn self.old self.new (D.disk device.old) (D.disk device.new) }
     {
         self.count = 0;
         let left = (device.blocks() - lbn) as usize;
@@ -138,7 +158,8 @@ impl Buffer {
 
     /// Keeps one block, and no other.
     fn keep(&mut self, lbn: u32, block: &Block)
-        ensures { (image : Image) → image_block image lbn ≡ block.now → Keeps image self.new }
+        ensures keeps { (image : Image) → image_block image lbn ≡ block.now → Keeps image self.new }
+        ensures from { HasRoom self.old → KeepsFrom self.new lbn 1 }
     {
         self.count = 0;
         if self.blocks.is_empty() {
@@ -157,6 +178,7 @@ fn read_front<D: ReadsRuns>(device: &mut D, lbn: u32, blocks: &mut [Block], coun
     requires within { lbn + count ≤ length (D.disk device.old).image }
     ensures asked { IsAsked (D.disk device.old) (D.disk device.new) count }
     ensures size { length blocks.new ≡ length blocks.old }
+    ensures fails { result ≡ false → (D.disk device.old).failures < (D.disk device.new).failures }
     ensures stands { IsTrue result → IsTrue (D.disk device.old).honest
         → StandsAt (D.disk device.old).image lbn count blocks.new }
 {

@@ -1,5 +1,5 @@
 //! A device that reads ahead.
-ghost use Rattle.std.specs.Prelude.{◌≡◌, ◌+◌, ◌<◌, length, IsTrue};
+ghost use Rattle.std.specs.Prelude.{◌≡◌, ℕ, ◌+◌, ◌<◌, length, IsTrue};
 ghost use Rattle.f11_dev.specs.Disk.{Syncs, Writes};
 ghost use Rattle.f11_dev.specs.Outcomes.{without_transfers};
 ghost use Rattle.f11_read_ahead.specs.Asked.{Gives};
@@ -30,12 +30,22 @@ pub struct ReadAhead<D: ReadsRuns> {
 }
 
 impl<D: ReadsRuns> ReadAhead<D> {
-    ghost use Rattle.f11_read_ahead.specs.ReadAhead.{ahead_disk, ahead_outcomes, behind_ahead};
+    ghost use Rattle.f11_read_ahead.specs.ReadAhead.{
+      ahead_disk,
+      ahead_outcomes,
+      behind_ahead,
+      GivesKept,
+      HasRoomIn,
+      IsKeptIn,
+      IsNotKeptIn,
+      ReadsNew,
+    };
 
     /// A device that keeps nothing yet, and never will where there is no memory for it.
     pub fn new(alloc: Global, inner: D) -> ReadAhead<D>
         ensures inner { behind_ahead result ≡ inner }
         ensures disk { ahead_disk D.disk result ≡ without_transfers (D.disk inner) }
+        ensures empty { (lbn : ℕ) → IsNotKeptIn result lbn }
     {
         ReadAhead {
             inner,
@@ -50,6 +60,8 @@ impl<D: ReadsRuns> ReadAhead<D> {
         requires { lbn < length (D.disk (behind_ahead self.old)).image }
         ensures gives { Gives result lbn into.new
             (D.disk (behind_ahead self.old)) (D.disk (behind_ahead self.new)) (MOST + 1) }
+        ensures kept { IsKeptIn self.old lbn → GivesKept result self.old self.new }
+        ensures unkept { HasRoomIn self.old → IsNotKeptIn self.old lbn → ReadsNew D.disk result lbn self.old self.new }
         ensures outcomes { ahead_outcomes self.new ≡ ahead_outcomes self.old }
     {
         if self.recent.give(lbn, into) {
@@ -80,7 +92,7 @@ impl<D: ReadsRuns> ReadAhead<D> {
 }
 
 impl<D: ReadsRuns> Device for ReadAhead<D> {
-    ghost use Rattle.f11_read_ahead.specs.ReadAhead.{ahead_disk, PassesOn, ReadsAhead};
+    ghost use Rattle.f11_read_ahead.specs.ReadAhead.{ahead_disk, KeepsBoth, PassesOn, ReadsAhead, StaysKept};
 
     ghost disk = { ahead_disk D.disk };
 
@@ -102,6 +114,7 @@ impl<D: ReadsRuns> Device for ReadAhead<D> {
     fn write(&mut self, lbn: u32, from: &Block) -> Result<(), DeviceFault>
         requires { lbn < length (ahead_disk D.disk self.old).image }
         ensures write { PassesOn D.disk (Writes result lbn from.now) self.old self.new }
+        ensures stays { StaysKept result self.old self.new }
     {
         let done = self.inner.write(lbn, from);
         let passed = done.is_ok();
@@ -113,6 +126,7 @@ impl<D: ReadsRuns> Device for ReadAhead<D> {
 
     fn sync(&mut self) -> Result<(), DeviceFault>
         ensures sync { PassesOn D.disk (Syncs result) self.old self.new }
+        ensures stays { KeepsBoth self.old self.new }
     {
         match self.inner.sync() {
             Ok(()) => Ok(()),
