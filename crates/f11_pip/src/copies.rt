@@ -1,10 +1,10 @@
 //! The commands that copy a file between the two file systems: which files they open, and what they say.
 use crate::heard::Heard;
 use crate::host_files::tell_no_directory;
-use crate::opened;
+use crate::image::{opened_source, opened_to_write, tell_fault};
 use crate::outcome::Failure;
 use crate::refusals::{self, NO_SUCH_ENTRY, of_finding, of_making, of_rt};
-use crate::remarks::{self, Remark, Why, tell_fault};
+use crate::remarks::{self, Remark, Why};
 use f11_commands::f11_flx::CopyMode;
 use f11_commands::f11_rad50::Name;
 use f11_commands::{
@@ -101,13 +101,13 @@ fn opened_both<'a>(
     }
     match asked.direction {
         Direction::ToRt => {
-            let files = opened(FileImage::open_to_read(rt, image), image, remark)?;
-            let target = opened(FileImage::open(rt, rt_image), rt_image, remark)?;
+            let files = opened_source(rt, image, remark)?;
+            let target = opened_to_write(rt, rt_image, remark)?;
             Ok((files, target))
         }
         Direction::FromRt => {
-            let source = opened(FileImage::open_to_read(rt, rt_image), rt_image, remark)?;
-            let files = opened(FileImage::open(rt, image), image, remark)?;
+            let source = opened_source(rt, rt_image, remark)?;
+            let files = opened_to_write(rt, image, remark)?;
             Ok((files, source))
         }
     }

@@ -1,15 +1,15 @@
 //! The command `get --all`: the files of the host that it makes, in a folder.
 use crate::host_file::HostFile;
+use crate::image::{ReadImage, opened_to_read, tell_read_fault};
 use crate::outcome::Failure;
-use crate::remarks::{self, Remark, Why, tell_fault};
-use crate::{judged, opened, opened_new};
+use crate::remarks::{self, Remark, Why};
+use crate::{judged, opened};
 use f11_commands::f11_catalog::{Content, DirectoryName, Place};
 use f11_commands::{Answer, LeftOut, TakingAll, begin_all};
-use f11_dev::{CannotOpen, FileImage};
 use f11_store::FileId;
 use f11_store::f11_rad50::Name;
-use std::fs::{self, File};
-use std::io::{self, Write};
+use std::fs;
+use std::io::{self, ErrorKind, Write};
 
 /// Takes all files out of a volume, into a folder that is made: those of a directory into the folder in it that is called as the directory
 /// is, `[ggg,mmm]` of a user in three octal digits each, `[NAME]` else, under their names, and those of no directory into the folder
@@ -28,16 +28,19 @@ pub fn get_all<'a, W: Write>(
     writer: &mut W,
     remark: &mut Option<Remark<'a>>,
 ) -> Result<Answer, Failure> {
-    let device = opened(FileImage::open_to_read(rt, image), image, remark)?;
+    let device = opened_to_read(rt, image, remark)?;
     let mut all = match begin_all(rt.alloc(), device, writer) {
         Ok(all) => all,
         Err((device, served)) => {
-            tell_fault(rt, image, device);
+            tell_read_fault(rt, image, device);
             return Ok(judged(rt, image, served?, remark));
         }
     };
-    let new = fs::create_dir(rt, folder).map_err(CannotOpen::from);
-    opened_new(new, folder, remark)?;
+    opened(
+        fs::create_dir(rt, folder).map_err(remarks::unmade),
+        folder,
+        remark,
+    )?;
     let taken = take_all(rt, &mut all, folder, writer);
     // where it stopped the last line would count what was never tried as done
     let (device, served) = if taken.is_ok() {
@@ -45,7 +48,7 @@ pub fn get_all<'a, W: Write>(
     } else {
         all.end(&mut io::sink())
     };
-    tell_fault(rt, image, device);
+    tell_read_fault(rt, image, device);
     let answer = judged(rt, image, served?, remark);
     if taken? {
         Ok(answer)
@@ -58,7 +61,7 @@ pub fn get_all<'a, W: Write>(
 /// that one has a line, too.
 fn take_all<W: Write>(
     rt: &HostRuntime,
-    all: &mut TakingAll<FileImage<File>>,
+    all: &mut TakingAll<ReadImage>,
     folder: &str,
     writer: &mut W,
 ) -> Result<bool, Failure> {
@@ -134,7 +137,7 @@ fn in_directory(
     let part = folder_of(rt, folder, directory)?;
     let path = format!(in rt.alloc(); "{part}/{name}")?;
     match made_in(rt, part.as_str(), path.as_str())? {
-        Err(CannotOpen::Exists) => {
+        Err(error) if error.kind() == ErrorKind::AlreadyExists => {
             let path = format!(in rt.alloc(); "{part}/{name} ({id})")?;
             let file = made_in(rt, part.as_str(), path.as_str())?;
             Ok(or_told(rt, path, file, Some(id)))
@@ -166,18 +169,14 @@ fn lost(rt: &HostRuntime, folder: &str, id: FileId, name: Option<Name>) -> Resul
 }
 
 /// A new file in a folder, which is made where there is none; or why none could be made.
-pub fn made_in(
-    rt: &HostRuntime,
-    part: &str,
-    path: &str,
-) -> Result<Result<HostFile, CannotOpen>, Failure> {
+pub fn made_in(rt: &HostRuntime, part: &str, path: &str) -> Result<io::Result<HostFile>, Failure> {
     match HostFile::new(rt, path)? {
-        Err(CannotOpen::Missing) => {}
+        Err(error) if error.kind() == ErrorKind::NotFound => {}
         made => return Ok(made),
     }
-    match fs::create_dir(rt, part).map_err(CannotOpen::from) {
-        Ok(()) | Err(CannotOpen::Exists) => HostFile::new(rt, path),
-        Err(why) => Ok(Err(why)),
+    match fs::create_dir(rt, part) {
+        Err(error) if error.kind() != ErrorKind::AlreadyExists => Ok(Err(error)),
+        _ => HostFile::new(rt, path),
     }
 }
 
@@ -185,14 +184,14 @@ pub fn made_in(
 fn or_told(
     rt: &HostRuntime,
     path: String,
-    file: Result<HostFile, CannotOpen>,
+    file: io::Result<HostFile>,
     beside: Option<FileId>,
 ) -> Host {
     match file {
         Ok(file) => Host::File(Made { path, file, beside }),
-        Err(CannotOpen::Exists) => Host::Again,
-        Err(why) => {
-            remarks::tell(rt, path.as_str(), Why::CannotOpen(why));
+        Err(error) if error.kind() == ErrorKind::AlreadyExists => Host::Again,
+        Err(error) => {
+            remarks::tell(rt, path.as_str(), remarks::unmade(error));
             Host::None
         }
     }

@@ -2,7 +2,6 @@
 ghost use Rattle.std.specs.Prelude.{◌≤◌, IfOk, length};
 
 use crate::outcome::Failure;
-use f11_dev::CannotOpen;
 use std::fs::{self, File, OpenOptions};
 use std::io::{self, BufWriter, Seek, SeekFrom, Write};
 
@@ -32,11 +31,11 @@ impl HostFile {
     /// # Errors
     ///
     /// [`Failure::NoMemory`] where there is no memory for a piece: then none is made.
-    pub fn new(rt: &HostRuntime, path: &str) -> Result<Result<HostFile, CannotOpen>, Failure> {
+    pub fn new(rt: &HostRuntime, path: &str) -> Result<io::Result<HostFile>, Failure> {
         let mut options = OpenOptions::new();
         let file = match options.write(true).create_new(true).open(rt, path) {
             Ok(file) => file,
-            Err(error) => return Ok(Err(CannotOpen::from(error))),
+            Err(error) => return Ok(Err(error)),
         };
         match BufWriter::with_capacity(rt.alloc(), PIECE, file) {
             Ok(file) => Ok(Ok(HostFile {

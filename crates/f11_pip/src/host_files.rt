@@ -1,17 +1,19 @@
 //! The commands on files of the host: which files they open, and how.
 use crate::heard::Heard;
 use crate::host_file::{HostFile, PIECE};
+use crate::image::{
+    ReadImage, image_of, opened_to_read, opened_to_write, tell_fault, tell_read_fault,
+};
 use crate::outcome::Failure;
 use crate::refusals::{self, NO_SUCH_ENTRY, of_finding, of_making};
-use crate::remarks::{self, Remark, Why, tell_fault};
-use crate::{judged, opened, opened_new};
+use crate::remarks::{self, Remark, Why};
+use crate::{judged, opened};
 use f11_commands::f11_flx::{CopyMode, LONGEST_LINE};
 use f11_commands::f11_rad50::Name;
 use f11_commands::{
     Answer, FileAnswer, FoundFile, PutFailure, Putting, Served, print_ls, print_put, read_name,
     refuse_names, seek_file, to_last_block, write_file,
 };
-use f11_dev::{CannotOpen, FileImage};
 use std::fs::{self, File};
 use std::io::{self, BufReader, Read, Write};
 
@@ -45,7 +47,7 @@ pub fn get<'a, W: Write>(
         *remark = Some(remarks::of_name(file.name));
         return Ok(refuse_names(writer)?);
     };
-    let device = opened(FileImage::open_to_read(rt, file.image), file.image, remark)?;
+    let device = opened_to_read(rt, file.image, remark)?;
     let served = match seek(rt, file, &name, device, writer) {
         Ok(Ok(found)) => {
             if !found.is_in_use() {
@@ -64,7 +66,7 @@ pub fn get<'a, W: Write>(
         }
         Ok(Err((_device, served))) => served,
         Err((device, failure)) => {
-            tell_fault(rt, file.image, device);
+            tell_read_fault(rt, file.image, device);
             return Err(Failure::from(failure));
         }
     };
@@ -73,8 +75,8 @@ pub fn get<'a, W: Write>(
 
 /// The file of a volume that was found, or why none was, which is told.
 type Sought = Result<
-    Result<FoundFile<FileImage<File>>, (FileImage<File>, Served)>,
-    (FileImage<File>, f11_commands::Failure),
+    Result<FoundFile<ReadImage>, (ReadImage, Served)>,
+    (ReadImage, f11_commands::Failure),
 >;
 
 /// Seeks a file on a volume.
@@ -82,7 +84,7 @@ fn seek<W: Write>(
     rt: &HostRuntime,
     file: &Named<'_>,
     name: &Name,
-    device: FileImage<File>,
+    device: ReadImage,
     writer: &mut W,
 ) -> Sought {
     let mut heard = Heard::new(writer, None);
@@ -103,16 +105,16 @@ fn seek<W: Write>(
 fn as_far_as(
     rt: &HostRuntime,
     image: &str,
-    found: FoundFile<FileImage<File>>,
+    found: FoundFile<ReadImage>,
     all_blocks: bool,
-) -> Result<FoundFile<FileImage<File>>, Failure> {
+) -> Result<FoundFile<ReadImage>, Failure> {
     if !all_blocks {
         return Ok(found);
     }
     match to_last_block(found) {
         Ok(found) => Ok(found),
         Err(device) => {
-            tell_fault(rt, image, device);
+            tell_read_fault(rt, image, device);
             Err(Failure::DeviceFault)
         }
     }
@@ -121,7 +123,7 @@ fn as_far_as(
 /// Makes a file of the host, and writes a file that was found to it. Where that fails with nothing written, what was made is removed again.
 fn take_out<'a, W: Write>(
     rt: &HostRuntime,
-    found: FoundFile<FileImage<File>>,
+    found: FoundFile<ReadImage>,
     from: &Named<'_>,
     mode: CopyMode,
     host: &'a str,
@@ -130,7 +132,7 @@ fn take_out<'a, W: Write>(
 ) -> Result<Served, Failure> {
     let mut file = made(rt, host, remark)?;
     let (device, served) = write_file(found, mode, &mut file, writer);
-    tell_fault(rt, from.image, device);
+    tell_read_fault(rt, from.image, device);
     if !matches!(
         served,
         Ok(Served {
@@ -159,7 +161,11 @@ pub fn made<'a>(
     host: &'a str,
     remark: &mut Option<Remark<'a>>,
 ) -> Result<HostFile, Failure> {
-    opened_new(HostFile::new(rt, host)?, host, remark)
+    opened(
+        HostFile::new(rt, host)?.map_err(remarks::unmade),
+        host,
+        remark,
+    )
 }
 
 /// A file of the host that is read for one of a volume, and counts the bytes of 0 in it.
@@ -202,9 +208,13 @@ pub fn put<'a, W: Write>(
         mode,
         blocks: most_blocks(rt, mode, bytes, host)?,
     };
-    let again = opened(File::open(rt, host).map_err(CannotOpen::from), host, remark)?;
+    let again = opened(
+        File::open(rt, host).map_err(remarks::unopened),
+        host,
+        remark,
+    )?;
     let (mut first, mut again) = (with_count(rt, first)?, with_count(rt, again)?);
-    let device = opened(FileImage::open(rt, file.image), file.image, remark)?;
+    let device = opened_to_write(rt, file.image, remark)?;
     let mut heard = Heard::new(writer, None);
     let (device, told) = print_put(
         rt.alloc(),
@@ -321,7 +331,7 @@ pub fn tell_no_directory(rt: &HostRuntime, directory: Name) {
 
 /// Whether the master file directory of a volume doesn't name this directory, as listing it tells.
 fn lacks_directory(rt: &HostRuntime, image: &str, directory: Name) -> bool {
-    let Ok(device) = FileImage::open_to_read(rt, image) else {
+    let Ok(device) = image_of(rt, image) else {
         return false;
     };
     let mut nowhere = io::sink();
@@ -353,27 +363,24 @@ pub fn put_answer<'a>(
 /// The most bytes that are counted of a file that says that it has none: one more than the largest volume has.
 const MOST_COUNTED: u64 = 264_241_153;
 
-/// A file of the host under a word, to be read, and how many bytes it has; and where it can't be, a remark why.
+/// A file of the host under a word, to be read, and how many bytes it has; and where it can't be, a remark why. What is no file isn't opened,
+/// since opening a pipe may wait.
 pub fn opened_host<'a>(
     rt: &HostRuntime,
     host: &'a str,
     remark: &mut Option<Remark<'a>>,
 ) -> Result<(File, u64), Failure> {
-    match with_length(rt, host) {
-        Err(CannotOpen::NoImage) => {
-            *remark = Some(Remark::of(host, Why::NO_FILE));
-            Err(Failure::CannotOpen)
-        }
-        file => opened(file, host, remark),
-    }
+    let file = match fs::metadata(rt, host) {
+        Ok(metadata) if !metadata.is_file() => Err(Why::NO_FILE),
+        Ok(_) => with_length(rt, host).map_err(remarks::unopened),
+        Err(error) => Err(remarks::unopened(error)),
+    };
+    opened(file, host, remark)
 }
 
-/// A file of the host, to be read, and how many bytes it has. What is no file isn't opened, since opening a pipe may wait. One that says that
-/// it has none, as the files of /proc do, is read to its end to count them, and opened again.
-fn with_length(rt: &HostRuntime, path: &str) -> Result<(File, u64), CannotOpen> {
-    if !fs::metadata(rt, path)?.is_file() {
-        return Err(CannotOpen::NoImage);
-    }
+/// A file of the host, to be read, and how many bytes it has. One that says that it has none, as the files of /proc do, is read to its end to
+/// count them, and opened again.
+fn with_length(rt: &HostRuntime, path: &str) -> io::Result<(File, u64)> {
     let file = File::open(rt, path)?;
     let stated = file.metadata()?.len();
     if stated > 0 {

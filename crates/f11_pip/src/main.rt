@@ -1,8 +1,8 @@
 //! The program: `f11_pip COMMAND ..` works on Files-11 volumes in image files.
 //!
 //! [`main`] reads the words, opens the files in their order, calls the command's function of [`f11_commands`], and ends with
-//! the [`status`] of the outcome. The crate stands on [`f11_commands`], on [`f11_dev`], for images, on [`f11_store`], for what words
-//! spell, and on [`clap`], for the words.
+//! the [`status`] of the outcome. The crate stands on [`f11_commands`], on [`f11_dev`] and [`f11_read_ahead`], for images, on
+//! [`f11_store`], for what words spell, and on [`clap`], for the words.
 #![tactic(auto)]
 
 mod copies;
@@ -12,6 +12,7 @@ mod heard;
 mod help;
 mod host_file;
 mod host_files;
+mod image;
 mod outcome;
 mod refusals;
 mod remarks;
@@ -28,17 +29,17 @@ use f11_commands::{
     print_ls, print_name, print_rights, print_rt_init, print_rt_list, print_rt_ls, print_rt_vfy,
     print_vfy, print_vfy_update, refuse_init,
 };
-use f11_dev::{CannotOpen, FileImage};
 use f11_store::Uic;
 use folder::get_all;
 use heard::Heard;
 use host_files::{Named, Taking, tell_no_directory};
+use image::{created, opened_to_read, opened_to_write, tell_fault, tell_read_fault};
 use outcome::{Failure, status};
 use refusals::{NO_SUCH_ENTRY, not_found};
-use remarks::{Remark, Why, tell_fault};
+use remarks::{Remark, Why};
 use script::serve;
 use std::env;
-use std::fs::{self, File};
+use std::fs::File;
 use std::io::{self, BufWriter, ErrorKind, Write};
 use std::process::ExitCode;
 use words::Words;
@@ -176,9 +177,9 @@ fn run<'a, W: Write>(
 ) -> Result<Answer, Failure> {
     match words {
         Words::Dump { image, number } => {
-            let mut device = opened(FileImage::open_to_read(rt, image), image, remark)?;
+            let mut device = opened_to_read(rt, image, remark)?;
             let answer = print_header(rt.alloc(), &mut device, writer, number);
-            tell_fault(rt, image, device);
+            tell_read_fault(rt, image, device);
             Ok(looked(rt, image, System::Files11, answer?, remark))
         }
         Words::FlxFromRt {
@@ -237,9 +238,9 @@ fn run<'a, W: Write>(
         }
         Words::GetAll { image, folder } => get_all(rt, image, folder, writer, remark),
         Words::Home { image } => {
-            let mut device = opened(FileImage::open_to_read(rt, image), image, remark)?;
+            let mut device = opened_to_read(rt, image, remark)?;
             let answer = print_home(&mut device, writer);
-            tell_fault(rt, image, device);
+            tell_read_fault(rt, image, device);
             Ok(looked(rt, image, System::Files11, answer?, remark))
         }
         Words::Init {
@@ -310,15 +311,15 @@ fn run<'a, W: Write>(
             Ok(answer)
         }
         Words::RtList { image } => {
-            let device = opened(FileImage::open_to_read(rt, image), image, remark)?;
+            let device = opened_to_read(rt, image, remark)?;
             let (device, answer) = print_rt_list(rt.alloc(), device, writer);
-            tell_fault(rt, image, device);
+            tell_read_fault(rt, image, device);
             Ok(looked(rt, image, System::Rt11, answer?, remark))
         }
         Words::RtLs { rt: image } => {
-            let device = opened(FileImage::open_to_read(rt, image), image, remark)?;
+            let device = opened_to_read(rt, image, remark)?;
             let (device, served) = print_rt_ls(rt.alloc(), device, writer);
-            tell_fault(rt, image, device);
+            tell_read_fault(rt, image, device);
             Ok(rt_files::judged(rt, image, served?, remark))
         }
         Words::RtPut {
@@ -327,9 +328,9 @@ fn run<'a, W: Write>(
             host,
         } => rt_files::put(rt, image, name, host, writer, remark),
         Words::RtVfy { image } => {
-            let device = opened(FileImage::open_to_read(rt, image), image, remark)?;
+            let device = opened_to_read(rt, image, remark)?;
             let (device, answer) = print_rt_vfy(rt.alloc(), device, writer);
-            tell_fault(rt, image, device);
+            tell_read_fault(rt, image, device);
             Ok(looked(rt, image, System::Rt11, answer?, remark))
         }
         Words::Run {
@@ -349,10 +350,10 @@ fn ls<'a, W: Write>(
     writer: &mut W,
     remark: &mut Option<Remark<'a>>,
 ) -> Result<Answer, Failure> {
-    let device = opened(FileImage::open_to_read(rt, image), image, remark)?;
+    let device = opened_to_read(rt, image, remark)?;
     let mut heard = Heard::new(writer, None);
     let (device, served) = print_ls(rt.alloc(), device, &mut heard, directory);
-    tell_fault(rt, image, device);
+    tell_read_fault(rt, image, device);
     if let Some(line) = heard.refusal() {
         tell_unlisted(rt, directory.unwrap_or(directory_name(MASTER)), line);
     }
@@ -377,14 +378,14 @@ fn vfy<'a, W: Write>(
     remark: &mut Option<Remark<'a>>,
 ) -> Result<Answer, Failure> {
     let answer = if update {
-        let device = opened(FileImage::open(rt, image), image, remark)?;
+        let device = opened_to_write(rt, image, remark)?;
         let (device, answer) = print_vfy_update(rt.alloc(), device, writer);
         tell_fault(rt, image, device);
         written(rt, image, answer?, remark)
     } else {
-        let device = opened(FileImage::open_to_read(rt, image), image, remark)?;
+        let device = opened_to_read(rt, image, remark)?;
         let (device, answer) = print_vfy(rt.alloc(), device, writer);
-        tell_fault(rt, image, device);
+        tell_read_fault(rt, image, device);
         looked(rt, image, System::Files11, answer?, remark)
     };
     Ok(answer)
@@ -419,50 +420,18 @@ fn judged<'a>(
     }
 }
 
-/// What was opened under a word, and where nothing could be, a remark why.
+/// What was opened, or made, under a word, and where nothing could be, a remark why.
 fn opened<'a, T>(
-    file: Result<T, CannotOpen>,
+    file: Result<T, Why>,
     word: &'a str,
     remark: &mut Option<Remark<'a>>,
 ) -> Result<T, Failure> {
     match file {
         Ok(file) => Ok(file),
         Err(why) => {
-            *remark = Some(Remark::of(word, Why::CannotOpen(why)));
+            *remark = Some(Remark::of(word, why));
             Err(Failure::CannotOpen)
         }
-    }
-}
-
-/// The same of what was made.
-fn opened_new<'a, T>(
-    file: Result<T, CannotOpen>,
-    word: &'a str,
-    remark: &mut Option<Remark<'a>>,
-) -> Result<T, Failure> {
-    match file {
-        Ok(file) => Ok(file),
-        Err(why) => {
-            *remark = Some(Remark::of(word, remarks::unmade(why)));
-            Err(Failure::CannotOpen)
-        }
-    }
-}
-
-/// An image file of so many blocks that is made, and where none could be, a remark why; one that is there then, and got no such length, is
-/// told, too.
-fn created<'a>(
-    rt: &HostRuntime,
-    image: &'a str,
-    blocks: u32,
-    remark: &mut Option<Remark<'a>>,
-) -> Result<FileImage<File>, Failure> {
-    match FileImage::create(rt, image, blocks) {
-        Err(CannotOpen::Refused) if fs::metadata(rt, image).is_ok() => {
-            *remark = Some(Remark::of(image, Why::NO_LENGTH));
-            Err(Failure::CannotOpen)
-        }
-        file => opened_new(file, image, remark),
     }
 }
 

@@ -1,14 +1,15 @@
 //! What is said on standard error beside the lines that are fixed: which word is meant, and why.
+use crate::image::{ReadImage, image_of};
 use crate::rt_folder;
 use f11_commands::f11_layout::{InitParams, MOST_BLOCKS, is_label};
 use f11_commands::{
     Answer, FileAnswer, RtServed, RtState, System, blocks_wanted, print_home, print_rt_ls,
     print_rt_vfy,
 };
-use f11_dev::{BLOCK_SIZE, CannotOpen, Device, Fault, FileImage, MAX_BLOCKS};
+use f11_dev::{BLOCK_SIZE, CannotOpen, Device, Fault, MAX_BLOCKS};
 use std::env::{Env, FillError};
 use std::fs::{self, File};
-use std::io::{self, ErrorKind, Read};
+use std::io::{self, Read};
 use thiserror::Error;
 
 /// The bytes of the longest word in which is looked for some that are no text: those of the longest path.
@@ -55,6 +56,12 @@ pub enum Why {
     /// No file can be opened, or made, under it.
     #[error("{0}")]
     CannotOpen(CannotOpen),
+    /// The system doesn't let its file be opened, for this cause.
+    #[error("cannot be opened: {0}")]
+    NotOpened(io::Error),
+    /// The system doesn't let its file, or its folder, be made, for this cause.
+    #[error("cannot be made: {0}")]
+    NotMade(io::Error),
     /// A transfer of its image failed.
     #[error("{0}")]
     Fault(Fault),
@@ -183,10 +190,8 @@ impl Why {
     pub const NO_FILE: Why = Why::Said("no regular file");
     /// The folder of its file isn't there.
     pub const NO_FOLDER: Why = Why::Said("no such folder");
-    /// The system doesn't let it be made, for a cause that it doesn't name.
-    pub const NOT_MADE: Why = Why::Said(
-        "cannot be made: what stands before its last slash may be no folder",
-    );
+    /// The system doesn't let it be made, for a cause that isn't known.
+    pub const NOT_MADE: Why = Why::Said("cannot be made");
     /// It is named as both images of a copy.
     pub const TWICE: Why = Why::Said(
         "named twice: a copy goes from one image to another; get and put go by a file",
@@ -292,17 +297,6 @@ pub fn tell(rt: &HostRuntime, word: &str, why: Why) {
     let _ = eprintln!(rt; "{remark}");
 }
 
-/// Says which transfer of the image in a word failed, and why, where one did, and closes it: it can be opened again.
-pub fn tell_fault(rt: &HostRuntime, word: &str, image: FileImage<File>) {
-    match image.fault() {
-        Some(Fault::Read(lbn, error)) if error.kind() == ErrorKind::UnexpectedEof => {
-            tell(rt, word, Why::EndsBefore(lbn));
-        }
-        Some(fault) => tell(rt, word, Why::Fault(fault)),
-        None => {}
-    }
-}
-
 /// What there is to say of a volume that has faults: where its image ends early, how long it should be.
 fn of_faults(rt: &HostRuntime, word: &str) -> Why {
     match wanted(rt, word) {
@@ -313,7 +307,7 @@ fn of_faults(rt: &HostRuntime, word: &str) -> Why {
 
 /// How many blocks the image of a volume should have that ends early, if it does, as far as that can be read.
 fn wanted(rt: &HostRuntime, word: &str) -> Option<u32> {
-    let mut device = FileImage::open_to_read(rt, word).ok()?;
+    let mut device = image_of(rt, word).ok()?;
     blocks_wanted(rt.alloc(), &mut device).ok()?
 }
 
@@ -331,12 +325,20 @@ pub fn of_rt_volume<'a>(rt: &HostRuntime, word: &'a str, state: RtState) -> Opti
     }
 }
 
+/// Why no file could be opened under a word.
+pub fn unopened(error: io::Error) -> Why {
+    match CannotOpen::from(error) {
+        CannotOpen::Refused => Why::NotOpened(error),
+        why => Why::CannotOpen(why),
+    }
+}
+
 /// Why no file, or folder, could be made under a word.
-pub fn unmade(why: CannotOpen) -> Why {
-    match why {
+pub fn unmade(error: io::Error) -> Why {
+    match CannotOpen::from(error) {
         CannotOpen::Missing => Why::NO_FOLDER,
-        CannotOpen::Refused => Why::NOT_MADE,
-        _ => Why::CannotOpen(why),
+        CannotOpen::Refused => Why::NotMade(error),
+        why => Why::CannotOpen(why),
     }
 }
 
@@ -409,7 +411,7 @@ fn of_other(rt: &HostRuntime, word: &str, system: System) -> Option<Why> {
     if let Some(what) = packed(beginning(rt, word)) {
         return Some(Why::NotRaw(what));
     }
-    let mut device = FileImage::open_to_read(rt, word).ok()?;
+    let mut device = image_of(rt, word).ok()?;
     match system {
         System::Files11 => match print_rt_vfy(rt.alloc(), device, &mut io::sink()) {
             (_, Ok(Answer::Done)) => Some(Why::OF_RT11),
@@ -424,7 +426,7 @@ fn of_other(rt: &HostRuntime, word: &str, system: System) -> Option<Why> {
 
 /// That no home block is in an image, if none is.
 fn of_no_home(rt: &HostRuntime, word: &str) -> Option<Why> {
-    let mut device = FileImage::open_to_read(rt, word).ok()?;
+    let mut device = image_of(rt, word).ok()?;
     match print_home(&mut device, &mut io::sink()) {
         Ok(Answer::Fault) if has_mark(&mut device) => Some(Why::BAD_HOME),
         Ok(Answer::Fault) => Some(Why::NO_HOME),
@@ -433,7 +435,7 @@ fn of_no_home(rt: &HostRuntime, word: &str) -> Option<Why> {
 }
 
 /// Whether block 1 says that its volume is a Files-11 one, as a home block does at H.INDF.
-fn has_mark(device: &mut FileImage<File>) -> bool {
+fn has_mark(device: &mut ReadImage) -> bool {
     let mut block = [0; BLOCK_SIZE];
     device.blocks() > 1
         && device.read(1, &mut block).is_ok()
@@ -442,7 +444,7 @@ fn has_mark(device: &mut FileImage<File>) -> bool {
 
 /// That no directory of an RT-11 volume is in an image, if none is.
 fn of_no_directory(rt: &HostRuntime, word: &str) -> Option<Why> {
-    let device = FileImage::open_to_read(rt, word).ok()?;
+    let device = image_of(rt, word).ok()?;
     match print_rt_ls(rt.alloc(), device, &mut io::sink()) {
         (
             _,

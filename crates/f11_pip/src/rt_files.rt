@@ -1,15 +1,14 @@
 //! The commands on files of an RT-11 volume: which files they open, and how.
 use crate::heard::Heard;
 use crate::host_files::{ended, in_pieces, made, opened_host, put_answer};
-use crate::opened;
+use crate::image::{opened_to_read, opened_to_write, tell_fault, tell_read_fault};
 use crate::outcome::Failure;
 use crate::refusals::{self, of_rt};
-use crate::remarks::{self, Remark, tell_fault};
+use crate::remarks::{self, Remark};
 use f11_commands::{
     Answer, FileAnswer, RtServed, RtState, find_rt_file, print_rt_delete, print_rt_put,
     read_rt_name, refuse_names, write_rt_file,
 };
-use f11_dev::FileImage;
 use std::io::Write;
 
 /// The answer of a command that serves any RT-11 volume, and what there is to say of its image. Where the report of a directory that can't be
@@ -45,19 +44,19 @@ pub fn get<'a, W: Write>(
         *remark = Some(remarks::of_rt_name(word));
         return Ok(refuse_names(writer)?);
     };
-    let device = opened(FileImage::open_to_read(rt, image), image, remark)?;
+    let device = opened_to_read(rt, image, remark)?;
     let mut heard = Heard::new(writer, None);
     let file = match find_rt_file(rt.alloc(), device, &name, &mut heard) {
         Ok(file) => file,
         Err((device, served)) => {
-            tell_fault(rt, image, device);
+            tell_read_fault(rt, image, device);
             tell_refused(rt, &heard, image, word);
             return Ok(judged(rt, image, served?, remark));
         }
     };
     let mut made = made(rt, host, remark)?;
     let (device, served) = write_rt_file(file, &mut made, &mut heard);
-    tell_fault(rt, image, device);
+    tell_read_fault(rt, image, device);
     if !matches!(
         served,
         Ok(RtServed {
@@ -89,7 +88,7 @@ pub fn put<'a, W: Write>(
     };
     let (file, bytes) = opened_host(rt, host, remark)?;
     let mut file = in_pieces(rt, file)?;
-    let device = opened(FileImage::open(rt, image), image, remark)?;
+    let device = opened_to_write(rt, image, remark)?;
     let mut heard = Heard::new(writer, None);
     let (device, told) = print_rt_put(rt.alloc(), device, &name, &mut file, bytes, &mut heard);
     tell_fault(rt, image, device);
@@ -109,7 +108,7 @@ pub fn delete<'a, W: Write>(
         *remark = Some(remarks::of_rt_name(word));
         return Ok(refuse_names(writer)?);
     };
-    let device = opened(FileImage::open(rt, image), image, remark)?;
+    let device = opened_to_write(rt, image, remark)?;
     let mut heard = Heard::new(writer, None);
     let (device, told) = print_rt_delete(rt.alloc(), device, &name, &mut heard);
     tell_fault(rt, image, device);

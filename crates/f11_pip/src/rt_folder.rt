@@ -1,13 +1,14 @@
 //! The command `rt-get --all`: the files of the host that it makes, in a folder.
 use crate::folder::made_in;
 use crate::host_file::HostFile;
+use crate::image::{ReadImage, image_of, opened_to_read, tell_read_fault};
+use crate::opened;
 use crate::outcome::Failure;
-use crate::remarks::{self, Remark, Why, tell_fault};
+use crate::remarks::{self, Remark};
 use crate::rt_files::judged;
-use crate::{opened, opened_new};
 use f11_commands::{Answer, RtFate, RtFileAt, RtPlace, TakingAllRt, begin_all_rt};
-use f11_dev::{CannotOpen, Device, FileImage};
-use std::fs::{self, File};
+use f11_dev::Device;
+use std::fs;
 use std::io::{self, Write};
 
 /// Takes all files out of an RT-11 volume, into a folder that is made: each under its name, and those that have none, or aren't the first of
@@ -24,16 +25,19 @@ pub fn get_all<'a, W: Write>(
     writer: &mut W,
     remark: &mut Option<Remark<'a>>,
 ) -> Result<Answer, Failure> {
-    let device = opened(FileImage::open_to_read(rt, image), image, remark)?;
+    let device = opened_to_read(rt, image, remark)?;
     let mut all = match begin_all_rt(rt.alloc(), device, writer) {
         Ok(all) => all,
         Err((device, served)) => {
-            tell_fault(rt, image, device);
+            tell_read_fault(rt, image, device);
             return Ok(judged(rt, image, served?, remark));
         }
     };
-    let new = fs::create_dir(rt, folder).map_err(CannotOpen::from);
-    opened_new(new, folder, remark)?;
+    opened(
+        fs::create_dir(rt, folder).map_err(remarks::unmade),
+        folder,
+        remark,
+    )?;
     let taken = take_all(rt, &mut all, folder, writer);
     // where it stopped the last line would count what was never tried as done
     let (device, served) = if taken.is_ok() {
@@ -41,7 +45,7 @@ pub fn get_all<'a, W: Write>(
     } else {
         all.end(&mut io::sink())
     };
-    tell_fault(rt, image, device);
+    tell_read_fault(rt, image, device);
     let answer = judged(rt, image, served?, remark);
     if taken? {
         Ok(answer)
@@ -54,7 +58,7 @@ pub fn get_all<'a, W: Write>(
 /// that one has a line, too.
 fn take_all<W: Write>(
     rt: &HostRuntime,
-    all: &mut TakingAllRt<FileImage<File>>,
+    all: &mut TakingAllRt<ReadImage>,
     folder: &str,
     writer: &mut W,
 ) -> Result<bool, Failure> {
@@ -105,8 +109,8 @@ fn file_at(rt: &HostRuntime, folder: &str, place: &RtPlace) -> Result<Option<Hos
     };
     match made_in(rt, part.as_str(), path.as_str())? {
         Ok(file) => Ok(Some(file)),
-        Err(why) => {
-            remarks::tell(rt, path.as_str(), Why::CannotOpen(why));
+        Err(error) => {
+            remarks::tell(rt, path.as_str(), remarks::unmade(error));
             Ok(None)
         }
     }
@@ -114,7 +118,7 @@ fn file_at(rt: &HostRuntime, folder: &str, place: &RtPlace) -> Result<Option<Hos
 
 /// How many blocks the image of an RT-11 volume should have, by its directory, where it ends before the last area does; else `None`.
 pub fn blocks_wanted(rt: &HostRuntime, image: &str) -> Option<u32> {
-    let device = FileImage::open_to_read(rt, image).ok()?;
+    let device = image_of(rt, image).ok()?;
     let size = device.blocks();
     let mut all = begin_all_rt(rt.alloc(), device, &mut io::sink()).ok()?;
     let mut end = size;

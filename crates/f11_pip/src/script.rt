@@ -2,11 +2,12 @@
 ghost use Rattle.std.specs.Prelude.{◌≤◌, length};
 
 use crate::heard::{Heard, Told};
+use crate::image::{opened_to_write, tell_fault};
 use crate::outcome::Failure;
-use crate::remarks::{Remark, Why, tell_fault};
+use crate::remarks::{Remark, Why, unopened};
 use crate::{failure_of, opened, written};
 use f11_commands::{Answer, RunFailure, ScriptError, print_run};
-use f11_dev::{CannotOpen, FileImage};
+use f11_dev::FileImage;
 use std::alloc::Global;
 use std::cell::Cell;
 use std::fs::File;
@@ -67,8 +68,8 @@ pub fn serve<'a, W: Write>(
     writer: &mut W,
     remark: &mut Option<Remark<'a>>,
 ) -> Result<Answer, Failure> {
-    let device = opened(FileImage::open(rt, image), image, remark)?;
-    let file = File::open(rt, script).map_err(CannotOpen::from);
+    let device = opened_to_write(rt, image, remark)?;
+    let file = File::open(rt, script).map_err(unopened);
     let file = opened(file, script, remark)?;
     let number = Cell::new(0);
     let (device, answer) = serve_lines(rt, device, file, script, &number, is_quiet, writer)?;
