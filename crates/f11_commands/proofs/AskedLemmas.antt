@@ -9,9 +9,10 @@ use Rattle.f11_serving.specs.fcp.Lists.{ServesCall, failures_of}
 use Rattle.f11_serving.specs.fcp.Serving.{is_spent, state_in}
 use Rattle.f11_serving.specs.fcp.declared.volume.Volume.{Volume}
 use Rattle.f11_serving.specs.files.Answers.{is_fatal, is_fault, is_refused}
-use Rattle.f11_flx.proofs.VolumeLemmas.{IsFared, denied-fared, granted-fared}
-use Rattle.f11_flx.specs.Asking.{Asking, Denies, Grants, Tried, Who, asks, counts, reads, told, writes}
-use Rattle.f11_flx.specs.Copying.{of_volume}
+use Rattle.f11_making.specs.Fares.{Fares}
+use Rattle.f11_making.proofs.VolumeLemmas.{denied-fared, granted-fared}
+use Rattle.f11_making.specs.Asking.{Asking, Denies, Grants, Tried, Who, asks, counts, reads, told, writes}
+use Rattle.f11_making.specs.Volume.{of_volume}
 use Rattle.f11_store.specs.Run.{Answer, Call}
 use Rattle.f11_store.specs.declared.refusals.Refusal.{Refusal}
 use Rattle.f11_store.specs.declared.refusals.Refusal.TheVariants.{Damaged, DeviceFault}
@@ -100,7 +101,7 @@ module _ {D : Type 0} {met : Ghosts D} where
       Rest : Type 0
       Rest = IsTrue (state_in h.0).disk.honest → is_spent h.0 ≡ false → failures_of h.0 < failures_of w
 
-      behind : Rest → (f : Bool) → IsFared f false v h.0 → failures_of v < failures_of w
+      behind : Rest → (f : Bool) → Fares f false v h.0 → failures_of v < failures_of w
       behind rest f fared =
           let more = rest (fared.honest ∙ honest) (fared.next ∙ ap (λ b. b || false) alive) in
           let same = fared.failures in
@@ -115,7 +116,7 @@ module _ {D : Type 0} {met : Ghosts D} where
 
       clean : Rest → (e : Refusal) → Denies of_volume who x e v h.0 → is_fatal e ≡ false → failures_of v < failures_of w
       clean rest e denies not-fatal =
-          behind rest (is_fault e) (subst (λ b. IsFared (is_fault e) b v h.0) not-fatal (denied-fared who x e v h.0 denies))
+          behind rest (is_fault e) (subst (λ b. Fares (is_fault e) b v h.0) not-fatal (denied-fared who x e v h.0 denies))
 
       one : Rest → failures_of h.0 ≤ failures_of w → (Grants of_volume who x v h.0) ⊎ ((e : Refusal) × Denies of_volume who x e v h.0)
           → failures_of v < failures_of w

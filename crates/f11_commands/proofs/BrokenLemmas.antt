@@ -8,9 +8,9 @@ use Rattle.f11_serving.specs.fcp.declared.volume.Volume.{Volume}
 use Rattle.f11_flx.proofs.RtCopyLemmas.{has-written, took-puts}
 use Rattle.f11_flx.proofs.RtOutcomeLemmas.{locked-leaves}
 use Rattle.f11_flx.proofs.SeenLemmas.{granted-seen}
-use Rattle.f11_flx.proofs.VolumeLemmas.{volume-seen}
-use Rattle.f11_flx.specs.Asking.{Asking, Denies, Granted, Grants, FilesService, Who, asks, counts, plain, reads, told, writes}
-use Rattle.f11_flx.specs.Copying.{of_volume}
+use Rattle.f11_making.proofs.VolumeLemmas.{volume-seen}
+use Rattle.f11_making.specs.Asking.{Asking, Denies, Granted, Grants, FilesService, Who, asks, counts, plain, reads, told, writes}
+use Rattle.f11_making.specs.Volume.{of_volume}
 use Rattle.f11_flx.specs.Ended.{EndsUnread, is_building, is_building_request}
 use Rattle.f11_flx.specs.EndedToRt.{EndsHeld, EndsOnFiles, IsMadeInPart, WasRefused, is_holding, is_holding_request}
 use Rattle.f11_flx.specs.Refusal.{is_lethal}

@@ -9,16 +9,16 @@ use Rattle.f11_dev.specs.Looked.{Looked}
 use Rattle.f11_dev.specs.Went.{newest}
 use Rattle.f11_dev.specs.declared.device.Device.{Ghosts}
 use Rattle.f11_catalog.specs.image_store.StoreOf.{store_of}
-use Rattle.f11_flx.proofs.AskingLemmas.{granted-parts}
+use Rattle.f11_making.proofs.AskingLemmas.{granted-parts}
 use Rattle.f11_flx.proofs.SeenLemmas.{granted-seen}
 use Rattle.f11_flx.proofs.StatingLemmas.{filling-fills}
 use Rattle.f11_flx.proofs.TriedLemmas.{Tries, only-filling, open-tries, tries-granted, tries-then}
-use Rattle.f11_flx.proofs.VolumeLemmas.{unused, volume-seen}
-use Rattle.f11_flx.specs.Asking.{Asking, Denies, Granted, Grants, Tried, asks, counts, plain, reads, told, writes}
-use Rattle.f11_flx.specs.CopyFromRt.{Making, creation, filling, opening}
-use Rattle.f11_flx.specs.Copying.{AsksForFile, creation as created-alone, making as made-one, nothing}
-use Rattle.f11_flx.specs.Copying.{of_volume}
-use Rattle.f11_flx.specs.Making.{filling_of}
+use Rattle.f11_making.proofs.VolumeLemmas.{unused, volume-seen}
+use Rattle.f11_making.specs.Asking.{Asking, Denies, Granted, Grants, Tried, asks, counts, plain, reads, told, writes}
+use Rattle.f11_making.specs.Making.{Making, creation, filling, opening}
+use Rattle.f11_making.specs.AsksFor.{AsksForFile, creation as created-alone, making as made-one, nothing}
+use Rattle.f11_making.specs.Volume.{of_volume}
+use Rattle.f11_making.specs.Making.{filling_of}
 use Rattle.f11_flx.specs.Refusal.{is_lethal}
 use Rattle.f11_flx.specs.Stating.{AsksInOrder, IsFilling, creating as created-only, finishing, unasked, unfinished}
 use Rattle.f11_flx.specs.declared.refusal.FlxRefusal.TheVariants.{Files}

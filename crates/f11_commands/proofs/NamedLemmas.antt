@@ -10,11 +10,13 @@ use Rattle.f11_serving.specs.fcp.declared.volume.Volume.{Volume}
 use Rattle.f11_serving.specs.files.Answers.{is_fatal, is_fault}
 use Rattle.f11_flx.proofs.FrontLemmas.{front-same}
 use Rattle.f11_flx.proofs.KeptLemmas.{denied-live, rt-apart, same-refusal}
-use Rattle.f11_flx.proofs.VolumeLemmas.{IsFared, denied-fared, granted-fared, volume-seen}
+use Rattle.f11_making.specs.Fares.{Fares}
+use Rattle.f11_making.proofs.VolumeLemmas.{denied-fared, granted-fared, volume-seen}
 use Rattle.f11_flx.proofs.TriedLemmas.{asked-for-one}
-use Rattle.f11_flx.specs.Asking.{Asking, Denies, Fails, Grants, Tried, Who, asks, plain, told, who_asks}
+use Rattle.f11_making.specs.Asking.{Asking, Denies, Fails, Grants, Tried, Who, asks, plain, told, who_asks}
 use Rattle.f11_flx.specs.Copying.{FaresFiles, FaresRt, MayMakeFile, MakesRtFile, ReadsFiles, ReadsRt, WhereSound, is_whole}
-use Rattle.f11_flx.specs.Copying.{of_files, of_rt, of_volume}
+use Rattle.f11_making.specs.Volume.{of_volume}
+use Rattle.f11_flx.specs.Copying.{of_files, of_rt}
 use Rattle.f11_flx.specs.CopyFromRt.{CopiesFromRt, FailsToCopyFromRt}
 use Rattle.f11_flx.specs.CopyToRt.{CopiesToRt, FailsToCopyToRt, RefusesCopyToRt}
 use Rattle.f11_flx.specs.Ended.{Ends}
@@ -94,7 +96,7 @@ unread ToRt d = tt
 unread FromRt d = record { image = refl; history = refl }
 
 module _ {D : Type 0} {met : Ghosts D} where
-  fares-behind : (result : Result ℕ FlxRefusal) (v u w : Volume D met) → IsFared false false v u → FaresFiles result u w
+  fares-behind : (result : Result ℕ FlxRefusal) (v u w : Volume D met) → Fares false false v u → FaresFiles result u w
       → FaresFiles result v w
   fares-behind result v u w f g =
       let alive : is_spent u ≡ is_spent v = f.next ∙ or-false (is_spent v) in
@@ -121,7 +123,7 @@ module _ {D : Type 0} {met : Ghosts D} where
       absurd (omega (arith, more, same))
 
   -- behind something that failed nothing
-  pub alone-onward : (result : Result ℕ FlxRefusal) (v u w : Volume D met) → IsFared false false v u
+  pub alone-onward : (result : Result ℕ FlxRefusal) (v u w : Volume D met) → Fares false false v u
       → (state_in u).home ≡ (state_in v).home → FaresAlone result u w → FaresAlone result v w
   alone-onward result v u w fared home a = record {
     fares = fares-behind result v u w fared a.fares;

@@ -13,10 +13,12 @@ use Rattle.f11_serving.specs.fcp.Serving.{is_spent, state_in}
 use Rattle.f11_serving.specs.fcp.declared.volume.Volume.{Volume}
 use Rattle.f11_serving.specs.files.Answers.{is_fatal, is_fault}
 use Rattle.f11_flx.proofs.CopyLemmas.{stated_end-image, stated_end-text}
-use Rattle.f11_flx.proofs.VolumeLemmas.{IsFared, denied-fared, granted-fared, volume-seen}
+use Rattle.f11_making.specs.Fares.{Fares}
+use Rattle.f11_making.proofs.VolumeLemmas.{denied-fared, granted-fared, volume-seen}
 use Rattle.f11_flx.proofs.TriedLemmas.{asked-for-one}
-use Rattle.f11_flx.specs.Asking.{Asking, Denies, Fails, Grants, Tried, Who, asks, plain, told, who_asks}
-use Rattle.f11_flx.specs.Copying.{MayMake, MayMakeStated, is_whole, of_volume}
+use Rattle.f11_making.specs.Asking.{Asking, Denies, Fails, Grants, Tried, Who, asks, plain, told, who_asks}
+use Rattle.f11_making.specs.Volume.{of_volume}
+use Rattle.f11_flx.specs.Copying.{MayMake, MayMakeStated, is_whole}
 use Rattle.f11_home.specs.Home.{HomeFields}
 use Rattle.f11_flx.specs.declared.lines.Extent.{Extent}
 use Rattle.f11_flx.specs.declared.mode.CopyMode.{CopyMode}
@@ -246,7 +248,7 @@ module _ {D : Type 0} {met : Ghosts D} (p : Putting) (bytes : ℕ) (u : Hosts) w
   }
 
   -- behind something that was asked, and failed nothing
-  module _ (x : Asking) (Seen : Type 0) (v m : Volume D met) (fared : IsFared false false v m)
+  module _ (x : Asking) (Seen : Type 0) (v m : Volume D met) (fared : Fares false false v m)
       (answered : (Grants of_volume operator x v m) ⊎ ((e : Refusal) × Denies of_volume operator x e v m))
       (home : (state_in m).home ≡ (state_in v).home) (seen : is_sound v ≡ true → Seen × (is_sound m ≡ true))
       (free : Seen → IsUnheld (store_of_volume v) → IsUnheld (store_of_volume m))
@@ -334,8 +336,8 @@ module _ {D : Type 0} {met : Ghosts D} (p : Putting) (bytes : ℕ) (u : Hosts) w
     put-ready result u' (suc n) m w are (inr denied) a =
         put-behind (asks (request.GrowIndex (suc n)))
         ((suc n ≡ slots_before p.blocks (store_of_volume v)) × AsksForSlots plain (suc n) (store_of_volume v) (store_of_volume m)) v m
-        (subst (λ b. IsFared b false v m) (no-fault denied.0 denied.1)
-        (subst (λ b. IsFared (is_fault denied.0) b v m) denied.1
+        (subst (λ b. Fares b false v m) (no-fault denied.0 denied.1)
+        (subst (λ b. Fares (is_fault denied.0) b v m) denied.1
         (denied-fared operator (asks (request.GrowIndex (suc n))) denied.0 v m denied.2)))
         (inr (denied.0, denied.2))
         (denied-home operator (asks (request.GrowIndex (suc n))) denied.0 v m denied.2)

@@ -1,7 +1,7 @@
 -- Slots that the index file gets before a file is made: no other file is changed, whether they are granted, refused or stopped.
 use Rattle.std.proofs.Common.{◌≡◌, inl, inr, ℕ, zero, suc, false, refl, sym, ap, ◌∙◌}
 use Rattle.f11_serving.specs.files.Answers.{is_fatal, is_fault}
-use Rattle.f11_flx.specs.Asking.{Denies, FilesService, asks, plain}
+use Rattle.f11_making.specs.Asking.{Denies, FilesService, asks, plain}
 use Rattle.f11_store.specs.Causes.{first_refusal}
 use Rattle.f11_store.specs.Lags.{served_work}
 use Rattle.f11_store.specs.Store.{Store}

@@ -4,8 +4,8 @@ use Rattle.std.proofs.Common.{Option, Some, None, Result, Ok, Err, is_some, refl
 use Rattle.std.specs.Prelude.{unwrap_or}
 use Rattle.std.specs.Option.{option_and_then}
 use Rattle.std.proofs.lemmas.List.Elements.{All-head, All-tail}
-use Rattle.f11_flx.specs.Asking.{Asking, Denies, Grants, Tried, asks, counts, plain, reads, told, writes}
-use Rattle.f11_flx.specs.Copying.{is_reading, is_reading_request}
+use Rattle.f11_making.specs.Asking.{Asking, Denies, Grants, Tried, asks, counts, plain, reads, told, writes}
+use Rattle.f11_making.specs.AsksFor.{is_reading, is_reading_request}
 use Rattle.f11_runs.proofs.AccessLemmas.{true-false}
 use Rattle.f11_store.proofs.StoreLemmas.{none_first, none_rest}
 use Rattle.f11_store.specs.Causes.{first_refusal, is_bad, is_missing}

@@ -11,12 +11,13 @@ use Rattle.f11_serving.specs.fcp.Lists.{ServesCall, is_sound, store_of_volume}
 use Rattle.f11_serving.specs.fcp.Serving.{is_spent, state_in}
 use Rattle.f11_serving.specs.fcp.declared.volume.Volume.{Volume}
 use Rattle.f11_serving.specs.files.Answers.{is_fatal, is_fault, is_refused}
-use Rattle.f11_flx.proofs.VolumeLemmas.{denied-fared, unused, volume-seen}
-use Rattle.f11_flx.specs.Asking.{Asking, Denies, Fails, Grants, Tried, asks, counts, plain, reads, told, writes}
-use Rattle.f11_flx.specs.Copying.{AsksForFile, AsksOfCreated, AsksOnly, FaresFiles, IsMakingOf, ReadsFiles, is_reading, creation, making}
-use Rattle.f11_flx.specs.Copying.{nothing}
+use Rattle.f11_making.proofs.VolumeLemmas.{denied-fared, unused, volume-seen}
+use Rattle.f11_making.specs.Asking.{Asking, Denies, Fails, Grants, Tried, asks, counts, plain, reads, told, writes}
+use Rattle.f11_making.specs.AsksFor.{AsksForFile, AsksOfCreated, AsksOnly, IsMakingOf, is_reading, creation, making}
+use Rattle.f11_flx.specs.Copying.{FaresFiles, ReadsFiles}
+use Rattle.f11_making.specs.AsksFor.{nothing}
 use Rattle.f11_flx.specs.Copying.{of_files}
-use Rattle.f11_flx.specs.Copying.{of_volume}
+use Rattle.f11_making.specs.Volume.{of_volume}
 use Rattle.f11_flx.specs.Refusal.{is_lethal}
 use Rattle.f11_flx.specs.declared.refusal.FlxRefusal.{FlxRefusal}
 use Rattle.f11_flx.specs.declared.refusal.FlxRefusal.TheVariants.{Files, Rt, BadRecord, LineTooLong}

@@ -6,16 +6,17 @@ use Rattle.f11_dev.specs.declared.device.Device.{Ghosts}
 use Rattle.f11_serving.specs.fcp.Lists.{is_sound, store_of_volume}
 use Rattle.f11_serving.specs.fcp.Serving.{is_spent, state_in}
 use Rattle.f11_serving.specs.fcp.declared.volume.Volume.{Volume}
-use Rattle.f11_flx.proofs.AskingLemmas.{granted-parts}
+use Rattle.f11_making.proofs.AskingLemmas.{granted-parts}
 use Rattle.f11_flx.proofs.FromRtLemmas.{created-next}
 use Rattle.f11_flx.proofs.GainedLemmas.{not-index}
 use Rattle.f11_flx.proofs.MadeLemmas.{IsSuch, such-created, such-made}
 use Rattle.f11_flx.proofs.NewLemmas.{IsNewIn, new-made}
 use Rattle.f11_flx.proofs.SeenLemmas.{granted-seen}
-use Rattle.f11_flx.proofs.VolumeLemmas.{unused, volume-seen}
-use Rattle.f11_flx.specs.Asking.{Asking, Denies, Granted, Grants, Tried, asks, counts, plain, reads, told, writes}
-use Rattle.f11_flx.specs.CopyFromRt.{Making, creation, filling, new_id, opening}
-use Rattle.f11_flx.specs.Copying.{IsMakingOf, of_volume}
+use Rattle.f11_making.proofs.VolumeLemmas.{unused, volume-seen}
+use Rattle.f11_making.specs.Asking.{Asking, Denies, Granted, Grants, Tried, asks, counts, plain, reads, told, writes}
+use Rattle.f11_making.specs.Making.{Making, creation, filling, new_id, opening}
+use Rattle.f11_making.specs.AsksFor.{IsMakingOf}
+use Rattle.f11_making.specs.Volume.{of_volume}
 use Rattle.f11_flx.specs.Stating.{AsksFinishing, AsksInOrder, FillsBy, FinishesBy, IsFilling, IsFinishing}
 use Rattle.f11_flx.specs.Stating.{creating, finishing, unasked, unfinished}
 use Rattle.f11_runs.proofs.AccessLemmas.{true-false}

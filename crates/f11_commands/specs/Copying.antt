@@ -1,8 +1,9 @@
 -- What a copy by names is, over the plain stores of two volumes (profile).
 use Rattle.std.specs.Prelude.{◌≡◌, ◌⊎◌, ℕ, ◌+◌, ◌/◌, ◌%◌, ⊤, Bool, true, false, All, List, [], ◌∷◌, ◌++◌, Result, Ok, Err, codes}
 use Rattle.f11_dev.specs.Disk.{Disk}
-use Rattle.f11_flx.specs.Asking.{Asking, Denies, Granted, Who, asks, counts, plain, reads, told, who_asks, writes}
-use Rattle.f11_flx.specs.CopyFromRt.{CopiesFromRt, FailsToCopyFromRt, IsAsBefore}
+use Rattle.f11_making.specs.Asking.{Asking, Denies, Granted, Who, asks, counts, plain, reads, told, who_asks, writes}
+use Rattle.f11_making.specs.AsBefore.{IsAsBefore}
+use Rattle.f11_flx.specs.CopyFromRt.{CopiesFromRt, FailsToCopyFromRt}
 use Rattle.f11_flx.specs.CopyToRt.{CopiesToRt, FailsToCopyToRt}
 use Rattle.f11_flx.specs.RtOutcome.{HasSameFiles}
 use Rattle.f11_flx.specs.declared.refusal.FlxRefusal.{FlxRefusal}

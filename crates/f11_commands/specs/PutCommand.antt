@@ -9,7 +9,7 @@ use Rattle.f11_serving.specs.fcp.Serving.{state_in}
 use Rattle.f11_serving.specs.fcp.declared.volume.Volume.{Volume}
 use Rattle.f11_serving.specs.files.Answers.{is_fault}
 use Rattle.f11_flx.specs.Copying.{is_whole, of_files}
-use Rattle.f11_flx.specs.CopyFromRt.{IsAsBefore}
+use Rattle.f11_making.specs.AsBefore.{IsAsBefore}
 use Rattle.f11_flx.specs.declared.refusal.FlxRefusal.TheVariants as copy
 use Rattle.f11_home.specs.Home.{HomeFields, IsHomeOf}
 use Rattle.f11_flx.specs.declared.lines.Extent.{Extent}

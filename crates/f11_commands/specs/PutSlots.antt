@@ -2,7 +2,7 @@
 -- at least, so that the slots of files which are put one after another adjoin.
 use Rattle.std.specs.Prelude.{◌≡◌, ◌⊎◌, ℕ, zero, suc, ◌+◌, ◌-◌, ◌/◌, nat_le, nat_lt, max, false, if◌then◌else◌}
 use Rattle.f11_serving.specs.files.Answers.{is_fatal}
-use Rattle.f11_flx.specs.Asking.{Denies, FilesService, Grants, asks, plain}
+use Rattle.f11_making.specs.Asking.{Denies, FilesService, Grants, asks, plain}
 use Rattle.f11_store.specs.Store.{Store, free_headers}
 use Rattle.f11_store.specs.declared.refusals.Refusal.{Refusal}
 use Rattle.f11_store.specs.declared.requests.Request.TheVariants as request

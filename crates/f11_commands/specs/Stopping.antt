@@ -4,9 +4,9 @@ use Rattle.f11_dev.specs.Disk.{Disk}
 use Rattle.f11_dev.specs.Image.{Image}
 use Rattle.f11_dev.specs.Went.{newest}
 use Rattle.f11_serving.specs.fcp.Accesses.{AccessTable, held_in}
-use Rattle.f11_flx.specs.Asking.{Asking, Grants, Tried, asks, counts, plain, reads, told, writes}
-use Rattle.f11_flx.specs.CopyFromRt.{new_id}
-use Rattle.f11_flx.specs.Copying.{Creates, IsMakingOf}
+use Rattle.f11_making.specs.Asking.{Asking, Grants, Tried, asks, counts, plain, reads, told, writes}
+use Rattle.f11_making.specs.Making.{new_id}
+use Rattle.f11_making.specs.AsksFor.{Creates, IsMakingOf}
 use Rattle.f11_store.specs.File.{File, end_of}
 use Rattle.f11_store.specs.Lags.{Lags}
 use Rattle.f11_store.specs.Store.{Store}

@@ -11,7 +11,7 @@ use Rattle.f11_store.specs.Store.{Store, file_named}
 use Rattle.f11_store.specs.declared.files.FileId.{FileId}
 use Rattle.f11_store.specs.declared.requests.Request.TheVariants as request
 use Rattle.f11_runs.proofs.AccessLemmas.{there-file, there-is, true-false}
-use Rattle.f11_flx.specs.Asking.{Grants, Who, asks, plain}
+use Rattle.f11_making.specs.Asking.{Grants, Who, asks, plain}
 use Rattle.f11_flx.specs.Conversion.{Copy, copied_from_rt, copied_lines}
 use Rattle.f11_flx.specs.Lines.{has_long_line, in_whole_blocks, lines_of, without_zeros}
 use Rattle.f11_flx.specs.Spelled.{image_attributes, longest_of, text_attributes, variable_records}

@@ -10,10 +10,10 @@ use Rattle.f11_store.specs.declared.files.Attr.{Attr}
 use Rattle.f11_store.specs.declared.files.FileId.{FileId}
 use Rattle.rt11_volume.specs.Verifying.Verdict.{IsSoundDisk}
 use Rattle.rt11_volume.specs.declared.volume.RtAccepted.{RtAccepted}
-use Rattle.f11_flx.specs.Asking.{Granted, FilesService, Who, plain}
+use Rattle.f11_making.specs.Asking.{Granted, FilesService, Who, plain}
 use Rattle.f11_flx.specs.CopyToRt.{CopiesToRt, reading, reading_of, walked_of}
 use Rattle.f11_flx.specs.Lines.{in_whole_blocks}
-use Rattle.f11_flx.specs.Seen.{IsSeenPlain}
+use Rattle.f11_making.specs.Seen.{IsSeenPlain}
 use Rattle.f11_flx.specs.Source.{StartsText, up_to_end}
 use Rattle.f11_flx.specs.Spelled.{image_of}
 use Rattle.f11_flx.specs.Target.{rt_disk, rt_store}

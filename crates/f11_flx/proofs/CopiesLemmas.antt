@@ -7,7 +7,7 @@ use Rattle.std.proofs.lemmas.List.{length-replicate, length-take-le}
 use Rattle.std.proofs.lemmas.List.Elements.{All-append, All-cons, All-nil}
 use Rattle.std.proofs.lemmas.List.Folds.{concat-append}
 use Rattle.f11_store.specs.declared.refusals.Refusal.{Refusal}
-use Rattle.f11_flx.specs.Asking.{Denies, Granted, Grants, FilesService, Who, reads, reads_of}
+use Rattle.f11_making.specs.Asking.{Denies, Granted, Grants, FilesService, Who, reads, reads_of}
 use Rattle.f11_flx.specs.Copies.{CopiesBlocks, CopiesText, FailsToCopyBlocks, FailsToCopyText}
 use Rattle.f11_flx.specs.Filling.{FailsToFinish, FailsToPour, FinishesBlocks, Out, Pours, Refusing, TakingBlocks, Took, out_text, padded}
 use Rattle.f11_flx.specs.Filling.{pending}
@@ -17,7 +17,7 @@ use Rattle.f11_flx.specs.ToText.{ends_record, rest_of, text_left}
 use Rattle.f11_flx.specs.declared.refusal.FlxRefusal.{FlxRefusal}
 use Rattle.f11_flx.specs.declared.refusal.FlxRefusal.TheVariants.{Files}
 use Rattle.f11_flx.specs.declared.to_text.ToText.{ToText}
-use Rattle.f11_flx.proofs.AskingLemmas.{reads-denied, reads-more}
+use Rattle.f11_making.proofs.AskingLemmas.{reads-denied, reads-more}
 use Rattle.f11_flx.proofs.ConvertLemmas.{option_map-append}
 use Rattle.f11_flx.proofs.EndLemmas.{text_ends}
 use Rattle.f11_flx.proofs.PourLemmas.{option_map-nothing, took-append, took-one, whole-length}

@@ -11,8 +11,9 @@ use Rattle.rt11_volume.specs.Verifying.Verdict.{IsSoundDisk}
 use Rattle.rt11_volume.specs.declared.volume.RtAccepted.{RtAccepted}
 use Rattle.f11_fcp.specs.Lists.{is_sound, store_of_volume}
 use Rattle.f11_fcp.specs.declared.volume.Volume.{Volume}
-use Rattle.f11_flx.specs.Asking.{Who}
-use Rattle.f11_flx.specs.Copying.{FaresRt, KeepsFailed, MakesRtFile, MayRefuseFailed, WhereSound, is_whole, of_rt, of_volume}
+use Rattle.f11_making.specs.Asking.{Who}
+use Rattle.f11_making.specs.Volume.{of_volume}
+use Rattle.f11_flx.specs.Copying.{FaresRt, KeepsFailed, MakesRtFile, MayRefuseFailed, WhereSound, is_whole, of_rt}
 use Rattle.f11_flx.specs.CopyToRt.{CopiesToRt, FailsToCopyToRt, RefusesCopyToRt}
 use Rattle.f11_flx.specs.EndedToRt.{EndsToRt}
 use Rattle.f11_flx.specs.Refusal.{is_lethal}
@@ -29,7 +30,7 @@ use Rattle.f11_flx.proofs.RefusedLemmas.{refused, refused-same}
 use Rattle.f11_flx.proofs.RtOutcomeLemmas.{file-leaves, file-made}
 use Rattle.f11_flx.proofs.SmallLemmas.{not-true}
 use Rattle.f11_flx.proofs.SpentLemmas.{failed-refused, failed-uncopied, spent-unasked}
-use Rattle.f11_flx.proofs.VolumeLemmas.{volume-seen}
+use Rattle.f11_making.proofs.VolumeLemmas.{volume-seen}
 
 abbrev as-result : (T : Type 0) → Type 0
 as-result T = Result T FlxRefusal

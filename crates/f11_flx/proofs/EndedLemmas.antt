@@ -13,27 +13,26 @@ use Rattle.f11_store.specs.declared.requests.Request.{Request}
 use Rattle.f11_store.specs.declared.requests.Request.TheVariants as request
 use Rattle.f11_runs.proofs.AccessLemmas.{true-false}
 use Rattle.rt11_volume.specs.declared.volume.RtAccepted.{RtAccepted}
-use Rattle.f11_flx.specs.Asking.{Asking, BreaksOffAsking, Denies, Fails, Granted, Grants, FilesService, Who, asks, told, writes, writes_of}
-use Rattle.f11_flx.specs.CopyFromRt.{Making, as_file, creation, entry, opening}
-use Rattle.f11_flx.specs.Ended.{Ends, EndsDenied, TriedCleanly, is_building}
+use Rattle.f11_making.specs.Asking.{Asking, BreaksOffAsking, Denies, Fails, Granted, FilesService, Who, asks, told, writes}
+use Rattle.f11_making.specs.Asking.{writes_of}
+use Rattle.f11_making.specs.Making.{Making, as_file, creation, entry, opening}
+use Rattle.f11_making.specs.Cleanly.{Cleanly}
+use Rattle.f11_flx.specs.Ended.{Ends, EndsDenied, is_building}
 use Rattle.f11_flx.specs.FromRt.{FailsToCopyFrom}
 use Rattle.f11_flx.specs.Making.{AsksToFill, FailsToFillFromRt, FailsToFillOpened, FailsToMake, FillsFromRt, FillsOpened, IsBrokenOff}
-use Rattle.f11_flx.specs.Making.{Undoing, UndoingIf, extension, filling_of, is_created}
+use Rattle.f11_making.specs.Making.{extension, filling_of, is_created}
+use Rattle.f11_flx.specs.Making.{Undoing, UndoingIf}
 use Rattle.f11_flx.specs.Planning.{FailsToPlan}
 use Rattle.f11_flx.specs.Refusal.{is_lethal}
 use Rattle.f11_flx.specs.declared.mode.CopyMode.{CopyMode}
 use Rattle.f11_flx.specs.declared.refusal.FlxRefusal.{FlxRefusal}
 use Rattle.f11_flx.specs.declared.refusal.FlxRefusal.TheVariants.{BadRecord, Files, LineTooLong, Rt}
-use Rattle.f11_flx.proofs.AskingLemmas.{granted-append}
+use Rattle.f11_making.proofs.AskingLemmas.{granted-append}
+use Rattle.f11_making.proofs.CleanlyLemmas.{cleanly-all, cleanly-denied, cleanly-one, cleanly-then, tried-then}
 use Rattle.f11_flx.proofs.MakingLemmas.{asks-to-fill}
 
 abbrev builds : Asking → Type 0
 builds x = is_building x ≡ true
-
--- Such things were asked, none refused as a device fault or Damaged.
-pub record Cleanly {V : Type 0} (S : FilesService V) (who : Who) (v w : V) : Type 0 where
-  pub asked : List Asking
-  pub tried : TriedCleanly S who asked v w
 
 -- A copy that is refused so far: it ended, or went on cleanly.
 record SoFar {V : Type 0} (S : FilesService V) (who : Who) (f : FlxRefusal) (v w : V) : Type 0 where
@@ -41,32 +40,12 @@ record SoFar {V : Type 0} (S : FilesService V) (who : Who) (f : FlxRefusal) (v w
   pub clean : is_lethal f ≡ false → Cleanly S who v w
 
 module _ {V : Type 0} (S : FilesService V) (who : Who) where
-  cleanly-none : (v : V) → Cleanly S who v v
-  cleanly-none v = record { asked = []; tried = refl }
-
-  tried-then : (xs ys : List Asking) (u v w : V) → TriedCleanly S who xs u v → TriedCleanly S who ys v w → TriedCleanly S who (xs ++ ys) u w
-  tried-then [] ys u v w h k = subst (λ x. TriedCleanly S who ys x w) h k
-  tried-then (x ∷ xs) ys u v w h k = (h.0, h.1, tried-then xs ys h.0 v w h.2 k)
-
-  pub cleanly-then : (u v w : V) → Cleanly S who u v → Cleanly S who v w → Cleanly S who u w
-  cleanly-then u v w h k = record { asked = h.asked ++ k.asked; tried = tried-then h.asked k.asked u v w h.tried k.tried }
-
-  cleanly-one : (x : Asking) (v w : V) → Grants S who x v w → Cleanly S who v w
-  cleanly-one x v w h = record { asked = x ∷ []; tried = (w, inl h, refl) }
-
-  pub cleanly-denied : (x : Asking) (e : Refusal) (v w : V) → is_lethal (Files e) ≡ false → Denies S who x e v w → Cleanly S who v w
-  cleanly-denied x e v w clean h = record { asked = x ∷ []; tried = (w, inr (e, clean, h), refl) }
-
-  pub cleanly-all : (xs : List Asking) (v w : V) → Granted S who xs v w → Cleanly S who v w
-  cleanly-all [] v w h = subst (λ x. Cleanly S who v x) (sym h) (cleanly-none v)
-  cleanly-all (x ∷ xs) v w h = cleanly-then v h.0 w (cleanly-one x v h.0 h.1) (cleanly-all xs h.0 w h.2)
-
   ends-then : (e : Refusal) (u v w : V) → Cleanly S who u v → EndsDenied S who e v w → EndsDenied S who e u w
   ends-then e u v w h k =
       record {
         asked = h.asked ++ k.asked;
         at = k.at;
-        tried = tried-then h.asked k.asked u v k.at h.tried k.tried;
+        tried = tried-then S who h.asked k.asked u v k.at h.tried k.tried;
         last = k.last;
         is_last = k.is_last;
       }
@@ -74,17 +53,21 @@ module _ {V : Type 0} (S : FilesService V) (who : Who) where
   denied-so-far : (x : Asking) (e : Refusal) (v w : V) → Denies S who x e v w → SoFar S who (Files e) v w
   denied-so-far x e v w h = record {
     ended = λ lethal. record { asked = []; at = v; tried = refl; last = x; is_last = inl h };
-    clean = λ clean. cleanly-denied x e v w clean h;
+    clean = λ clean. cleanly-denied S who x e v w clean h;
   }
 
   -- behind what was granted and undoes nothing
   built-then : (f : FlxRefusal) (xs : List Asking) (u v w : V) → All builds xs → Granted S who xs u v → SoFar S who f v w
       → SoFar S who f u w
   built-then f xs u v w all g h =
-      record { ended = λ lethal. by f (h.ended lethal); clean = λ clean. cleanly-then u v w (cleanly-all xs u v g) (h.clean clean) }
+      record {
+        ended = λ lethal. by f (h.ended lethal);
+        clean = λ clean. cleanly-then S who u v w (cleanly-all S who xs u v g)
+            (h.clean clean);
+      }
     where
       by : (f : FlxRefusal) → Ends S who f v w → Ends S who f u w
-      by (Files e) k = ends-then e u v w (cleanly-all xs u v g) k
+      by (Files e) k = ends-then e u v w (cleanly-all S who xs u v g) k
       by (Rt e) k =
           record {
             asked = xs ++ k.asked;
@@ -97,12 +80,12 @@ module _ {V : Type 0} (S : FilesService V) (who : Who) where
   -- behind whatever went on cleanly, where the volume itself refuses
   cleanly-so-far : (e : Refusal) (u v w : V) → Cleanly S who u v → SoFar S who (Files e) v w → SoFar S who (Files e) u w
   cleanly-so-far e u v w h k =
-      record { ended = λ lethal. ends-then e u v w h (k.ended lethal); clean = λ clean. cleanly-then u v w h (k.clean clean) }
+      record { ended = λ lethal. ends-then e u v w h (k.ended lethal); clean = λ clean. cleanly-then S who u v w h (k.clean clean) }
 
   breaks-so-far : (xs : List Asking) (e : Refusal) (v w : V) → BreaksOffAsking S who xs e v w → SoFar S who (Files e) v w
   breaks-so-far [] e v w h = absurd h
   breaks-so-far (x ∷ xs) e v w (inl h) = denied-so-far x e v w h
-  breaks-so-far (x ∷ xs) e v w (inr h) = cleanly-so-far e v h.0 w (cleanly-one x v h.0 h.1) (breaks-so-far xs e h.0 w h.2)
+  breaks-so-far (x ∷ xs) e v w (inr h) = cleanly-so-far e v h.0 w (cleanly-one S who x v h.0 h.1) (breaks-so-far xs e h.0 w h.2)
 
   undoing-so-far : (r : Request) (f f' : FlxRefusal) (u v w : V) → SoFar S who f u v → Undoing S who r f f' v w → SoFar S who f' u w
   undoing-so-far r f f' u v w h k = by (is_lethal f) refl k
@@ -112,14 +95,14 @@ module _ {V : Type 0} (S : FilesService V) (who : Who) where
       chosen e true is lethal d = cleanly-so-far e u v w (h.clean is) (denied-so-far (asks r) e v w d)
       chosen e false is lethal d = record {
         ended = λ l. absurd (true-false (sym l ∙ is));
-        clean = λ c. cleanly-then u v w (h.clean is) (cleanly-denied (asks r) e v w lethal d);
+        clean = λ c. cleanly-then S who u v w (h.clean is) (cleanly-denied S who (asks r) e v w lethal d);
       }
 
       by : (b : Bool) → is_lethal f ≡ b → UndoingIf b S who r f f' v w → SoFar S who f' u w
       by true is k = subst (λ x. SoFar S who x u w) (sym k.0) (subst (λ x. SoFar S who f u x) (sym k.1) h)
       by false is (inl k) = subst (λ x. SoFar S who x u w) (sym k.same) (record {
         ended = λ l. absurd (true-false (sym l ∙ is));
-        clean = λ c. cleanly-then u v w (h.clean is) (cleanly-one (asks r) v w k.granted);
+        clean = λ c. cleanly-then S who u v w (h.clean is) (cleanly-one S who (asks r) v w k.granted);
       })
       by false is (inr k) = subst (λ x. SoFar S who x u w) (sym k.answer) (chosen k.e (is_lethal (Files k.e)) is refl k.denied)
 
@@ -136,7 +119,7 @@ module _ {V : Type 0} (S : FilesService V) (who : Who) where
           last = x;
           is_last = inr (request.Create 0 (ident_with making.name) making.attr, h.0, refl, h.1, h.2, h.3);
         };
-        clean = λ clean. cleanly-one x v w h.3;
+        clean = λ clean. cleanly-one S who x v w h.3;
       }
 
 module _ (lun : ℕ) where

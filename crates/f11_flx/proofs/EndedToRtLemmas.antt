@@ -13,7 +13,8 @@ use Rattle.f11_runs.proofs.AccessLemmas.{true-false}
 use Rattle.rt11_volume.specs.Files.{is_fault}
 use Rattle.rt11_volume.specs.declared.refusal.RtRefusal.{RtRefusal}
 use Rattle.rt11_volume.specs.declared.volume.RtAccepted.{RtAccepted}
-use Rattle.f11_flx.specs.Asking.{Asking, BreaksOffAsking, Denies, Granted, Grants, FilesService, Who, asks, counts, reads, reads_of, told}
+use Rattle.f11_making.specs.Asking.{Asking, BreaksOffAsking, Denies, Granted, Grants, FilesService, Who, asks, counts, reads, reads_of}
+use Rattle.f11_making.specs.Asking.{told}
 use Rattle.f11_flx.specs.Copies.{FailsToCopyText}
 use Rattle.f11_flx.specs.Ended.{EndsDenied, IsLast}
 use Rattle.f11_flx.specs.EndedToRt.{EndsHeld, EndsToRt, HasAtMostOneMore, HoldsAsked, IsMadeInPart, is_holding}
@@ -21,28 +22,16 @@ use Rattle.f11_flx.specs.Filling.{Refusing, TakingBlocks, Took}
 use Rattle.f11_flx.specs.Refusal.{is_lethal}
 use Rattle.f11_flx.specs.Source.{CopiesAs, FailsAs, TellsNothing, TellsSource, up_to_end}
 use Rattle.f11_flx.specs.Target.{rt_store}
-use Rattle.f11_flx.specs.ToRt.{
-  CopiesLocked,
-  CountsAs,
-  FailsLocked,
-  FailsToCopyFileToRt,
-  FailsToCountAs,
-  FailsToFillToRt,
-  GaveUp,
-  IsNotClosed,
-  UndoesToRt,
-  nowhere_refuses,
-  nowhere_takes,
-  rt_refuses,
-  rt_takes,
-}
+use Rattle.f11_flx.specs.ToRt.{CopiesLocked, CountsAs, FailsLocked, FailsToCopyFileToRt, FailsToCountAs, FailsToFillToRt, GaveUp}
+use Rattle.f11_flx.specs.ToRt.{IsNotClosed, UndoesToRt, nowhere_refuses, nowhere_takes, rt_refuses, rt_takes}
 use Rattle.f11_flx.specs.declared.mode.CopyMode.{CopyMode}
 use Rattle.f11_flx.specs.declared.mode.CopyMode.TheVariants.{Image, Text}
 use Rattle.f11_flx.specs.declared.refusal.FlxRefusal.{FlxRefusal}
 use Rattle.f11_flx.specs.declared.refusal.FlxRefusal.TheVariants.{BadRecord, Files, LineTooLong, Rt}
 use Rattle.f11_flx.specs.declared.to_text.ToText.{ToText}
-use Rattle.f11_flx.proofs.AskingLemmas.{granted-append}
-use Rattle.f11_flx.proofs.EndedLemmas.{Cleanly, cleanly-all, cleanly-denied, cleanly-then}
+use Rattle.f11_making.proofs.AskingLemmas.{granted-append}
+use Rattle.f11_making.specs.Cleanly.{Cleanly}
+use Rattle.f11_making.proofs.CleanlyLemmas.{cleanly-all, cleanly-denied, cleanly-then}
 use Rattle.f11_flx.proofs.RtCopyLemmas.{has-made, took-puts}
 use Rattle.f11_flx.proofs.RtOutcomeLemmas.{copies-some, locked-leaves}
 

@@ -22,8 +22,8 @@ use Rattle.f11_store.proofs.FateLaws.{mark-of-cleared}
 use Rattle.f11_store.proofs.SlotsFirst.{gained-is-ready}
 use Rattle.f11_store.proofs.StoreLemmas.{same_number}
 use Rattle.f11_runs.proofs.AccessLemmas.{there-file}
-use Rattle.f11_flx.specs.Asking.{BreaksOffAsking, Who, plain}
-use Rattle.f11_flx.specs.CopyFromRt.{Making, entry, naming, stating}
+use Rattle.f11_making.specs.Asking.{BreaksOffAsking, Who, plain}
+use Rattle.f11_making.specs.Making.{Making, entry, naming, stating}
 use Rattle.f11_flx.proofs.GainedLemmas.{index-stays, not-index}
 use Rattle.f11_flx.proofs.NewLemmas.{IsNewIn, none-of, other-index}
 use Rattle.f11_flx.proofs.SmallLemmas.{bad-not}

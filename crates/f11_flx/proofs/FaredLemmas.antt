@@ -20,12 +20,14 @@ use Rattle.f11_fcp.specs.Serving.{StaysAccepted, is_spent, state_in}
 use Rattle.f11_fcp.specs.declared.volume.Volume.{Volume}
 use Rattle.f11_fcp.proofs.writes.LostLemmas.{lost-none, lost-then}
 use Rattle.rt11_volume.specs.declared.volume.RtAccepted.{RtAccepted}
-use Rattle.f11_flx.specs.Asking.{Asking, BreaksOffAsking, Denies, Fails, Granted, Grants, Who, asks, told, writes_of}
-use Rattle.f11_flx.specs.Copying.{FaresFiles, of_files, of_volume}
-use Rattle.f11_flx.specs.CopyFromRt.{Making, as_file, creation, entry, opening}
+use Rattle.f11_making.specs.Asking.{Asking, BreaksOffAsking, Denies, Fails, Granted, Grants, Who, asks, told, writes_of}
+use Rattle.f11_making.specs.Volume.{of_volume}
+use Rattle.f11_flx.specs.Copying.{FaresFiles, of_files}
+use Rattle.f11_making.specs.Making.{Making, as_file, creation, entry, opening}
 use Rattle.f11_flx.specs.FromRt.{CopiesFrom, FailsToCopyFrom}
 use Rattle.f11_flx.specs.Making.{AsksToFill, FailsToFillFromRt, FailsToFillOpened, FailsToMake, FillsFromRt, FillsOpened, IsBrokenOff}
-use Rattle.f11_flx.specs.Making.{MakesFile, Undoing, UndoingIf, extension, filling_of, is_created}
+use Rattle.f11_making.specs.Making.{extension, filling_of, is_created}
+use Rattle.f11_flx.specs.Making.{MakesFile, Undoing, UndoingIf}
 use Rattle.f11_flx.specs.Planning.{FailsToPlan}
 use Rattle.f11_flx.specs.Refusal.{is_lethal}
 use Rattle.f11_flx.specs.declared.mode.CopyMode.{CopyMode}
@@ -33,7 +35,7 @@ use Rattle.f11_flx.specs.declared.refusal.FlxRefusal.{FlxRefusal}
 use Rattle.f11_flx.specs.declared.refusal.FlxRefusal.TheVariants.{BadRecord, Files, LineTooLong, Rt}
 use Rattle.f11_flx.proofs.MakingLemmas.{asks-to-fill}
 use Rattle.f11_flx.proofs.SmallLemmas.{or-false}
-use Rattle.f11_flx.proofs.VolumeLemmas.{denied-fared, granted-fared, parts-sound, volume-seen}
+use Rattle.f11_making.proofs.VolumeLemmas.{denied-fared, granted-fared, parts-sound, volume-seen}
 
 abbrev refused : FlxRefusal → Result Unit FlxRefusal
 refused f = Err f

@@ -8,20 +8,22 @@ use Rattle.f11_store.specs.declared.requests.Reply.TheVariants as reply
 use Rattle.rt11_volume.specs.Files.{file_area}
 use Rattle.rt11_volume.specs.Verifying.Verdict.{IsSoundDisk}
 use Rattle.rt11_volume.specs.declared.volume.RtAccepted.{RtAccepted}
-use Rattle.f11_flx.specs.Asking.{Granted, FilesService, Who, plain}
-use Rattle.f11_flx.specs.CopyFromRt.{CopiesFromRt, HasMaking, Making, as_file, creation, entry, filling, making_of, new_id, opening}
+use Rattle.f11_making.specs.Asking.{Granted, FilesService, Who, plain}
+use Rattle.f11_making.specs.Making.{Making, as_file, creation, entry, filling, making_of, new_id, opening}
+use Rattle.f11_flx.specs.CopyFromRt.{CopiesFromRt, HasMaking}
 use Rattle.f11_flx.specs.FromRt.{CopiesFrom}
-use Rattle.f11_flx.specs.Making.{FillsFromRt, MakesFile, filling_of}
+use Rattle.f11_making.specs.Making.{filling_of}
+use Rattle.f11_flx.specs.Making.{FillsFromRt, MakesFile}
 use Rattle.f11_flx.specs.Passes.{IsCopied}
 use Rattle.f11_flx.specs.Planning.{IsPlan, Plans}
 use Rattle.f11_flx.specs.RtSource.{HasContents}
 use Rattle.f11_flx.specs.Target.{rt_disk, rt_store}
 use Rattle.f11_flx.specs.declared.mode.CopyMode.{CopyMode}
-use Rattle.f11_flx.proofs.AskingLemmas.{granted-append}
+use Rattle.f11_making.proofs.AskingLemmas.{granted-append}
 use Rattle.f11_flx.proofs.MakingLemmas.{pieces-are}
 use Rattle.f11_flx.proofs.PassLemmas.{same-contents, stays-sound}
 use Rattle.f11_flx.proofs.PassedLemmas.{all-of}
-use Rattle.f11_flx.specs.Seen.{IsSeenPlain}
+use Rattle.f11_making.specs.Seen.{IsSeenPlain}
 use Rattle.f11_flx.proofs.SeenLemmas.{granted-seen}
 
 -- the file that is created is the next one

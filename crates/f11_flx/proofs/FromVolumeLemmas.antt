@@ -10,10 +10,12 @@ use Rattle.rt11_volume.specs.Files.{is_fault as is_rt_fault}
 use Rattle.rt11_volume.specs.Verifying.Verdict.{IsSoundDisk}
 use Rattle.rt11_volume.specs.declared.refusal.RtRefusal.TheVariants.{Failed}
 use Rattle.rt11_volume.specs.declared.volume.RtAccepted.{RtAccepted}
-use Rattle.f11_flx.specs.Asking.{Who}
+use Rattle.f11_making.specs.Asking.{Who}
 use Rattle.f11_flx.specs.Copying.{FaresFiles, KeepsFailed, KeepsSpent, MayMake, MayMakeFile, ReadsRt, is_whole, of_rt}
-use Rattle.f11_flx.specs.Copying.{of_volume}
-use Rattle.f11_flx.specs.CopyFromRt.{CopiesFromRt, FailsToCopyFromRt, IsAsBefore, Making, as_file}
+use Rattle.f11_making.specs.Volume.{of_volume}
+use Rattle.f11_making.specs.AsBefore.{IsAsBefore}
+use Rattle.f11_making.specs.Making.{Making, as_file}
+use Rattle.f11_flx.specs.CopyFromRt.{CopiesFromRt, FailsToCopyFromRt}
 use Rattle.f11_flx.specs.FromRt.{CopiesFrom, FailsToCopyFrom}
 use Rattle.f11_flx.specs.Refusal.{is_lethal}
 use Rattle.f11_flx.specs.RtSource.{Looks}
@@ -29,7 +31,7 @@ use Rattle.f11_flx.proofs.NotMadeLemmas.{copy-refused, copy-undone}
 use Rattle.f11_flx.proofs.SmallLemmas.{not-true}
 use Rattle.f11_flx.proofs.SpentLemmas.{failed-made, failed-unasked, failed-unmade}
 use Rattle.f11_flx.proofs.TriedLemmas.{AsksFor, copies-tries, fails-tries}
-use Rattle.f11_flx.proofs.VolumeLemmas.{standing, unused, volume-seen}
+use Rattle.f11_making.proofs.VolumeLemmas.{standing, unused, volume-seen}
 
 abbrev pub given : ℕ → Result ℕ FlxRefusal
 given n = Ok n

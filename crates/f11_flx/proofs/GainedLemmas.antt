@@ -13,7 +13,7 @@ use Rattle.f11_store.specs.Store.{Store, file_named, free_slots, index_file}
 use Rattle.f11_store.specs.declared.files.FileId.{FileId}
 use Rattle.f11_store.proofs.PieceLemmas.{cleared-twice}
 use Rattle.f11_store.proofs.SlotsFirst.{HasRoom, first-fit, gained-is-ready}
-use Rattle.f11_flx.specs.CopyFromRt.{IndexAfter, IsGrownIndex, as_it_was, grown}
+use Rattle.f11_making.specs.AsBefore.{IndexAfter, IsGrownIndex, as_it_was, grown}
 
 -- the index file once it has them
 pub index-gained : (s t : Store) (headers : ℕ) → GetsSlots (slots_first s headers) s t → IndexAfter s t (slots_first s headers)

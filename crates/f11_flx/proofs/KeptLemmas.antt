@@ -24,13 +24,15 @@ use Rattle.rt11_volume.specs.Calls.{has_failed, volume_device}
 use Rattle.rt11_volume.specs.declared.refusal.RtRefusal.{RtRefusal}
 use Rattle.rt11_volume.specs.declared.refusal.RtRefusal.TheVariants.{Failed}
 use Rattle.rt11_volume.specs.declared.volume.RtAccepted.{RtAccepted}
-use Rattle.f11_flx.specs.Asking.{Asking, BreaksOffAsking, Denies, Fails, Granted, Grants, FilesService, Who, asks, counts, reads, told}
-use Rattle.f11_flx.specs.Asking.{writes, writes_of}
-use Rattle.f11_flx.specs.Copying.{KeepsFailed, KeepsSpent, of_volume}
-use Rattle.f11_flx.specs.CopyFromRt.{Making, as_file, creation, entry, opening}
+use Rattle.f11_making.specs.Asking.{Asking, BreaksOffAsking, Denies, Fails, Granted, Grants, FilesService, Who, asks, counts, reads, told}
+use Rattle.f11_making.specs.Asking.{writes, writes_of}
+use Rattle.f11_making.specs.Volume.{of_volume}
+use Rattle.f11_flx.specs.Copying.{KeepsFailed, KeepsSpent}
+use Rattle.f11_making.specs.Making.{Making, as_file, creation, entry, opening}
 use Rattle.f11_flx.specs.FromRt.{CopiesFrom, FailsToCopyFrom}
 use Rattle.f11_flx.specs.Making.{AsksToFill, FailsToFillFile, FailsToFillFromRt, FailsToFillOpened, FailsToMake, FailsToMakeCopy}
-use Rattle.f11_flx.specs.Making.{FillsFromRt, FillsOpened, IsBrokenOff, MakesFile, Undoing, UndoingIf, extension, filling_of, is_created}
+use Rattle.f11_making.specs.Making.{extension, filling_of, is_created}
+use Rattle.f11_flx.specs.Making.{FillsFromRt, FillsOpened, IsBrokenOff, MakesFile, Undoing, UndoingIf}
 use Rattle.f11_flx.specs.Planning.{FailsToPlan}
 use Rattle.f11_flx.specs.Refusal.{is_lethal}
 use Rattle.f11_flx.specs.declared.mode.CopyMode.{CopyMode}
@@ -38,7 +40,7 @@ use Rattle.f11_flx.specs.declared.refusal.FlxRefusal.{FlxRefusal}
 use Rattle.f11_flx.specs.declared.refusal.FlxRefusal.TheVariants.{BadRecord, Files, LineTooLong, Rt}
 use Rattle.f11_flx.proofs.MakingLemmas.{asks-to-fill}
 use Rattle.f11_flx.proofs.PassLemmas.{stays-alive}
-use Rattle.f11_flx.proofs.VolumeLemmas.{denied-fared, granted-fared}
+use Rattle.f11_making.proofs.VolumeLemmas.{denied-fared, granted-fared}
 
 abbrev pub given : ℕ → Result ℕ FlxRefusal
 given n = Ok n

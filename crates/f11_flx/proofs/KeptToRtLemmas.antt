@@ -15,27 +15,17 @@ use Rattle.rt11_volume.specs.Files.{is_fault}
 use Rattle.rt11_volume.specs.declared.refusal.RtRefusal.{RtRefusal}
 use Rattle.rt11_volume.specs.declared.refusal.RtRefusal.TheVariants.{Failed}
 use Rattle.rt11_volume.specs.declared.volume.RtAccepted.{RtAccepted}
-use Rattle.f11_flx.specs.Asking.{Asking, Denies, FilesService, Who, asks}
+use Rattle.f11_making.specs.Asking.{Asking, Denies, FilesService, Who, asks}
 use Rattle.f11_flx.specs.Copies.{FailsToCopyText}
-use Rattle.f11_flx.specs.Copying.{KeepsFailed, KeepsSpent, of_volume}
+use Rattle.f11_making.specs.Volume.{of_volume}
+use Rattle.f11_flx.specs.Copying.{KeepsFailed, KeepsSpent}
 use Rattle.f11_flx.specs.Ended.{IsLast}
 use Rattle.f11_flx.specs.EndedToRt.{EndsHeld}
 use Rattle.f11_flx.specs.Filling.{Took}
 use Rattle.f11_flx.specs.Refusal.{is_lethal}
 use Rattle.f11_flx.specs.Source.{FailsAs, up_to_end}
-use Rattle.f11_flx.specs.ToRt.{
-  CopiesFileToRt,
-  FailsLocked,
-  FailsToCopyFileToRt,
-  FailsToCountAs,
-  FailsToFillToRt,
-  GaveUp,
-  UndoesToRt,
-  nowhere_refuses,
-  nowhere_takes,
-  rt_refuses,
-  rt_takes,
-}
+use Rattle.f11_flx.specs.ToRt.{CopiesFileToRt, FailsLocked, FailsToCopyFileToRt, FailsToCountAs, FailsToFillToRt, GaveUp, UndoesToRt}
+use Rattle.f11_flx.specs.ToRt.{nowhere_refuses, nowhere_takes, rt_refuses, rt_takes}
 use Rattle.f11_flx.specs.declared.mode.CopyMode.{CopyMode}
 use Rattle.f11_flx.specs.declared.mode.CopyMode.TheVariants.{Image, Text}
 use Rattle.f11_flx.specs.declared.refusal.FlxRefusal.{FlxRefusal}

@@ -5,11 +5,12 @@ use Rattle.f11_store.specs.Accesses.{FreeIsEmpty}
 use Rattle.f11_store.specs.Store.{Store}
 use Rattle.f11_store.specs.declared.files.FileId.{FileId}
 use Rattle.f11_store.specs.declared.refusals.Refusal.{Refusal}
-use Rattle.f11_flx.specs.Asking.{BreaksOffAsking, Granted, Who, plain}
-use Rattle.f11_flx.specs.CopyFromRt.{IsAsBefore, Making, as_file, creation, deletion, filling, giving_up, new_id, opening}
+use Rattle.f11_making.specs.Asking.{BreaksOffAsking, Granted, Who, plain}
+use Rattle.f11_making.specs.AsBefore.{IsAsBefore}
+use Rattle.f11_making.specs.Making.{Making, as_file, creation, deletion, filling, giving_up, new_id, opening}
 use Rattle.f11_flx.specs.MakingLaws.{RefusedCopyLeaves, RefusedMakingLeaves}
 use Rattle.f11_flx.specs.declared.refusal.FlxRefusal.TheVariants.{BadRecord, Files, LineTooLong, Rt}
-use Rattle.f11_flx.proofs.AskingLemmas.{granted-parts}
+use Rattle.f11_making.proofs.AskingLemmas.{granted-parts}
 use Rattle.f11_flx.proofs.EnteredLemmas.{entry-refused}
 use Rattle.f11_flx.proofs.NewLemmas.{IsNewIn, IsOpenIn, closed, deleted, lun-was-free, new-made, opened}
 use Rattle.f11_flx.proofs.UndoneLemmas.{as-before, filled-closed, filling-breaks}

@@ -1,5 +1,4 @@
 pub mod ApartLemmas
-pub mod AskingLemmas
 pub mod BackLemmas
 pub mod NewLemmas
 pub mod PassLemmas
@@ -51,7 +50,6 @@ pub mod TextLemmas
 pub mod ThereAndBackLemmas
 pub mod TriedLemmas
 pub mod UndoneLemmas
-pub mod VolumeLemmas
 pub mod WalkLemmas
 pub mod WritingLemmas
 mod WholeLemmas

@@ -6,8 +6,8 @@ use Rattle.f11_store.specs.declared.files.FileId.{FileId}
 use Rattle.f11_store.specs.declared.requests.Request.{Request}
 use Rattle.rt11_volume.specs.Files.{is_fault}
 use Rattle.rt11_volume.specs.declared.volume.RtAccepted.{RtAccepted}
-use Rattle.f11_flx.specs.Asking.{FilesService, Who}
-use Rattle.f11_flx.specs.CopyFromRt.{Making}
+use Rattle.f11_making.specs.Asking.{FilesService, Who}
+use Rattle.f11_making.specs.Making.{Making}
 use Rattle.f11_flx.specs.FromRt.{CopiesFrom, FailsToCopyFrom}
 use Rattle.f11_flx.specs.Making.{FailsToFillFromRt, FailsToFillFile, FailsToMakeCopy, Undoing, UndoingIf}
 use Rattle.f11_flx.specs.Planning.{FailsToPlan}
@@ -96,5 +96,5 @@ module _ {V E : Type 0} {met : Ghosts E} (S : FilesService V) (disk : E → Disk
   fails-looks f dir to protection a b v w (inl h) = plan-looks f a b h.fails
   fails-looks f dir to protection a b v w (inr h) =
       looks-then disk (is-rt-fault f) a h.between b h.plans.looks
-      (make-looks f h.many h.blocks (Rattle.f11_flx.specs.CopyFromRt.as_file to dir protection h.attr Rattle.std.specs.Prelude.[])
+      (make-looks f h.many h.blocks (Rattle.f11_making.specs.Making.as_file to dir protection h.attr Rattle.std.specs.Prelude.[])
       h.between b v w (h.fails Rattle.std.specs.Prelude.[]))

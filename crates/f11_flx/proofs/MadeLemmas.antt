@@ -23,15 +23,16 @@ use Rattle.f11_store.specs.declared.refusals.Refusal.TheVariants.{BadArgument, S
 use Rattle.f11_runs.proofs.AccessLemmas.{true-false}
 use Rattle.rt11_volume.specs.Files.{file_area}
 use Rattle.rt11_volume.specs.Store.{RtStore}
-use Rattle.f11_flx.specs.Asking.{Granted, Grants, Who, asks, plain, writes, writes_of}
-use Rattle.f11_flx.specs.CopyFromRt.{CopiesFromRt, Making, as_file, creation, entry, filling, final_attr, giving_up, making_of}
-use Rattle.f11_flx.specs.CopyFromRt.{naming, new_id, opening, stating}
-use Rattle.f11_flx.specs.Making.{extension}
+use Rattle.f11_making.specs.Asking.{Granted, Grants, Who, asks, plain, writes, writes_of}
+use Rattle.f11_making.specs.Making.{Making, as_file, creation, entry, filling, final_attr, giving_up, making_of}
+use Rattle.f11_flx.specs.CopyFromRt.{CopiesFromRt}
+use Rattle.f11_making.specs.Making.{naming, new_id, opening, stating}
+use Rattle.f11_making.specs.Making.{extension}
 use Rattle.f11_flx.specs.MakingLaws.{CopiedHolds, GrantedIsMade, HasCopyOf, HasMadeFile}
 use Rattle.f11_flx.specs.declared.mode.CopyMode.{CopyMode}
 use Rattle.f11_store.proofs.FileLaws.{made_id}
 use Rattle.f11_flx.proofs.ApartLemmas.{apart-from, copy-is-none}
-use Rattle.f11_flx.proofs.AskingLemmas.{granted-parts}
+use Rattle.f11_making.proofs.AskingLemmas.{granted-parts}
 use Rattle.f11_flx.proofs.EnteredLemmas.{new-stated}
 use Rattle.f11_flx.proofs.GainedLemmas.{enters-from, index-stays, index-then, not-index, ready-slots}
 use Rattle.f11_flx.proofs.NewLemmas.{IsNewIn, IsOpenIn, closed, given-back, holds, length-zeros, new-made, written}

@@ -5,27 +5,21 @@ use Rattle.std.specs.List.{concat}
 use Rattle.f11_dev.specs.Disk.{Disk}
 use Rattle.f11_dev.specs.declared.device.Device.{Ghosts}
 use Rattle.f11_store.specs.declared.refusals.Refusal.{Refusal}
-use Rattle.f11_store.specs.declared.requests.Reply.{Reply}
-use Rattle.f11_store.specs.declared.requests.Request.{Request}
 use Rattle.rt11_volume.specs.declared.volume.RtAccepted.{RtAccepted}
-use Rattle.f11_flx.specs.Asking.{BreaksOffAsking, Denies, Granted, Grants, FilesService, Who, asks, told, writes, writes_of}
+use Rattle.f11_making.specs.Asking.{BreaksOffAsking, Denies, Granted, FilesService, Who, writes, writes_of}
 use Rattle.f11_flx.specs.Conversion.{Copy}
-use Rattle.f11_flx.specs.CopyFromRt.{giving_up}
-use Rattle.f11_flx.specs.Making.{AsksToFill, BreaksFilling, FailsToFillFromRt, FillsFromRt, IsBrokenOff, extension, filling_of}
+use Rattle.f11_making.specs.Making.{giving_up}
+use Rattle.f11_making.specs.Making.{extension, filling_of}
+use Rattle.f11_flx.specs.Making.{AsksToFill, BreaksFilling, FailsToFillFromRt, FillsFromRt, IsBrokenOff}
 use Rattle.f11_flx.specs.Passes.{CopiesFile, FailsToCopyFile, IsCopied}
 use Rattle.f11_flx.specs.declared.mode.CopyMode.{CopyMode}
 use Rattle.f11_flx.specs.declared.refusal.FlxRefusal.{FlxRefusal}
 use Rattle.f11_flx.specs.declared.refusal.FlxRefusal.TheVariants.{BadRecord, Files, LineTooLong, Rt}
-use Rattle.f11_flx.proofs.AskingLemmas.{breaks-before, breaks-behind, granted-append, writes-append}
+use Rattle.f11_making.proofs.AskingLemmas.{breaks-before, breaks-behind, granted-append, writes-append}
 use Rattle.f11_flx.proofs.PassLemmas.{reads-none}
 use Rattle.f11_flx.proofs.PassedLemmas.{all-of, chop}
 use Rattle.f11_flx.proofs.PourLemmas.{whole-length}
 use Rattle.f11_flx.proofs.WritingLemmas.{is-whole}
-
--- a request that has this reply is granted
-pub granted-told : {V : Type 0} (S : FilesService V) (who : Who) (r : Request) (a : Reply) (v w : V) → Grants S who (told r a) v w
-    → Grants S who (asks r) v w
-granted-told S who r a v w h = (h.0, a, h.1, h.2)
 
 -- a copy has the blocks that it has
 no-more : (ps more : List (List ℕ)) → All is-whole (ps ++ more) → All is-whole ps → length (concat (ps ++ more)) ≡ length (concat ps)

@@ -36,8 +36,9 @@ use Rattle.f11_store.proofs.StoreLemmas.{none_first, none_rest, same_number}
 use Rattle.f11_runs.specs.Standing.{AccessesStand, is_lost}
 use Rattle.f11_runs.proofs.AccessLemmas.{held-none, there-file, there-is, true-false}
 use Rattle.f11_runs.proofs.SlotLists.{in-one, in-two, taken-free}
-use Rattle.f11_flx.specs.Asking.{Denies, Granted, Grants, Who, asks, plain, writes}
-use Rattle.f11_flx.specs.CopyFromRt.{IndexAfter, IsAsBefore, Making, creation}
+use Rattle.f11_making.specs.Asking.{Denies, Granted, Grants, Who, asks, plain, writes}
+use Rattle.f11_making.specs.AsBefore.{IndexAfter, IsAsBefore}
+use Rattle.f11_making.specs.Making.{Making, creation}
 use Rattle.f11_flx.proofs.FromRtLemmas.{created-next}
 use Rattle.f11_flx.proofs.GainedLemmas.{index-gained, index-stays, index-then, not-index, ready-last, ready-slots}
 use Rattle.f11_flx.proofs.SmallLemmas.{bad-not}

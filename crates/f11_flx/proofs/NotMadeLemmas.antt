@@ -16,25 +16,27 @@ use Rattle.rt11_volume.specs.Files.{file_area}
 use Rattle.rt11_volume.specs.Verifying.Verdict.{IsSoundDisk}
 use Rattle.rt11_volume.specs.declared.refusal.RtRefusal.{RtRefusal}
 use Rattle.rt11_volume.specs.declared.volume.RtAccepted.{RtAccepted}
-use Rattle.f11_flx.specs.Asking.{BreaksOffAsking, Denies, Fails, Granted, FilesService, Who, asks, plain, writes_of}
+use Rattle.f11_making.specs.Asking.{BreaksOffAsking, Denies, Fails, Granted, FilesService, Who, asks, plain, writes_of}
 use Rattle.f11_flx.specs.Conversion.{Copy}
-use Rattle.f11_flx.specs.CopyFromRt.{FailsToCopyFromRt, FailsToMakeFile, IsAsBefore, Making, as_file, creation, deletion, entry, filling}
-use Rattle.f11_flx.specs.CopyFromRt.{giving_up, new_id, opening}
+use Rattle.f11_making.specs.AsBefore.{IsAsBefore}
+use Rattle.f11_making.specs.Making.{FailsToMakeFile, Making, as_file, creation, deletion, entry, filling}
+use Rattle.f11_flx.specs.CopyFromRt.{FailsToCopyFromRt}
+use Rattle.f11_making.specs.Making.{giving_up, new_id, opening}
 use Rattle.f11_flx.specs.FromRt.{FailsToCopyFrom}
 use Rattle.f11_flx.specs.Making.{AsksToFill, FailsToFillFromRt, FailsToFillOpened, FailsToMake, FillsFromRt, IsBrokenOff, IsCutShort}
-use Rattle.f11_flx.specs.Making.{extension, filling_of, is_created}
+use Rattle.f11_making.specs.Making.{extension, filling_of, is_created}
 use Rattle.f11_flx.specs.Refusal.{is_lethal}
 use Rattle.f11_flx.specs.Target.{rt_disk}
 use Rattle.f11_flx.specs.declared.mode.CopyMode.{CopyMode}
 use Rattle.f11_flx.specs.declared.refusal.FlxRefusal.{FlxRefusal}
 use Rattle.f11_flx.specs.declared.refusal.FlxRefusal.TheVariants.{BadRecord, Files, LineTooLong, Rt}
-use Rattle.f11_flx.proofs.AskingLemmas.{granted-append}
+use Rattle.f11_making.proofs.AskingLemmas.{granted-append}
 use Rattle.f11_flx.proofs.EnteredLemmas.{entry-refused}
 use Rattle.f11_flx.proofs.FromRtLemmas.{Planned, created-next, filled-as-planned, has-making, planned}
 use Rattle.f11_flx.proofs.MakingLemmas.{asks-to-fill}
 use Rattle.f11_flx.proofs.NewLemmas.{IsNewIn, IsOpenIn, lun-was-free, new-made, opened}
 use Rattle.f11_flx.proofs.PassLemmas.{stays-alive}
-use Rattle.f11_flx.specs.Seen.{IsSeenPlain}
+use Rattle.f11_making.specs.Seen.{IsSeenPlain}
 use Rattle.f11_flx.proofs.SeenLemmas.{granted-seen}
 use Rattle.f11_flx.proofs.UndoneLemmas.{as-before, breaks-sound, clean-undoing, filled-closed, filled-stays, filling-breaks, undone-access}
 use Rattle.f11_flx.proofs.UndoneLemmas.{undone-delete}

@@ -17,7 +17,7 @@ use Rattle.rt11_volume.specs.Verifying.Verdict.{IsRtAccepted, IsSoundDisk}
 use Rattle.rt11_volume.specs.declared.refusal.RtRefusal.{RtRefusal}
 use Rattle.rt11_volume.specs.declared.volume.RtAccepted.{RtAccepted}
 use Rattle.f11_store.specs.declared.refusals.Refusal.{Refusal}
-use Rattle.f11_flx.specs.Asking.{Denies, Granted, FilesService, Who, writes, writes_of}
+use Rattle.f11_making.specs.Asking.{Denies, Granted, FilesService, Who, writes, writes_of}
 use Rattle.f11_flx.specs.Filling.{Out, pending}
 use Rattle.f11_flx.specs.Lines.{in_whole_blocks, lines_of, without_zeros}
 use Rattle.f11_flx.specs.Passes.{BeginsLines, EndsLines, FailsToEnd, FailsToFlush, FailsToReadLines, Flushes, ReadsLines, StopsAtEnd}
@@ -30,7 +30,7 @@ use Rattle.f11_flx.specs.Writing.{FailsToWritePieces, MeetsLongLine, Onward, Sto
 use Rattle.f11_flx.specs.declared.refusal.FlxRefusal.{FlxRefusal}
 use Rattle.f11_flx.specs.declared.refusal.FlxRefusal.TheVariants.{BadRecord, Files, LineTooLong, Rt}
 use Rattle.f11_flx.specs.declared.to_records.ToRecords.{ToRecords}
-use Rattle.f11_flx.proofs.AskingLemmas.{granted-append, writes-append}
+use Rattle.f11_making.proofs.AskingLemmas.{granted-append, writes-append}
 use Rattle.f11_flx.proofs.EndLemmas.{records_end}
 use Rattle.f11_flx.proofs.PourLemmas.{whole-length}
 use Rattle.f11_flx.proofs.SizeLemmas.{records_are_few}

@@ -21,8 +21,11 @@ use Rattle.f11_fcp.specs.Lengths.{Measures}
 use Rattle.f11_fcp.specs.Lists.{ServesCall, failures_of, is_sound, store_of_volume}
 use Rattle.f11_fcp.specs.Serving.{RequestsSpareLost, StaysAccepted, is_spent, state_in}
 use Rattle.f11_fcp.specs.declared.volume.Volume.{Volume}
-use Rattle.f11_flx.specs.Asking.{Asking, BreaksOffAsking, Denies, Granted, Grants, Tried, Who, asks, counts, reads, reads_of, told, writes}
-use Rattle.f11_flx.specs.Copying.{IsAskedLength, ReadsFiles, is_reading, of_files, of_volume}
+use Rattle.f11_making.specs.Asking.{Asking, BreaksOffAsking, Denies, Granted, Grants, Tried, Who, asks, counts, reads, reads_of, told}
+use Rattle.f11_making.specs.Asking.{writes}
+use Rattle.f11_making.specs.AsksFor.{is_reading}
+use Rattle.f11_making.specs.Volume.{IsAskedLength, of_volume}
+use Rattle.f11_flx.specs.Copying.{ReadsFiles, of_files}
 use Rattle.rt11_volume.specs.declared.refusal.RtRefusal.{RtRefusal}
 use Rattle.f11_flx.specs.Copies.{FailsToCopyText}
 use Rattle.f11_flx.specs.Filling.{Refusing, TakingBlocks}
@@ -43,7 +46,7 @@ use Rattle.f11_flx.proofs.KeptToRtLemmas.{copied-keeps, uncopied-keeps}
 use Rattle.f11_flx.proofs.RefusedLemmas.{copied-stays, refused-stays}
 use Rattle.f11_flx.proofs.SmallLemmas.{not-true, or-false}
 use Rattle.f11_flx.proofs.SpentLemmas.{spent-refused, spent-uncopied}
-use Rattle.f11_flx.proofs.VolumeLemmas.{idle-beside, parts-sound, volume-seen}
+use Rattle.f11_making.proofs.VolumeLemmas.{idle-beside, parts-sound, volume-seen}
 
 -- Things were asked of a volume, and whether the last of them met a device fault, and failed the volume.
 pub record Ran {D : Type 0} {met : Ghosts D} (who : Who) (fault fatal : Bool) (old new : Volume D met) : Type 0 where

@@ -16,14 +16,14 @@ use Rattle.f11_store.specs.declared.refusals.Refusal.{Refusal}
 use Rattle.f11_store.specs.declared.requests.Reply.TheVariants as reply
 use Rattle.f11_store.specs.declared.requests.Request.TheVariants as request
 use Rattle.f11_store.proofs.StoreLemmas.{none_first, none_rest}
-use Rattle.f11_flx.specs.Asking.{BreaksOffAsking, Denies, Granted, Grants, Who, asks, counts, plain, reads, reads_of, told}
+use Rattle.f11_making.specs.Asking.{BreaksOffAsking, Denies, Granted, Grants, Who, asks, counts, plain, reads, reads_of, told}
 use Rattle.f11_flx.specs.CopyToRt.{reading, reading_of, walked_of}
 use Rattle.f11_flx.specs.CopyLaws.{AccessAloneIsRefused, IsNotAccessed, IsFileReading, ReadingIsOfFile, RefusedSourceStays, SourceStays}
 use Rattle.f11_flx.specs.Spelled.{image_of}
 use Rattle.f11_flx.specs.declared.mode.CopyMode.{CopyMode}
 use Rattle.f11_flx.specs.declared.mode.CopyMode.TheVariants.{Image, Text}
 use Rattle.f11_flx.specs.declared.refusal.FlxRefusal.TheVariants as refusal
-use Rattle.f11_flx.proofs.AskingLemmas.{breaks-parts, granted-parts}
+use Rattle.f11_making.proofs.AskingLemmas.{breaks-parts, granted-parts}
 
 -- The source may be accessed by the lun.
 pub record IsFree (s : Store) (task lun : ℕ) (source : FileId) : Type 0 where

@@ -20,7 +20,7 @@ use Rattle.rt11_volume.specs.Calls.{has_failed}
 use Rattle.rt11_volume.specs.Verifying.Verdict.{IsSoundDisk}
 use Rattle.rt11_volume.specs.declared.refusal.RtRefusal.{RtRefusal}
 use Rattle.rt11_volume.specs.declared.volume.RtAccepted.{RtAccepted}
-use Rattle.f11_flx.specs.Asking.{BreaksOffAsking, Denies, Granted, Grants, FilesService, Who, asks, counts, plain, reads_of, told}
+use Rattle.f11_making.specs.Asking.{BreaksOffAsking, Denies, Granted, Grants, FilesService, Who, asks, counts, plain, reads_of, told}
 use Rattle.f11_flx.specs.Conversion.{copied_to_rt}
 use Rattle.f11_flx.specs.Copies.{FailsToCopyText, IsDenied}
 use Rattle.f11_flx.specs.CopyToRt.{FailsToCopyToRt, GivesUp, HasNoRtPlace, HasWholeBlocks, reading}
@@ -28,7 +28,7 @@ use Rattle.f11_flx.specs.Filling.{Took}
 use Rattle.f11_flx.specs.Lines.{in_whole_blocks}
 use Rattle.f11_flx.specs.Records.{layout_of}
 use Rattle.f11_flx.specs.Refusal.{is_lethal}
-use Rattle.f11_flx.specs.Seen.{IsSeenPlain}
+use Rattle.f11_making.specs.Seen.{IsSeenPlain}
 use Rattle.f11_flx.specs.Source.{FailsAs, StartsText, TellsNothing, TellsSource, up_to_end}
 use Rattle.f11_flx.specs.Spelled.{image_of}
 use Rattle.f11_flx.specs.Target.{Makes, rt_disk, rt_store}

@@ -8,7 +8,7 @@ use Rattle.rt11_volume.specs.Files.{is_fault}
 use Rattle.rt11_volume.specs.Store.{RtStore, rt_store_of}
 use Rattle.rt11_volume.specs.Verifying.Verdict.{IsRtAccepted, IsSoundDisk}
 use Rattle.rt11_volume.specs.declared.volume.RtAccepted.{RtAccepted}
-use Rattle.f11_flx.specs.Asking.{FilesService, Who}
+use Rattle.f11_making.specs.Asking.{FilesService, Who}
 use Rattle.f11_flx.specs.Copies.{FailsToCopyBlocks, FailsToCopyText}
 use Rattle.f11_flx.specs.CopyToRt.{HasSameDirectory}
 use Rattle.f11_flx.specs.Refusal.{is_lethal}

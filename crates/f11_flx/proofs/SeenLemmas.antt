@@ -7,12 +7,12 @@ use Rattle.f11_store.specs.declared.files.Mode.TheVariants as mode
 use Rattle.f11_store.specs.declared.refusals.Refusal.{Refusal}
 use Rattle.f11_store.specs.declared.requests.Reply.TheVariants as reply
 use Rattle.f11_store.specs.declared.requests.Request.TheVariants as request
-use Rattle.f11_flx.specs.Asking.{Asking, BreaksOffAsking, Granted, Grants, FilesService, Who, asks, counts, plain, reads_of, told}
+use Rattle.f11_making.specs.Asking.{Asking, BreaksOffAsking, Granted, Grants, FilesService, Who, asks, counts, plain, reads_of, told}
 use Rattle.f11_flx.specs.CopyToRt.{reading}
-use Rattle.f11_flx.specs.Seen.{IsSeenPlain}
+use Rattle.f11_making.specs.Seen.{IsSeenPlain}
 use Rattle.f11_flx.specs.Refusal.{is_lethal}
 use Rattle.f11_flx.specs.declared.refusal.FlxRefusal.TheVariants.{Files}
-use Rattle.f11_flx.proofs.AskingLemmas.{granted-append}
+use Rattle.f11_making.proofs.AskingLemmas.{granted-append}
 
 module _ {V : Type 0} (S : FilesService V) (view : V → Store) (is_sound : V → Bool) (seen : IsSeenPlain S view is_sound) (who : Who) where
   pub granted-seen : (xs : List Asking) (v w : V) → Granted S who xs v w → is_sound v ≡ true

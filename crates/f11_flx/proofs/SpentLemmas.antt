@@ -13,10 +13,12 @@ use Rattle.rt11_volume.specs.Calls.{has_failed}
 use Rattle.rt11_volume.specs.Files.{file_area}
 use Rattle.rt11_volume.specs.declared.refusal.RtRefusal.TheVariants.{Failed}
 use Rattle.rt11_volume.specs.declared.volume.RtAccepted.{RtAccepted}
-use Rattle.f11_flx.specs.Asking.{FilesService, Who, asks}
+use Rattle.f11_making.specs.Asking.{FilesService, Who, asks}
 use Rattle.f11_flx.specs.Copies.{FailsToCopyText}
-use Rattle.f11_flx.specs.Copying.{MayRefuseFailed, of_volume}
-use Rattle.f11_flx.specs.CopyFromRt.{FailsToCopySpent, as_file}
+use Rattle.f11_making.specs.Volume.{of_volume}
+use Rattle.f11_flx.specs.Copying.{MayRefuseFailed}
+use Rattle.f11_making.specs.Making.{as_file}
+use Rattle.f11_flx.specs.CopyFromRt.{FailsToCopySpent}
 use Rattle.f11_flx.specs.FromRt.{CopiesFrom, FailsToCopyFrom}
 use Rattle.f11_flx.specs.Making.{FailsToFillFromRt, FillsFromRt}
 use Rattle.f11_flx.specs.Planning.{FailsToPlan}

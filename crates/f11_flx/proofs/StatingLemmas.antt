@@ -6,14 +6,15 @@ use Rattle.f11_store.specs.declared.files.Change.TheVariants as change
 use Rattle.f11_store.specs.declared.files.FileId.{FileId}
 use Rattle.f11_store.specs.declared.refusals.Refusal.{Refusal}
 use Rattle.f11_store.specs.declared.requests.Request.TheVariants as request
-use Rattle.f11_flx.specs.Asking.{Fails, FilesService, Granted, Who}
-use Rattle.f11_flx.specs.CopyFromRt.{Making, creation, entry, filling, naming, opening, stating}
-use Rattle.f11_flx.specs.Copying.{SetsPart}
-use Rattle.f11_flx.specs.Making.{AsksToFill, FailsToMake, FillsOpened, MakesFile, is_created}
+use Rattle.f11_making.specs.Asking.{Fails, FilesService, Granted, Who}
+use Rattle.f11_making.specs.Making.{Making, creation, entry, filling, naming, opening, stating}
+use Rattle.f11_making.specs.AsksFor.{SetsPart}
+use Rattle.f11_making.specs.Making.{is_created}
+use Rattle.f11_flx.specs.Making.{AsksToFill, FailsToMake, FillsOpened, MakesFile}
 use Rattle.f11_flx.specs.Stating.{AsksInOrder, IsFilling, IsFinishing, creating, finishing, unfinished}
 use Rattle.f11_flx.specs.declared.refusal.FlxRefusal.{FlxRefusal}
 use Rattle.f11_flx.specs.declared.refusal.FlxRefusal.TheVariants.{Files}
-use Rattle.f11_flx.proofs.AskingLemmas.{granted-append}
+use Rattle.f11_making.proofs.AskingLemmas.{granted-append}
 use Rattle.f11_flx.proofs.TriedLemmas.{Only, TakesFilling, Tries, fill-file-tries, tries-breaks, tries-granted, tries-then, tries-undoing}
 
 pub filling-fills : (lun : ℕ) (id : FileId) → TakesFilling (IsFilling lun id) lun id

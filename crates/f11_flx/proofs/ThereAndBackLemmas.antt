@@ -15,9 +15,10 @@ use Rattle.rt11_volume.specs.Files.{HasFile, file_area}
 use Rattle.rt11_volume.specs.Named.{files_named}
 use Rattle.rt11_volume.specs.Store.{Area, RtStore}
 use Rattle.rt11_volume.proofs.Named.Laws.{file-first}
-use Rattle.f11_flx.specs.Asking.{Who}
+use Rattle.f11_making.specs.Asking.{Who}
 use Rattle.f11_flx.specs.Conversion.{Copy, HoldsCopy, copied_from_rt, copied_lines, copied_to_rt}
-use Rattle.f11_flx.specs.CopyFromRt.{CopiesFromRt, as_file, new_id}
+use Rattle.f11_making.specs.Making.{as_file, new_id}
+use Rattle.f11_flx.specs.CopyFromRt.{CopiesFromRt}
 use Rattle.f11_flx.specs.Lines.{has_long_line, in_whole_blocks, lines_of, text_of, without_zeros}
 use Rattle.f11_flx.specs.MakingLaws.{HasCopyOf}
 use Rattle.f11_flx.specs.Records.{records_of}

@@ -13,13 +13,14 @@ use Rattle.f11_store.specs.declared.requests.Reply.TheVariants as reply
 use Rattle.f11_store.specs.declared.requests.Request.{Request}
 use Rattle.f11_store.specs.declared.requests.Request.TheVariants as request
 use Rattle.rt11_volume.specs.declared.volume.RtAccepted.{RtAccepted}
-use Rattle.f11_flx.specs.Asking.{Asking, BreaksOffAsking, Denies, Fails, Granted, Grants, FilesService, Tried, Who, asks, told}
-use Rattle.f11_flx.specs.Asking.{writes, writes_of}
-use Rattle.f11_flx.specs.CopyFromRt.{Making, as_file, creation, entry, giving_up, naming, opening, stating}
-use Rattle.f11_flx.specs.Copying.{AsksForFile, IsMakingOf, creation as created-alone, making as made-one, nothing as unasked}
+use Rattle.f11_making.specs.Asking.{Asking, BreaksOffAsking, Denies, Fails, Granted, Grants, FilesService, Tried, Who, asks, told}
+use Rattle.f11_making.specs.Asking.{writes, writes_of}
+use Rattle.f11_making.specs.Making.{Making, as_file, creation, entry, giving_up, naming, opening, stating}
+use Rattle.f11_making.specs.AsksFor.{AsksForFile, IsMakingOf, creation as created-alone, making as made-one, nothing as unasked}
 use Rattle.f11_flx.specs.FromRt.{CopiesFrom, FailsToCopyFrom}
 use Rattle.f11_flx.specs.Making.{AsksToFill, FailsToFillFromRt, FailsToFillOpened, FailsToMake, FillsFromRt, FillsOpened, IsBrokenOff}
-use Rattle.f11_flx.specs.Making.{MakesFile, Undoing, UndoingIf, extension, filling_of, is_created}
+use Rattle.f11_making.specs.Making.{extension, filling_of, is_created}
+use Rattle.f11_flx.specs.Making.{MakesFile, Undoing, UndoingIf}
 use Rattle.f11_flx.specs.Refusal.{is_lethal}
 use Rattle.f11_flx.specs.declared.mode.CopyMode.{CopyMode}
 use Rattle.f11_flx.specs.declared.refusal.FlxRefusal.{FlxRefusal}

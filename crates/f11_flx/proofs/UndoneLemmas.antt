@@ -9,15 +9,17 @@ use Rattle.f11_store.specs.declared.requests.Request.{Request}
 use Rattle.f11_store.specs.declared.requests.Request.TheVariants as request
 use Rattle.f11_runs.specs.Standing.{AccessesStand}
 use Rattle.f11_runs.proofs.AccessLemmas.{true-false}
-use Rattle.f11_flx.specs.Asking.{Asking, BreaksOffAsking, Denies, Granted, Grants, FilesService, Who, asks, plain, writes_of}
-use Rattle.f11_flx.specs.CopyFromRt.{IsAsBefore, as_it_was, giving_up}
-use Rattle.f11_flx.specs.Making.{Undoing, UndoingIf, extension, filling_of}
+use Rattle.f11_making.specs.Asking.{Asking, BreaksOffAsking, Denies, Granted, Grants, FilesService, Who, asks, plain, writes_of}
+use Rattle.f11_making.specs.AsBefore.{IsAsBefore, as_it_was}
+use Rattle.f11_making.specs.Making.{giving_up}
+use Rattle.f11_making.specs.Making.{extension, filling_of}
+use Rattle.f11_flx.specs.Making.{Undoing, UndoingIf}
 use Rattle.f11_flx.specs.Refusal.{is_lethal}
 use Rattle.f11_flx.specs.declared.refusal.FlxRefusal.{FlxRefusal}
 use Rattle.f11_flx.specs.declared.refusal.FlxRefusal.TheVariants.{Files}
-use Rattle.f11_flx.proofs.AskingLemmas.{breaks-parts, granted-parts}
+use Rattle.f11_making.proofs.AskingLemmas.{breaks-parts, granted-parts}
 use Rattle.f11_flx.proofs.NewLemmas.{IsNewIn, IsOpenIn, closed, deleted, extended, undenied-deaccess, undenied-delete, written}
-use Rattle.f11_flx.specs.Seen.{IsSeenPlain}
+use Rattle.f11_making.specs.Seen.{IsSeenPlain}
 
 pub as-before : (s : Store) → IsAsBefore s s
 as-before s = record {

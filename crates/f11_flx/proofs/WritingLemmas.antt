@@ -9,14 +9,14 @@ use Rattle.std.proofs.lemmas.List.Elements.{All-append, All-cons, All-nil}
 use Rattle.std.proofs.lemmas.List.Folds.{concat-append}
 use Rattle.f11_bytes.proofs.PartLemmas.{length-slice_range}
 use Rattle.f11_store.specs.declared.refusals.Refusal.{Refusal}
-use Rattle.f11_flx.specs.Asking.{Denies, Granted, FilesService, Who, writes, writes_of}
+use Rattle.f11_making.specs.Asking.{Denies, Granted, FilesService, Who, writes, writes_of}
 use Rattle.f11_flx.specs.Filling.{Out, pending}
 use Rattle.f11_flx.specs.Puts.{PutsAt}
 use Rattle.f11_flx.specs.ToRecords.{ConvertsText, GivesBytes, StopsText, bytes_to_come}
 use Rattle.f11_flx.specs.Writing.{FailsToWritePieces, Onward, WritesPieces, WritesNext, out_bytes}
 use Rattle.f11_flx.specs.declared.refusal.FlxRefusal.TheVariants.{Files}
 use Rattle.f11_flx.specs.declared.to_records.ToRecords.{ToRecords}
-use Rattle.f11_flx.proofs.AskingLemmas.{granted-append, writes-append}
+use Rattle.f11_making.proofs.AskingLemmas.{granted-append, writes-append}
 use Rattle.f11_flx.proofs.PourLemmas.{whole-length}
 
 abbrev pub is-whole : List ℕ → Type 0

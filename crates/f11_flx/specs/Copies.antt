@@ -2,7 +2,7 @@
 use Rattle.std.specs.Prelude.{◌≡◌, ◌⊎◌, ℕ, ◌*◌, ◌<◌, ◌≤◌, List, ◌++◌, All, length, Some}
 use Rattle.std.specs.List.{concat}
 use Rattle.f11_store.specs.declared.refusals.Refusal.{Refusal}
-use Rattle.f11_flx.specs.Asking.{BreaksOffAsking, Granted, FilesService, Who, reads_of}
+use Rattle.f11_making.specs.Asking.{BreaksOffAsking, Granted, FilesService, Who, reads_of}
 use Rattle.f11_flx.specs.Filling.{Refusing, TakingBlocks, Took}
 use Rattle.f11_flx.specs.Lines.{in_whole_blocks}
 use Rattle.f11_flx.specs.ToText.{HasNoText, rest_of, text_left}

@@ -14,10 +14,10 @@ use Rattle.f11_dev.specs.declared.device.Device.{Ghosts}
 use Rattle.rt11_volume.specs.Store.{RtStore}
 use Rattle.rt11_volume.specs.Verifying.Verdict.{IsSoundDisk}
 use Rattle.rt11_volume.specs.declared.volume.RtAccepted.{RtAccepted}
-use Rattle.f11_flx.specs.Asking.{BreaksOffAsking, Granted, FilesService, Who, plain}
+use Rattle.f11_making.specs.Asking.{BreaksOffAsking, Granted, FilesService, Who, plain}
 use Rattle.f11_flx.specs.Refusal.{is_lethal}
 use Rattle.f11_flx.specs.RtOutcome.{LeavesRt}
-use Rattle.f11_flx.specs.Seen.{IsSeenPlain}
+use Rattle.f11_making.specs.Seen.{IsSeenPlain}
 use Rattle.f11_flx.specs.Target.{rt_disk, rt_store}
 use Rattle.f11_flx.specs.ToRt.{CopiesFileToRt, FailsToCopyFileToRt}
 use Rattle.f11_flx.specs.CopyToRt.{CopiesToRt, FailsToCopyToRt, reading, reading_of, HasWholeBlocks}

@@ -18,7 +18,7 @@ use Rattle.rt11_volume.specs.Store.{Area, RtStore, rt_store_of}
 use Rattle.rt11_volume.specs.Verifying.Verdict.{IsSoundDisk}
 use Rattle.rt11_volume.specs.declared.refusal.RtRefusal.{RtRefusal}
 use Rattle.rt11_volume.specs.declared.refusal.RtRefusal.TheVariants as rt
-use Rattle.f11_flx.specs.Asking.{Asking, Granted, BreaksOffAsking, Who, asks, counts, plain, reads_of, told}
+use Rattle.f11_making.specs.Asking.{Asking, Granted, BreaksOffAsking, Who, asks, counts, plain, reads_of, told}
 use Rattle.f11_flx.specs.Conversion.{copied_to_rt}
 use Rattle.f11_flx.specs.Spelled.{image_of}
 use Rattle.f11_flx.specs.declared.mode.CopyMode.{CopyMode}

@@ -1,23 +1,16 @@
 -- What was asked where a device fault or Damaged ended a copy between two volumes: nothing follows it (profile).
-use Rattle.std.specs.Prelude.{◌≡◌, ◌⊎◌, ⊤, Bool, true, false, List, [], ◌∷◌, All}
+use Rattle.std.specs.Prelude.{◌≡◌, ◌⊎◌, ⊤, Bool, true, false, List, All}
 use Rattle.f11_store.specs.declared.refusals.Refusal.{Refusal}
 use Rattle.f11_store.specs.declared.refusals.Refusal.TheVariants.{Damaged}
 use Rattle.f11_store.specs.declared.requests.Reply.{Reply}
 use Rattle.f11_store.specs.declared.requests.Request.{Request}
 use Rattle.f11_store.specs.declared.requests.Request.TheVariants as request
-use Rattle.f11_flx.specs.Asking.{Asking, Denies, Granted, Grants, FilesService, Who, asks, counts, reads, told, writes}
-use Rattle.f11_flx.specs.Making.{is_created}
-use Rattle.f11_flx.specs.Refusal.{is_lethal}
+use Rattle.f11_making.specs.Asking.{Asking, Denies, Granted, Grants, FilesService, Who, asks, counts, reads, told, writes}
+use Rattle.f11_making.specs.Making.{is_created}
+use Rattle.f11_making.specs.Cleanly.{TriedCleanly}
 use Rattle.f11_flx.specs.Source.{is_attr}
 use Rattle.f11_flx.specs.declared.refusal.FlxRefusal.{FlxRefusal}
 use Rattle.f11_flx.specs.declared.refusal.FlxRefusal.TheVariants as refusal
-
--- each was asked, one after another, and was granted, or refused but for no device fault or Damaged
-abbrev pub TriedCleanly : {V : Type 0} → FilesService V → Who → List Asking → V → V → Type 0
-TriedCleanly S who [] old new = new ≡ old
-TriedCleanly {V} S who (x ∷ xs) old new =
-    (between : V) × ((Grants S who x old between) ⊎ ((e : Refusal) × (is_lethal (refusal.Files e) ≡ false) × Denies S who x e old between))
-    × (TriedCleanly S who xs between new)
 
 -- whether a request may have such a reply
 abbrev pub is_reply_to : Request → Reply → Bool

@@ -10,7 +10,7 @@ use Rattle.f11_store.specs.declared.requests.Request.TheVariants as request
 use Rattle.rt11_volume.specs.Laws.{HasMade}
 use Rattle.rt11_volume.specs.Verifying.Verdict.{IsSoundDisk}
 use Rattle.rt11_volume.specs.declared.volume.RtAccepted.{RtAccepted}
-use Rattle.f11_flx.specs.Asking.{Asking, Denies, Granted, Grants, FilesService, Who, asks, counts, reads, told, writes}
+use Rattle.f11_making.specs.Asking.{Asking, Denies, Granted, Grants, FilesService, Who, asks, counts, reads, told, writes}
 use Rattle.f11_flx.specs.Ended.{EndsDenied}
 use Rattle.f11_flx.specs.Filling.{Took}
 use Rattle.f11_flx.specs.Refusal.{is_lethal}

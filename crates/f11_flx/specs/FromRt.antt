@@ -4,8 +4,8 @@ use Rattle.f11_dev.specs.Disk.{Disk}
 use Rattle.f11_dev.specs.declared.device.Device.{Ghosts}
 use Rattle.f11_store.specs.declared.files.FileId.{FileId}
 use Rattle.rt11_volume.specs.declared.volume.RtAccepted.{RtAccepted}
-use Rattle.f11_flx.specs.Asking.{FilesService, Who}
-use Rattle.f11_flx.specs.CopyFromRt.{as_file}
+use Rattle.f11_making.specs.Asking.{FilesService, Who}
+use Rattle.f11_making.specs.Making.{as_file}
 use Rattle.f11_flx.specs.Making.{FailsToMakeCopy, MakesCopy}
 use Rattle.f11_flx.specs.Planning.{FailsToPlan, Plans}
 use Rattle.f11_flx.specs.declared.mode.CopyMode.{CopyMode}

@@ -1,4 +1,3 @@
-pub mod Asking
 pub mod Conversion
 pub mod Copies
 pub mod CopyFromRt
@@ -22,7 +21,6 @@ pub mod Records
 pub mod Refusal
 pub mod RtSource
 pub mod RtOutcome
-pub mod Seen
 pub mod Source
 pub mod Spelled
 pub mod Target

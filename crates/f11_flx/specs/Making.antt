@@ -1,6 +1,6 @@
 -- What making a file from a source of blocks asks, as the copy of a file of an RT-11 volume, and what undoes it, whatever it is that
 -- answers, on any device (profile).
-use Rattle.std.specs.Prelude.{◌≡◌, ◌⊎◌, ℕ, ◌==◌, Bool, true, false, if◌then◌else◌, List, [], ◌∷◌, ◌++◌, length, None}
+use Rattle.std.specs.Prelude.{◌≡◌, ◌⊎◌, ℕ, Bool, true, false, if◌then◌else◌, List, ◌++◌, length, None}
 use Rattle.f11_dev.specs.Disk.{Disk}
 use Rattle.f11_dev.specs.declared.device.Device.{Ghosts}
 use Rattle.f11_store.specs.Ident.{ident_with}
@@ -8,15 +8,13 @@ use Rattle.f11_store.specs.Store.{Store}
 use Rattle.f11_store.specs.declared.files.FileId.{FileId}
 use Rattle.f11_store.specs.declared.files.Mode.TheVariants as access
 use Rattle.f11_store.specs.declared.refusals.Refusal.{Refusal}
-use Rattle.f11_store.specs.declared.requests.Reply.{Reply}
-use Rattle.f11_store.specs.declared.requests.Reply.TheVariants as reply
 use Rattle.f11_store.specs.declared.requests.Request.{Request}
 use Rattle.f11_store.specs.declared.requests.Request.TheVariants as request
 use Rattle.rt11_volume.specs.declared.refusal.RtRefusal.{RtRefusal}
 use Rattle.rt11_volume.specs.declared.volume.RtAccepted.{RtAccepted}
-use Rattle.f11_flx.specs.Asking.{Asking, BreaksOffAsking, Denies, Fails, Granted, Grants, FilesService, Who, asks, plain, writes_of}
+use Rattle.f11_making.specs.Asking.{BreaksOffAsking, Denies, Fails, Granted, Grants, FilesService, Who, asks, plain, writes_of}
 use Rattle.f11_flx.specs.Conversion.{copied_from_rt}
-use Rattle.f11_flx.specs.CopyFromRt.{Making, creation, deletion, entry, giving_up, opening}
+use Rattle.f11_making.specs.Making.{Making, creation, deletion, entry, giving_up, opening, extension, filling_of, is_created}
 use Rattle.f11_flx.specs.Passes.{IsCopied, OfEach}
 use Rattle.f11_flx.specs.Refusal.{is_lethal}
 use Rattle.f11_flx.specs.RtSource.{ReadsRtBlocks, StopsReadingRt}
@@ -42,14 +40,6 @@ UndoingIf false S who r f f' old new = (IsUndenied S who r f f' old new) ⊎ (Is
 -- unless a device fault or Damaged was met before: then nothing is asked
 abbrev pub Undoing : {V : Type 0} → FilesService V → Who → Request → FlxRefusal → FlxRefusal → V → V → Type 0
 Undoing S who r f f' old new = UndoingIf (is_lethal f) S who r f f' old new
-
--- so many blocks are allocated, where there are any;
-abbrev pub extension : ℕ → ℕ → List Asking
-extension lun n = if n == 0 then [] else asks (request.Extend lun n) ∷ []
-
--- they are written, and the file is given up
-abbrev pub filling_of : ℕ → ℕ → List (List ℕ) → List Asking
-filling_of lun n pieces = extension lun n ++ (writes_of lun 0 pieces ++ giving_up lun)
 
 -- A file that is accessed wasn't filled: something that was asked for that was refused, or what was asked was granted, and no more came of
 -- the source.
@@ -158,11 +148,6 @@ abbrev pub FailsToFillFile : {V E : Type 0} {met : Ghosts E} → FilesService V 
     FlxRefusal → RtAccepted E met → RtAccepted E met → V → V → Type 0
 FailsToFillFile S disk m who lun name many n id f rt rt' old new =
     FailsToFillOpened S who lun (FailsToFillFromRt S disk m who lun name many n) id f rt rt' old new
-
--- a reply to Create
-abbrev pub is_created : Reply → Bool
-is_created (reply.Created id) = true
-is_created _ = false
 
 -- The file was made: created, filled, entered and protected.
 pub record MakesFile {V H : Type 0} (S : FilesService V) (who : Who) (lun : ℕ) (Fills : H → H → V → V → Type 0) (making : Making)

@@ -13,10 +13,12 @@ use Rattle.f11_store.specs.declared.files.FileId.{FileId}
 use Rattle.f11_store.specs.declared.refusals.Refusal.{Refusal}
 use Rattle.rt11_volume.specs.Files.{HasFile, file_area}
 use Rattle.rt11_volume.specs.Store.{RtStore}
-use Rattle.f11_flx.specs.Asking.{Granted, Who, plain}
+use Rattle.f11_making.specs.Asking.{Granted, Who, plain}
 use Rattle.f11_flx.specs.Conversion.{Copy, HoldsCopy, copied_from_rt}
-use Rattle.f11_flx.specs.CopyFromRt.{CopiesFromRt, FailsToCopyFromRt, FailsToMakeFile, IndexAfter, IsAsBefore}
-use Rattle.f11_flx.specs.CopyFromRt.{Making, as_file, final_attr, making_of, new_id}
+use Rattle.f11_making.specs.AsBefore.{IndexAfter, IsAsBefore}
+use Rattle.f11_making.specs.Making.{FailsToMakeFile}
+use Rattle.f11_flx.specs.CopyFromRt.{CopiesFromRt, FailsToCopyFromRt}
+use Rattle.f11_making.specs.Making.{Making, as_file, final_attr, making_of, new_id}
 use Rattle.f11_flx.specs.declared.mode.CopyMode.{CopyMode}
 use Rattle.f11_flx.specs.declared.refusal.FlxRefusal.{FlxRefusal}
 

@@ -6,7 +6,7 @@ use Rattle.f11_dev.specs.declared.device.Device.{Ghosts}
 use Rattle.f11_store.specs.declared.refusals.Refusal.{Refusal}
 use Rattle.rt11_volume.specs.declared.refusal.RtRefusal.{RtRefusal}
 use Rattle.rt11_volume.specs.declared.volume.RtAccepted.{RtAccepted}
-use Rattle.f11_flx.specs.Asking.{Denies, Granted, FilesService, Who, writes, writes_of}
+use Rattle.f11_making.specs.Asking.{Denies, Granted, FilesService, Who, writes, writes_of}
 use Rattle.f11_flx.specs.Conversion.{Copy, copied_from_rt}
 use Rattle.f11_flx.specs.Filling.{Out, pending}
 use Rattle.f11_flx.specs.Lines.{has_long_line, in_whole_blocks, lines_of, without_zeros}

@@ -8,7 +8,7 @@ use Rattle.f11_store.specs.declared.refusals.Refusal.{Refusal}
 use Rattle.f11_store.specs.declared.requests.Reply.{Reply}
 use Rattle.f11_store.specs.declared.requests.Reply.TheVariants as reply
 use Rattle.f11_store.specs.declared.requests.Request.TheVariants as request
-use Rattle.f11_flx.specs.Asking.{Denies, Fails, Granted, Grants, FilesService, Who, counts, told}
+use Rattle.f11_making.specs.Asking.{Denies, Fails, Granted, Grants, FilesService, Who, counts, told}
 use Rattle.f11_flx.specs.Copies.{CopiesBlocks, CopiesText, FailsToCopyBlocks, FailsToCopyText}
 use Rattle.f11_flx.specs.Filling.{Refusing, TakingBlocks}
 use Rattle.f11_flx.specs.Records.{layout_of}

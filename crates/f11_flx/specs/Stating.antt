@@ -5,9 +5,9 @@ use Rattle.f11_store.specs.declared.files.FileId.{FileId}
 use Rattle.f11_store.specs.declared.files.Mode.TheVariants as access
 use Rattle.f11_store.specs.declared.requests.Request.{Request}
 use Rattle.f11_store.specs.declared.requests.Request.TheVariants as request
-use Rattle.f11_flx.specs.Asking.{Asking, FilesService, Granted, Tried, Who, asks, counts, reads, told, writes}
-use Rattle.f11_flx.specs.CopyFromRt.{Making, creation, filling, opening}
-use Rattle.f11_flx.specs.Copying.{SetsPart}
+use Rattle.f11_making.specs.Asking.{Asking, FilesService, Granted, Tried, Who, asks, counts, reads, told, writes}
+use Rattle.f11_making.specs.Making.{Making, creation, filling, opening}
+use Rattle.f11_making.specs.AsksFor.{SetsPart}
 
 -- what fills a file: it is accessed by this lun, gets its blocks, and is given up, or deleted again
 abbrev pub FillsBy : ℕ → FileId → Request → Type 0

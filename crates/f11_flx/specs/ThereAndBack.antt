@@ -8,9 +8,10 @@ use Rattle.f11_store.specs.declared.files.FileId.{FileId}
 use Rattle.rt11_volume.specs.Files.{HasFile, file_area}
 use Rattle.rt11_volume.specs.Named.{files_named}
 use Rattle.rt11_volume.specs.Store.{Area, RtStore}
-use Rattle.f11_flx.specs.Asking.{Who}
+use Rattle.f11_making.specs.Asking.{Who}
 use Rattle.f11_flx.specs.Conversion.{HoldsCopy, copied_lines}
-use Rattle.f11_flx.specs.CopyFromRt.{CopiesFromRt, new_id}
+use Rattle.f11_making.specs.Making.{new_id}
+use Rattle.f11_flx.specs.CopyFromRt.{CopiesFromRt}
 use Rattle.f11_flx.specs.CopyToRt.{CopiesToRt, HasWholeBlocks}
 use Rattle.f11_flx.specs.Laws.{IsOneLine}
 use Rattle.f11_flx.specs.Lines.{in_whole_blocks, lines_of, text_of, without_zeros}

@@ -9,7 +9,7 @@ use Rattle.f11_store.specs.declared.requests.Request.TheVariants as request
 use Rattle.rt11_volume.specs.Files.{is_fault}
 use Rattle.rt11_volume.specs.declared.refusal.RtRefusal.{RtRefusal}
 use Rattle.rt11_volume.specs.declared.volume.RtAccepted.{RtAccepted}
-use Rattle.f11_flx.specs.Asking.{Denies, Grants, FilesService, Who, asks}
+use Rattle.f11_making.specs.Asking.{Denies, Grants, FilesService, Who, asks}
 use Rattle.f11_flx.specs.Filling.{Refusing, TakingBlocks}
 use Rattle.f11_flx.specs.Refusal.{is_lethal}
 use Rattle.f11_flx.specs.Source.{CopiesAs, FailsAs, TellsNothing, TellsSource, up_to_end}

@@ -1,17 +1,17 @@
 //! The blocks of a file, copied one by one.
 ghost use Rattle.std.specs.Prelude.{◌≡◌, ◌-◌, ◌+◌, ◌*◌, ◌≤◌, ◌<◌, ◌++◌, false, length, replicate, take, IfErr, IfOk, OnOk};
-ghost use Rattle.f11_flx.specs.Asking.{who_asks};
+ghost use Rattle.f11_making.specs.Asking.{who_asks};
 ghost use Rattle.f11_flx.specs.Copies.{CopiesBlocks, CopiesText, FailsToCopyBlocks, FailsToCopyText};
 ghost use Rattle.f11_flx.specs.Filling.{FailsToFinish, FinishesBlocks, out_of};
 ghost use Rattle.f11_flx.specs.ToText.{ends_record, rest_of};
 
-use crate::asked::{Asked, Asker, read};
 use crate::filling::Filling;
 use crate::pour::pour;
 use crate::refusal::FlxRefusal;
 use crate::takes::Takes;
 use crate::to_text::ToText;
 use f11_bytes::{BLOCK_SIZE, Block};
+use f11_making::{Asked, Asker, read};
 use rt11_volume::RtName;
 
 /// Copies the first so many blocks of the file that is accessed as they are.

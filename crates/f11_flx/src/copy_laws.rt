@@ -8,9 +8,9 @@ ghost use Rattle.f11_runs.specs.Standing.{AccessesStand};
 ghost use Rattle.f11_store.specs.Accesses.{FreeIsEmpty};
 ghost use Rattle.rt11_volume.specs.Verifying.Verdict.{IsSoundDisk};
 
-use crate::asked::Asked;
 use f11_dev::Device;
 use f11_fcp::Volume;
+use f11_making::Asked;
 use rt11_volume::RtAccepted;
 
 /// What a copy to an RT-11 volume reads is the file's, of what it asks nothing but the access is refused, and whatever is

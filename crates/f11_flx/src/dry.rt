@@ -3,11 +3,11 @@ ghost use Rattle.std.specs.Prelude.{◌≡◌, ℕ, Ok, Result};
 ghost use Rattle.f11_runs.specs.Each.{answer_with, call_with};
 ghost use Rattle.f11_store.specs.declared.refusals.Refusal.{Refusal};
 ghost use Rattle.f11_store.specs.declared.requests.Reply.TheVariants as reply;
-ghost use Rattle.f11_flx.specs.Asking.{FilesService};
+ghost use Rattle.f11_making.specs.Asking.{FilesService};
 ghost use Rattle.f11_flx.specs.Dry.{dry};
 
-use crate::asked::Asked;
 use f11_bytes::Block;
+use f11_making::Asked;
 use f11_store::{Lun, Refusal, Reply, Request, Task, Uic};
 
 /// A service that answers each request `Done`, and does nothing: so a copy is judged and its blocks are counted before a file is made.

@@ -3,18 +3,19 @@ ghost use Rattle.std.specs.Prelude.{◌≡◌, true, IfOk, IfErr, Err};
 ghost use Rattle.f11_fcp.specs.Lists.{is_sound, store_of_volume};
 ghost use Rattle.rt11_volume.specs.Calls.{has_failed, volume_device};
 ghost use Rattle.rt11_volume.specs.Store.{rt_store_of};
-ghost use Rattle.f11_flx.specs.Copying.{MakesRtFile, ReadsFiles, WhereSound, is_whole, of_volume};
+ghost use Rattle.f11_making.specs.Volume.{of_volume};
+ghost use Rattle.f11_flx.specs.Copying.{MakesRtFile, ReadsFiles, WhereSound, is_whole};
 ghost use Rattle.f11_flx.specs.EndedToRt.{EndsToRt};
 ghost use Rattle.f11_flx.specs.Refusal.{is_lethal};
-ghost use Rattle.f11_flx.specs.Asking.{who_asks};
+ghost use Rattle.f11_making.specs.Asking.{who_asks};
 ghost use Rattle.f11_flx.specs.CopyToRt.{CopiesToRt, FailsToCopyToRt, RefusesCopyToRt};
 
-use crate::asked::Asker;
 use crate::mode::CopyMode;
 use crate::refusal::FlxRefusal;
 use crate::to_rt::copy_file;
 use f11_dev::Device;
 use f11_fcp::Volume;
+use f11_making::Asker;
 use f11_store::{FileId, Lun, Task, Uic};
 use rt11_volume::{RtAccepted, RtName};
 

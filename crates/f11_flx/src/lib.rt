@@ -7,12 +7,10 @@
 //! [`text_attributes`] and [`image_attributes`] are the attributes of a copy, and [`image_blocks`] is how many blocks a copy
 //! of a file as it is takes. None of them takes memory, but [`copy_from_rt`] where the index file gets slots first.
 //!
-//! A copy asks requests of a volume, or of whatever else answers them ([`Asked`]). What makes a file from another source asks them by the
-//! same steps: [`create`], [`extend`], [`write`], [`enter`], and [`undo`]. The blocks of a text are written by [`write_lines`] and
-//! [`end_lines`], of which [`Dry`] counts them before a file is made.
+//! A copy asks requests of a volume, or of whatever else answers them ([`f11_making::Asked`]), and undoes them by [`undo`]. The blocks of a
+//! text are written by [`write_lines`] and [`end_lines`], of which [`Dry`] counts them before a file is made.
 #![tactic(auto)]
 
-mod asked;
 mod attributes;
 mod copies;
 pub mod copy_laws;
@@ -44,27 +42,24 @@ mod to_rt;
 mod to_text;
 mod transfer;
 mod undoing;
-mod volume;
 pub mod worked;
 mod writing;
 
-pub use asked::{Asked, Asker, ask};
 pub use attributes::{
     MOST_BLOCKS, image_attributes, image_attributes_to, image_blocks, text_attributes,
 };
 pub use dry::Dry;
-pub use f11_fcp;
+pub use f11_making::{self, f11_fcp};
 pub use filling::Filling;
 pub use from_rt::copy_from_rt;
 pub use into_rt::copy_to_rt;
 pub use layout::Layout;
 pub use line_end::LineEnd;
 pub use lines::{Extent, end_lines};
-pub use making::{Entry, create, enter, extend};
 pub use mode::CopyMode;
 pub use records::{BadRecord, Records};
 pub use refusal::FlxRefusal;
 pub use to_records::{LONGEST_LINE, LineTooLong, ToRecords};
 pub use to_text::ToText;
 pub use undoing::undo;
-pub use writing::{write, write_lines};
+pub use writing::write_lines;

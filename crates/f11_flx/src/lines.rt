@@ -1,11 +1,10 @@
 //! The lines of a file on an RT-11 volume, copied into the blocks of a file.
 ghost use Rattle.std.specs.Prelude.{◌≡◌, ◌+◌, ◌*◌, ◌<◌, ◌≤◌, [], false, length, IfErr, IfOk, OnOk};
-ghost use Rattle.f11_flx.specs.Asking.{who_asks};
+ghost use Rattle.f11_making.specs.Asking.{who_asks};
 ghost use Rattle.f11_flx.specs.Filling.{out_of};
 ghost use Rattle.f11_flx.specs.Passes.{BeginsLines, EndsLines, FailsToEnd, FailsToFlush, FailsToReadLines, Flushes, ReadsLines};
 ghost use Rattle.f11_flx.specs.Writing.{out_bytes};
 
-use crate::asked::{Asked, Asker};
 use crate::copies::clear;
 use crate::filling::Filling;
 use crate::refusal::FlxRefusal;
@@ -14,6 +13,7 @@ use crate::to_records::ToRecords;
 use crate::writing::{give, write_lines};
 use f11_bytes::BLOCK_SIZE;
 use f11_dev::Device;
+use f11_making::{Asked, Asker};
 use f11_store::Refusal;
 use rt11_volume::{RtAccepted, RtName};
 

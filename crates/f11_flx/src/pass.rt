@@ -1,19 +1,18 @@
 //! One pass over a file on an RT-11 volume, whose copy is written.
 ghost use Rattle.std.specs.Prelude.{◌≡◌, IfErr, IfOk, OnOk};
-ghost use Rattle.f11_flx.specs.Asking.{who_asks};
+ghost use Rattle.f11_making.specs.Asking.{who_asks};
 ghost use Rattle.f11_flx.specs.Passes.{CopiesFile, FailsToCopyFile};
 ghost use Rattle.f11_flx.specs.Spelled.{image_attributes, text_attributes};
 ghost use Rattle.f11_flx.specs.declared.mode.CopyMode.TheVariants as mode;
 
-use crate::asked::{Asked, Asker};
 use crate::filling::Filling;
 use crate::lines::{Extent, end_lines, read_lines};
 use crate::refusal::FlxRefusal;
 use crate::rt_source::read;
 use crate::to_records::ToRecords;
-use crate::writing::write;
 use f11_bytes::BLOCK_SIZE;
 use f11_dev::Device;
+use f11_making::{Asked, Asker, write};
 use rt11_volume::{RtAccepted, RtName};
 
 /// Copies so many blocks as they are.

@@ -2,7 +2,6 @@
 ghost use Rattle.std.specs.Prelude.{◌≡◌, IfErr, IfOk};
 ghost use Rattle.f11_flx.specs.Planning.{FailsToPlan, Plans};
 
-use crate::asked::Asker;
 use crate::attributes::{image_attributes, text_attributes};
 use crate::dry::Dry;
 use crate::mode::CopyMode;
@@ -10,6 +9,7 @@ use crate::pass::copy_lines;
 use crate::refusal::FlxRefusal;
 use crate::rt_source::find;
 use f11_dev::Device;
+use f11_making::Asker;
 use rt11_volume::{RtAccepted, RtName};
 
 /// How many blocks a file on an RT-11 volume has, how many its copy has, and the copy's attributes.

@@ -3,11 +3,10 @@ ghost use Rattle.std.specs.Prelude.{◌≡◌, ◌≤◌, false, IfErr, IfNone, 
 ghost use Rattle.f11_store.specs.declared.files.Attr.{Attr as Attributes};
 ghost use Rattle.f11_store.specs.declared.requests.Reply.TheVariants as answer;
 ghost use Rattle.f11_store.specs.declared.requests.Request.TheVariants as request;
-ghost use Rattle.f11_flx.specs.Asking.{Fails, Grants, told, who_asks};
+ghost use Rattle.f11_making.specs.Asking.{Fails, Grants, told, who_asks};
 ghost use Rattle.f11_flx.specs.Source.{CopiesAs, FailsAs, StartsText, TellsNothing, TellsSource, is_attr, up_to_end};
 ghost use Rattle.f11_flx.specs.declared.mode.CopyMode.TheVariants as mode;
 
-use crate::asked::{Asked, Asker, ask, length};
 use crate::attributes::image_blocks;
 use crate::copies::{copy_blocks, copy_text};
 use crate::mode::CopyMode;
@@ -15,6 +14,7 @@ use crate::refusal::FlxRefusal;
 use crate::takes::Takes;
 use crate::target::Nowhere;
 use crate::to_text::ToText;
+use f11_making::{Asked, Asker, ask, length};
 use f11_store::{FileId, Refusal, Reply, Request};
 use rt11_volume::RtName;
 

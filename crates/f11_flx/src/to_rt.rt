@@ -1,18 +1,18 @@
 //! A copy to an RT-11 volume, of whatever answers for the Files-11 volume.
 ghost use Rattle.std.specs.Prelude.{◌≡◌, ◌≤◌, IfErr, IfOk, OnErr, OnOk};
 ghost use Rattle.f11_fcp.specs.files.Answers.{is_fatal};
-ghost use Rattle.f11_flx.specs.Asking.{who_asks};
+ghost use Rattle.f11_making.specs.Asking.{who_asks};
 ghost use Rattle.f11_flx.specs.Refusal.{is_lethal};
 ghost use Rattle.rt11_volume.specs.Files.{is_fault};
 ghost use Rattle.f11_flx.specs.ToRt.{CountsAs, FailsToCountAs, FailsToFillToRt, FillsToRt, CopiesLocked, FailsLocked, GaveUp, UndoesToRt, CopiesFileToRt, FailsToCopyFileToRt};
 
-use crate::asked::{Asked, Asker, ask};
 use crate::attributes::image_blocks;
 use crate::mode::CopyMode;
 use crate::refusal::FlxRefusal;
 use crate::source::{Source, copy, copy_lines, look};
 use crate::target::{Nowhere, delete, make};
 use f11_dev::Device;
+use f11_making::{Asked, Asker, ask};
 use f11_store::{FileId, Mode, Refusal, Request};
 use rt11_volume::{RtAccepted, RtName, RtRefusal};
 

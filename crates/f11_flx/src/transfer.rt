@@ -1,14 +1,14 @@
 //! A copy from an RT-11 volume, to whatever answers for the Files-11 volume.
 ghost use Rattle.std.specs.Prelude.{◌≡◌, IfErr, IfOk};
-ghost use Rattle.f11_flx.specs.Asking.{who_asks};
+ghost use Rattle.f11_making.specs.Asking.{who_asks};
 ghost use Rattle.f11_flx.specs.FromRt.{CopiesFrom, FailsToCopyFrom};
 
-use crate::asked::{Asked, Asker};
-use crate::making::{Entry, make};
+use crate::making::make;
 use crate::mode::CopyMode;
 use crate::plan::judge;
 use crate::refusal::FlxRefusal;
 use f11_dev::Device;
+use f11_making::{Asked, Asker, Entry};
 use rt11_volume::{RtAccepted, RtName};
 
 /// Copies the file of a name: how many blocks the copy has.

@@ -1,10 +1,10 @@
 //! What a copy undoes.
-ghost use Rattle.f11_flx.specs.Asking.{who_asks};
+ghost use Rattle.f11_making.specs.Asking.{who_asks};
 ghost use Rattle.f11_flx.specs.Making.{Undoing};
 
-use crate::asked::{Asked, Asker, ask};
 use crate::refusal::FlxRefusal;
 use crate::to_rt::is_lethal;
+use f11_making::{Asked, Asker, ask};
 use f11_store::Request;
 
 /// Asks what undoes something after a refusal that is no device fault or `Damaged`: what is answered then.

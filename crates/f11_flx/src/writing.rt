@@ -1,39 +1,16 @@
 //! Text that is converted into the blocks of a file, which are written.
 ghost use Rattle.std.specs.Prelude.{◌≡◌, ◌+◌, ◌*◌, ◌<◌, ◌≤◌, ◌∷◌, [], false, length, suc, IfErr, OnOk};
-ghost use Rattle.f11_flx.specs.Asking.{Denies, Granted, Grants, who_asks, writes, writes_of};
+ghost use Rattle.f11_making.specs.Asking.{Denies, Granted, Grants, who_asks, writes, writes_of};
 ghost use Rattle.f11_flx.specs.Filling.{out_of};
 ghost use Rattle.f11_flx.specs.ToRecords.{gives};
 ghost use Rattle.f11_flx.specs.Writing.{FailsToWritePieces, WritesPieces, WritesNext, out_bytes};
 
-use crate::asked::{Asked, Asker};
 use crate::filling::Filling;
 use crate::refusal::FlxRefusal;
 use crate::to_records::ToRecords;
-use f11_bytes::{BLOCK_SIZE, Block};
-use f11_store::{Refusal, Request};
-
-/// Writes the block at a VBN of the file that is accessed. What the block is then isn't known.
-///
-/// # Errors
-///
-/// The volume's refusal.
-pub fn write<S: Asked>(
-    service: &mut S,
-    by: &Asker,
-    vbn: u32,
-    block: &mut Block,
-) -> Result<(), Refusal>
-    ensures size { length block.old ≡ 512 }
-    ensures granted { OnOk result (Grants S.service (who_asks by.now.task by.now.uic)
-        (writes by.now.lun vbn block.old) service.old service.new) }
-    ensures denied { IfErr result (λ e. Denies S.service (who_asks by.now.task by.now.uic)
-        (writes by.now.lun vbn block.old) e service.old service.new) }
-{
-    match service.serve(by.task, by.uic, &Request::WriteBlock(by.lun, vbn), block) {
-        Ok(_) => Ok(()),
-        Err(refusal) => Err(refusal),
-    }
-}
+use f11_bytes::BLOCK_SIZE;
+use f11_making::{Asked, Asker, write};
+use f11_store::Refusal;
 
 /// Writes the block, which is full, and goes on with the next one.
 pub fn give<S: Asked>(out: &mut Filling, service: &mut S, by: &Asker) -> Result<(), Refusal>

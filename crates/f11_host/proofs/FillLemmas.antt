@@ -4,13 +4,14 @@ use Rattle.std.proofs.Common.{append_assoc, take}
 use Rattle.std.proofs.Math.Seq.{take-length}
 use Rattle.std.proofs.KnownBytes.{Consumes-nil}
 use Rattle.f11_store.specs.declared.refusals.Refusal.{Refusal}
-use Rattle.f11_flx.specs.Asking.{BreaksOffAsking, Denies, FilesService, Granted, Grants, Who, writes, writes_of}
-use Rattle.f11_flx.specs.CopyFromRt.{giving_up}
-use Rattle.f11_flx.specs.Making.{AsksToFill, IsBrokenOff, extension, filling_of}
+use Rattle.f11_making.specs.Asking.{BreaksOffAsking, Denies, FilesService, Granted, Grants, Who, writes, writes_of}
+use Rattle.f11_making.specs.Making.{giving_up}
+use Rattle.f11_making.specs.Making.{extension, filling_of}
+use Rattle.f11_flx.specs.Making.{AsksToFill, IsBrokenOff}
 use Rattle.f11_flx.specs.Spelled.{image_attributes_to}
 use Rattle.f11_flx.specs.declared.refusal.FlxRefusal.{FlxRefusal}
 use Rattle.f11_flx.specs.declared.refusal.FlxRefusal.TheVariants.{BadRecord, Files, LineTooLong, Rt}
-use Rattle.f11_flx.proofs.AskingLemmas.{breaks-before, granted-append, granted-one, writes-append}
+use Rattle.f11_making.proofs.AskingLemmas.{breaks-before, granted-append, granted-one, writes-append}
 use Rattle.f11_flx.proofs.MakingLemmas.{breaks-filling, breaks-giving, same-blocks}
 use Rattle.f11_host.specs.Filling.{BreaksFilling, FailsToFillFromHost, FailsToWriteBytes, FillsFromHost, HostFile, LacksBlock, StopsAtBlock}
 use Rattle.f11_host.specs.Filling.{WritesBytes, host_file}

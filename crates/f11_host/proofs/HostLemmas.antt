@@ -16,11 +16,13 @@ use Rattle.f11_flx.specs.fcp.Serving.{is_spent}
 use Rattle.f11_flx.specs.fcp.declared.volume.Volume.{Volume}
 use Rattle.rt11_volume.specs.declared.refusal.RtRefusal.{RtRefusal}
 use Rattle.rt11_volume.specs.declared.refusal.RtRefusal.TheVariants.{Failed}
-use Rattle.f11_flx.specs.Asking.{BreaksOffAsking, FilesService, Granted, Who}
-use Rattle.f11_flx.specs.Copying.{MayMake, is_whole, of_volume}
-use Rattle.f11_flx.specs.CopyFromRt.{FailsToMakeFile, Making, as_stated, filling, new_id}
+use Rattle.f11_making.specs.Asking.{BreaksOffAsking, FilesService, Granted, Who}
+use Rattle.f11_making.specs.Volume.{of_volume}
+use Rattle.f11_flx.specs.Copying.{MayMake, is_whole}
+use Rattle.f11_making.specs.Making.{FailsToMakeFile, Making, as_stated, filling, new_id}
 use Rattle.f11_flx.specs.Ended.{Ends}
-use Rattle.f11_flx.specs.Making.{FailsToFillOpened, IsCutShort, Undoing, UndoingIf, filling_of}
+use Rattle.f11_making.specs.Making.{filling_of}
+use Rattle.f11_flx.specs.Making.{FailsToFillOpened, IsCutShort, Undoing, UndoingIf}
 use Rattle.f11_flx.specs.Refusal.{is_lethal}
 use Rattle.f11_flx.specs.declared.refusal.FlxRefusal.{FlxRefusal}
 use Rattle.f11_flx.specs.declared.refusal.FlxRefusal.TheVariants.{BadRecord, Files, LineTooLong, Rt}
@@ -34,7 +36,7 @@ use Rattle.f11_flx.proofs.SmallLemmas.{not-true}
 use Rattle.f11_flx.proofs.StatingLemmas.{made-in-order, unmade-in-order}
 use Rattle.f11_flx.proofs.TriedLemmas.{made-tries, none-for-one, unmade-tries}
 use Rattle.f11_flx.proofs.UndoneLemmas.{as-before, clean-undoing}
-use Rattle.f11_flx.proofs.VolumeLemmas.{standing, unused, volume-seen}
+use Rattle.f11_making.proofs.VolumeLemmas.{standing, unused, volume-seen}
 use Rattle.f11_host.specs.CopyFromHost.{CopiesFromHost, FailsSpent, FailsToCopyFromHost, IsNotCopied, IsRefusedIf, ReadsAll, ReadsHost}
 use Rattle.f11_host.specs.CopyFromHost.{AsksForImage, HoldHost, as_image, image_attr, is_too_long}
 use Rattle.f11_host.specs.Filling.{FailsToFillFromHost, FailsToMakeFromHost, FillsFromHost, HostFile, MakesFromHost, host_file}

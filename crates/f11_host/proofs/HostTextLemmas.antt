@@ -14,11 +14,13 @@ use Rattle.f11_flx.specs.fcp.Lists.{is_sound, store_of_volume}
 use Rattle.f11_flx.specs.fcp.Serving.{is_spent}
 use Rattle.f11_flx.specs.fcp.declared.volume.Volume.{Volume}
 use Rattle.rt11_volume.specs.declared.refusal.RtRefusal.TheVariants.{Failed}
-use Rattle.f11_flx.specs.Asking.{BreaksOffAsking, FilesService, Granted, Who}
-use Rattle.f11_flx.specs.Copying.{MayMake, MayMakeStated, is_whole, of_volume}
-use Rattle.f11_flx.specs.CopyFromRt.{FailsToMakeFile, Making, as_stated, filling, new_id}
+use Rattle.f11_making.specs.Asking.{BreaksOffAsking, FilesService, Granted, Who}
+use Rattle.f11_making.specs.Volume.{of_volume}
+use Rattle.f11_flx.specs.Copying.{MayMake, MayMakeStated, is_whole}
+use Rattle.f11_making.specs.Making.{FailsToMakeFile, Making, as_stated, filling, new_id}
 use Rattle.f11_flx.specs.Ended.{Ends}
-use Rattle.f11_flx.specs.Making.{FailsToFillOpened, IsCutShort, filling_of}
+use Rattle.f11_making.specs.Making.{filling_of}
+use Rattle.f11_flx.specs.Making.{FailsToFillOpened, IsCutShort}
 use Rattle.f11_flx.specs.Refusal.{is_lethal}
 use Rattle.f11_flx.specs.declared.lines.Extent.{Extent}
 use Rattle.f11_flx.specs.declared.refusal.FlxRefusal.{FlxRefusal}
@@ -33,7 +35,7 @@ use Rattle.f11_flx.proofs.SmallLemmas.{not-true}
 use Rattle.f11_flx.proofs.StatingLemmas.{made-in-order, unmade-in-order}
 use Rattle.f11_flx.proofs.TriedLemmas.{made-tries, none-for-one, unmade-tries}
 use Rattle.f11_flx.proofs.UndoneLemmas.{as-before, clean-undoing}
-use Rattle.f11_flx.proofs.VolumeLemmas.{standing, unused, volume-seen}
+use Rattle.f11_making.proofs.VolumeLemmas.{standing, unused, volume-seen}
 use Rattle.f11_host.specs.CopyTextFromHost.{CopiesTextFromHost, FailsTextSpent, FailsToCopyTextFromHost, IsTextNotCopied, IsTextRefusedIf}
 use Rattle.f11_host.specs.CopyTextFromHost.{AsksForText, HoldText, Judges, ReadsIf, ReadsTexts, is_text_too_long}
 use Rattle.f11_host.specs.Filling.{HostFile, host_file}

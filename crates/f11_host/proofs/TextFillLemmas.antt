@@ -3,14 +3,15 @@ use Rattle.std.proofs.Common.{◌≡◌, inl, ℕ, zero, suc, ◌<◌, List, [],
 use Rattle.std.proofs.Common.{sym, ◌∙◌, subst, arith}
 use Rattle.std.proofs.KnownBytes.{Consumes-nil}
 use Rattle.f11_store.specs.declared.refusals.Refusal.{Refusal}
-use Rattle.f11_flx.specs.Asking.{BreaksOffAsking, FilesService, Granted, Who, writes_of}
-use Rattle.f11_flx.specs.CopyFromRt.{giving_up}
+use Rattle.f11_making.specs.Asking.{BreaksOffAsking, FilesService, Granted, Who, writes_of}
+use Rattle.f11_making.specs.Making.{giving_up}
 use Rattle.f11_flx.specs.Lines.{lines_upto}
-use Rattle.f11_flx.specs.Making.{AsksToFill, IsBrokenOff, extension, filling_of}
+use Rattle.f11_making.specs.Making.{extension, filling_of}
+use Rattle.f11_flx.specs.Making.{AsksToFill, IsBrokenOff}
 use Rattle.f11_flx.specs.declared.lines.Extent.{Extent}
 use Rattle.f11_flx.specs.declared.refusal.FlxRefusal.{FlxRefusal}
 use Rattle.f11_flx.specs.declared.refusal.FlxRefusal.TheVariants.{BadRecord, Files, LineTooLong, Rt}
-use Rattle.f11_flx.proofs.AskingLemmas.{breaks-before, granted-append}
+use Rattle.f11_making.proofs.AskingLemmas.{breaks-before, granted-append}
 use Rattle.f11_flx.proofs.MakingLemmas.{breaks-filling, breaks-giving}
 use Rattle.f11_host.specs.Filling.{HostFile, host_file}
 use Rattle.f11_host.specs.TextFilling.{BreaksFillingText, CopiesAgain, FailsToCopyAgain, FailsToFillFromText, FillsFromText}

@@ -11,7 +11,7 @@ use Rattle.std.proofs.lemmas.Bool.{cond-false, cond-true}
 use Rattle.std.proofs.lemmas.List.{take-append-drop, take_all}
 use Rattle.std.proofs.lemmas.List.Elements.{All-append}
 use Rattle.std.proofs.lemmas.List.Folds.{concat-append}
-use Rattle.f11_flx.specs.Asking.{Denies, FilesService, Granted, Who, writes, writes_of}
+use Rattle.f11_making.specs.Asking.{Denies, FilesService, Granted, Who, writes, writes_of}
 use Rattle.f11_flx.specs.Conversion.{Copy, copied_lines}
 use Rattle.f11_flx.specs.Dry.{dry}
 use Rattle.f11_flx.specs.Filling.{Out, pending}

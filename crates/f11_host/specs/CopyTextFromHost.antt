@@ -6,8 +6,8 @@ use Rattle.f11_store.specs.declared.files.FileId.{FileId}
 use Rattle.f11_store.specs.declared.refusals.Refusal.{Refusal}
 use Rattle.f11_store.specs.declared.refusals.Refusal.TheVariants.{TooManySegments, VolumeFailed}
 use Rattle.f11_flx.specs.files.Answers.{is_fatal}
-use Rattle.f11_flx.specs.Asking.{FilesService, Granted, Who, plain}
-use Rattle.f11_flx.specs.CopyFromRt.{FailsToMakeFile, making_of, new_id}
+use Rattle.f11_making.specs.Asking.{FilesService, Granted, Who, plain}
+use Rattle.f11_making.specs.Making.{FailsToMakeFile, making_of, new_id}
 use Rattle.f11_flx.specs.Making.{IsCutShort}
 use Rattle.f11_flx.specs.Stating.{AsksInOrder}
 use Rattle.f11_flx.specs.declared.lines.Extent.{Extent}

@@ -2,9 +2,10 @@
 use Rattle.std.specs.Prelude.{◌≡◌, ℕ, suc, ◌<◌, ◌≤◌, List, ◌∷◌, ◌++◌, length, take, Option}
 use Rattle.std.specs.Io.KnownBytes.{Consumes}
 use Rattle.f11_store.specs.declared.refusals.Refusal.{Refusal}
-use Rattle.f11_flx.specs.Asking.{BreaksOffAsking, Denies, FilesService, Granted, Who, writes, writes_of}
-use Rattle.f11_flx.specs.CopyFromRt.{Making}
-use Rattle.f11_flx.specs.Making.{FailsToMake, MakesFile, extension, filling_of}
+use Rattle.f11_making.specs.Asking.{BreaksOffAsking, Denies, FilesService, Granted, Who, writes, writes_of}
+use Rattle.f11_making.specs.Making.{Making}
+use Rattle.f11_making.specs.Making.{extension, filling_of}
+use Rattle.f11_flx.specs.Making.{FailsToMake, MakesFile}
 use Rattle.f11_flx.specs.declared.refusal.FlxRefusal.{FlxRefusal}
 use Rattle.f11_flx.specs.declared.refusal.FlxRefusal.TheVariants as refusal
 use Rattle.f11_host.specs.Pieces.{IsInBlocks, blocks_for}

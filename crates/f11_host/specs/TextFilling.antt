@@ -3,9 +3,10 @@ use Rattle.std.specs.Prelude.{◌≡◌, ◌⊎◌, ℕ, ◌==◌, ◌&&◌, ◌
 use Rattle.std.specs.Io.KnownBytes.{Consumes}
 use Rattle.f11_store.specs.declared.files.FileId.{FileId}
 use Rattle.f11_store.specs.declared.refusals.Refusal.{Refusal}
-use Rattle.f11_flx.specs.Asking.{BreaksOffAsking, FilesService, Granted, Who, writes_of}
-use Rattle.f11_flx.specs.CopyFromRt.{Making, as_stated}
-use Rattle.f11_flx.specs.Making.{FailsToMake, MakesFile, extension, filling_of}
+use Rattle.f11_making.specs.Asking.{BreaksOffAsking, FilesService, Granted, Who, writes_of}
+use Rattle.f11_making.specs.Making.{Making, as_stated}
+use Rattle.f11_making.specs.Making.{extension, filling_of}
+use Rattle.f11_flx.specs.Making.{FailsToMake, MakesFile}
 use Rattle.f11_flx.specs.Spelled.{text_attributes}
 use Rattle.f11_flx.specs.declared.lines.Extent.{Extent}
 use Rattle.f11_flx.specs.declared.refusal.FlxRefusal.{FlxRefusal}

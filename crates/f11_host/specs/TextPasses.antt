@@ -2,7 +2,7 @@
 use Rattle.std.specs.Prelude.{◌≡◌, ℕ, suc, ◌<◌, ◌≤◌, List, [], ◌∷◌, ◌++◌, length, Option, None}
 use Rattle.std.specs.Io.KnownBytes.{Consumes}
 use Rattle.f11_store.specs.declared.refusals.Refusal.{Refusal}
-use Rattle.f11_flx.specs.Asking.{Denies, FilesService, Granted, Who, writes, writes_of}
+use Rattle.f11_making.specs.Asking.{Denies, FilesService, Granted, Who, writes, writes_of}
 use Rattle.f11_flx.specs.Filling.{Out}
 use Rattle.f11_flx.specs.Spelled.{text_attributes}
 use Rattle.f11_flx.specs.Writing.{MeetsLongLine, StopsAtPiece, WritesPieces}

@@ -1,12 +1,13 @@
 //! A file that is accessed is filled with the bytes of a file of the host.
 ghost use Rattle.std.specs.Prelude.{◌≡◌, [], ℕ, List, IfErr, OnOk};
-ghost use Rattle.f11_flx.specs.Asking.{who_asks};
+ghost use Rattle.f11_making.specs.Asking.{who_asks};
 ghost use Rattle.f11_host.specs.Filling.{FailsToFillFromHost, FailsToWriteBytes, FillsFromHost, WritesBytes, host_file};
 ghost use Rattle.f11_host.specs.Pieces.{blocks_for};
 
 use crate::piece::read_piece;
 use f11_bytes::BLOCK_SIZE;
-use f11_flx::{Asked, Asker, FlxRefusal, ask, extend, write};
+use f11_flx::FlxRefusal;
+use f11_making::{Asked, Asker, ask, extend, write};
 use f11_store::Request;
 use std::io::Read;
 

@@ -1,9 +1,9 @@
 //! The end of the making of a file: its attributes, its name and its protection.
 ghost use Rattle.std.specs.Prelude.{List, ℕ, IfErr, OnOk};
-ghost use Rattle.f11_flx.specs.Asking.{BreaksOffAsking, Granted, who_asks};
-ghost use Rattle.f11_flx.specs.CopyFromRt.{as_stated, entry as entry_of};
+ghost use Rattle.f11_making.specs.Asking.{BreaksOffAsking, Granted, who_asks};
+ghost use Rattle.f11_making.specs.Making.{as_stated, entry as entry_of};
 
-use f11_flx::{Asked, Asker, Entry, ask, enter};
+use f11_making::{Asked, Asker, Entry, ask, enter};
 use f11_store::{Change, FileId, Refusal, Request};
 
 /// Gives a file that was filled its attributes, enters it into the directory, and protects it: what stops before that leaves a file without

@@ -1,6 +1,6 @@
 //! A file that is made of the bytes of a file of the host, on whatever answers for the volume.
 ghost use Rattle.std.specs.Prelude.{◌≡◌, [], ℕ, List, IfErr, IfOk, OnOk};
-ghost use Rattle.f11_flx.specs.Asking.{who_asks};
+ghost use Rattle.f11_making.specs.Asking.{who_asks};
 ghost use Rattle.f11_flx.specs.Making.{FailsToFillOpened, FillsOpened};
 ghost use Rattle.f11_host.specs.CopyFromHost.{as_image};
 ghost use Rattle.f11_host.specs.Filling.{FailsToFillFromHost, FailsToMakeFromHost, FillsFromHost, MakesFromHost, host_file};
@@ -8,7 +8,8 @@ ghost use Rattle.f11_host.specs.Pieces.{blocks_for};
 
 use crate::filling::fill;
 use crate::finishing::finish;
-use f11_flx::{Asked, Asker, Entry, FlxRefusal, ask, create, image_attributes_to, undo};
+use f11_flx::{FlxRefusal, image_attributes_to, undo};
+use f11_making::{Asked, Asker, Entry, ask, create};
 use f11_store::{FileId, Mode, Request};
 use std::io::Read;
 

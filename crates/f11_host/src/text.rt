@@ -1,6 +1,6 @@
 //! A pass over a text of the host, whose copy is written.
 ghost use Rattle.std.specs.Prelude.{◌≡◌, ◌<◌, ◌≤◌, ℕ, List, IfErr, IfOk, OnOk};
-ghost use Rattle.f11_flx.specs.Asking.{who_asks};
+ghost use Rattle.f11_making.specs.Asking.{who_asks};
 ghost use Rattle.f11_flx.specs.Filling.{out_of};
 ghost use Rattle.f11_flx.specs.Passes.{BeginsLines};
 ghost use Rattle.f11_host.specs.TextPasses.{CopiesText, FailsToCopyText, FailsToPlanText, FailsToReadText, PlansText, ReadsText};
@@ -8,7 +8,8 @@ ghost use Rattle.f11_host.specs.TextPasses.{CopiesText, FailsToCopyText, FailsTo
 use crate::crs::{Expanded, expand};
 use crate::piece::read_piece;
 use f11_bytes::BLOCK_SIZE;
-use f11_flx::{Asked, Asker, Dry, Extent, Filling, FlxRefusal, ToRecords, end_lines, write_lines};
+use f11_flx::{Dry, Extent, Filling, FlxRefusal, ToRecords, end_lines, write_lines};
+use f11_making::{Asked, Asker};
 use std::io::Read;
 
 /// Reads so many bytes that the host gives, and writes the blocks of their lines that are full.

@@ -1,6 +1,6 @@
 //! A file that is made of a text of the host, on whatever answers for the volume.
 ghost use Rattle.std.specs.Prelude.{◌≡◌, ◌≤◌, [], ℕ, List, IfErr, OnOk};
-ghost use Rattle.f11_flx.specs.Asking.{who_asks};
+ghost use Rattle.f11_making.specs.Asking.{who_asks};
 ghost use Rattle.f11_flx.specs.Making.{FailsToFillOpened, FillsOpened};
 ghost use Rattle.f11_host.specs.Filling.{host_file};
 ghost use Rattle.f11_host.specs.TextFilling.{are_same as same, as_text, as_unread, CopiesAgain, FailsToCopyAgain};
@@ -8,9 +8,8 @@ ghost use Rattle.f11_host.specs.TextFilling.{FailsToFillFromText, FailsToMakeFro
 
 use crate::finishing::finish;
 use crate::text::copy_text;
-use f11_flx::{
-    Asked, Asker, Entry, Extent, FlxRefusal, ask, create, extend, text_attributes, undo,
-};
+use f11_flx::{Extent, FlxRefusal, text_attributes, undo};
+use f11_making::{Asked, Asker, Entry, ask, create, extend};
 use f11_store::{FileId, Mode, Request};
 use std::io::Read;
 

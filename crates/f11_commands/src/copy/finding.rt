@@ -2,8 +2,8 @@
 ghost use Rattle.std.specs.Prelude.{◌≡◌, ◌+◌, ◌%◌, IfOk, IfErr};
 ghost use Rattle.f11_commands.specs.Copying.{directory_name, operator};
 ghost use Rattle.f11_commands.specs.Finding.{directory_text, is_found};
-ghost use Rattle.f11_flx.specs.Asking.{Fails, Grants, told};
-ghost use Rattle.f11_flx.specs.Copying.{of_volume};
+ghost use Rattle.f11_making.specs.Asking.{Fails, Grants, told};
+ghost use Rattle.f11_making.specs.Volume.{of_volume};
 ghost use Rattle.f11_store.specs.declared.requests.Reply.TheVariants as reply;
 ghost use Rattle.f11_store.specs.declared.requests.Request.TheVariants as request;
 

@@ -3,8 +3,8 @@ ghost use Rattle.std.specs.Prelude.{◌≡◌, true, false, IfErr, IsTrue, OnOk}
 ghost use Rattle.f11_serving.specs.fcp.Lists.{store_of_volume};
 ghost use Rattle.f11_serving.specs.fcp.Serving.{is_spent, state_in};
 ghost use Rattle.f11_serving.specs.files.Answers.{is_fatal};
-ghost use Rattle.f11_flx.specs.Asking.{Denies, Grants, asks};
-ghost use Rattle.f11_flx.specs.Copying.{of_volume};
+ghost use Rattle.f11_making.specs.Asking.{Denies, Grants, asks};
+ghost use Rattle.f11_making.specs.Volume.{of_volume};
 ghost use Rattle.f11_store.specs.declared.requests.Request.TheVariants as request;
 ghost use Rattle.f11_commands.specs.Copying.{operator};
 ghost use Rattle.f11_commands.specs.PutSlots.{AsksForSlots, slots_before as slots_before_file, slots_for};

@@ -1,4 +1,4 @@
-use Rattle.f11_flx.specs.Asking.{who_asks}
+use Rattle.f11_making.specs.Asking.{who_asks}
 use Rattle.f11_flx.proofs.CopiesLemmas.{blocks-denied, blocks-more, blocks-refused, blocks-start}
 use Rattle.f11_flx.proofs.copies.copy_blocks.Goals as goal
 

@@ -1,4 +1,4 @@
-use Rattle.f11_flx.proofs.VolumeLemmas.{standing, unused}
+use Rattle.f11_making.proofs.VolumeLemmas.{standing, unused}
 use Rattle.f11_flx.proofs.copy_laws.slots.Goals as goal
 
 pub returns : goal.returns

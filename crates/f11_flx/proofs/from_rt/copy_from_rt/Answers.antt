@@ -1,5 +1,5 @@
-use Rattle.f11_flx.specs.Asking.{Who, who_asks}
-use Rattle.f11_flx.specs.Copying.{of_volume}
+use Rattle.f11_making.specs.Asking.{Who, who_asks}
+use Rattle.f11_making.specs.Volume.{of_volume}
 use Rattle.f11_flx.proofs.EndedLemmas.{copy-ends}
 use Rattle.f11_flx.proofs.FromVolumeLemmas.{copy-made, copy-not-made, file-made, file-not-made, source-read, source-refused}
 use Rattle.f11_flx.proofs.SpentLemmas.{spent-made, spent-unmade}

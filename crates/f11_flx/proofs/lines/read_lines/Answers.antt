@@ -1,5 +1,5 @@
 use Rattle.std.proofs.Common.{arith}
-use Rattle.f11_flx.specs.Asking.{Who, who_asks}
+use Rattle.f11_making.specs.Asking.{Who, who_asks}
 use Rattle.f11_flx.specs.Filling.{out_of}
 use Rattle.f11_flx.proofs.PassLemmas.{lines-fail, lines-few, lines-more, lines-none, lines-unread}
 use Rattle.f11_flx.proofs.lines.read_lines.Goals as goal

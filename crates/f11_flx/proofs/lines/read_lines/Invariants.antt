@@ -1,5 +1,5 @@
 use Rattle.std.proofs.Common.{◌<◌}
-use Rattle.f11_flx.specs.Asking.{who_asks}
+use Rattle.f11_making.specs.Asking.{who_asks}
 use Rattle.f11_flx.specs.Filling.{out_of}
 use Rattle.f11_flx.specs.Passes.{ReadsLines}
 use Rattle.f11_flx.proofs.lines.read_lines.Given as goal

@@ -1,5 +1,5 @@
 use Rattle.std.proofs.Common.{arith, subst, ap, ◌≡◌, ◌+◌}
-use Rattle.f11_flx.specs.Asking.{Who, who_asks}
+use Rattle.f11_making.specs.Asking.{Who, who_asks}
 use Rattle.f11_flx.specs.Passes.{CopiesImage}
 use Rattle.f11_flx.proofs.PassedLemmas.{image-copies, image-more, image-refused, image-stops}
 use Rattle.f11_flx.proofs.pass.copy_image.Goals as goal

@@ -1,4 +1,4 @@
-use Rattle.f11_flx.specs.Asking.{who_asks}
+use Rattle.f11_making.specs.Asking.{who_asks}
 use Rattle.f11_flx.specs.Passes.{CopiesImage}
 use Rattle.f11_flx.proofs.pass.copy_image.Given as goal
 

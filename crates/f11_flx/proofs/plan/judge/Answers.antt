@@ -1,5 +1,5 @@
 use Rattle.std.proofs.Common.{◌≡◌, subst, sym, ap, ◌∙◌}
-use Rattle.f11_flx.specs.Asking.{who_asks}
+use Rattle.f11_making.specs.Asking.{who_asks}
 use Rattle.f11_flx.specs.Planning.{FailsToPlan, Plans}
 use Rattle.f11_flx.specs.Spelled.{image_attributes}
 use Rattle.f11_flx.proofs.PlanLemmas.{image-plan, text-plan, text-unplanned}

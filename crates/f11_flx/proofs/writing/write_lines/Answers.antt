@@ -1,6 +1,6 @@
 use Rattle.std.proofs.Common.{◌≡◌, drop, arith, refl}
 use Rattle.std.proofs.lemmas.List.{take_rest}
-use Rattle.f11_flx.specs.Asking.{Who, who_asks}
+use Rattle.f11_making.specs.Asking.{Who, who_asks}
 use Rattle.f11_flx.specs.Filling.{Out, out_of}
 use Rattle.f11_flx.proofs.WritingLemmas.{fewer-to-come, within-more, writes-ends-at, writes-few-blocks, writes-gave, writes-read}
 use Rattle.f11_flx.proofs.WritingLemmas.{writes-refused}

@@ -1,5 +1,5 @@
 use Rattle.std.proofs.Common.{◌<◌, ◌≤◌, length, drop}
-use Rattle.f11_flx.specs.Asking.{who_asks}
+use Rattle.f11_making.specs.Asking.{who_asks}
 use Rattle.f11_flx.specs.Filling.{out_of}
 use Rattle.f11_flx.specs.ToRecords.{bytes_to_come}
 use Rattle.f11_flx.specs.Writing.{WritesPieces}

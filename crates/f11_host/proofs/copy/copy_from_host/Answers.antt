@@ -1,8 +1,9 @@
 use Rattle.std.proofs.Common.{◌≡◌, Some, arith, false, le-ltb, lt-ltb, refl, subst, sym, true}
 use Rattle.f11_flx.specs.fcp.Lists.{is_sound, store_of_volume}
 use Rattle.f11_flx.specs.fcp.Serving.{is_spent}
-use Rattle.f11_flx.specs.Asking.{Who, who_asks}
-use Rattle.f11_flx.specs.Copying.{MayMake, is_whole, of_volume}
+use Rattle.f11_making.specs.Asking.{Who, who_asks}
+use Rattle.f11_making.specs.Volume.{of_volume}
+use Rattle.f11_flx.specs.Copying.{MayMake, is_whole}
 use Rattle.f11_flx.specs.Ended.{Ends}
 use Rattle.f11_flx.specs.Refusal.{is_lethal}
 use Rattle.f11_flx.specs.Stating.{unasked}

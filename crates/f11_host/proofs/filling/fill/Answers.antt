@@ -1,8 +1,8 @@
 use Rattle.std.proofs.Common.{◌≡◌, [], arith, inl, refl, subst}
 use Rattle.f11_store.specs.declared.requests.Request.TheVariants as request
-use Rattle.f11_flx.specs.Asking.{BreaksOffAsking, Granted, Who, who_asks}
-use Rattle.f11_flx.specs.Making.{extension}
-use Rattle.f11_flx.proofs.MakingLemmas.{granted-told}
+use Rattle.f11_making.specs.Asking.{BreaksOffAsking, Granted, Who, who_asks}
+use Rattle.f11_making.specs.Making.{extension}
+use Rattle.f11_making.proofs.AskingLemmas.{granted-told}
 use Rattle.f11_host.specs.Pieces.{blocks_for}
 use Rattle.f11_host.proofs.FillLemmas.{filled, not-extended, not-given, not-written}
 use Rattle.f11_host.proofs.filling.fill.Goals as goal

@@ -1,5 +1,5 @@
 use Rattle.std.proofs.Common.{◌≡◌, ◌<◌, [], subst, arith}
-use Rattle.f11_flx.specs.Asking.{Who, who_asks}
+use Rattle.f11_making.specs.Asking.{Who, who_asks}
 use Rattle.f11_host.specs.Pieces.{blocks_for}
 use Rattle.f11_host.proofs.FillLemmas.{written-all, written-lacks, written-more, written-none, written-stops}
 use Rattle.f11_host.proofs.filling.write_bytes.Goals as goal

@@ -1,4 +1,4 @@
-use Rattle.f11_flx.specs.Asking.{who_asks}
+use Rattle.f11_making.specs.Asking.{who_asks}
 use Rattle.f11_host.proofs.FillLemmas.{Written}
 use Rattle.f11_host.proofs.filling.write_bytes.Given as goal
 

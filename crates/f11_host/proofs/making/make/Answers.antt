@@ -2,9 +2,9 @@ use Rattle.std.proofs.Common.{◌≡◌, [], arith, inl, inr, refl, subst}
 use Rattle.f11_store.specs.Ident.{ident_with}
 use Rattle.f11_store.specs.declared.requests.Reply.TheVariants as reply
 use Rattle.f11_store.specs.declared.requests.Request.TheVariants as request
-use Rattle.f11_flx.specs.Asking.{BreaksOffAsking, Fails, Granted, Grants, Who, told, who_asks}
-use Rattle.f11_flx.specs.CopyFromRt.{as_stated, entry}
-use Rattle.f11_flx.specs.Making.{is_created}
+use Rattle.f11_making.specs.Asking.{BreaksOffAsking, Fails, Granted, Grants, Who, told, who_asks}
+use Rattle.f11_making.specs.Making.{as_stated, entry}
+use Rattle.f11_making.specs.Making.{is_created}
 use Rattle.f11_flx.specs.Spelled.{image_attributes_to}
 use Rattle.f11_host.specs.CopyFromHost.{image_attr}
 use Rattle.f11_host.specs.Pieces.{blocks_for}

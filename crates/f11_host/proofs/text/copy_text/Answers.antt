@@ -1,4 +1,4 @@
-use Rattle.f11_flx.specs.Asking.{Who, who_asks}
+use Rattle.f11_making.specs.Asking.{Who, who_asks}
 use Rattle.f11_flx.specs.Filling.{out_of}
 use Rattle.f11_flx.specs.Passes.{BeginsLines}
 use Rattle.f11_host.proofs.TextLemmas.{text-copies, text-end-fails, text-fails, text-few}

@@ -1,5 +1,5 @@
 use Rattle.std.proofs.Common.{◌≡◌, ◌∙◌, [], arith, refl, take}
-use Rattle.f11_flx.specs.Asking.{Who, who_asks}
+use Rattle.f11_making.specs.Asking.{Who, who_asks}
 use Rattle.f11_flx.specs.Filling.{out_of}
 use Rattle.f11_host.proofs.TextLemmas.{reading-all, reading-fails, reading-few, reading-lacks, reading-more, reading-none}
 use Rattle.f11_host.specs.Texts.{crs_behind}

@@ -1,4 +1,4 @@
-use Rattle.f11_flx.specs.Asking.{who_asks}
+use Rattle.f11_making.specs.Asking.{who_asks}
 use Rattle.f11_flx.specs.Filling.{out_of}
 use Rattle.f11_host.proofs.TextLemmas.{Reading}
 use Rattle.f11_host.proofs.text.read_text.Given as goal

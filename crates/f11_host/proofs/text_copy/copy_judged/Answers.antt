@@ -1,7 +1,8 @@
 use Rattle.std.proofs.Common.{◌≡◌, Some, false, inl, le-ltb, refl, subst, sym, true}
 use Rattle.f11_flx.specs.fcp.Lists.{is_sound, store_of_volume}
-use Rattle.f11_flx.specs.Asking.{Who, who_asks}
-use Rattle.f11_flx.specs.Copying.{MayMake, MayMakeStated, is_whole, of_volume}
+use Rattle.f11_making.specs.Asking.{Who, who_asks}
+use Rattle.f11_making.specs.Volume.{of_volume}
+use Rattle.f11_flx.specs.Copying.{MayMake, MayMakeStated, is_whole}
 use Rattle.f11_flx.specs.Ended.{Ends}
 use Rattle.f11_flx.specs.Refusal.{is_lethal}
 use Rattle.f11_host.specs.CopyTextFromHost.{FailsTextSpent, FailsToCopyTextFromHost, ReadsTexts, is_text_too_long}

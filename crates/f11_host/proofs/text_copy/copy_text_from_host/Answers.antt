@@ -1,6 +1,6 @@
 use Rattle.std.proofs.Common.{◌≡◌, [], inl, lt-ltb, refl, true}
 use Rattle.f11_flx.specs.fcp.Lists.{store_of_volume}
-use Rattle.f11_flx.specs.Asking.{who_asks}
+use Rattle.f11_making.specs.Asking.{who_asks}
 use Rattle.f11_host.specs.CopyTextFromHost.{is_text_too_long}
 use Rattle.f11_host.proofs.HostLemmas.{too-long-files}
 use Rattle.f11_host.proofs.HostTextLemmas.{long-text-host, long-text-refused, long-text-spent}

@@ -1,5 +1,5 @@
 use Rattle.std.proofs.Common.{subst, sym}
-use Rattle.f11_flx.specs.Asking.{Who, who_asks}
+use Rattle.f11_making.specs.Asking.{Who, who_asks}
 use Rattle.f11_flx.specs.declared.refusal.FlxRefusal.{FlxRefusal}
 use Rattle.f11_host.specs.TextFilling.{FailsToCopyAgain}
 use Rattle.f11_host.proofs.TextFillLemmas.{again-fails}

@@ -1,7 +1,7 @@
 use Rattle.std.proofs.Common.{[], inl, refl}
 use Rattle.f11_store.specs.declared.requests.Request.TheVariants as request
-use Rattle.f11_flx.specs.Asking.{Who, who_asks}
-use Rattle.f11_flx.proofs.MakingLemmas.{granted-told}
+use Rattle.f11_making.specs.Asking.{Who, who_asks}
+use Rattle.f11_making.proofs.AskingLemmas.{granted-told}
 use Rattle.f11_host.proofs.TextFillLemmas.{text-filled, text-not-extended, text-not-given, text-not-written}
 use Rattle.f11_host.proofs.text_making.fill_text.Goals as goal
 

@@ -1,5 +1,5 @@
 use Rattle.std.proofs.Common.{sym, ◌∙◌}
-use Rattle.f11_flx.specs.Copying.{of_volume}
+use Rattle.f11_making.specs.Volume.{of_volume}
 use Rattle.f11_commands.proofs.PutSlotsLemmas.{asked-refused}
 use Rattle.f11_commands.proofs.put.slots.ask_for_slots.Goals as goal
 

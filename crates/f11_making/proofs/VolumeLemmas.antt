@@ -28,11 +28,10 @@ use Rattle.f11_fcp.specs.Serving.{RequestsSpareLost, StaysAccepted, is_spent, st
 use Rattle.f11_fcp.specs.declared.volume.Volume.{Volume}
 use Rattle.f11_fcp.specs.writes.Lost.{SparesLost}
 use Rattle.f11_fcp.proofs.writes.LostLemmas.{lost-looked}
-use Rattle.f11_flx.specs.Asking.{Asking, Denies, Grants, IsMeasured, Who, asks, counts, plain, reads, told, writes}
-use Rattle.f11_flx.specs.Copying.{of_volume}
-use Rattle.f11_flx.specs.Refusal.{is_lethal}
-use Rattle.f11_flx.specs.declared.refusal.FlxRefusal.TheVariants.{Files}
-use Rattle.f11_flx.specs.Seen.{IsSeenPlain}
+use Rattle.f11_making.specs.Asking.{Asking, Denies, Grants, IsMeasured, Who, asks, counts, plain, reads, told, writes}
+use Rattle.f11_making.specs.Fares.{Fares}
+use Rattle.f11_making.specs.Volume.{of_volume}
+use Rattle.f11_making.specs.Seen.{IsSeenPlain}
 
 -- a sound volume's disk is honest, and no request has failed it
 sound-parts : (honest spent : Bool) → (honest && not spent) ≡ true → IsTrue honest × (spent ≡ false)
@@ -72,7 +71,7 @@ some-fault true n h k = omega (arith, k)
 some-fault false n h k = absurd (true-false (sym h))
 
 -- a refusal that is no device fault, no Damaged and not VolumeFailed is that of a cause
-is-cause : (e : Refusal) → is_lethal (Files e) ≡ false → (e ≡ VolumeFailed → ⊥) → is_cause e ≡ true
+is-cause : (e : Refusal) → is_fatal e ≡ false → (e ≡ VolumeFailed → ⊥) → is_cause e ≡ true
 is-cause VolumeFailed h k = absurd (k refl)
 is-cause DeviceFault h k = absurd (true-false h)
 is-cause Damaged h k = absurd (true-false h)
@@ -97,25 +96,16 @@ module _ {D : Type 0} {met : Ghosts D} where
       subst (λ (x : State). SparesLost (is_spent v) (is_spent w) (state_in v).disk x.disk) (sym same)
       (lost-looked (is_spent v) (is_spent w) (state_in v).disk (state_in v).disk 0 0 lasts (looked_none (state_in v).disk))
 
-  -- What answers tell of a volume: whether a transfer failed and whether it failed the volume.
-  pub record IsFared (fault fatal : Bool) (old new : Volume D met) : Type 0 where
-    pub failures : failures_of new ≡ failures_of old + (if fault then 1 else 0)
-    pub quiet : fault ≡ true → (state_in new).disk.calm ≡ 0
-    pub honest : (state_in new).disk.honest ≡ (state_in old).disk.honest
-    pub next : is_spent new ≡ (is_spent old || fatal)
-    pub accepted : StaysAccepted (state_in new)
-    pub lost : RequestsSpareLost old new
-
   -- a request of it, whatever it answers
   serves-fared : (v w : Volume D met) (c : Call) (a : Answer) → ServesCall v c a w
-      → IsFared (is_refused is_fault a.result) (is_refused is_fatal a.result) v w
+      → Fares (is_refused is_fault a.result) (is_refused is_fatal a.result) v w
   serves-fared v w c a h = by_spent (is_spent v) refl
     where
-      by_spent : (b : Bool) → is_spent v ≡ b → IsFared (is_refused is_fault a.result) (is_refused is_fatal a.result) v w
+      by_spent : (b : Bool) → is_spent v ≡ b → Fares (is_refused is_fault a.result) (is_refused is_fatal a.result) v w
       by_spent true is =
           let r = h.serving.refused is in
           let same = (h.serving.untouched is).0 in
-          subst (λ x. IsFared (is_refused is_fault x) (is_refused is_fatal x) v w) (sym r) (record {
+          subst (λ x. Fares (is_refused is_fault x) (is_refused is_fatal x) v w) (sym r) (record {
             failures = ap (λ (x : State). x.disk.failures) same ∙ plus-none (failures_of v);
             quiet = λ fault. absurd (cc);
             honest = ap (λ (x : State). x.disk.honest) same;
@@ -136,14 +126,14 @@ module _ {D : Type 0} {met : Ghosts D} where
           }
 
   measures-fared : (v w : Volume D met) (task lun : ℕ) (result : Result ℕ Refusal) → AnswersLength task lun result v w
-      → StaysAccepted (state_in w) → IsFared (is_refused is_fault result) (is_refused is_fatal result) v w
+      → StaysAccepted (state_in w) → Fares (is_refused is_fault result) (is_refused is_fatal result) v w
   measures-fared v w task lun result h accepted = by_spent (is_spent v) refl
     where
       lasts : (b : Bool) → is_spent w ≡ (is_spent v || b) → is_spent v ≡ true → is_spent w ≡ true
       lasts b next is = next ∙ ap (λ (x : Bool). x || b) is
 
       by_result : (r : Result ℕ Refusal) → Measures task lun r (state_in v) (state_in w)
-          → is_spent w ≡ (is_spent v || is_refused is_fatal r) → IsFared (is_refused is_fault r) (is_refused is_fatal r) v w
+          → is_spent w ≡ (is_spent v || is_refused is_fatal r) → Fares (is_refused is_fault r) (is_refused is_fatal r) v w
       by_result (Ok blocks) k next = record {
         failures = k.outcome.reads.looked.failures;
         quiet = λ fault. absurd (cc);
@@ -161,11 +151,11 @@ module _ {D : Type 0} {met : Ghosts D} where
         lost = lost-looked _ _ _ _ _ _ (lasts _ next) k.outcome.reads.looked;
       }
 
-      by_spent : (b : Bool) → is_spent v ≡ b → IsFared (is_refused is_fault result) (is_refused is_fatal result) v w
+      by_spent : (b : Bool) → is_spent v ≡ b → Fares (is_refused is_fault result) (is_refused is_fatal result) v w
       by_spent true is =
           let r = h.refused is in
           let same = h.untouched is in
-          subst (λ x. IsFared (is_refused is_fault x) (is_refused is_fatal x) v w) (sym r) (record {
+          subst (λ x. Fares (is_refused is_fault x) (is_refused is_fatal x) v w) (sym r) (record {
             failures = ap (λ (x : State). x.disk.failures) same ∙ plus-none (failures_of v);
             quiet = λ fault. absurd (cc);
             honest = ap (λ (x : State). x.disk.honest) same;
@@ -176,7 +166,7 @@ module _ {D : Type 0} {met : Ghosts D} where
       by_spent false is = by_result result (h.measures is) h.next
 
   -- what is granted, and what is denied
-  pub granted-fared : (who : Who) (x : Asking) (v w : Volume D met) → Grants of_volume who x v w → IsFared false false v w
+  pub granted-fared : (who : Who) (x : Asking) (v w : Volume D met) → Grants of_volume who x v w → Fares false false v w
   granted-fared who (asks r) v w h = serves-fared v w _ _ h.3
   granted-fared who (told r a) v w h = serves-fared v w _ _ h.2
   granted-fared who (reads lun vbn block) v w h = serves-fared v w _ _ h.2
@@ -184,7 +174,7 @@ module _ {D : Type 0} {met : Ghosts D} where
   granted-fared who (counts lun blocks) v w h = measures-fared v w who.task lun (Ok blocks) h.0 h.1
 
   pub denied-fared : (who : Who) (x : Asking) (e : Refusal) (v w : Volume D met) → Denies of_volume who x e v w
-      → IsFared (is_fault e) (is_fatal e) v w
+      → Fares (is_fault e) (is_fatal e) v w
   denied-fared who (asks r) e v w h = serves-fared v w _ _ h.2
   denied-fared who (told r a) e v w h = serves-fared v w _ _ h.2
   denied-fared who (reads lun vbn block) e v w h = serves-fared v w _ _ h.2
@@ -192,7 +182,7 @@ module _ {D : Type 0} {met : Ghosts D} where
   denied-fared who (counts lun blocks) e v w h = measures-fared v w who.task lun (Err e) h.0 h.1
 
   -- it stays sound but for what fails it
-  stays : (fault : Bool) (v w : Volume D met) → IsFared fault false v w → is_sound v ≡ true → is_sound w ≡ true
+  stays : (fault : Bool) (v w : Volume D met) → Fares fault false v w → is_sound v ≡ true → is_sound w ≡ true
   stays fault v w h sound =
       let parts = sound-parts (state_in v).disk.honest (is_spent v) sound in
       parts-sound (state_in w).disk.honest (is_spent w) (h.honest ∙ parts.0) (h.next ∙ ap (λ b. b || false) parts.1)
@@ -237,13 +227,13 @@ module _ {D : Type 0} {met : Ghosts D} where
       granted who (counts lun blocks) v w h sound =
           (measured v w who.task lun (Ok blocks) sound refl h.0, stays false v w (granted-fared who (counts lun blocks) v w h) sound)
 
-      clean-stays : (who : Who) (x : Asking) (e : Refusal) (v w : Volume D met) → Denies of_volume who x e v w → is_lethal (Files e) ≡ false
+      clean-stays : (who : Who) (x : Asking) (e : Refusal) (v w : Volume D met) → Denies of_volume who x e v w → is_fatal e ≡ false
           → is_sound v ≡ true → is_sound w ≡ true
       clean-stays who x e v w h clean sound =
-          stays (is_fault e) v w (subst (λ b. IsFared (is_fault e) b v w) clean (denied-fared who x e v w h)) sound
+          stays (is_fault e) v w (subst (λ b. Fares (is_fault e) b v w) clean (denied-fared who x e v w h)) sound
 
       denied : (who : Who) (x : Asking) (e : Refusal) (v w : Volume D met) → Denies of_volume who x e v w → is_sound v ≡ true
-          → is_lethal (Files e) ≡ false → Denies plain who x e (store_of_volume v) (store_of_volume w) × (is_sound w ≡ true)
+          → is_fatal e ≡ false → Denies plain who x e (store_of_volume v) (store_of_volume w) × (is_sound w ≡ true)
       denied who (asks r) e v w h sound clean = ((h.0, h.1, step v w _ _ sound clean h.2), clean-stays who (asks r) e v w h clean sound)
       denied who (told r a) e v w h sound clean = ((h.0, h.1, step v w _ _ sound clean h.2), clean-stays who (told r a) e v w h clean sound)
       denied who (reads lun vbn block) e v w h sound clean =

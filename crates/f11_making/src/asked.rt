@@ -2,7 +2,7 @@
 ghost use Rattle.std.specs.Prelude.{◌≡◌, ◌≤◌, length, IfOk, IfErr, OnOk};
 ghost use Rattle.f11_runs.specs.Each.{answer_with, call_with};
 ghost use Rattle.f11_store.specs.declared.requests.Request.TheVariants as request;
-ghost use Rattle.f11_flx.specs.Asking.{Denies, Grants, FilesService, asks, counts, reads, told, who_asks, writes};
+ghost use Rattle.f11_making.specs.Asking.{Denies, Grants, FilesService, asks, counts, reads, told, who_asks, writes};
 
 use f11_bytes::{BLOCK_SIZE, Block};
 use f11_store::{Lun, Refusal, Reply, Request, Task, Uic};
@@ -69,6 +69,29 @@ pub fn read<S: Asked>(
         (reads by.now.lun vbn block.new) e service.old service.new) }
 {
     match service.serve(by.task, by.uic, &Request::ReadBlock(by.lun, vbn), block) {
+        Ok(_) => Ok(()),
+        Err(refusal) => Err(refusal),
+    }
+}
+
+/// Writes the block at a VBN of the file that is accessed. What the block is then isn't known.
+///
+/// # Errors
+///
+/// The volume's refusal.
+pub fn write<S: Asked>(
+    service: &mut S,
+    by: &Asker,
+    vbn: u32,
+    block: &mut Block,
+) -> Result<(), Refusal>
+    ensures size { length block.old ≡ 512 }
+    ensures granted { OnOk result (Grants S.service (who_asks by.now.task by.now.uic)
+        (writes by.now.lun vbn block.old) service.old service.new) }
+    ensures denied { IfErr result (λ e. Denies S.service (who_asks by.now.task by.now.uic)
+        (writes by.now.lun vbn block.old) e service.old service.new) }
+{
+    match service.serve(by.task, by.uic, &Request::WriteBlock(by.lun, vbn), block) {
         Ok(_) => Ok(()),
         Err(refusal) => Err(refusal),
     }

@@ -1,7 +1,10 @@
 -- Lists of what is asked, put together.
 use Rattle.std.proofs.Common.{◌≡◌, ◌⊎◌, inl, inr, ℕ, suc, ◌+◌, List, [], ◌∷◌, ◌++◌, length, refl, sym, ap, subst, arith}
 use Rattle.f11_store.specs.declared.refusals.Refusal.{Refusal}
-use Rattle.f11_flx.specs.Asking.{Asking, BreaksOffAsking, Denies, Granted, Grants, FilesService, Who, reads, reads_of, writes, writes_of}
+use Rattle.f11_store.specs.declared.requests.Reply.{Reply}
+use Rattle.f11_store.specs.declared.requests.Request.{Request}
+use Rattle.f11_making.specs.Asking.{Asking, BreaksOffAsking, Denies, Granted, Grants, FilesService, Who, reads, reads_of, writes, writes_of}
+use Rattle.f11_making.specs.Asking.{asks, told}
 
 module _ {V : Type 0} (S : FilesService V) (who : Who) where
   pub granted-append : (xs ys : List Asking) (v w u : V) → Granted S who xs v w → Granted S who ys w u → Granted S who (xs ++ ys) v u
@@ -76,3 +79,8 @@ module _ {V : Type 0} (S : FilesService V) (who : Who) (lun : ℕ) where
       subst (λ (l : List Asking). BreaksOffAsking S who l e v u) (sym (reads-append lun 0 xs (x ∷ [])))
       (breaks-last S who (reads_of lun 0 xs) (reads lun (suc (0 + length xs)) x) e v w u h
       (subst (λ n. Denies S who (reads lun n x) e w u) (omega (arith, is)) one))
+
+-- a request that has this reply is granted
+pub granted-told : {V : Type 0} (S : FilesService V) (who : Who) (r : Request) (a : Reply) (v w : V) → Grants S who (told r a) v w
+    → Grants S who (asks r) v w
+granted-told S who r a v w h = (h.0, a, h.1, h.2)

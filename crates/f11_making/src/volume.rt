@@ -8,7 +8,7 @@ use f11_store::{Lun, Refusal, Reply, Request, Task, Uic};
 
 /// A volume answers as [`Volume::serve`] and [`Volume::length`] do.
 impl<D: Device> Asked for Volume<D> {
-    ghost use Rattle.f11_flx.specs.Copying.{of_volume};
+    ghost use Rattle.f11_making.specs.Volume.{of_volume};
 
     ghost service = { of_volume };
 

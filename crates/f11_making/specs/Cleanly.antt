@@ -1,0 +1,17 @@
+-- What is asked without a device fault or Damaged (profile).
+use Rattle.std.specs.Prelude.{◌≡◌, ◌⊎◌, false, List, [], ◌∷◌}
+use Rattle.f11_store.specs.declared.refusals.Refusal.{Refusal}
+use Rattle.f11_fcp.specs.files.Answers.{is_fatal}
+use Rattle.f11_making.specs.Asking.{Asking, Denies, FilesService, Grants, Who}
+
+-- each was asked, one after another, and was granted, or refused but for no device fault or Damaged
+abbrev pub TriedCleanly : {V : Type 0} → FilesService V → Who → List Asking → V → V → Type 0
+TriedCleanly S who [] old new = new ≡ old
+TriedCleanly {V} S who (x ∷ xs) old new =
+    (between : V) × ((Grants S who x old between) ⊎ ((e : Refusal) × (is_fatal e ≡ false) × Denies S who x e old between))
+    × (TriedCleanly S who xs between new)
+
+-- Such things were asked, none refused as a device fault or Damaged.
+pub record Cleanly {V : Type 0} (S : FilesService V) (who : Who) (v w : V) : Type 0 where
+  pub asked : List Asking
+  pub tried : TriedCleanly S who asked v w

@@ -1,0 +1,115 @@
+//! What is done to a file by its name, on whatever answers for the volume.
+ghost use Rattle.f11_making.specs.Asking.{who_asks};
+ghost use Rattle.f11_making.specs.Plans.{deletes, enters, makes_empty, renames};
+ghost use Rattle.f11_making.specs.FilesPlan.{Carried};
+
+use crate::asked::{Asked, Asker};
+use crate::steps::{ask_done, ask_file, undo};
+use f11_rad50::Name;
+use f11_store::{Change, FileId, Refusal, Request, ident_with};
+
+/// Deletes the file that a directory has under a name.
+pub fn delete_file<S: Asked>(
+    service: &mut S,
+    by: &Asker,
+    dir: FileId,
+    name: &Name,
+) -> Result<(), Refusal>
+    ensures goes { Carried S.service (who_asks by.now.task by.now.uic) (deletes dir name.now) result
+        service.old service.new }
+{
+    let id = match ask_file(service, by, Request::Find(dir, *name)) {
+        Ok(id) => id,
+        Err(refusal) => return Err(refusal),
+    };
+    match ask_done(service, by, Request::Remove(dir, *name)) {
+        Ok(()) => {}
+        Err(refusal) => return Err(refusal),
+    }
+    match ask_done(service, by, Request::Delete(id)) {
+        Ok(()) => Ok(()),
+        Err(refusal) => Err(refusal),
+    }
+}
+
+/// Renames the file that a directory has under a name.
+pub fn rename_file<S: Asked>(
+    service: &mut S,
+    by: &Asker,
+    dir: FileId,
+    old: &Name,
+    to: FileId,
+    new: &Name,
+) -> Result<(), Refusal>
+    ensures goes { Carried S.service (who_asks by.now.task by.now.uic) (renames dir old.now to new.now) result
+        service.old service.new }
+{
+    let id = match ask_file(service, by, Request::Find(dir, *old)) {
+        Ok(id) => id,
+        Err(refusal) => return Err(refusal),
+    };
+    match ask_done(service, by, Request::Enter(to, *new, id)) {
+        Ok(()) => {}
+        Err(refusal) => return Err(refusal),
+    }
+    match ask_done(service, by, Request::Remove(dir, *old)) {
+        Ok(()) => Ok(()),
+        Err(refusal) => Err(undo(service, by, Request::Remove(to, *new), refusal)),
+    }
+}
+
+/// Enters the file into the directory, and protects it.
+fn enter<S: Asked>(
+    service: &mut S,
+    by: &Asker,
+    dir: FileId,
+    name: &Name,
+    protection: u16,
+    id: FileId,
+) -> Result<(), Refusal>
+    ensures goes { Carried S.service (who_asks by.now.task by.now.uic) (enters dir name.now protection id) result
+        service.old service.new }
+{
+    match ask_done(service, by, Request::Enter(dir, *name, id)) {
+        Ok(()) => {}
+        Err(refusal) => return Err(refusal),
+    }
+    match ask_done(
+        service,
+        by,
+        Request::WriteAttr(id, Change::Protect(protection)),
+    ) {
+        Ok(()) => Ok(()),
+        Err(refusal) => Err(refusal),
+    }
+}
+
+/// Makes an empty file.
+pub fn make_empty<S: Asked>(
+    service: &mut S,
+    by: &Asker,
+    dir: FileId,
+    name: &Name,
+    protection: u16,
+    attr: [u8; 32],
+) -> Result<(), Refusal>
+    ensures goes { Carried S.service (who_asks by.now.task by.now.uic) (makes_empty dir name.now protection attr) result
+        service.old service.new }
+{
+    let id = match ask_file(
+        service,
+        by,
+        Request::Create {
+            protection: 0,
+            ident: ident_with(*name),
+            attr,
+        },
+    ) {
+        Ok(id) => id,
+        Err(refusal) => return Err(refusal),
+    };
+    match enter(service, by, dir, name, protection, id) {
+        Ok(()) => Ok(()),
+        Err(refusal) => Err(undo(service, by, Request::Delete(id), refusal)),
+    }
+}
