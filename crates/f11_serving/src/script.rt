@@ -4,19 +4,19 @@ ghost use Rattle.std.specs.Prelude.{◌≡◌};
 ghost use Rattle.f11_script.specs.Input.{left_of, number_read};
 ghost use Rattle.f11_serving.specs.Serving.{AnswersLine, ServesScript, place_of};
 
-use crate::serves::Serves;
 use f11_bytes::Block;
+use f11_making::Asked;
 use f11_script::{Line, Parsed, ScriptError, ScriptReader, bad_line, parse, reply};
 use std::io::{Read, Write};
 
 /// Answers a line, and tells whether it was a request.
-fn answer_line<W: Write, S: Serves>(
+fn answer_line<W: Write, S: Asked>(
     line: &[u8],
     block: &mut Block,
     writer: &mut W,
     service: &mut S,
 ) -> Result<bool, ScriptError>
-    ensures answers { AnswersLine S.served line.now service.old service.new block.old block.new
+    ensures answers { AnswersLine S.service.serves line.now service.old service.new block.old block.new
         (W.contents writer.old) (W.contents writer.new) result }
 {
     match parse(line, block) {
@@ -50,13 +50,13 @@ fn answer_line<W: Write, S: Serves>(
 /// [`ScriptError::ReadFault`] where the reader fails, and [`ScriptError::TooLong`] at byte 16,777,217: then each whole line
 /// before that was served, and its answer written. [`ScriptError::WriteFault`] where the writer fails: then each line up to
 /// one was served, and all answers written but some last bytes of that one's.
-pub fn serve_lines<R: Read, W: Write, S: Serves>(
+pub fn serve_lines<R: Read, W: Write, S: Asked>(
     script: &mut ScriptReader<R>,
     writer: &mut W,
     service: &mut S,
 ) -> Result<u32, ScriptError>
     requires begins { number_read script.old ≡ 0 }
-    ensures serves { ServesScript S.served (left_of R.remaining script.old)
+    ensures serves { ServesScript S.service.serves (left_of R.remaining script.old)
         (place_of R.remaining script.new) service.old service.new (W.contents writer.old)
         (W.contents writer.new) result }
 {

@@ -6,28 +6,10 @@ ghost use Rattle.f11_serving.specs.Scripts.{KeepsScriptCosts, ServesScriptRun};
 ghost use Rattle.f11_serving.specs.Serving.{RunsScript};
 
 use crate::script::serve_lines;
-use crate::serves::Serves;
-use f11_bytes::Block;
 use f11_dev::Device;
 use f11_fcp::Volume;
 use f11_script::{ScriptError, ScriptReader};
-use f11_store::{Refusal, Reply, Request, Task, Uic};
 use std::io::{Read, Write};
-
-/// A volume serves a request as [`Volume::serve`] does.
-impl<D: Device> Serves for Volume<D> {
-    ghost served = { ServesCall };
-
-    fn serve(
-        &mut self,
-        task: Task,
-        caller: Uic,
-        request: &Request,
-        block: &mut Block,
-    ) -> Result<Reply, Refusal> {
-        Volume::serve(self, task, caller, request, block)
-    }
-}
 
 /// Serves the requests of a script, one line after another, and gives their number, refused ones too (profile).
 ///

@@ -1,12 +1,13 @@
 //! Scripts that are served, by a service that does nothing.
-ghost use Rattle.std.specs.Prelude.{◌≡◌, IfOk, IfSome, length};
+ghost use Rattle.std.specs.Prelude.{◌≡◌, IfOk, IfSome, Ok, length};
 ghost use Rattle.std.specs.Str.Lines.{lines};
 ghost use Rattle.f11_script.specs.Asking.{requests_in};
 
 use f11_bytes::Block;
-use f11_commands::f11_serving::{Serves, laws, serve_lines};
+use f11_commands::f11_serving::f11_making::Asked;
+use f11_commands::f11_serving::{laws, serve_lines};
 use f11_script::{ScriptError, ScriptReader};
-use f11_store::{Refusal, Reply, Request, Task, Uic};
+use f11_store::{Lun, Refusal, Reply, Request, Task, Uic};
 use std::io::{self, Cursor, ErrorKind, Read, Write};
 use std::test::Fail;
 
@@ -14,8 +15,11 @@ use std::test::Fail;
 #[derive(Drop)]
 struct Idle;
 
-impl Serves for Idle {
-    ghost served = { λ old call answer new. answer.block ≡ call.block };
+impl Asked for Idle {
+    ghost service = { record {
+      serves = λ old call answer new. answer.block ≡ call.block;
+      measures = λ task lun result old new. result ≡ Ok 0;
+    } };
 
     fn serve(
         &mut self,
@@ -28,6 +32,10 @@ impl Serves for Idle {
             Request::Release => Err(Refusal::NoSuchAccess),
             _ => Ok(Reply::Done),
         }
+    }
+
+    fn length(&mut self, _task: Task, _lun: Lun) -> Result<u32, Refusal> {
+        Ok(0)
     }
 }
 

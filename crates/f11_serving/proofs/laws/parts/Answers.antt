@@ -3,4 +3,4 @@ use Rattle.f11_serving.proofs.ServedLemmas.{parts-are-served}
 use Rattle.f11_serving.proofs.laws.parts.Goals as goal
 
 pub returns : goal.returns
-returns g c = record { joined = parts-are-served g.S.Serves.served; parted = served-is-in-parts g.S.Serves.served }
+returns g c = record { joined = parts-are-served g.S.Asked.service.serves; parted = served-is-in-parts g.S.Asked.service.serves }

@@ -8,7 +8,7 @@ returns-in-Ok-reply g c =
     record {
       answers = (
         _,
-        one-request g.S.Serves.served _ _ (call_with c.in-Asks.task c.in-Asks.caller c.in-Asks.request c.parse.new.block)
+        one-request g.S.Asked.service.serves _ _ (call_with c.in-Asks.task c.in-Asks.caller c.in-Asks.request c.parse.new.block)
             (answer_with c.serve-answer.result c.serve-answer.new.block) _ _ asked c.serve-answer.ensures.serves,
         c.in-Ok-reply.ensures.done,
       );
@@ -21,7 +21,7 @@ returns-in-Err-reply g c =
       answers = (
         _,
         1,
-        one-request g.S.Serves.served _ _ (call_with c.in-Asks.task c.in-Asks.caller c.in-Asks.request c.parse.new.block)
+        one-request g.S.Asked.service.serves _ _ (call_with c.in-Asks.task c.in-Asks.caller c.in-Asks.request c.parse.new.block)
             (answer_with c.serve-answer.result c.serve-answer.new.block) _ _ asked c.serve-answer.ensures.serves,
         c.in-Err-reply.ensures.failed,
         c.in-Err-reply.ensures.error,
