@@ -11,7 +11,7 @@ use Rattle.f11_making.specs.Seen.{IsSeenPlain}
 use Rattle.f11_making.specs.FilesPlan.{AnswerOf, Asks, Carried, FilesPlan, Question, done, if_granted, names, on_err, on_ok, one}
 use Rattle.f11_making.specs.FilesPlan.{or_undone, reads, undoing, undoing_if, worse, writes}
 use Rattle.f11_making.specs.Plan.{and_then, asking, gives}
-use Rattle.f11_making.specs.Telling.{AddsUp, IsClean, bare, is_calm}
+use Rattle.f11_making.specs.Telling.{AddsUp, IsTidy, bare, is_whole}
 
 module _ {V : Type 0} (S : FilesService V) (who : Who) where
   pub goes-then : {T U : Type 0} (p : FilesPlan T) (on : T → FilesPlan U) (x : T) (y : U) (v w u : V) → Carried S who p x v w
@@ -49,7 +49,7 @@ not-not false h = refl
 pub calm-answer : {V T : Type 0} (S : FilesService V) (who : Who) (q : Question)
     (on : Result (AnswerOf q) Refusal → FilesPlan (Result T Refusal))
     (a : Result (AnswerOf q) Refusal) (r : Result T Refusal) (v w : V) → ((e : Refusal) → is_fatal e ≡ true → on (Err e) ≡ gives (Err e))
-    → Carried S who (on a) r v w → is_calm r ≡ true → is_calm a ≡ true
+    → Carried S who (on a) r v w → is_whole r ≡ true → is_whole a ≡ true
 calm-answer S who q on (Ok x) r v w ends h calm = refl
 calm-answer {V} {T} S who q on (Err e) r v w ends h calm = by (is_fatal e) refl
   where
@@ -57,10 +57,10 @@ calm-answer {V} {T} S who q on (Err e) r v w ends h calm = by (is_fatal e) refl
     by false is = refl
     by true is =
         let k = subst (λ p. Carried S who p r v w) (ends e is) h in
-        absurd (true-false (sym calm ∙ ap (λ (x : Result T Refusal). is_calm x) k.0 ∙ ap not is))
+        absurd (true-false (sym calm ∙ ap (λ (x : Result T Refusal). is_whole x) k.0 ∙ ap not is))
 
 module _ {V : Type 0} (S : FilesService V) (view : V → Store) (is_sound : V → Bool) (seen : IsSeenPlain S view is_sound) (who : Who) where
-  pub asks-seen : (q : Question) (a : Result (AnswerOf q) Refusal) (v w : V) → Asks S who q a v w → is_sound v ≡ true → is_calm a ≡ true
+  pub asks-seen : (q : Question) (a : Result (AnswerOf q) Refusal) (v w : V) → Asks S who q a v w → is_sound v ≡ true → is_whole a ≡ true
       → Asks plain who q a (view v) (view w) × (is_sound w ≡ true)
   asks-seen (done r) (Ok x) v w h sound calm = seen.granted who (asks r) v w h sound
   asks-seen (done r) (Err e) v w h sound calm = seen.denied who (asks r) e v w h sound (not-not (is_fatal e) calm)
@@ -78,8 +78,8 @@ module _ {V : Type 0} (S : FilesService V) (view : V → Store) (is_sound : V �
       seen.denied who (writes_block lun vbn block) e v w h sound (not-not (is_fatal e) calm)
 
   -- what goes on a sound volume goes on the plain store, and it stays sound, unless a device fault or Damaged is the answer
-  pub goes-seen : {T : Type 0} (P : Question → Type 0) (p : FilesPlan (Result T Refusal)) (r : Result T Refusal) (v w : V) → IsClean P p
-      → Carried S who p r v w → is_sound v ≡ true → is_calm r ≡ true → Carried plain who p r (view v) (view w) × (is_sound w ≡ true)
+  pub goes-seen : {T : Type 0} (P : Question → Type 0) (p : FilesPlan (Result T Refusal)) (r : Result T Refusal) (v w : V) → IsTidy P p
+      → Carried S who p r v w → is_sound v ≡ true → is_whole r ≡ true → Carried plain who p r (view v) (view w) × (is_sound w ≡ true)
   goes-seen P (gives x) r v w clean h sound calm = ((h.0, ap view h.1), subst (λ x. is_sound x ≡ true) (sym h.1) sound)
   goes-seen P (asking q on) r v w clean h sound calm =
       let calm-one = calm-answer S who q on h.0 r h.1 w clean.1 h.3 calm in
@@ -90,27 +90,27 @@ module _ {V : Type 0} (S : FilesService V) (view : V → Store) (is_sound : V �
 -- what is told of each answer is told of the plan's
 module _ {V : Type 0} (S : FilesService V) (who : Who) (P : Question → Type 0) (R : Result (Unit {0}) Refusal → V → V → Type 0)
     (adds : AddsUp S who P R) where
-  as-calm : {T : Type 0} (a : Result T Refusal) (v w : V) → is_calm a ≡ true → R (bare a) v w → R (Ok tt) v w
+  as-calm : {T : Type 0} (a : Result T Refusal) (v w : V) → is_whole a ≡ true → R (bare a) v w → R (Ok tt) v w
   as-calm (Ok x) v w calm h = h
-  as-calm (Err e) v w calm h = adds.calm e v w (not-not (is_fatal e) calm) h
+  as-calm (Err e) v w calm h = adds.whole e v w (not-not (is_fatal e) calm) h
 
-  of-calm : {T : Type 0} (a : Result T Refusal) (v w : V) → is_calm a ≡ true → R (Ok tt) v w → R (bare a) v w
+  of-calm : {T : Type 0} (a : Result T Refusal) (v w : V) → is_whole a ≡ true → R (Ok tt) v w → R (bare a) v w
   of-calm (Ok x) v w calm h = h
   of-calm (Err e) v w calm h = adds.refused e v w (not-not (is_fatal e) calm) h
 
   step : {T : Type 0} (q : Question) (on : Result (AnswerOf q) Refusal → FilesPlan (Result T Refusal)) (a : Result (AnswerOf q) Refusal)
       (r : Result T Refusal) (u v w : V) → ((e : Refusal) → is_fatal e ≡ true → on (Err e) ≡ gives (Err e)) → R (bare a) u v
-      → Carried S who (on a) r v w → (is_calm a ≡ true → R (bare r) v w) → R (bare r) u w
+      → Carried S who (on a) r v w → (is_whole a ≡ true → R (bare r) v w) → R (bare r) u w
   step q on (Ok x) r u v w ends h g rest = adds.then-so (bare r) u v w h (rest refl)
   step {T} q on (Err e) r u v w ends h g rest = by (is_fatal e) refl
     where
       by : (b : Bool) → is_fatal e ≡ b → R (bare r) u w
-      by false is = adds.then-so (bare r) u v w (adds.calm e u v is h) (rest (ap not is))
+      by false is = adds.then-so (bare r) u v w (adds.whole e u v is h) (rest (ap not is))
       by true is =
           let k = subst (λ p. Carried S who p r v w) (ends e is) g in
           subst (λ (x : Result T Refusal). R (bare x) u w) (sym k.0) (subst (λ x. R (Err e) u x) (sym k.1) h)
 
-  pub goes-adds : {T : Type 0} (p : FilesPlan (Result T Refusal)) (r : Result T Refusal) (v w : V) → IsClean P p → Carried S who p r v w
+  pub goes-adds : {T : Type 0} (p : FilesPlan (Result T Refusal)) (r : Result T Refusal) (v w : V) → IsTidy P p → Carried S who p r v w
       → R (bare r) v w
   goes-adds {T} (gives x) r v w clean h =
       subst (λ (x : Result T Refusal). R (bare x) v w) (sym h.0)
@@ -121,12 +121,12 @@ module _ {V : Type 0} (S : FilesService V) (who : Who) (P : Question → Type 0)
 
 -- plans that are clean
 module _ (P : Question → Type 0) where
-  pub clean-one : (q : Question) → P q → IsClean P (one q)
+  pub clean-one : (q : Question) → P q → IsTidy P (one q)
   clean-one q is = (is, (λ e fatal. refl), (λ a calm. calm))
 
-  pub clean-then : {T U : Type 0} (p : FilesPlan (Result T Refusal)) (on : Result T Refusal → FilesPlan (Result U Refusal)) → IsClean P p
-      → ((e : Refusal) → is_fatal e ≡ true → on (Err e) ≡ gives (Err e)) → ((a : Result T Refusal) → is_calm a ≡ true → IsClean P (on a))
-      → IsClean P (and_then p on)
+  pub clean-then : {T U : Type 0} (p : FilesPlan (Result T Refusal)) (on : Result T Refusal → FilesPlan (Result U Refusal)) → IsTidy P p
+      → ((e : Refusal) → is_fatal e ≡ true → on (Err e) ≡ gives (Err e)) → ((a : Result T Refusal) → is_whole a ≡ true → IsTidy P (on a))
+      → IsTidy P (and_then p on)
   clean-then (gives x) on clean ends then-so = then-so x clean
   clean-then (asking q more) on clean ends then-so = (
     clean.0,
@@ -134,26 +134,26 @@ module _ (P : Question → Type 0) where
     (λ a calm. clean-then (more a) on (clean.2 a calm) ends then-so),
   )
 
-  pub clean-if : {T U : Type 0} (p : FilesPlan (Result T Refusal)) (on : T → FilesPlan (Result U Refusal)) → IsClean P p
-      → ((x : T) → IsClean P (on x)) → IsClean P (if_granted p on)
+  pub clean-if : {T U : Type 0} (p : FilesPlan (Result T Refusal)) (on : T → FilesPlan (Result U Refusal)) → IsTidy P p
+      → ((x : T) → IsTidy P (on x)) → IsTidy P (if_granted p on)
   clean-if {T} {U} p on clean then-so = clean-then p (on_ok on) clean (λ e fatal. refl) by
     where
-      by : (a : Result T Refusal) → is_calm a ≡ true → IsClean P (on_ok on a)
+      by : (a : Result T Refusal) → is_whole a ≡ true → IsTidy P (on_ok on a)
       by (Ok x) calm = then-so x
       by (Err e) calm = calm
 
-  worse-calm : (r : Request) (e : Refusal) {T : Type 0} → P (done r) → is_fatal e ≡ false → IsClean P (undoing_if {T = T} false r e)
+  worse-calm : (r : Request) (e : Refusal) {T : Type 0} → P (done r) → is_fatal e ≡ false → IsTidy P (undoing_if {T = T} false r e)
   worse-calm r e {T} is calm = (is, (λ f fatal. ap (λ b. gives (Err (if b then f else e))) fatal), by)
     where
-      by : (a : Result (Unit {0}) Refusal) → is_calm a ≡ true → not (is_fatal (worse e a)) ≡ true
+      by : (a : Result (Unit {0}) Refusal) → is_whole a ≡ true → not (is_fatal (worse e a)) ≡ true
       by (Ok x) k = ap not calm
       by (Err f) k = ap (λ b. not (is_fatal (if b then f else e))) (not-not (is_fatal f) k) ∙ ap not calm
 
-  pub clean-undone : {T : Type 0} (r : Request) (p : FilesPlan (Result T Refusal)) → P (done r) → IsClean P p → IsClean P (or_undone r p)
+  pub clean-undone : {T : Type 0} (r : Request) (p : FilesPlan (Result T Refusal)) → P (done r) → IsTidy P p → IsTidy P (or_undone r p)
   clean-undone {T} r p is clean = clean-then p (on_err r) clean (λ e fatal. ap (λ b. undoing_if {T = T} b r e) fatal) by
     where
-      by : (a : Result T Refusal) → is_calm a ≡ true → IsClean P (on_err r a)
+      by : (a : Result T Refusal) → is_whole a ≡ true → IsTidy P (on_err r a)
       by (Ok x) calm = refl
       by (Err e) calm =
-          subst (λ b. IsClean P (undoing_if {T = T} b r e)) (sym (not-not (is_fatal e) calm))
+          subst (λ b. IsTidy P (undoing_if {T = T} b r e)) (sym (not-not (is_fatal e) calm))
           (worse-calm r e {T = T} is (not-not (is_fatal e) calm))

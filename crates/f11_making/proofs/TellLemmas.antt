@@ -18,11 +18,11 @@ use Rattle.f11_fcp.specs.declared.volume.Volume.{Volume}
 use Rattle.f11_fcp.proofs.writes.LostLemmas.{lost-none, lost-then}
 use Rattle.f11_making.specs.Asking.{Asking, Denies, FilesService, Grants, Who, asks, told}
 use Rattle.f11_making.specs.Asking.{reads as reads_block, writes as writes_block}
-use Rattle.f11_making.specs.Carrying.{Carries, EndsAt, IsKnown, names_one}
+use Rattle.f11_making.specs.Carrying.{Carries, EndsAt, IsFitting, names_one}
 use Rattle.f11_making.specs.Cleanly.{Cleanly}
 use Rattle.f11_making.specs.Fares.{Fares, FaresAs}
 use Rattle.f11_making.specs.FilesPlan.{AnswerOf, Asks, Carried, FilesPlan, Question, done, names, names_file, reads, writes}
-use Rattle.f11_making.specs.Telling.{AddsUp, IsClean, bare}
+use Rattle.f11_making.specs.Telling.{AddsUp, IsTidy, bare}
 use Rattle.f11_making.specs.Volume.{of_volume}
 use Rattle.f11_making.proofs.CleanlyLemmas.{cleanly-all, cleanly-denied, cleanly-then, tried-then}
 use Rattle.f11_making.proofs.PlanLemmas.{goes-adds, goes-seen}
@@ -119,7 +119,7 @@ module _ {D : Type 0} {met : Ghosts D} (who : Who) where
           let right : names_file a ≡ true = ap names_file step.reply_is ∙ right-reply r (store_of_volume v) who.task one in
           absurd (true-false (sym right ∙ wrong))
 
-  single-fares : (q : Question) (a : Result (AnswerOf q) Refusal) (v w : Volume D met) → IsKnown q → Asks of_volume who q a v w
+  single-fares : (q : Question) (a : Result (AnswerOf q) Refusal) (v w : Volume D met) → IsFitting q → Asks of_volume who q a v w
       → Tells (bare a) v w
   single-fares (done r) (Ok x) v w is h = granted-fares (asks r) v w h
   single-fares (done r) (Err e) v w is h = denied-fares (asks r) e v w h
@@ -140,11 +140,11 @@ module _ {D : Type 0} {met : Ghosts D} (who : Who) where
   of-calm e v w calm h =
       subst (λ b. FaresAs (is_fault e) b v w) (sym calm) (subst (λ b. FaresAs b false v w) (sym (or-first _ _ calm)) h)
 
-  pub adds-fares : AddsUp (of_volume {met = met}) who IsKnown Tells
+  pub adds-fares : AddsUp (of_volume {met = met}) who IsFitting Tells
   adds-fares = record {
     none = fares-none;
     then-so = λ r u v w h k. fares-then (is_refused is_fault r) (is_refused is_fatal r) u v w h k;
-    calm = as-calm;
+    whole = as-calm;
     refused = of-calm;
     single = single-fares;
   }
@@ -177,7 +177,7 @@ module _ {V : Type 0} (S : FilesService V) (who : Who) where
     (λ calm. cleanly-denied S who x e v w calm d),
   )
 
-  single-ends : (q : Question) (a : Result (AnswerOf q) Refusal) (v w : V) → IsKnown q → Asks S who q a v w → Ends (bare a) v w
+  single-ends : (q : Question) (a : Result (AnswerOf q) Refusal) (v w : V) → IsFitting q → Asks S who q a v w → Ends (bare a) v w
   single-ends (done r) (Ok x) v w is h = granted-ends (asks r) v w h
   single-ends (done r) (Err e) v w is h = denied-ends (done r) (asks r) e v w h h
   single-ends (names r) (Ok id) v w is h = granted-ends (told r h.0) v w h.2
@@ -191,23 +191,24 @@ module _ {V : Type 0} (S : FilesService V) (who : Who) where
   single-ends (writes lun vbn block) (Ok x) v w is h = granted-ends (writes_block lun vbn block) v w h
   single-ends (writes lun vbn block) (Err e) v w is h = denied-ends (writes lun vbn block) (writes_block lun vbn block) e v w h h
 
-  pub adds-ends : AddsUp S who IsKnown Ends
+  pub adds-ends : AddsUp S who IsFitting Ends
   adds-ends = record {
     none = λ v. record { asked = []; tried = refl };
     then-so = ends-then;
-    calm = λ e v w calm h. h.1 calm;
+    whole = λ e v w calm h. h.1 calm;
     refused = λ e v w calm h. ((λ fatal. absurd (true-false (sym fatal ∙ calm))), (λ is. h));
     single = single-ends;
   }
 
 -- the one theorem: whatever plan went on a volume, all of this is told
 pub carried : {D T : Type 0} {met : Ghosts D} (who : Who) (p : FilesPlan (Result T Refusal)) (result : Result T Refusal)
-    (v w : Volume D met) → IsClean IsKnown p → Carried (of_volume {met = met}) who p result v w → Carries who p result v w
+    (v w : Volume D met) → IsTidy IsFitting p → Carried (of_volume {met = met}) who p result v w → Carries who p result v w
 carried {D} {T} {met} who p result v w clean h = record {
-  fares = by_answer result (goes-adds of_volume who IsKnown (Tells who) (adds-fares who) p result v w clean h);
-  ended = λ e is. by e (goes-adds of_volume who IsKnown (Ends of_volume who) (adds-ends of_volume who) p result v w clean h) is;
-  goes = λ sound calm. (goes-seen of_volume store_of_volume is_sound volume-seen who IsKnown p result v w clean h sound calm).0;
-  stays = λ sound calm. (goes-seen of_volume store_of_volume is_sound volume-seen who IsKnown p result v w clean h sound calm).1;
+  carried = h;
+  fares = by_answer result (goes-adds of_volume who IsFitting (Tells who) (adds-fares who) p result v w clean h);
+  ended = λ e is. by e (goes-adds of_volume who IsFitting (Ends of_volume who) (adds-ends of_volume who) p result v w clean h) is;
+  goes = λ sound calm. (goes-seen of_volume store_of_volume is_sound volume-seen who IsFitting p result v w clean h sound calm).0;
+  stays = λ sound calm. (goes-seen of_volume store_of_volume is_sound volume-seen who IsFitting p result v w clean h sound calm).1;
 }
   where
     by : (e : Refusal) → Ends of_volume who (bare result) v w → result ≡ Err e → is_fatal e ≡ true → EndsAt of_volume who e v w

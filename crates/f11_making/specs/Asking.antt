@@ -1,4 +1,4 @@
--- What a copy asks of a volume, one thing after another, whatever it is that answers (profile).
+-- What is asked of a volume, one thing after another, whatever it is that answers (profile).
 use Rattle.std.specs.Prelude.{◌≡◌, ◌⊎◌, ℕ, suc, Bool, true, false, List, [], ◌∷◌, Result, Ok, Err}
 use Rattle.f11_runs.specs.Each.{Steps, answer_with, call_with}
 use Rattle.f11_store.specs.Causes.{holds_none}

@@ -19,7 +19,7 @@ pub record AsksOnly {D : Type 0} {met : Ghosts D} (is_one : Asking → Bool) (wh
   pub tried : Tried of_volume who asked old new
   pub only : All (λ x. is_one x ≡ true) asked
 
--- what a copy to RT-11 asks: nothing that makes, changes or deletes a file
+-- what a copy to RT-11 asks: that a file is accessed, that its attributes and blocks are read, and that it is given up
 abbrev pub is_reading_request : Request → Bool
 is_reading_request (request.Access id mode lun) = true
 is_reading_request (request.ReadAttr id) = true

@@ -11,7 +11,7 @@ use Rattle.f11_making.specs.Asking.{Asking, FilesService, Who, plain}
 use Rattle.f11_making.specs.Cleanly.{TriedCleanly}
 use Rattle.f11_making.specs.Fares.{FaresAs}
 use Rattle.f11_making.specs.FilesPlan.{Asks, Carried, FilesPlan, Question, done, names, reads, writes}
-use Rattle.f11_making.specs.Telling.{is_calm}
+use Rattle.f11_making.specs.Telling.{is_whole}
 use Rattle.f11_making.specs.Volume.{of_volume}
 
 -- requests whose reply names a file
@@ -20,13 +20,14 @@ names_one (request.Create protection ident attr) = true
 names_one (request.Find dir name) = true
 names_one _ = false
 
-abbrev pub IsKnown : Question → Type 0
-IsKnown (done r) = Unit {0}
-IsKnown (names r) = names_one r ≡ true
-IsKnown (reads lun vbn) = Unit {0}
-IsKnown (writes lun vbn block) = Unit {0}
+-- a question which file a reply names is of a request whose reply names one
+abbrev pub IsFitting : Question → Type 0
+IsFitting (done r) = Unit {0}
+IsFitting (names r) = names_one r ≡ true
+IsFitting (reads lun vbn) = Unit {0}
+IsFitting (writes lun vbn block) = Unit {0}
 
--- The refusal is of what was asked last, and all before it was granted, or refused but for no device fault or Damaged.
+-- The refusal is of what was asked last, and all before it was granted, or refused, though not as a device fault or Damaged.
 pub record EndsAt {V : Type 0} (S : FilesService V) (who : Who) (e : Refusal) (old new : V) : Type 0 where
   pub asked : List Asking
   pub at : V
@@ -34,11 +35,13 @@ pub record EndsAt {V : Type 0} (S : FilesService V) (who : Who) (e : Refusal) (o
   pub last : Question
   pub refused : Asks S who last (Err e) at new
 
--- A transfer failed exactly where that is the answer, none followed, and the volume's flag is as ever; where a device fault or Damaged is
--- the answer, it is of what was asked last; and where the volume was sound and neither is the answer, the plan went over the plain store.
+-- The plan was carried out. A transfer failed exactly where a device fault is the answer, and none followed, as in `FaresAs`; where a
+-- device fault or Damaged is the answer, it is of what was asked last; and where the volume was sound and neither is the answer, the plan
+-- went over the plain store, and the volume is sound still.
 pub record Carries {D T : Type 0} {met : Ghosts D} (who : Who) (p : FilesPlan (Result T Refusal)) (result : Result T Refusal)
     (old new : Volume D met) : Type 0 where
+  pub carried : Carried of_volume who p result old new
   pub fares : FaresAs (is_refused is_fault result) (is_refused is_fatal result) old new
   pub ended : (e : Refusal) → result ≡ Err e → is_fatal e ≡ true → EndsAt of_volume who e old new
-  pub goes : is_sound old ≡ true → is_calm result ≡ true → Carried plain who p result (store_of_volume old) (store_of_volume new)
-  pub stays : is_sound old ≡ true → is_calm result ≡ true → is_sound new ≡ true
+  pub goes : is_sound old ≡ true → is_whole result ≡ true → Carried plain who p result (store_of_volume old) (store_of_volume new)
+  pub stays : is_sound old ≡ true → is_whole result ≡ true → is_sound new ≡ true

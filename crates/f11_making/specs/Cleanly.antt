@@ -4,7 +4,7 @@ use Rattle.f11_store.specs.declared.refusals.Refusal.{Refusal}
 use Rattle.f11_fcp.specs.files.Answers.{is_fatal}
 use Rattle.f11_making.specs.Asking.{Asking, Denies, FilesService, Grants, Who}
 
--- each was asked, one after another, and was granted, or refused but for no device fault or Damaged
+-- each was asked, one after another, and was granted, or refused, though not as a device fault or Damaged
 abbrev pub TriedCleanly : {V : Type 0} → FilesService V → Who → List Asking → V → V → Type 0
 TriedCleanly S who [] old new = new ≡ old
 TriedCleanly {V} S who (x ∷ xs) old new =

@@ -7,7 +7,7 @@ use Rattle.f11_fcp.specs.declared.volume.Volume.{Volume}
 
 -- By whether it is a device fault, and whether it is that or Damaged, which fail the volume: a transfer failed exactly where it is a device
 -- fault, and none followed; the volume is failed by these two, and by nothing else. Where its disk is honest its image is accepted then,
--- its blocks were written in order, and no block is another that was lost before.
+-- its blocks were written in order, and no block that was lost before has changed.
 pub record Fares {D : Type 0} {met : Ghosts D} (fault fatal : Bool) (old new : Volume D met) : Type 0 where
   pub failures : failures_of new ≡ failures_of old + (if fault then 1 else 0)
   pub quiet : fault ≡ true → (state_in new).disk.calm ≡ 0
@@ -16,8 +16,8 @@ pub record Fares {D : Type 0} {met : Ghosts D} (fault fatal : Bool) (old new : V
   pub accepted : StaysAccepted (state_in new)
   pub lost : RequestsSpareLost old new
 
--- The same where a reply may have been taken as Damaged that is of another kind than the request, as no honest device gives: this fails the
--- volume where the disk is honest, and nothing but these two fails it on any.
+-- The same where the answer may be Damaged for a reply of another kind than the request's, which no honest device gives, and which fails no
+-- volume: so a device fault and Damaged fail one whose disk is honest, and on any disk nothing else does.
 pub record FaresAs {D : Type 0} {met : Ghosts D} (fault fatal : Bool) (old new : Volume D met) : Type 0 where
   pub failures : failures_of new ≡ failures_of old + (if fault then 1 else 0)
   pub quiet : fault ≡ true → (state_in new).disk.calm ≡ 0

@@ -7,12 +7,12 @@ use Rattle.f11_store.specs.declared.refusals.Refusal.{Refusal}
 use Rattle.f11_store.specs.declared.requests.Request.TheVariants as request
 use Rattle.f11_making.specs.FilesPlan.{FilesPlan, done, if_granted, names, one, or_undone}
 
--- the file of a name is deleted: found, its name removed, and itself
+-- the file of a name is deleted: found, its name removed, and itself; the name is entered again where that is refused
 abbrev pub deletes : FileId → List ℕ → FilesPlan (Result (Unit {0}) Refusal)
 deletes dir name =
     if_granted (one (names (request.Find dir name))) (λ id.
     if_granted (one (done (request.Remove dir name))) (λ x.
-    one (done (request.Delete id))))
+    or_undone (request.Enter dir name id) (one (done (request.Delete id)))))
 
 -- a name becomes another: entered there, removed here, and what was entered is taken back where that is refused
 abbrev pub renames : FileId → List ℕ → FileId → List ℕ → FilesPlan (Result (Unit {0}) Refusal)

@@ -10,7 +10,12 @@ use f11_fcp::Volume;
 use f11_rad50::Name;
 use f11_store::{FileId, Refusal};
 
-/// Deletes the file that a directory has under a name.
+/// Deletes the file that a directory has under a name: its name is removed first, and entered again where the file can't be deleted.
+///
+/// # Errors
+///
+/// The refusal of the first request that is refused: of the look for the name, of its removal, or of the deletion; or a device fault or
+/// `Damaged` that was met in undoing.
 pub fn delete<D: Device>(
     vol: &mut Volume<D>,
     by: &Asker,
@@ -22,7 +27,12 @@ pub fn delete<D: Device>(
     delete_file(vol, by, dir, name)
 }
 
-/// Renames it.
+/// Renames a file, within a directory or to another: it gets its new name first, which is removed again where the old one can't be. Its own
+/// header keeps the name that it was created with.
+///
+/// # Errors
+///
+/// As of [`delete`]: of the look for the old name, of the entry of the new one, or of the old one's removal.
 pub fn rename<D: Device>(
     vol: &mut Volume<D>,
     by: &Asker,
@@ -36,7 +46,11 @@ pub fn rename<D: Device>(
     rename_file(vol, by, dir, old, to, new)
 }
 
-/// Makes an empty file.
+/// Makes a file without blocks: created, entered and protected; it is deleted where its name can't be entered.
+///
+/// # Errors
+///
+/// As of [`delete`]: of the creation, of the entry, or of the protection.
 pub fn make<D: Device>(
     vol: &mut Volume<D>,
     by: &Asker,

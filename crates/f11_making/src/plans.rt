@@ -28,7 +28,7 @@ pub fn delete_file<S: Asked>(
     }
     match ask_done(service, by, Request::Delete(id)) {
         Ok(()) => Ok(()),
-        Err(refusal) => Err(refusal),
+        Err(refusal) => Err(undo(service, by, Request::Enter(dir, *name, id), refusal)),
     }
 }
 

@@ -1,4 +1,4 @@
-//! A volume that a copy asks.
+//! A volume that is asked.
 
 use crate::asked::Asked;
 use f11_bytes::Block;

@@ -372,7 +372,7 @@ pub fn opened_host<'a>(
 ) -> Result<(File, u64), Failure> {
     let file = match fs::metadata(rt, host) {
         Ok(metadata) if !metadata.is_file() => Err(Why::NO_FILE),
-        Ok(_) => with_length(rt, host).map_err(remarks::unopened),
+        Ok(_) => with_length(rt, host),
         Err(error) => Err(remarks::unopened(error)),
     };
     opened(file, host, remark)
@@ -380,14 +380,15 @@ pub fn opened_host<'a>(
 
 /// A file of the host, to be read, and how many bytes it has. One that says that it has none, as the files of /proc do, is read to its end to
 /// count them, and opened again.
-fn with_length(rt: &HostRuntime, path: &str) -> io::Result<(File, u64)> {
-    let file = File::open(rt, path)?;
-    let stated = file.metadata()?.len();
+fn with_length(rt: &HostRuntime, path: &str) -> Result<(File, u64), Why> {
+    let file = File::open(rt, path).map_err(remarks::unopened)?;
+    let stated = file.metadata().map_err(remarks::unopened)?.len();
     if stated > 0 {
         return Ok((file, stated));
     }
-    let counted = io::copy(&mut file.take(MOST_COUNTED), &mut io::sink())?;
-    Ok((File::open(rt, path)?, counted))
+    let counted = io::copy(&mut file.take(MOST_COUNTED), &mut io::sink()).map_err(|_| Why::UNREAD)?;
+    let again = File::open(rt, path).map_err(remarks::unopened)?;
+    Ok((again, counted))
 }
 
 /// The answer of a command on a file of a volume, and a remark on its image where there is one.

@@ -10,7 +10,7 @@ use std::io::ErrorKind;
 /// An image that is only read. Where its blocks are read in order, more of them are read at once.
 pub type ReadImage = ReadAhead<FileImage<File>>;
 
-/// The image in the file under a word, to be read alone.
+/// The image in the file under a word, which is opened for reading only.
 pub fn image_of(rt: &HostRuntime, word: &str) -> Result<ReadImage, CannotOpen> {
     let file = FileImage::open_to_read(rt, word)?;
     Ok(ReadAhead::new(rt.alloc(), file))
@@ -26,8 +26,8 @@ pub fn opened_to_read<'a>(
     opened(image, word, remark)
 }
 
-/// The image that is copied from, in the file under a word, to be read alone, and where there is none, a remark why. Its blocks are read one
-/// by one.
+/// The image that is copied from, in the file under a word, which is opened for reading only, and where there is none, a remark why. Its
+/// blocks are read one by one.
 pub fn opened_source<'a>(
     rt: &HostRuntime,
     word: &'a str,
@@ -72,16 +72,31 @@ pub fn created<'a>(
     opened(image, word, remark)
 }
 
-/// Why no image could be made under a word.
+/// Why no image could be made under a word. Where the cause isn't one of those that images tell it is asked of the system once more.
 fn unmade_image(rt: &HostRuntime, word: &str, why: CannotOpen) -> Why {
     match why {
         CannotOpen::Missing => Why::NO_FOLDER,
         CannotOpen::Refused => match fs::metadata(rt, word) {
-            Ok(_) => Why::NO_LENGTH,
-            Err(error) if error.kind() == ErrorKind::NotFound => Why::NOT_MADE,
-            Err(error) => unmade(error),
+            Ok(file) if file.is_file() => Why::NO_LENGTH,
+            Ok(_) => Why::CannotOpen(CannotOpen::Exists),
+            Err(_) => never_made(rt, word),
         },
         _ => Why::CannotOpen(why),
+    }
+}
+
+/// Why no file can be made under a word, where none is. One that is made after all is removed again.
+fn never_made(rt: &HostRuntime, word: &str) -> Why {
+    match OpenOptions::new()
+        .write(true)
+        .create_new(true)
+        .open(rt, word)
+    {
+        Ok(_) => {
+            let _ = fs::remove_file(rt, word);
+            Why::NOT_MADE
+        }
+        Err(error) => unmade(error),
     }
 }
 
@@ -91,7 +106,7 @@ pub fn tell_fault(rt: &HostRuntime, word: &str, image: FileImage<File>) {
         Some(Fault::Read(lbn, error)) if error.kind() == ErrorKind::UnexpectedEof => {
             tell(rt, word, Why::EndsBefore(lbn));
         }
-        // each block that was asked for was read alone then
+        // each block that was asked for was read by itself then
         Some(Fault::ReadRun(_, _)) | None => {}
         Some(fault) => tell(rt, word, Why::Fault(fault)),
     }

@@ -1,5 +1,6 @@
 -- What contracts know of a `Buffer`.
-use Rattle.std.specs.Prelude.{◌≡◌, ◌⊎◌, ℕ, ◌+◌, ◌-◌, ◌*◌, ◌<◌, ◌≤◌, max, min, Bool, false, ◌≢◌, IsTrue, List, Result, OnOk, slice_set}
+use Rattle.std.specs.Prelude.{◌≡◌, ◌⊎◌, ℕ, ◌+◌, ◌-◌, ◌*◌, ◌<◌, ◌≤◌, max, min, Bool, false, ◌≢◌, IsTrue, List, Result, OnErr, OnOk}
+use Rattle.std.specs.Prelude.{slice_set}
 use Rattle.std.specs.Prelude.{length}
 use Rattle.f11_dev.specs.Disk.{Disk}
 use Rattle.f11_dev.specs.Image.{Image, image_block}
@@ -47,13 +48,14 @@ pub record Holds (buffer : Buffer) (lbn : ℕ) (block : List ℕ) : Type 0 where
   pub kept : IsKeptAt buffer lbn place
   pub is : image_block buffer.blocks.items place ≡ block
 
--- so many blocks are kept, from lbn on, and there is room for more
+-- so many blocks are kept, from lbn on, in a buffer that has room
 pub record KeepsFrom (buffer : Buffer) (lbn many : ℕ) : Type 0 where
   pub room : HasRoom buffer
   pub first : buffer.first ≡ lbn
   pub count : buffer.count ≡ many
 
--- how many blocks are read at once behind so many that are kept, where so many are left on the device: twice as many
+-- How many blocks are read at once behind so many that are kept, where so many are left on the device: twice as many, at most as many as a
+-- buffer keeps and as are left, and the one that is asked at least.
 abbrev pub ahead_of : ℕ → ℕ → ℕ
 ahead_of kept left = max 1 (min MOST (min (2 * kept) left))
 
@@ -67,15 +69,25 @@ pub record Fills (wanted lbn : ℕ) (old new : Buffer) (before after : Disk) : T
   pub room : length new.blocks.items ≡ length old.blocks.items
   pub all_or_none : (new.count ≡ 0) ⊎ ((new.first ≡ lbn) × (new.count ≡ to_fill wanted lbn old before))
   pub few : to_fill wanted lbn old before ≤ 1 → (new.count ≡ 0) × (after ≡ before)
+  pub asked : IsAsked before after (to_fill wanted lbn old before)
+  pub fails : 1 < to_fill wanted lbn old before → new.count ≡ 0 → before.failures < after.failures
   pub quiet : 1 < to_fill wanted lbn old before → after.failures ≡ before.failures → new.count ≡ to_fill wanted lbn old before
 
--- Block lbn, which wasn't kept, was read through a buffer with room. Where it isn't the one behind those that were kept it is read alone,
--- and where it is and no transfer failed more blocks are, and kept.
+-- so many blocks from lbn on were read, in no more transfers, and are kept
+pub record ReadsAll (lbn many : ℕ) (new : Buffer) (before after : Disk) : Type 0 where
+  pub kept : KeepsFrom new lbn many
+  pub asked : IsAsked before after many
+
+-- Block lbn, which wasn't kept, was read through a buffer with room. Where it isn't the one behind those that were kept it is read by
+-- itself. Where it is, it is read with those behind it, in no more transfers than they are; if they can't be read so, by itself, too: where
+-- it can't be read, a transfer failed for each.
 pub record ReadsOn {E : Type 0} (result : Result Unit E) (lbn : ℕ) (old new : Buffer) (before after : Disk) : Type 0 where
   pub room : HasRoom new
   pub kept : OnOk result (IsKept new lbn)
   pub alone : IsElsewhere old lbn → IsAsked before after 1 × OnOk result (KeepsFrom new lbn 1)
-  pub ahead : IsNext old lbn → after.failures ≡ before.failures → KeepsFrom new lbn (ahead_of old.count (length before.image - lbn))
+  pub ahead : IsNext old lbn → after.failures ≡ before.failures
+      → ReadsAll lbn (ahead_of old.count (length before.image - lbn)) new before after
+  pub fails : IsNext old lbn → 1 < ahead_of old.count (length before.image - lbn) → OnErr result (before.failures + 2 ≤ after.failures)
 
 -- What is kept after a write of block lbn, whatever the image: where the write passed, the blocks of the image with that one in it, as many
 -- as before; where it failed, blocks that the image has with it and without.

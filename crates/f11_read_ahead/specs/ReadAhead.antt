@@ -33,16 +33,22 @@ IsNotKeptIn r lbn = IsNotKept r.recent lbn × IsNotKept r.earlier lbn
 abbrev pub HasRoomIn : {D : Type 0} {met : Ghosts D} → ReadAhead D met → Type 0
 HasRoomIn r = HasRoom r.recent × HasRoom r.earlier
 
--- both buffers are as they were, in either order
-abbrev pub KeepsBoth : {D : Type 0} {met : Ghosts D} → ReadAhead D met → ReadAhead D met → Type 0
-KeepsBoth old new = ((new.recent ≡ old.recent) × (new.earlier ≡ old.earlier))
-    ⊎ ((new.recent ≡ old.earlier) × (new.earlier ≡ old.recent))
+-- both buffers are as they were,
+pub record KeepsBoth {D : Type 0} {met : Ghosts D} (old new : ReadAhead D met) : Type 0 where
+  pub recent : new.recent ≡ old.recent
+  pub earlier : new.earlier ≡ old.earlier
 
--- A block that is kept was given: the device within wasn't asked for anything.
-pub record GivesKept {D E : Type 0} {met : Ghosts D} (result : Result Unit E) (old new : ReadAhead D met) : Type 0 where
+-- or the other one was used last now
+pub record Turns {D : Type 0} {met : Ghosts D} (old new : ReadAhead D met) : Type 0 where
+  pub recent : new.recent ≡ old.earlier
+  pub earlier : new.earlier ≡ old.recent
+
+-- A block that is kept was given: the device within wasn't asked for anything. The buffer that has it was used last then.
+pub record GivesKept {D E : Type 0} {met : Ghosts D} (result : Result Unit E) (lbn : ℕ) (old new : ReadAhead D met) : Type 0 where
   pub given : IsOk result
   pub unasked : behind_ahead new ≡ behind_ahead old
-  pub both : KeepsBoth old new
+  pub recent : IsKept old.recent lbn → KeepsBoth old new
+  pub earlier : IsNotKept old.recent lbn → Turns old new
 
 -- A block that isn't kept was read: into the buffer that was used last where it is the one behind those that this one keeps, and else into
 -- the other one; the one that isn't read into stays.
@@ -58,7 +64,7 @@ pub record ReadsAhead {D E : Type 0} {met : Ghosts D} (disk : D → Disk) (resul
     (old new : ReadAhead D met) : Type 0 where
   pub outer : Reads result lbn into (ahead_disk disk old) (ahead_disk disk new)
   pub inner : Gives result lbn into (disk (behind_ahead old)) (disk (behind_ahead new)) (MOST + 1)
-  pub kept : IsKeptIn old lbn → GivesKept result old new
+  pub kept : IsKeptIn old lbn → GivesKept result lbn old new
   pub unkept : HasRoomIn old → IsNotKeptIn old lbn → ReadsNew disk result lbn old new
 
 -- A call was passed on: it did this to the disk that it is, and to the one within.

@@ -96,8 +96,8 @@ impl Buffer {
         lbn >= self.first && lbn - self.first == self.count
     }
 
-    /// Reads a block, and keeps it: alone, or with twice as many as were kept where it is the one behind them. Where these can't be
-    /// read at once it is read alone, too.
+    /// Reads a block, and keeps it: by itself, or where it is the one behind those that are kept, as the first of twice as many. Where these
+    /// can't be read at once it is read by itself, too.
     pub fn read<D: ReadsRuns>(
         &mut self,
         device: &mut D,

@@ -60,7 +60,7 @@ impl<D: ReadsRuns> ReadAhead<D> {
         requires { lbn < length (D.disk (behind_ahead self.old)).image }
         ensures gives { Gives result lbn into.new
             (D.disk (behind_ahead self.old)) (D.disk (behind_ahead self.new)) (MOST + 1) }
-        ensures kept { IsKeptIn self.old lbn → GivesKept result self.old self.new }
+        ensures kept { IsKeptIn self.old lbn → GivesKept result lbn self.old self.new }
         ensures unkept { HasRoomIn self.old → IsNotKeptIn self.old lbn → ReadsNew D.disk result lbn self.old self.new }
         ensures outcomes { ahead_outcomes self.new ≡ ahead_outcomes self.old }
     {
