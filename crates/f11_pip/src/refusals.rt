@@ -56,7 +56,7 @@ pub fn of_making<'a>(
         "no DuplicateName" => (name, "the directory has a record of that name and version"),
         "no TooManySegments" => (
             source,
-            "a file can't have more than 256 headers, each of which may take no more than 102 blocks",
+            "more than 26112 blocks, the most of a file that is put or copied: 256 headers, each for 102 at worst",
         ),
         "no DeviceFull" => (image, "fewer blocks are free than the file needs"),
         "no NoHeader" => (

@@ -26,6 +26,7 @@ pub struct Remark<'a> {
 impl<'a> Remark<'a> {
     /// That there is this to say of this word.
     pub fn of(word: &'a str, why: Why) -> Remark<'a> {
+        let word = if word.is_empty() { "''" } else { word };
         Remark {
             word: Which::Text(word),
             why,
@@ -106,17 +107,19 @@ pub enum Why {
 impl Why {
     /// Its file couldn't be read to its length.
     pub const UNREAD: Why = Why::Said("cannot be read to its end");
+    /// It is a folder, where a script is to be read.
+    pub const FOLDER: Why = Why::Said("a folder");
     /// Its file, which was made, took no more.
     pub const UNWRITTEN: Why = Why::Said("not written to its end");
     /// It isn't text.
     pub const NOT_TEXT: Why = Why::Said("not UTF-8");
     /// It is the name of no file on a Files-11 volume.
     pub const NO_NAME: Why = Why::Said(
-        "no name; one is as LOGIN.CMD;1: up to 9 of A to Z, 0 to 9 and $, a dot, up to 3 more, and an octal version, 1 to 77777",
+        "no name; one is in capitals, as LOGIN.CMD;1: up to 9 of A to Z, 0 to 9 and $, a dot, up to 3 more, at least one of all these, and an octal version, 1 to 77777",
     );
     /// It is the name of no file on an RT-11 volume.
     pub const NO_RT_NAME: Why = Why::Said(
-        "no name; one is as LOGIN.CMD: up to 6 of A to Z, 0 to 9 and $, a dot and up to 3 more",
+        "no name; one is in capitals, as LOGIN.CMD: 1 to 6 of A to Z, 0 to 9 and $, a dot and up to 3 more",
     );
     /// It is no user's code.
     pub const NO_USER: Why = Why::Said(
@@ -146,6 +149,10 @@ impl Why {
     pub const OF_FILES11: Why = Why::Said("a Files-11 volume: vfy, ls and get serve it");
     /// It has no bytes.
     pub const EMPTY: Why = Why::Said("empty");
+    /// It ends before the first block that may be a home block.
+    pub const NO_BLOCK_1: Why = Why::Said(
+        "ends before the end of block 1, where a home block lies",
+    );
     /// No home block is in it, and it is no RT-11 volume either.
     pub const NO_HOME: Why = Why::Said(
         "no home block: no Files-11 volume, or one whose home block is bad, of which docs/VFY.md tells at F1",
@@ -427,6 +434,9 @@ fn of_other(rt: &HostRuntime, word: &str, system: System) -> Option<Why> {
 /// That no home block is in an image, if none is.
 fn of_no_home(rt: &HostRuntime, word: &str) -> Option<Why> {
     let mut device = image_of(rt, word).ok()?;
+    if device.blocks() < 2 {
+        return Some(Why::NO_BLOCK_1);
+    }
     match print_home(&mut device, &mut io::sink()) {
         Ok(Answer::Fault) if has_mark(&mut device) => Some(Why::BAD_HOME),
         Ok(Answer::Fault) => Some(Why::NO_HOME),

@@ -10,7 +10,7 @@ use f11_commands::{Answer, RunFailure, ScriptError, print_run};
 use f11_dev::FileImage;
 use std::alloc::Global;
 use std::cell::Cell;
-use std::fs::File;
+use std::fs::{self, File};
 use std::io::{self, BufRead, BufReader, Read, Write};
 
 /// A script of which no more is read than up to a line's end at once, so that the line that was read last is the one that is answered.
@@ -77,10 +77,18 @@ pub fn serve<'a, W: Write>(
     if let Err(RunFailure::Script(error)) = answer {
         let _ = eprintln!(rt; "{error}");
         if error == ScriptError::ReadFault {
-            *remark = Some(Remark::of(script, Why::UNREAD));
+            *remark = Some(Remark::of(script, unread(rt, script)));
         }
     }
     Ok(written(rt, image, answer?, remark))
+}
+
+/// Why a script wasn't read to its end.
+fn unread(rt: &HostRuntime, path: &str) -> Why {
+    match fs::metadata(rt, path) {
+        Ok(metadata) if metadata.is_dir() => Why::FOLDER,
+        _ => Why::UNREAD,
+    }
 }
 
 /// Serves the script that was opened under this path, and counts its lines. The device comes back.

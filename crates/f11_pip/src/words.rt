@@ -194,6 +194,11 @@ pub fn misread<'a>(alloc: Global, words: &'a [String]) -> Option<Remark<'a>> {
 pub fn tell_refused(rt: &HostRuntime, words: &[String]) {
     if let Some(text) = refusal(rt.alloc(), words) {
         let all = text.as_str();
+        let lacks_words = all.starts_with("error: the following required arguments");
+        if lacks_words && words.iter().any(|word| word.as_str() == "--all") {
+            let _ = eprintln!(rt; "FOLDER: missing");
+            return;
+        }
         let first = match all.split_once("\n\n") {
             Some((first, _)) => first,
             None => all,
