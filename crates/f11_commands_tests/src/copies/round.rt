@@ -1,9 +1,9 @@
 //! A file that is copied to an RT-11 volume, and from there to a volume, by the calls that copy.
 ghost use Rattle.std.specs.Prelude.{◌≡◌, true, IfOk};
 ghost use Rattle.f11_commands.specs.flx.fcp.Lists.{is_sound, store_of_volume};
-ghost use Rattle.f11_commands.specs.flx.CopyFromRt.{new_id};
 ghost use Rattle.f11_commands.specs.flx.Copying.{WhereSound};
 ghost use Rattle.f11_commands.specs.flx.ThereAndBack.{IsBack};
+ghost use Rattle.f11_making.specs.Making.{new_id};
 ghost use Rattle.f11_store.specs.Store.{file_named};
 
 use f11_commands::f11_flx::f11_fcp::Volume;
