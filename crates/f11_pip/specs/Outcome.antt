@@ -1,7 +1,5 @@
 -- How the program ends (profile).
 use Rattle.std.specs.Prelude.{ℕ, List, codes, Result, Ok, Err}
-use Rattle.clap.specs.declared.error.kind.ErrorKind.{ErrorKind}
-use Rattle.clap.specs.declared.error.kind.ErrorKind.TheVariants.{OutOfMemory}
 use Rattle.f11_commands.specs.declared.outcome.Answer.{Answer}
 use Rattle.f11_commands.specs.declared.outcome.Answer.TheVariants.{Done, Fault}
 use Rattle.f11_commands.specs.declared.outcome.Failure.{Failure as CommandFailure}
@@ -10,6 +8,8 @@ use Rattle.f11_commands.specs.declared.rt_put.PutFailure.{PutFailure}
 use Rattle.f11_commands.specs.declared.rt_put.PutFailure.TheVariants as put
 use Rattle.f11_commands.specs.declared.run.RunFailure.{RunFailure}
 use Rattle.f11_commands.specs.declared.run.RunFailure.TheVariants.{Command, Script}
+use Rattle.f11_words.specs.declared.reading.Failure.{Failure as WordsFailure}
+use Rattle.f11_words.specs.declared.reading.Failure.TheVariants as words
 use Rattle.f11_pip.specs.declared.outcome.Failure.{Failure}
 use Rattle.f11_pip.specs.declared.outcome.Failure.TheVariants.{Usage, CannotOpen, DeviceFault, ScriptFault, CannotWrite, NoMemory}
 
@@ -33,10 +33,10 @@ failure_line ScriptFault = codes "f11_pip: script fault"
 failure_line CannotWrite = codes "f11_pip: cannot write"
 failure_line NoMemory = codes "f11_pip: no memory"
 
--- words that aren't taken are wrong, unless memory ran out
-abbrev pub failure_of_kind : ErrorKind → Failure
-failure_of_kind OutOfMemory = NoMemory
-failure_of_kind _ = Usage
+-- words that aren't taken fail as they do
+abbrev pub failure_of_words : WordsFailure → Failure
+failure_of_words words.Usage = Usage
+failure_of_words words.NoMemory = NoMemory
 
 -- a command's failure is the program's of that name
 abbrev pub failure_of_command : CommandFailure → Failure

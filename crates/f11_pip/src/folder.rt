@@ -2,8 +2,8 @@
 use crate::host_file::HostFile;
 use crate::image::{ReadImage, opened_to_read, tell_read_fault};
 use crate::outcome::Failure;
-use crate::remarks::{self, Remark, Why};
-use crate::{judged, opened};
+use crate::remarks::{self, Remark, Why, opened};
+use crate::volumes::judged;
 use f11_commands::f11_catalog::{Content, DirectoryName, Place};
 use f11_commands::{Answer, LeftOut, TakingAll, begin_all};
 use f11_store::FileId;

@@ -6,8 +6,8 @@ use crate::image::{
 };
 use crate::outcome::Failure;
 use crate::refusals::{self, NO_SUCH_ENTRY, of_finding, of_making};
-use crate::remarks::{self, Remark, Why};
-use crate::{judged, opened};
+use crate::remarks::{self, Remark, Why, opened};
+use crate::volumes::judged;
 use f11_commands::f11_flx::{CopyMode, LONGEST_LINE};
 use f11_commands::f11_rad50::Name;
 use f11_commands::{

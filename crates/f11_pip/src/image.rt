@@ -1,7 +1,6 @@
 //! Images that words of the command line name: opened, made, and closed.
-use crate::opened;
 use crate::outcome::Failure;
-use crate::remarks::{Remark, Why, tell, unmade, unopened};
+use crate::remarks::{Remark, Why, opened, tell, unmade, unopened};
 use f11_dev::{CannotOpen, Fault, FileImage};
 use f11_read_ahead::ReadAhead;
 use std::fs::{self, File, OpenOptions};

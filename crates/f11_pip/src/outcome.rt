@@ -1,10 +1,8 @@
 //! How the program ends.
 ghost use Rattle.std.specs.Prelude.{◌≡◌};
-ghost use Rattle.clap.specs.Words.{kind_of};
-ghost use Rattle.f11_pip.specs.Outcome.{failure_of_kind, status_of};
+ghost use Rattle.f11_pip.specs.Outcome.{status_of};
 ghost use Rattle.f11_pip.specs.declared.outcome.Failure.TheVariants as failures;
 
-use clap::error::ErrorKind;
 use f11_commands::{Answer, PutFailure, RunFailure};
 use f11_dev::{CannotOpen, NoMemory};
 use std::alloc::AllocError;
@@ -121,14 +119,16 @@ impl From<AllocError> for Failure {
     }
 }
 
-/// An error of the words.
-impl From<clap::Error> for Failure {
-    ghost from_gives = { λ error failure. failure ≡ failure_of_kind (kind_of error) };
+/// Words that aren't taken.
+impl From<f11_words::Failure> for Failure {
+    ghost use Rattle.f11_pip.specs.Outcome.{failure_of_words};
 
-    fn from(error: clap::Error) -> Self {
-        match error.kind() {
-            ErrorKind::OutOfMemory => Failure::NoMemory,
-            _ => Failure::Usage,
+    ghost from_gives = { λ words failure. failure ≡ failure_of_words words };
+
+    fn from(failure: f11_words::Failure) -> Self {
+        match failure {
+            f11_words::Failure::Usage => Failure::Usage,
+            f11_words::Failure::NoMemory => Failure::NoMemory,
         }
     }
 }

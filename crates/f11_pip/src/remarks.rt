@@ -1,5 +1,6 @@
 //! What is said on standard error beside the lines that are fixed: which word is meant, and why.
 use crate::image::{ReadImage, image_of};
+use crate::outcome::Failure;
 use crate::rt_folder;
 use f11_commands::f11_layout::{InitParams, MOST_BLOCKS, is_label};
 use f11_commands::{
@@ -72,12 +73,6 @@ pub enum Why {
     /// Its file, which was made, took no more, and why.
     #[error("not written to its end: {0}")]
     NotWritten(io::Error),
-    /// It is no number that can be given under this name, at most so great.
-    #[error("{0} takes a decimal number, at most {1}")]
-    NoNumber(&'static str, u32),
-    /// It stands with words that it doesn't go with.
-    #[error("goes with {0} alone")]
-    Alone(&'static str),
     /// Fewer file headers are free on the volume in it than may be needed.
     #[error("it may need {0} file headers, and fewer are free or can be had: delete files, or take a fresh volume, init with --slots {1} or more")]
     FewHeaders(u64, u64),
@@ -120,22 +115,6 @@ impl Why {
     /// It is the name of no file on an RT-11 volume.
     pub const NO_RT_NAME: Why = Why::Said(
         "no name; one is in capitals, as LOGIN.CMD: 1 to 6 of A to Z, 0 to 9 and $, a dot and up to 3 more",
-    );
-    /// It is no user's code.
-    pub const NO_USER: Why = Why::Said(
-        "no user's code; one is two octal numbers of 0 to 377, as 200,1",
-    );
-    /// It names no directory.
-    pub const NO_DIRECTORY: Why = Why::Said(
-        "no directory; one is a user's code, two octal numbers of 0 to 377 as 200,1, or a name of up to 9 of A to Z, 0 to 9 and $, in brackets or without",
-    );
-    /// It has to be there, and isn't.
-    pub const MISSING: Why = Why::Said("missing");
-    /// It is no mode of a copy.
-    pub const NO_MODE: Why = Why::Said("no mode; one is image or text");
-    /// It is no protection word.
-    pub const NO_PROTECTION: Why = Why::Said(
-        "no protection word; one is up to 6 octal digits, at most 177777",
     );
     /// It is no command.
     pub const NO_COMMAND: Why = Why::Said("no command; f11_pip help lists them");
@@ -203,10 +182,6 @@ impl Why {
     pub const TWICE: Why = Why::Said(
         "named twice: a copy goes from one image to another; get and put go by a file",
     );
-    /// A mode was given with `--blocks`.
-    pub const NO_MODE_BESIDE: Why = Why::Said(
-        "doesn't go with --blocks, which takes whole blocks as they are",
-    );
     /// The bit of the slot of the file in it that is taken out is lost.
     pub const UNUSED: Why = Why::Said(
         "the file's slot is out of use: if the volume was written since, its blocks may be another file's",
@@ -221,6 +196,21 @@ impl Why {
     );
     /// Its file is longer than an image can be.
     pub const TOO_LONG: Why = Why::Said("longer than 16777216 blocks, the rest is left out");
+}
+
+/// What was opened, or made, under a word, and where nothing could be, a remark why.
+pub fn opened<'a, T>(
+    file: Result<T, Why>,
+    word: &'a str,
+    remark: &mut Option<Remark<'a>>,
+) -> Result<T, Failure> {
+    match file {
+        Ok(file) => Ok(file),
+        Err(why) => {
+            *remark = Some(Remark::of(word, why));
+            Err(Failure::CannotOpen)
+        }
+    }
 }
 
 /// What is said where the words can't be read, since one isn't text: the first such one.

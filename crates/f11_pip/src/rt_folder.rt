@@ -2,9 +2,8 @@
 use crate::folder::made_in;
 use crate::host_file::HostFile;
 use crate::image::{ReadImage, image_of, opened_to_read, tell_read_fault};
-use crate::opened;
 use crate::outcome::Failure;
-use crate::remarks::{self, Remark};
+use crate::remarks::{self, Remark, opened};
 use crate::rt_files::judged;
 use f11_commands::{Answer, RtFate, RtFileAt, RtPlace, TakingAllRt, begin_all_rt};
 use f11_dev::Device;

@@ -1,11 +1,12 @@
 //! The command `run`: how its script is read.
 ghost use Rattle.std.specs.Prelude.{◌≤◌, length};
 
+use crate::failure_of;
 use crate::heard::{Heard, Told};
 use crate::image::{opened_to_write, tell_fault};
 use crate::outcome::Failure;
-use crate::remarks::{Remark, Why, unopened};
-use crate::{failure_of, opened, written};
+use crate::remarks::{Remark, Why, opened, unopened};
+use crate::volumes::written;
 use f11_commands::{Answer, RunFailure, ScriptError, print_run};
 use f11_dev::FileImage;
 use std::alloc::Global;

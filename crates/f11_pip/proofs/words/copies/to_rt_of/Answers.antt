@@ -1,8 +1,0 @@
-use Rattle.std.proofs.Common.{inr}
-use Rattle.f11_pip.proofs.WordsLemmas.{at_err}
-use Rattle.f11_pip.proofs.words.copies.to_rt_of.Goals as goal
-
-pub returns-in_err-uic_of-clause-to_rt : goal.returns-in_err-uic_of-clause-to_rt
-returns-in_err-uic_of-clause-to_rt c mode image uic name rt rt_name given =
-    at_err _ _ c.from_residual-in_err-uic_of.result c.from_residual-in_err-uic_of.ensures.1
-    (inr (c.in_err-uic_of.ensures.uic uic given.uic_is))

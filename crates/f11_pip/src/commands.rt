@@ -1,0 +1,162 @@
+//! The commands, and which files each opens.
+use crate::copies::{Asked, copy};
+use crate::directory::name_of;
+use crate::folder::get_all;
+use crate::host_files::{self, Named, Taking};
+use crate::outcome::Failure;
+use crate::remarks::{self, Remark};
+use crate::script::serve;
+use crate::{rt_files, rt_folder, rt_volumes, volumes};
+use f11_commands::f11_vfy::InitParams;
+use f11_commands::{Answer, Direction, print_name, print_rights};
+use f11_store::Uic;
+use f11_words::Words;
+use std::io::Write;
+
+/// The owner of the volumes that are made, [1,1].
+const OWNER: Uic = Uic {
+    group: 1,
+    member: 1,
+};
+
+/// Opens the files that the words name, in their order, and does the work.
+pub fn run<'a, W: Write>(
+    rt: &HostRuntime,
+    words: &Words<'a>,
+    writer: &mut W,
+    remark: &mut Option<Remark<'a>>,
+) -> Result<Answer, Failure> {
+    match *words {
+        Words::Dump { image, number } => volumes::dump(rt, image, number, writer, remark),
+        Words::FlxFromRt {
+            mode,
+            rt: rt_image,
+            rt_name,
+            image,
+            directory,
+            name,
+        } => {
+            let asked = Asked {
+                direction: Direction::FromRt,
+                mode,
+                directory,
+                image,
+                name,
+                rt_image,
+                rt_name,
+            };
+            copy(rt, &asked, writer, remark)
+        }
+        Words::FlxToRt {
+            mode,
+            image,
+            directory,
+            name,
+            rt: rt_image,
+            rt_name,
+        } => {
+            let asked = Asked {
+                direction: Direction::ToRt,
+                mode,
+                directory,
+                image,
+                name,
+                rt_image,
+                rt_name,
+            };
+            copy(rt, &asked, writer, remark)
+        }
+        Words::Get {
+            mode,
+            all_blocks,
+            image,
+            directory,
+            name,
+            host,
+        } => {
+            let file = Named {
+                image,
+                directory: name_of(directory),
+                name,
+            };
+            let taking = Taking { mode, all_blocks };
+            host_files::get(rt, &file, taking, host, writer, remark)
+        }
+        Words::GetAll { image, folder } => get_all(rt, image, folder, writer, remark),
+        Words::Home { image } => volumes::home(rt, image, writer, remark),
+        Words::Init {
+            image,
+            blocks,
+            slots,
+            label,
+            max_files,
+        } => {
+            let params = InitParams {
+                label: label.as_bytes(),
+                slots,
+                max_files,
+                owner: OWNER,
+                date: [0; 14],
+            };
+            volumes::init(rt, image, blocks, &params, writer, remark)
+        }
+        Words::Ls { image } => volumes::ls(rt, image, None, writer, remark),
+        Words::LsIn { image, directory } => {
+            volumes::ls(rt, image, Some(name_of(directory)), writer, remark)
+        }
+        Words::Name { text } => {
+            let answer = print_name(text, writer)?;
+            if answer == Answer::Fault {
+                *remark = Some(remarks::of_name(text));
+            }
+            Ok(answer)
+        }
+        Words::Put {
+            mode,
+            image,
+            directory,
+            name,
+            host,
+        } => {
+            let file = Named {
+                image,
+                directory: name_of(directory),
+                name,
+            };
+            host_files::put(rt, &file, mode, host, writer, remark)
+        }
+        Words::Rights {
+            caller,
+            owner,
+            protection,
+        } => Ok(print_rights(caller, owner, protection, writer)?),
+        Words::RtDel { rt: image, name } => rt_files::delete(rt, image, name, writer, remark),
+        Words::RtGet {
+            rt: image,
+            name,
+            host,
+        } => rt_files::get(rt, image, name, host, writer, remark),
+        Words::RtGetAll { rt: image, folder } => {
+            rt_folder::get_all(rt, image, folder, writer, remark)
+        }
+        Words::RtInit {
+            image,
+            blocks,
+            segments,
+        } => rt_volumes::init(rt, image, blocks, segments, writer, remark),
+        Words::RtList { image } => rt_volumes::list(rt, image, writer, remark),
+        Words::RtLs { rt: image } => rt_volumes::ls(rt, image, writer, remark),
+        Words::RtPut {
+            rt: image,
+            name,
+            host,
+        } => rt_files::put(rt, image, name, host, writer, remark),
+        Words::RtVfy { image } => rt_volumes::vfy(rt, image, writer, remark),
+        Words::Run {
+            image,
+            script,
+            is_quiet,
+        } => serve(rt, image, script, is_quiet, writer, remark),
+        Words::Vfy { image, update } => volumes::vfy(rt, image, update, writer, remark),
+    }
+}

@@ -1,0 +1,173 @@
+-- What clap makes of the words of one command, behind its name.
+use Rattle.std.proofs.Common.{ap, ◌∙◌, ◌≡◌, ◌&&◌, Bool, List, [], None, Option, Some, false, map, refl, true}
+use Rattle.std.specs.List.{list_all}
+use Rattle.clap.specs.Simple.{Shape, built_leaf}
+use Rattle.clap.specs.Takes.{default_passes, is_valid, level_passes, settle_passes, walk_passes}
+use Rattle.clap.specs.Walk.{Held, finished, nothing_held, rows_after, walk_from}
+use Rattle.clap.specs.Words.{Text}
+use Rattle.clap.proofs.OnLiterals.{clap_on_literals}
+use Rattle.f11_words.specs.Lines.{
+  CommandLine,
+  command_in,
+  given_in,
+  dump_line,
+  from_rt_line,
+  get_all_line,
+  get_blocks_line,
+  get_line,
+  home_line,
+  init_line,
+  ls_line,
+  name_line,
+  put_line,
+  quiet_run_line,
+  rights_line,
+  rt_del_line,
+  rt_get_all_line,
+  rt_get_line,
+  rt_init_line,
+  rt_list_line,
+  rt_ls_line,
+  rt_put_line,
+  rt_vfy_line,
+  run_line,
+  to_rt_line,
+  update_line,
+  user_line,
+  vfy_line,
+}
+use Rattle.f11_words.specs.Reading.{as_found, found}
+use Rattle.f11_words.specs.Told.{command_app}
+use Rattle.f11_words.specs.Usage.{texts_in, words_of, written}
+use Rattle.f11_words.specs.declared.usage.Subcommand.{Subcommand}
+use Rattle.f11_words.specs.declared.usage.Subcommand.TheVariants.{
+  Dump,
+  FlxFromRt,
+  FlxToRt,
+  Get,
+  Home,
+  Init,
+  Ls,
+  Name,
+  Put,
+  Rights,
+  RtDel,
+  RtGet,
+  RtInit,
+  RtList,
+  RtLs,
+  RtPut,
+  RtVfy,
+  Run,
+  Vfy,
+}
+use Rattle.f11_words.proofs.WalkLemmas.{AreInOrder, ArePlain, TakesWords, are_taken, held_behind, passes-words, walk-words}
+
+-- a command as it is built, beside the others
+abbrev pub leaf : Subcommand → Shape
+leaf command = built_leaf (command_app command).top
+
+-- how it takes its words
+takes-words : (command : Subcommand) → TakesWords (leaf command) 1 (words_of command)
+unfolding clap_on_literals
+takes-words Dump = (λ h word. refl, (λ h word. refl, tt))
+takes-words FlxFromRt =
+    (λ h word rest. (refl, refl, refl), (λ h word. refl, (λ h word. refl, (λ h word. refl, (λ h word. refl, (λ h word. refl, tt))))))
+takes-words FlxToRt =
+    (λ h word rest. (refl, refl, refl), (λ h word. refl, (λ h word. refl, (λ h word. refl, (λ h word. refl, (λ h word. refl, tt))))))
+takes-words Get = (
+  λ h rest. (refl, refl),
+  (
+    λ h rest. (refl, refl),
+    (λ h word rest. (refl, refl, refl), (λ h word. refl, (λ h word. refl, (λ h word. refl, (λ h word. refl, tt))))),
+  ),
+)
+takes-words Home = (λ h word. refl, tt)
+takes-words Init = (
+  λ h word rest. (refl, refl, refl),
+  (λ h word rest. (refl, refl, refl), (λ h word rest. (refl, refl, refl), (λ h word rest. (refl, refl, refl), (λ h word. refl, tt)))),
+)
+takes-words Ls = (λ h word. refl, (λ h word. refl, tt))
+takes-words Name = (λ h word. refl, tt)
+takes-words Put = (λ h word rest. (refl, refl, refl), (λ h word. refl, (λ h word. refl, (λ h word. refl, (λ h word. refl, tt)))))
+takes-words Rights = (λ h word. refl, (λ h word. refl, (λ h word. refl, tt)))
+takes-words RtDel = (λ h word. refl, (λ h word. refl, tt))
+takes-words RtGet = (λ h rest. (refl, refl), (λ h word. refl, (λ h word. refl, (λ h word. refl, tt))))
+takes-words RtInit = (λ h word rest. (refl, refl, refl), (λ h word rest. (refl, refl, refl), (λ h word. refl, tt)))
+takes-words RtList = (λ h word. refl, tt)
+takes-words RtLs = (λ h word. refl, tt)
+takes-words RtPut = (λ h word. refl, (λ h word. refl, (λ h word. refl, tt)))
+takes-words RtVfy = (λ h word. refl, tt)
+takes-words Run = (λ h rest. (refl, refl), (λ h word. refl, (λ h word. refl, tt)))
+takes-words Vfy = (λ h rest. (refl, refl), (λ h word. refl, tt))
+
+-- the words behind a command's name, and what is held behind them
+abbrev pub behind : CommandLine → List Text
+behind line = written (words_of (command_in line)) (given_in line)
+
+abbrev end_of : CommandLine → Held
+end_of line = held_behind (leaf (command_in line)) 1 (words_of (command_in line)) (given_in line) nothing_held
+
+abbrev is_taken : CommandLine → Bool
+is_taken line = are_taken (leaf (command_in line)) 1 (words_of (command_in line)) (given_in line) nothing_held
+
+-- the command takes them,
+abbrev passes_at : Shape → Bool → Held → Bool
+passes_at s passes h = passes && (settle_passes s.rules s.args_override_self h && (list_all default_passes s.rules
+    && is_valid s (finished s.rules h) false))
+
+-- each line's words are in order, are taken, and are found as the line gives them
+abbrev is_found : CommandLine → List (Option Text)
+is_found line = map (λ word. found word (finished (leaf (command_in line)).rules (end_of line))) (words_of (command_in line))
+
+line-met : (line : CommandLine) → AreInOrder (words_of (command_in line)) (given_in line)
+    × (passes_at (leaf (command_in line)) (is_taken line) (end_of line) ≡ true) × (is_found line ≡ map as_found (given_in line))
+unfolding clap_on_literals
+line-met (dump_line image number) = (tt, refl, refl)
+line-met (from_rt_line mode rt rt_name image uic name) = (tt, refl, refl)
+line-met (to_rt_line mode image uic name rt rt_name) = (tt, refl, refl)
+line-met (get_line None image uic name host) = (tt, refl, refl)
+line-met (get_line (Some mode) image uic name host) = (tt, refl, refl)
+line-met (get_blocks_line image uic name host) = (tt, refl, refl)
+line-met (get_all_line image folder) = (refl, refl, refl)
+line-met (home_line image) = (tt, refl, refl)
+line-met (init_line blocks slots label None image) = (tt, refl, refl)
+line-met (init_line blocks slots label (Some max) image) = (tt, refl, refl)
+line-met (ls_line image) = (refl, refl, refl)
+line-met (user_line image uic) = (tt, refl, refl)
+line-met (name_line word) = (tt, refl, refl)
+line-met (put_line None image uic name host) = (tt, refl, refl)
+line-met (put_line (Some mode) image uic name host) = (tt, refl, refl)
+line-met (rights_line caller owner word) = (tt, refl, refl)
+line-met (rt_del_line rt name) = (tt, refl, refl)
+line-met (rt_get_line rt name host) = (tt, refl, refl)
+line-met (rt_get_all_line rt folder) = (refl, refl, refl)
+line-met (rt_init_line blocks segments image) = (tt, refl, refl)
+line-met (rt_list_line image) = (tt, refl, refl)
+line-met (rt_ls_line rt) = (tt, refl, refl)
+line-met (rt_put_line rt name host) = (tt, refl, refl)
+line-met (rt_vfy_line image) = (tt, refl, refl)
+line-met (run_line image script) = (tt, refl, refl)
+line-met (quiet_run_line image script) = (tt, refl, refl)
+line-met (vfy_line image) = (tt, refl, refl)
+line-met (update_line image) = (tt, refl, refl)
+
+pub takes-behind : (line : CommandLine) → ArePlain (texts_in (given_in line))
+    → level_passes (leaf (command_in line)) [] nothing_held (behind line) false ≡ true
+takes-behind line plain =
+    let s = leaf (command_in line) in
+    ap (λ h. passes_at s (walk_passes s [] (walk_from nothing_held) (behind line)) h)
+    (walk-words s 1 (words_of (command_in line)) (given_in line) (takes-words (command_in line)) (line-met line).0 plain nothing_held)
+    ∙ ap (λ b. passes_at s b (end_of line))
+    (passes-words s 1 (words_of (command_in line)) (given_in line) (takes-words (command_in line)) (line-met line).0 plain nothing_held)
+    ∙ (line-met line).1
+
+-- and has of each word what the line gives for it
+pub found-behind : (line : CommandLine) → ArePlain (texts_in (given_in line))
+    → map (λ word. found word (rows_after (leaf (command_in line)).rules [] (behind line))) (words_of (command_in line))
+    ≡ map as_found (given_in line)
+found-behind line plain =
+    let s = leaf (command_in line) in
+    ap (λ h. map (λ word. found word (finished s.rules h)) (words_of (command_in line)))
+    (walk-words s 1 (words_of (command_in line)) (given_in line) (takes-words (command_in line)) (line-met line).0 plain nothing_held)
+    ∙ (line-met line).2

@@ -1,0 +1,7 @@
+mod BehindLemmas
+mod DirectoryLemmas
+mod LineLemmas
+mod MetLemmas
+mod ReadingLemmas
+mod ToldLemmas
+mod WalkLemmas

@@ -1,0 +1,10 @@
+use Rattle.std.proofs.Common.{◌≡◌, ◌∙◌, Some}
+use Rattle.f11_words.specs.Directory.{SpellsDirectory}
+use Rattle.f11_words.proofs.ReadingLemmas.{spelled-or-none}
+use Rattle.f11_words.proofs.args.directory_of.Goals as goal
+
+pub returns : goal.returns
+returns c text has =
+    let met : Some c.in_ok-get_str.field-0.now ≡ Some text = c.in_ok-get_str.ensures ∙ has in
+    spelled-or-none SpellsDirectory c.read_directory.result _ text (let same = met in cc) c.read_directory.ensures.spelled
+    c.read_directory.ensures.every

@@ -1,0 +1,287 @@
+-- What a command line asks for (profile).
+use Rattle.std.specs.Prelude.{◌≡◌, ◌⊎◌, ℕ, Bool, true, false, List, Option, Some, None, codes}
+use Rattle.f11_numbers.specs.Decimal.{IsCount, IsNumber, SpellsNumber, SpellsCount}
+use Rattle.f11_numbers.specs.Octal.{IsProtection, SpellsProtection, SpellsUic}
+use Rattle.f11_words.specs.Directory.{IsNoDirectory, IsNoUic, SpellsDirectory}
+use Rattle.f11_words.specs.Lines.{
+  CommandLine,
+  dump_line,
+  from_rt_line,
+  get_all_line,
+  get_blocks_line,
+  get_line,
+  home_line,
+  init_line,
+  ls_line,
+  name_line,
+  put_line,
+  quiet_run_line,
+  rights_line,
+  rt_del_line,
+  rt_get_all_line,
+  rt_get_line,
+  rt_init_line,
+  rt_list_line,
+  rt_ls_line,
+  rt_put_line,
+  rt_vfy_line,
+  run_line,
+  to_rt_line,
+  update_line,
+  user_line,
+  vfy_line,
+}
+use Rattle.f11_flx.specs.declared.mode.CopyMode.{CopyMode}
+use Rattle.f11_flx.specs.declared.mode.CopyMode.TheVariants.{Image, Text}
+use Rattle.f11_words.specs.declared.directory.Directory.{Directory}
+use Rattle.f11_words.specs.declared.reading.Failure.{Failure}
+use Rattle.f11_words.specs.declared.reading.Failure.TheVariants.{NoMemory, Usage}
+use Rattle.f11_words.specs.declared.words.Words.{Words}
+use Rattle.f11_words.specs.declared.words.Words.TheVariants.{
+  Dump,
+  FlxFromRt,
+  FlxToRt,
+  Get,
+  GetAll,
+  Home,
+  Init,
+  Ls,
+  LsIn,
+  Name,
+  Put,
+  Rights,
+  RtDel,
+  RtGet,
+  RtGetAll,
+  RtInit,
+  RtList,
+  RtLs,
+  RtPut,
+  RtVfy,
+  Run,
+  Vfy,
+}
+
+-- the words ask for the header of this number of this image
+abbrev pub AsksDump : List ℕ → List ℕ → Words → Type 0
+AsksDump name text (Dump image number) = (image.now ≡ name) × SpellsNumber text number
+AsksDump name text _ = ⊥
+
+-- a mode of a copy is `image` or `text`
+abbrev pub IsMode : List ℕ → Type 0
+IsMode text = (text ≡ codes "image") ⊎ (text ≡ codes "text")
+
+-- a text spells this mode of a copy
+abbrev pub SpellsMode : List ℕ → CopyMode → Type 0
+SpellsMode text Image = text ≡ codes "image"
+SpellsMode text Text = text ≡ codes "text"
+
+-- the words ask that this file of this RT-11 volume be copied, in this mode, to a file of this name in this directory of this image
+abbrev pub AsksFromRt : List ℕ → List ℕ → List ℕ → List ℕ → List ℕ → List ℕ → Words → Type 0
+AsksFromRt mode rt rt_name image uic name (FlxFromRt in_mode from from_file to directory file) = SpellsMode mode in_mode ×
+    (from.now ≡ rt) × (from_file.now ≡ rt_name) × (to.now ≡ image) × SpellsUic uic directory × (file.now ≡ name)
+AsksFromRt mode rt rt_name image uic name _ = ⊥
+
+-- the words ask that this file in this directory of this image be copied, in this mode, to a file of this name of this RT-11 volume
+abbrev pub AsksToRt : List ℕ → List ℕ → List ℕ → List ℕ → List ℕ → List ℕ → Words → Type 0
+AsksToRt mode image uic name rt rt_name (FlxToRt in_mode from directory file to to_file) = SpellsMode mode in_mode ×
+    (from.now ≡ image) × SpellsUic uic directory × (file.now ≡ name) × (to.now ≡ rt) × (to_file.now ≡ rt_name)
+AsksToRt mode image uic name rt rt_name _ = ⊥
+
+-- the mode that a text spells, and that of an image where there is none
+abbrev pub SpellsModeOrNone : Option (List ℕ) → CopyMode → Type 0
+SpellsModeOrNone None mode = mode ≡ Image
+SpellsModeOrNone (Some text) mode = SpellsMode text mode
+
+-- the words ask that the file of this name in this directory of this image become, in this mode, a file of the host under this name: up to
+-- the end that it states, or up to its last block
+abbrev pub AsksGet : Bool → Option (List ℕ) → List ℕ → List ℕ → List ℕ → List ℕ → Words → Type 0
+AsksGet blocks mode image uic name host (Get in_mode all_blocks from directory file to) =
+    (all_blocks ≡ blocks) × SpellsModeOrNone mode in_mode × (from.now ≡ image) × SpellsDirectory uic directory × (file.now ≡ name)
+    × (to.now ≡ host)
+AsksGet blocks mode image uic name host _ = ⊥
+
+-- the words ask that all files of this image become files of the host in this folder
+abbrev pub AsksGetAll : List ℕ → List ℕ → Words → Type 0
+AsksGetAll name text (GetAll image folder) = (image.now ≡ name) × (folder.now ≡ text)
+AsksGetAll name text _ = ⊥
+
+-- the words ask that this file of the host become, in this mode, the file of this name in this directory of this image
+abbrev pub AsksPut : Option (List ℕ) → List ℕ → List ℕ → List ℕ → List ℕ → Words → Type 0
+AsksPut mode image uic name host (Put in_mode to directory file from) =
+    SpellsModeOrNone mode in_mode × (to.now ≡ image) × SpellsDirectory uic directory × (file.now ≡ name) × (from.now ≡ host)
+AsksPut mode image uic name host _ = ⊥
+
+-- the words ask for the home block of this image
+abbrev pub AsksHome : List ℕ → Words → Type 0
+AsksHome name (Home image) = image.now ≡ name
+AsksHome name _ = ⊥
+
+-- the words ask that this script be served on this image, and its lines that aren't done be told on standard error, or not be told
+abbrev pub AsksRun : Bool → List ℕ → List ℕ → Words → Type 0
+AsksRun quiet name text (Run image script is_quiet) = (image.now ≡ name) × (script.now ≡ text) × (is_quiet ≡ quiet)
+AsksRun quiet name text _ = ⊥
+
+-- the words ask that this image be verified, and what lies idle on it be given back, or that it be verified alone
+abbrev pub AsksVfy : Bool → List ℕ → Words → Type 0
+AsksVfy update name (Vfy image updates) = (image.now ≡ name) × (updates ≡ update)
+AsksVfy update name _ = ⊥
+
+-- the greatest number of files that a text spells, and 4000 where there is none
+abbrev pub SpellsMax : Option (List ℕ) → ℕ → Type 0
+SpellsMax None max = max ≡ 4000
+SpellsMax (Some text) max = SpellsNumber text max
+
+-- The words ask for a fresh volume: of so many blocks and slots, with this label, for so many files at most, on this image.
+abbrev pub AsksInit : List ℕ → List ℕ → List ℕ → Option (List ℕ) → List ℕ → Words → Type 0
+AsksInit blocks slots label max image (Init to count slots_are label_is files) =
+    (to.now ≡ image) × SpellsCount blocks count × SpellsNumber slots slots_are × (label_is.now ≡ label) × SpellsMax max files
+AsksInit blocks slots label max image _ = ⊥
+
+-- the words ask that this file of the RT-11 volume in this image be deleted
+abbrev pub AsksRtDel : List ℕ → List ℕ → Words → Type 0
+AsksRtDel image text (RtDel rt name) = (rt.now ≡ image) × (name.now ≡ text)
+AsksRtDel image text _ = ⊥
+
+-- the words ask that it be copied to this file of the host, or that a file be made of that one
+abbrev pub AsksRtGet : List ℕ → List ℕ → List ℕ → Words → Type 0
+AsksRtGet image text path (RtGet rt name host) = (rt.now ≡ image) × (name.now ≡ text) × (host.now ≡ path)
+AsksRtGet image text path _ = ⊥
+
+-- the words ask that all files of the RT-11 volume in this image become files of the host in this folder, or that they be listed
+abbrev pub AsksRtGetAll : List ℕ → List ℕ → Words → Type 0
+AsksRtGetAll image text (RtGetAll rt folder) = (rt.now ≡ image) × (folder.now ≡ text)
+AsksRtGetAll image text _ = ⊥
+
+abbrev pub AsksRtLs : List ℕ → Words → Type 0
+AsksRtLs image (RtLs rt) = rt.now ≡ image
+AsksRtLs image _ = ⊥
+
+abbrev pub AsksRtPut : List ℕ → List ℕ → List ℕ → Words → Type 0
+AsksRtPut image text path (RtPut rt name host) = (rt.now ≡ image) × (name.now ≡ text) × (host.now ≡ path)
+AsksRtPut image text path _ = ⊥
+
+-- the words ask that the areas of the RT-11 volume in this image be listed
+abbrev pub AsksRtList : List ℕ → Words → Type 0
+AsksRtList name (RtList image) = image.now ≡ name
+AsksRtList name _ = ⊥
+
+-- the words ask that the RT-11 volume in this image be verified
+abbrev pub AsksRtVfy : List ℕ → Words → Type 0
+AsksRtVfy name (RtVfy image) = image.now ≡ name
+AsksRtVfy name _ = ⊥
+
+-- the words ask for a fresh RT-11 volume, of so many blocks and segments, on this image
+abbrev pub AsksRtInit : List ℕ → List ℕ → List ℕ → Words → Type 0
+AsksRtInit blocks segments image (RtInit to count segments_are) =
+    (to.now ≡ image) × SpellsNumber blocks count × SpellsNumber segments segments_are
+AsksRtInit blocks segments image _ = ⊥
+
+-- the directory that a text spells, and none where there is no text
+abbrev pub SpellsOneOrNone : Option (List ℕ) → Option Directory → Type 0
+SpellsOneOrNone (Some text) (Some directory) = SpellsDirectory text directory
+SpellsOneOrNone None None = Unit {0}
+SpellsOneOrNone _ _ = ⊥
+
+-- the words ask that this directory be listed, or without a text all
+abbrev pub AsksLs : List ℕ → Option (List ℕ) → Words → Type 0
+AsksLs name uic (Ls image) = (image.now ≡ name) × SpellsOneOrNone uic None
+AsksLs name uic (LsIn image directory) = (image.now ≡ name) × SpellsOneOrNone uic (Some directory)
+AsksLs name uic _ = ⊥
+
+-- the words ask for this name's words
+abbrev pub AsksName : List ℕ → Words → Type 0
+AsksName name (Name text) = text.now ≡ name
+AsksName name _ = ⊥
+
+-- the words ask for the rights of this caller to a file of this owner with this protection word
+abbrev pub AsksRights : List ℕ → List ℕ → List ℕ → Words → Type 0
+AsksRights caller owner word (Rights c o w) = SpellsUic caller c × SpellsUic owner o × SpellsProtection word w
+AsksRights caller owner word _ = ⊥
+
+-- the words ask what the command line says
+abbrev pub Asks : CommandLine → Words → Type 0
+Asks (dump_line image number) words = AsksDump image number words
+Asks (from_rt_line mode rt rt_name image uic name) words = AsksFromRt mode rt rt_name image uic name words
+Asks (to_rt_line mode image uic name rt rt_name) words = AsksToRt mode image uic name rt rt_name words
+Asks (get_line mode image uic name host) words = AsksGet false mode image uic name host words
+Asks (get_blocks_line image uic name host) words = AsksGet true None image uic name host words
+Asks (get_all_line image folder) words = AsksGetAll image folder words
+Asks (home_line image) words = AsksHome image words
+Asks (init_line blocks slots label max image) words = AsksInit blocks slots label max image words
+Asks (ls_line image) words = AsksLs image None words
+Asks (user_line image uic) words = AsksLs image (Some uic) words
+Asks (name_line text) words = AsksName text words
+Asks (put_line mode image uic name host) words = AsksPut mode image uic name host words
+Asks (rights_line caller owner word) words = AsksRights caller owner word words
+Asks (rt_del_line rt name) words = AsksRtDel rt name words
+Asks (rt_get_line rt name host) words = AsksRtGet rt name host words
+Asks (rt_get_all_line rt folder) words = AsksRtGetAll rt folder words
+Asks (rt_init_line blocks segments image) words = AsksRtInit blocks segments image words
+Asks (rt_list_line image) words = AsksRtList image words
+Asks (rt_ls_line rt) words = AsksRtLs rt words
+Asks (rt_put_line rt name host) words = AsksRtPut rt name host words
+Asks (rt_vfy_line image) words = AsksRtVfy image words
+Asks (run_line image script) words = AsksRun false image script words
+Asks (quiet_run_line image script) words = AsksRun true image script words
+Asks (vfy_line image) words = AsksVfy false image words
+Asks (update_line image) words = AsksVfy true image words
+
+-- a text is there, and no number
+abbrev pub IsNoMax : Option (List ℕ) → Type 0
+IsNoMax None = ⊥
+IsNoMax (Some text) = ¬ IsNumber text
+
+-- a text is there, and spells no directory
+abbrev pub IsNoOne : Option (List ℕ) → Type 0
+IsNoOne None = ⊥
+IsNoOne (Some text) = IsNoDirectory text
+
+-- one of the numbers of `init` isn't one
+abbrev pub IsNoInit : List ℕ → List ℕ → Option (List ℕ) → Type 0
+IsNoInit blocks slots max = ¬ IsCount blocks ⊎ (¬ IsNumber slots ⊎ IsNoMax max)
+
+-- a text is there, and no mode
+abbrev pub IsNoModeOrNone : Option (List ℕ) → Type 0
+IsNoModeOrNone None = ⊥
+IsNoModeOrNone (Some text) = ¬ IsMode text
+
+-- a mode is there that isn't one, or a text spells no directory
+abbrev pub IsNoMove : Option (List ℕ) → List ℕ → Type 0
+IsNoMove mode uic = IsNoModeOrNone mode ⊎ IsNoDirectory uic
+
+-- a copy's mode isn't one, or its user's code
+abbrev pub IsNoCopy : List ℕ → List ℕ → Type 0
+IsNoCopy mode uic = ¬ IsMode mode ⊎ IsNoUic uic
+
+-- one of its texts isn't as it has to be
+abbrev pub IsUnreadable : CommandLine → Type 0
+IsUnreadable (dump_line image number) = ¬ IsNumber number
+IsUnreadable (from_rt_line mode rt rt_name image uic name) = IsNoCopy mode uic
+IsUnreadable (to_rt_line mode image uic name rt rt_name) = IsNoCopy mode uic
+IsUnreadable (get_line mode image uic name host) = IsNoMove mode uic
+IsUnreadable (get_blocks_line image uic name host) = IsNoDirectory uic
+IsUnreadable (get_all_line image folder) = ⊥
+IsUnreadable (home_line image) = ⊥
+IsUnreadable (init_line blocks slots label max image) = IsNoInit blocks slots max
+IsUnreadable (ls_line image) = ⊥
+IsUnreadable (user_line image uic) = IsNoDirectory uic
+IsUnreadable (name_line text) = ⊥
+IsUnreadable (put_line mode image uic name host) = IsNoMove mode uic
+IsUnreadable (rights_line caller owner word) = IsNoUic caller ⊎ (IsNoUic owner ⊎ ¬ IsProtection word)
+IsUnreadable (rt_del_line rt name) = ⊥
+IsUnreadable (rt_get_line rt name host) = ⊥
+IsUnreadable (rt_get_all_line rt folder) = ⊥
+IsUnreadable (rt_init_line blocks segments image) = ¬ IsNumber blocks ⊎ ¬ IsNumber segments
+IsUnreadable (rt_list_line image) = ⊥
+IsUnreadable (rt_ls_line rt) = ⊥
+IsUnreadable (rt_put_line rt name host) = ⊥
+IsUnreadable (rt_vfy_line image) = ⊥
+IsUnreadable (run_line image script) = ⊥
+IsUnreadable (quiet_run_line image script) = ⊥
+IsUnreadable (vfy_line image) = ⊥
+IsUnreadable (update_line image) = ⊥
+
+-- memory ran out, or the words are wrong, since one of the texts isn't as it has to be
+abbrev pub FailsToAsk : CommandLine → Failure → Type 0
+FailsToAsk line failure = (failure ≡ NoMemory) ⊎ ((failure ≡ Usage) × IsUnreadable line)

@@ -1,0 +1,127 @@
+-- Command lines as users write them (profile).
+use Rattle.std.specs.Prelude.{◌≡◌, ℕ, ◌==◌, All, Bool, true, false, List, [], ◌∷◌, Option, None}
+use Rattle.f11_words.specs.Usage.{Given, is_there, name_of, says, text, texts_in, words_of, written}
+use Rattle.f11_words.specs.declared.usage.Subcommand.{Subcommand}
+use Rattle.f11_words.specs.declared.usage.Subcommand.TheVariants.{
+  Dump,
+  FlxFromRt,
+  FlxToRt,
+  Get,
+  Home,
+  Init,
+  Ls,
+  Name,
+  Put,
+  Rights,
+  RtDel,
+  RtGet,
+  RtInit,
+  RtList,
+  RtLs,
+  RtPut,
+  RtVfy,
+  Run,
+  Vfy,
+}
+
+-- A command, with its words.
+pub data CommandLine : Type 0 where
+  dump_line : (image number : List ℕ) → CommandLine
+  from_rt_line : (mode rt rt_name image uic name : List ℕ) → CommandLine
+  to_rt_line : (mode image uic name rt rt_name : List ℕ) → CommandLine
+  get_line : (mode : Option (List ℕ)) → (image uic name host : List ℕ) → CommandLine
+  get_blocks_line : (image uic name host : List ℕ) → CommandLine
+  get_all_line : (image folder : List ℕ) → CommandLine
+  home_line : (image : List ℕ) → CommandLine
+  init_line : (blocks slots label : List ℕ) → (max : Option (List ℕ)) → (image : List ℕ) → CommandLine
+  ls_line : (image : List ℕ) → CommandLine
+  user_line : (image uic : List ℕ) → CommandLine
+  name_line : (word : List ℕ) → CommandLine
+  put_line : (mode : Option (List ℕ)) → (image uic name host : List ℕ) → CommandLine
+  rights_line : (caller owner word : List ℕ) → CommandLine
+  rt_del_line : (rt name : List ℕ) → CommandLine
+  rt_get_line : (rt name host : List ℕ) → CommandLine
+  rt_get_all_line : (rt folder : List ℕ) → CommandLine
+  rt_init_line : (blocks segments image : List ℕ) → CommandLine
+  rt_list_line : (image : List ℕ) → CommandLine
+  rt_ls_line : (rt : List ℕ) → CommandLine
+  rt_put_line : (rt name host : List ℕ) → CommandLine
+  rt_vfy_line : (image : List ℕ) → CommandLine
+  run_line : (image script : List ℕ) → CommandLine
+  quiet_run_line : (image script : List ℕ) → CommandLine
+  vfy_line : (image : List ℕ) → CommandLine
+  update_line : (image : List ℕ) → CommandLine
+
+-- which command it is,
+abbrev pub command_in : CommandLine → Subcommand
+command_in (dump_line image number) = Dump
+command_in (from_rt_line mode rt rt_name image uic name) = FlxFromRt
+command_in (to_rt_line mode image uic name rt rt_name) = FlxToRt
+command_in (get_line mode image uic name host) = Get
+command_in (get_blocks_line image uic name host) = Get
+command_in (get_all_line image folder) = Get
+command_in (home_line image) = Home
+command_in (init_line blocks slots label max image) = Init
+command_in (ls_line image) = Ls
+command_in (user_line image uic) = Ls
+command_in (name_line word) = Name
+command_in (put_line mode image uic name host) = Put
+command_in (rights_line caller owner word) = Rights
+command_in (rt_del_line rt name) = RtDel
+command_in (rt_get_line rt name host) = RtGet
+command_in (rt_get_all_line rt folder) = RtGet
+command_in (rt_init_line blocks segments image) = RtInit
+command_in (rt_list_line image) = RtList
+command_in (rt_ls_line rt) = RtLs
+command_in (rt_put_line rt name host) = RtPut
+command_in (rt_vfy_line image) = RtVfy
+command_in (run_line image script) = Run
+command_in (quiet_run_line image script) = Run
+command_in (vfy_line image) = Vfy
+command_in (update_line image) = Vfy
+
+-- and what it gives for each of the words that the command takes
+abbrev pub given_in : CommandLine → List Given
+given_in (dump_line image number) = text image ∷ text number ∷ []
+given_in (from_rt_line mode rt rt_name image uic name) = text mode ∷ text rt ∷ text rt_name ∷ text image ∷ text uic ∷ text name ∷ []
+given_in (to_rt_line mode image uic name rt rt_name) = text mode ∷ text image ∷ text uic ∷ text name ∷ text rt ∷ text rt_name ∷ []
+given_in (get_line mode image uic name host) =
+    is_there false ∷ is_there false ∷ says mode ∷ text image ∷ text uic ∷ text name ∷ text host ∷ []
+given_in (get_blocks_line image uic name host) =
+    is_there false ∷ is_there true ∷ says None ∷ text image ∷ text uic ∷ text name ∷ text host ∷ []
+given_in (get_all_line image folder) =
+    is_there true ∷ is_there false ∷ says None ∷ text image ∷ text folder ∷ says None ∷ says None ∷ []
+given_in (home_line image) = text image ∷ []
+given_in (init_line blocks slots label max image) = text blocks ∷ text slots ∷ text label ∷ says max ∷ text image ∷ []
+given_in (ls_line image) = text image ∷ says None ∷ []
+given_in (user_line image uic) = text image ∷ text uic ∷ []
+given_in (name_line word) = text word ∷ []
+given_in (put_line mode image uic name host) = says mode ∷ text image ∷ text uic ∷ text name ∷ text host ∷ []
+given_in (rights_line caller owner word) = text caller ∷ text owner ∷ text word ∷ []
+given_in (rt_del_line rt name) = text rt ∷ text name ∷ []
+given_in (rt_get_line rt name host) = is_there false ∷ text rt ∷ text name ∷ text host ∷ []
+given_in (rt_get_all_line rt folder) = is_there true ∷ text rt ∷ text folder ∷ says None ∷ []
+given_in (rt_init_line blocks segments image) = text blocks ∷ text segments ∷ text image ∷ []
+given_in (rt_list_line image) = text image ∷ []
+given_in (rt_ls_line rt) = text rt ∷ []
+given_in (rt_put_line rt name host) = text rt ∷ text name ∷ text host ∷ []
+given_in (rt_vfy_line image) = text image ∷ []
+given_in (run_line image script) = is_there false ∷ text image ∷ text script ∷ []
+given_in (quiet_run_line image script) = is_there true ∷ text image ∷ text script ∷ []
+given_in (vfy_line image) = is_there false ∷ text image ∷ []
+given_in (update_line image) = is_there true ∷ text image ∷ []
+
+-- the words of a command line behind the program's name, options first
+abbrev pub words_given : CommandLine → List (List ℕ)
+words_given line = name_of (command_in line) ∷ written (words_of (command_in line)) (given_in line)
+
+-- a word that begins with a hyphen (45) is an option
+abbrev pub is_option : List ℕ → Bool
+is_option [] = false
+is_option (b ∷ bs) = b == 45
+
+-- Words are those of a command line: the program's name stands before them, and none of the user's own is an option.
+pub record IsLineOf (line : CommandLine) (words : List (List ℕ)) : Type 0 where
+  pub program : List ℕ
+  pub is_line : words ≡ program ∷ words_given line
+  pub plain : All (λ word. is_option word ≡ false) (texts_in (given_in line))

@@ -1,0 +1,113 @@
+-- The commands, and the words that each takes (profile).
+use Rattle.std.specs.Prelude.{Bool, true, false, ℕ, List, [], ◌∷◌, ◌++◌, Option, Some, codes}
+use Rattle.f11_words.specs.declared.usage.Subcommand.{Subcommand}
+use Rattle.f11_words.specs.declared.usage.Subcommand.TheVariants.{
+  Dump,
+  FlxFromRt,
+  FlxToRt,
+  Get,
+  Home,
+  Init,
+  Ls,
+  Name,
+  Put,
+  Rights,
+  RtDel,
+  RtGet,
+  RtInit,
+  RtList,
+  RtLs,
+  RtPut,
+  RtVfy,
+  Run,
+  Vfy,
+}
+
+-- a word of a command, by its name: `--NAME`, which may be there; one behind `--NAME`, or one by its place, and whether it has to be there
+pub data Word : Type 0 where
+  flag : List ℕ → Word
+  option : List ℕ → Bool → Word
+  place : List ℕ → Bool → Word
+
+-- one by its place that has to be there
+abbrev pub needed : List ℕ → Word
+needed name = place name true
+
+abbrev pub all_commands : List Subcommand
+all_commands = Dump ∷ FlxFromRt ∷ FlxToRt ∷ Get ∷ Home ∷ Init ∷ Ls ∷ Name ∷ Put ∷ Rights ∷ RtDel ∷ RtGet ∷ RtInit ∷ RtList ∷ RtLs ∷ RtPut
+    ∷ RtVfy ∷ Run ∷ Vfy ∷ []
+
+-- a command's name
+abbrev pub name_of : Subcommand → List ℕ
+name_of Dump = codes "dump"
+name_of FlxFromRt = codes "flx-from-rt"
+name_of FlxToRt = codes "flx-to-rt"
+name_of Get = codes "get"
+name_of Home = codes "home"
+name_of Init = codes "init"
+name_of Ls = codes "ls"
+name_of Name = codes "name"
+name_of Put = codes "put"
+name_of Rights = codes "rights"
+name_of RtDel = codes "rt-del"
+name_of RtGet = codes "rt-get"
+name_of RtInit = codes "rt-init"
+name_of RtList = codes "rt-list"
+name_of RtLs = codes "rt-ls"
+name_of RtPut = codes "rt-put"
+name_of RtVfy = codes "rt-vfy"
+name_of Run = codes "run"
+name_of Vfy = codes "vfy"
+
+-- the words of a file on a Files-11 volume, whose directory has a word of this name, and of one on an RT-11 volume
+abbrev pub file_words : List ℕ → List Word
+file_words directory = needed (codes "image") ∷ needed directory ∷ needed (codes "name") ∷ []
+
+abbrev pub rt_file_words : List Word
+rt_file_words = needed (codes "rt") ∷ needed (codes "rt-name") ∷ []
+
+-- The words of a command. The folder of `get --all` stands in the directory's place, and that of `rt-get --all` in the name's.
+abbrev pub words_of : Subcommand → List Word
+words_of Dump = needed (codes "image") ∷ needed (codes "number") ∷ []
+words_of FlxFromRt = option (codes "mode") true ∷ (rt_file_words ++ file_words (codes "uic"))
+words_of FlxToRt = option (codes "mode") true ∷ (file_words (codes "uic") ++ rt_file_words)
+words_of Get = flag (codes "all") ∷ flag (codes "blocks") ∷ option (codes "mode") false ∷ needed (codes "image") ∷ needed (codes "dir")
+    ∷ place (codes "name") false ∷ place (codes "host") false ∷ []
+words_of Home = needed (codes "image") ∷ []
+words_of Init = option (codes "blocks") true ∷ option (codes "slots") true ∷ option (codes "label") true ∷ option (codes "max") false
+    ∷ needed (codes "image") ∷ []
+words_of Ls = needed (codes "image") ∷ place (codes "dir") false ∷ []
+words_of Name = needed (codes "text") ∷ []
+words_of Put = option (codes "mode") false ∷ (file_words (codes "dir") ++ needed (codes "host") ∷ [])
+words_of Rights = needed (codes "uic") ∷ needed (codes "owner") ∷ needed (codes "word") ∷ []
+words_of RtDel = needed (codes "rt") ∷ needed (codes "name") ∷ []
+words_of RtGet = flag (codes "all") ∷ needed (codes "rt") ∷ needed (codes "name") ∷ place (codes "host") false ∷ []
+words_of RtInit = option (codes "blocks") true ∷ option (codes "segments") true ∷ needed (codes "image") ∷ []
+words_of RtList = needed (codes "image") ∷ []
+words_of RtLs = needed (codes "rt") ∷ []
+words_of RtPut = needed (codes "rt") ∷ needed (codes "name") ∷ needed (codes "host") ∷ []
+words_of RtVfy = needed (codes "image") ∷ []
+words_of Run = flag (codes "quiet") ∷ needed (codes "image") ∷ needed (codes "script") ∷ []
+words_of Vfy = flag (codes "update") ∷ needed (codes "image") ∷ []
+
+-- what a user gives for a word: this text, or none; or, of a flag, whether it is there
+pub data Given : Type 0 where
+  says : Option (List ℕ) → Given
+  is_there : Bool → Given
+
+abbrev pub text : List ℕ → Given
+text word = says (Some word)
+
+-- the words as they are written,
+abbrev pub written : List Word → List Given → List (List ℕ)
+written (flag name ∷ words) (is_there true ∷ given) = (codes "--" ++ name) ∷ written words given
+written (option name is_needed ∷ words) (says (Some word) ∷ given) = (codes "--" ++ name) ∷ word ∷ written words given
+written (place name is_needed ∷ words) (says (Some word) ∷ given) = word ∷ written words given
+written (_ ∷ words) (_ ∷ given) = written words given
+written _ _ = []
+
+-- and the user's own texts among them
+abbrev pub texts_in : List Given → List (List ℕ)
+texts_in (says (Some word) ∷ given) = word ∷ texts_in given
+texts_in (_ ∷ given) = texts_in given
+texts_in [] = []

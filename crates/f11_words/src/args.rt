@@ -1,0 +1,59 @@
+//! The single words of a command, as they are read.
+ghost use Rattle.std.specs.Prelude.{◌≡◌, ℕ, List, Option, None, MatchOption, codes};
+ghost use Rattle.clap.specs.Words.{first_value, found_of};
+ghost use Rattle.f11_numbers.specs.Octal.{SpellsUic};
+ghost use Rattle.f11_words.specs.Asking.{IsMode, IsNoModeOrNone, SpellsMode, SpellsModeOrNone};
+ghost use Rattle.f11_words.specs.Directory.{IsNoDirectory, IsNoUic, SpellsDirectory};
+ghost use Rattle.f11_words.specs.Reading.{HasText};
+
+use crate::directory::{Directory, read_directory};
+use clap::ArgMatches;
+use f11_flx::CopyMode;
+use f11_numbers::read_uic;
+use f11_store::Uic;
+
+/// The mode of a copy that a text spells.
+pub fn mode_in(text: &str) -> Option<CopyMode>
+    ensures { MatchOption result (¬ IsMode text.now) (SpellsMode text.now) }
+{
+    match text {
+        "image" => Some(CopyMode::Image),
+        "text" => Some(CopyMode::Text),
+        _ => None,
+    }
+}
+
+/// The mode of a copy among the words, and that of an image where none is there.
+pub fn mode_or_image(given: &ArgMatches<'_>) -> Option<CopyMode>
+    ensures { (mode : Option (List ℕ)) → first_value (found_of given.now) (codes "mode") ≡ mode
+        → MatchOption result (IsNoModeOrNone mode) (SpellsModeOrNone mode) }
+{
+    match given.get_str("mode") {
+        Some(text) => mode_in(text),
+        None => Some(CopyMode::Image),
+    }
+}
+
+/// The mode of a copy among the words, which has to be there.
+pub fn mode_of(given: &ArgMatches<'_>) -> Option<CopyMode>
+    ensures { (text : List ℕ) → HasText (codes "mode") text given.now
+        → MatchOption result (¬ IsMode text) (SpellsMode text) }
+{
+    mode_in(given.get_str("mode")?)
+}
+
+/// The user's code that a word spells.
+pub fn uic_of(given: &ArgMatches<'_>, name: &str) -> Option<Uic>
+    ensures { (text : List ℕ) → HasText name.now text given.now
+        → MatchOption result (IsNoUic text) (SpellsUic text) }
+{
+    read_uic(given.get_str(name)?)
+}
+
+/// The directory that a word spells.
+pub fn directory_of(given: &ArgMatches<'_>) -> Option<Directory>
+    ensures { (text : List ℕ) → HasText (codes "dir") text given.now
+        → MatchOption result (IsNoDirectory text) (SpellsDirectory text) }
+{
+    read_directory(given.get_str("dir")?)
+}

@@ -1,0 +1,94 @@
+//! The words of the commands on an RT-11 volume.
+ghost use Rattle.std.specs.Prelude.{ℕ, List};
+ghost use Rattle.f11_words.specs.Lines.{rt_get_all_line, rt_get_line};
+ghost use Rattle.f11_words.specs.Reading.{Reads, ReadsWords};
+ghost use Rattle.f11_words.specs.declared.usage.Subcommand.TheVariants as subcommand;
+
+use crate::host_files::has;
+use crate::words::Words;
+use clap::ArgMatches;
+use f11_numbers::read_number;
+
+pub fn rt_del_of<'a>(given: &ArgMatches<'a>) -> Option<Words<'a>>
+    ensures { ReadsWords subcommand.RtDel given.now result }
+{
+    Some(Words::RtDel {
+        rt: given.get_str("rt")?,
+        name: given.get_str("name")?,
+    })
+}
+
+pub fn rt_get_of<'a>(given: &ArgMatches<'a>) -> Option<Words<'a>>
+    ensures { ReadsWords subcommand.RtGet given.now result }
+{
+    if given.get_flag("all") {
+        rt_get_all_of(given)
+    } else {
+        rt_get_file_of(given)
+    }
+}
+
+/// The words of `rt-get` for one file.
+fn rt_get_file_of<'a>(given: &ArgMatches<'a>) -> Option<Words<'a>>
+    ensures { (rt name host : List ℕ) → Reads (rt_get_line rt name host) given.now result }
+{
+    Some(Words::RtGet {
+        rt: given.get_str("rt")?,
+        name: given.get_str("name")?,
+        host: given.get_str("host")?,
+    })
+}
+
+/// The words of `rt-get` for all files, which are of no file of the host.
+fn rt_get_all_of<'a>(given: &ArgMatches<'a>) -> Option<Words<'a>>
+    ensures { (rt folder : List ℕ) → Reads (rt_get_all_line rt folder) given.now result }
+{
+    if has(given, "host") {
+        return None;
+    }
+    Some(Words::RtGetAll {
+        rt: given.get_str("rt")?,
+        folder: given.get_str("name")?,
+    })
+}
+
+pub fn rt_init_of<'a>(given: &ArgMatches<'a>) -> Option<Words<'a>>
+    ensures { ReadsWords subcommand.RtInit given.now result }
+{
+    Some(Words::RtInit {
+        image: given.get_str("image")?,
+        blocks: read_number(given.get_str("blocks")?)?,
+        segments: read_number(given.get_str("segments")?)?,
+    })
+}
+
+pub fn rt_list_of<'a>(given: &ArgMatches<'a>) -> Option<Words<'a>>
+    ensures { ReadsWords subcommand.RtList given.now result }
+{
+    let image = given.get_str("image")?;
+    Some(Words::RtList { image })
+}
+
+pub fn rt_ls_of<'a>(given: &ArgMatches<'a>) -> Option<Words<'a>>
+    ensures { ReadsWords subcommand.RtLs given.now result }
+{
+    let rt = given.get_str("rt")?;
+    Some(Words::RtLs { rt })
+}
+
+pub fn rt_put_of<'a>(given: &ArgMatches<'a>) -> Option<Words<'a>>
+    ensures { ReadsWords subcommand.RtPut given.now result }
+{
+    Some(Words::RtPut {
+        rt: given.get_str("rt")?,
+        name: given.get_str("name")?,
+        host: given.get_str("host")?,
+    })
+}
+
+pub fn rt_vfy_of<'a>(given: &ArgMatches<'a>) -> Option<Words<'a>>
+    ensures { ReadsWords subcommand.RtVfy given.now result }
+{
+    let image = given.get_str("image")?;
+    Some(Words::RtVfy { image })
+}

@@ -1,0 +1,169 @@
+//! Which word of a command can't be read, and what such a word is.
+
+use crate::args::mode_in;
+use crate::directory::read_directory;
+use crate::program::program;
+use crate::usage::Subcommand;
+use clap::ArgMatches;
+use f11_numbers::{read_count, read_number, read_protection, read_uic};
+use std::alloc::Global;
+use thiserror::Error;
+
+/// A word that can't be read, and what such a word is.
+#[derive(Clone, Copy, Debug, Error)]
+#[error("{word}: {wanted}")]
+pub struct Unread<'a> {
+    pub word: &'a str,
+    pub wanted: Wanted,
+}
+
+/// What a word has to be.
+#[derive(Clone, Copy, Debug, PartialEq, Eq, Error)]
+pub enum Wanted {
+    /// A number that can be given under this name, at most so great.
+    #[error("{0} takes a decimal number, at most {1}")]
+    Number(&'static str, u32),
+    /// With no words but these.
+    #[error("goes with {0} alone")]
+    Alone(&'static str),
+    /// Without `--blocks` beside it.
+    #[error("doesn't go with --blocks, which takes whole blocks as they are")]
+    NotBeside,
+    /// There.
+    #[error("missing")]
+    There,
+    /// A mode of a copy.
+    #[error("no mode; one is image or text")]
+    Mode,
+    /// A user's code.
+    #[error("no user's code; one is two octal numbers of 0 to 377, as 200,1")]
+    User,
+    /// A directory.
+    #[error("no directory; one is a user's code, two octal numbers of 0 to 377 as 200,1, or a name of up to 9 of A to Z, 0 to 9 and $, in brackets or without")]
+    Directory,
+    /// A protection word.
+    #[error("no protection word; one is up to 6 octal digits, at most 177777")]
+    Protection,
+}
+
+/// The first word that can't be read, of words that `clap` takes, and what such a word is; for words that [`parse`](crate::parse) doesn't take.
+pub fn misread<'a>(alloc: Global, words: &'a [String]) -> Option<Unread<'a>> {
+    let matches = program(alloc).ok()?.try_get_matches_from(words).ok()?;
+    let (name, given) = matches.subcommand()?;
+    first_unread(Subcommand::named(name)?, given)
+}
+
+/// What `clap` says of words that it doesn't take.
+pub fn refusal(alloc: Global, words: &[String]) -> Option<String> {
+    let error = program(alloc).ok()?.try_get_matches_from(words).err()?;
+    format!(in alloc; "{error}").ok()
+}
+
+/// The first of a command's words that can't be read, if there is one.
+fn first_unread<'a>(command: Subcommand, given: &ArgMatches<'a>) -> Option<Unread<'a>> {
+    match command {
+        Subcommand::Dump => number(given, "number", "NUMBER", 65_535),
+        Subcommand::FlxFromRt | Subcommand::FlxToRt => mode(given).or(user(given, "uic")),
+        Subcommand::Get => get(given),
+        Subcommand::Put => mode(given).or(directory(given)),
+        Subcommand::Init => blocks(given)
+            .or(number(given, "slots", "--slots", 16_000))
+            .or(number(given, "max", "--max", 65_500)),
+        Subcommand::Ls => directory(given),
+        Subcommand::Rights => user(given, "uic")
+            .or(user(given, "owner"))
+            .or(protection(given)),
+        Subcommand::RtInit => {
+            number(given, "blocks", "--blocks", 65_535).or(number(
+                given,
+                "segments",
+                "--segments",
+                31,
+            ))
+        }
+        Subcommand::RtGet => rt_get(given),
+        _ => None,
+    }
+}
+
+fn get<'a>(given: &ArgMatches<'a>) -> Option<Unread<'a>> {
+    let has_mode = given.get_str("mode").is_some();
+    let has_blocks = given.get_flag("blocks");
+    if given.get_flag("all") {
+        let is_alone = !has_mode && !has_blocks && given.get_str("name").is_none();
+        return unless(is_alone, "--all", Wanted::Alone("IMAGE and FOLDER"));
+    }
+    mode(given)
+        .or(directory(given))
+        .or(there(given, "name", "NAME"))
+        .or(there(given, "host", "HOST"))
+        .or(unless(!has_mode || !has_blocks, "--mode", Wanted::NotBeside))
+}
+
+fn rt_get<'a>(given: &ArgMatches<'a>) -> Option<Unread<'a>> {
+    if given.get_flag("all") {
+        return unless(
+            given.get_str("host").is_none(),
+            "--all",
+            Wanted::Alone("RT and FOLDER"),
+        );
+    }
+    there(given, "host", "HOST")
+}
+
+/// That a word is missing, unless it is there.
+fn there<'a>(given: &ArgMatches<'a>, id: &str, name: &'static str) -> Option<Unread<'a>> {
+    unless(given.get_str(id).is_some(), name, Wanted::There)
+}
+
+fn blocks<'a>(given: &ArgMatches<'a>) -> Option<Unread<'a>> {
+    let text = given.get_str("blocks")?;
+    unless(
+        read_count(text).is_some(),
+        text,
+        Wanted::Number("--blocks", 516_096),
+    )
+}
+
+fn number<'a>(
+    given: &ArgMatches<'a>,
+    id: &str,
+    name: &'static str,
+    most: u32,
+) -> Option<Unread<'a>> {
+    let text = given.get_str(id)?;
+    unless(
+        read_number(text).is_some(),
+        text,
+        Wanted::Number(name, most),
+    )
+}
+
+fn user<'a>(given: &ArgMatches<'a>, id: &str) -> Option<Unread<'a>> {
+    let text = given.get_str(id)?;
+    unless(read_uic(text).is_some(), text, Wanted::User)
+}
+
+fn directory<'a>(given: &ArgMatches<'a>) -> Option<Unread<'a>> {
+    let text = given.get_str("dir")?;
+    unless(read_directory(text).is_some(), text, Wanted::Directory)
+}
+
+fn mode<'a>(given: &ArgMatches<'a>) -> Option<Unread<'a>> {
+    let text = given.get_str("mode")?;
+    unless(mode_in(text).is_some(), text, Wanted::Mode)
+}
+
+fn protection<'a>(given: &ArgMatches<'a>) -> Option<Unread<'a>> {
+    let text = given.get_str("word")?;
+    unless(read_protection(text).is_some(), text, Wanted::Protection)
+}
+
+/// What a word has to be, unless it is that.
+fn unless<'a>(is_so: bool, word: &'a str, wanted: Wanted) -> Option<Unread<'a>> {
+    if is_so {
+        return None;
+    }
+    let word = if word.is_empty() { "''" } else { word };
+    Some(Unread { word, wanted })
+}

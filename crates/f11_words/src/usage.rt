@@ -1,0 +1,229 @@
+//! The commands, and the words that each takes.
+ghost use Rattle.std.specs.Prelude.{◌≡◌, ◌≢◌, IfNone, IfSome, map};
+ghost use Rattle.f11_words.specs.Usage.{all_commands, name_of, words_of};
+ghost use Rattle.f11_words.specs.Told.{as_word};
+
+/// A command, which the first word behind the program's name names.
+#[derive(Clone, Copy, Debug, PartialEq, Eq)]
+pub enum Subcommand {
+    Dump,
+    FlxFromRt,
+    FlxToRt,
+    Get,
+    Home,
+    Init,
+    Ls,
+    Name,
+    Put,
+    Rights,
+    RtDel,
+    RtGet,
+    RtInit,
+    RtList,
+    RtLs,
+    RtPut,
+    RtVfy,
+    Run,
+    Vfy,
+}
+
+/// A word of a command, by its name.
+#[derive(Clone, Copy, Debug, PartialEq, Eq)]
+pub(crate) enum Word {
+    /// `--NAME`, which may be there.
+    Flag(&'static str),
+    /// One behind `--NAME`, and whether it has to be there.
+    Option(&'static str, bool),
+    /// One by its place, and whether it has to be there.
+    Place(&'static str, bool),
+}
+
+/// All of them.
+const ALL: [Subcommand; 19] = [
+    Subcommand::Dump,
+    Subcommand::FlxFromRt,
+    Subcommand::FlxToRt,
+    Subcommand::Get,
+    Subcommand::Home,
+    Subcommand::Init,
+    Subcommand::Ls,
+    Subcommand::Name,
+    Subcommand::Put,
+    Subcommand::Rights,
+    Subcommand::RtDel,
+    Subcommand::RtGet,
+    Subcommand::RtInit,
+    Subcommand::RtList,
+    Subcommand::RtLs,
+    Subcommand::RtPut,
+    Subcommand::RtVfy,
+    Subcommand::Run,
+    Subcommand::Vfy,
+];
+
+impl Subcommand {
+    /// All commands.
+    pub(crate) fn all() -> [Subcommand; 19]
+        ensures { result ≡ all_commands }
+    {
+        ALL
+    }
+
+    /// The command of this name, if there is one.
+    pub fn named(name: &str) -> Option<Subcommand>
+        ensures named { IfSome result (λ command. name.now ≡ name_of command) }
+        ensures none { IfNone result ((command : Subcommand) → name.now ≢ name_of command) }
+    {
+        match name {
+            "dump" => Some(Subcommand::Dump),
+            "flx-from-rt" => Some(Subcommand::FlxFromRt),
+            "flx-to-rt" => Some(Subcommand::FlxToRt),
+            "get" => Some(Subcommand::Get),
+            "home" => Some(Subcommand::Home),
+            "init" => Some(Subcommand::Init),
+            "ls" => Some(Subcommand::Ls),
+            "name" => Some(Subcommand::Name),
+            "put" => Some(Subcommand::Put),
+            "rights" => Some(Subcommand::Rights),
+            "rt-del" => Some(Subcommand::RtDel),
+            "rt-get" => Some(Subcommand::RtGet),
+            "rt-init" => Some(Subcommand::RtInit),
+            "rt-list" => Some(Subcommand::RtList),
+            "rt-ls" => Some(Subcommand::RtLs),
+            "rt-put" => Some(Subcommand::RtPut),
+            "rt-vfy" => Some(Subcommand::RtVfy),
+            "run" => Some(Subcommand::Run),
+            "vfy" => Some(Subcommand::Vfy),
+            _ => None,
+        }
+    }
+
+    /// Its name.
+    pub fn name<'a>(self) -> &'a str
+        ensures { result.now ≡ name_of self }
+    {
+        match self {
+            Subcommand::Dump => "dump",
+            Subcommand::FlxFromRt => "flx-from-rt",
+            Subcommand::FlxToRt => "flx-to-rt",
+            Subcommand::Get => "get",
+            Subcommand::Home => "home",
+            Subcommand::Init => "init",
+            Subcommand::Ls => "ls",
+            Subcommand::Name => "name",
+            Subcommand::Put => "put",
+            Subcommand::Rights => "rights",
+            Subcommand::RtDel => "rt-del",
+            Subcommand::RtGet => "rt-get",
+            Subcommand::RtInit => "rt-init",
+            Subcommand::RtList => "rt-list",
+            Subcommand::RtLs => "rt-ls",
+            Subcommand::RtPut => "rt-put",
+            Subcommand::RtVfy => "rt-vfy",
+            Subcommand::Run => "run",
+            Subcommand::Vfy => "vfy",
+        }
+    }
+
+    /// The words that it takes, options first.
+    pub(crate) fn words(self) -> &'static [Word]
+        ensures { map as_word result.now ≡ words_of self }
+    {
+        match self {
+            Subcommand::Dump => &[Word::Place("image", true), Word::Place("number", true)],
+            Subcommand::FlxFromRt => {
+                &[
+                    Word::Option("mode", true),
+                    Word::Place("rt", true),
+                    Word::Place("rt-name", true),
+                    Word::Place("image", true),
+                    Word::Place("uic", true),
+                    Word::Place("name", true),
+                ]
+            }
+            Subcommand::FlxToRt => {
+                &[
+                    Word::Option("mode", true),
+                    Word::Place("image", true),
+                    Word::Place("uic", true),
+                    Word::Place("name", true),
+                    Word::Place("rt", true),
+                    Word::Place("rt-name", true),
+                ]
+            }
+            Subcommand::Get => {
+                &[
+                    Word::Flag("all"),
+                    Word::Flag("blocks"),
+                    Word::Option("mode", false),
+                    Word::Place("image", true),
+                    Word::Place("dir", true),
+                    Word::Place("name", false),
+                    Word::Place("host", false),
+                ]
+            }
+            Subcommand::Init => {
+                &[
+                    Word::Option("blocks", true),
+                    Word::Option("slots", true),
+                    Word::Option("label", true),
+                    Word::Option("max", false),
+                    Word::Place("image", true),
+                ]
+            }
+            Subcommand::Ls => &[Word::Place("image", true), Word::Place("dir", false)],
+            Subcommand::Name => &[Word::Place("text", true)],
+            Subcommand::Put => {
+                &[
+                    Word::Option("mode", false),
+                    Word::Place("image", true),
+                    Word::Place("dir", true),
+                    Word::Place("name", true),
+                    Word::Place("host", true),
+                ]
+            }
+            Subcommand::Rights => {
+                &[
+                    Word::Place("uic", true),
+                    Word::Place("owner", true),
+                    Word::Place("word", true),
+                ]
+            }
+            Subcommand::RtDel => &[Word::Place("rt", true), Word::Place("name", true)],
+            Subcommand::RtGet => {
+                &[
+                    Word::Flag("all"),
+                    Word::Place("rt", true),
+                    Word::Place("name", true),
+                    Word::Place("host", false),
+                ]
+            }
+            Subcommand::RtInit => {
+                &[
+                    Word::Option("blocks", true),
+                    Word::Option("segments", true),
+                    Word::Place("image", true),
+                ]
+            }
+            Subcommand::RtLs => &[Word::Place("rt", true)],
+            Subcommand::RtPut => {
+                &[
+                    Word::Place("rt", true),
+                    Word::Place("name", true),
+                    Word::Place("host", true),
+                ]
+            }
+            Subcommand::Run => {
+                &[
+                    Word::Flag("quiet"),
+                    Word::Place("image", true),
+                    Word::Place("script", true),
+                ]
+            }
+            Subcommand::Vfy => &[Word::Flag("update"), Word::Place("image", true)],
+            Subcommand::Home | Subcommand::RtList | Subcommand::RtVfy => {
+                &[Word::Place("image", true)]
+            }
+        }
+    }
+}

@@ -1,0 +1,138 @@
+//! What the words of a command line ask for.
+
+use crate::directory::Directory;
+use f11_flx::CopyMode;
+use f11_store::Uic;
+
+/// What the words of the command line ask for.
+#[derive(Clone, Copy, Debug, PartialEq, Eq)]
+pub enum Words<'a> {
+    /// `dump IMAGE NUMBER`: the number of a file header
+    Dump {
+        image: &'a str,
+        number: u16,
+    },
+    /// `flx-from-rt --mode M RT RTNAME IMAGE UIC NAME`: how a file of an RT-11 volume is copied to which file in which directory
+    FlxFromRt {
+        mode: CopyMode,
+        rt: &'a str,
+        rt_name: &'a str,
+        image: &'a str,
+        directory: Uic,
+        name: &'a str,
+    },
+    /// `flx-to-rt --mode M IMAGE UIC NAME RT RTNAME`: how which file in which directory is copied to a file of an RT-11 volume
+    FlxToRt {
+        mode: CopyMode,
+        image: &'a str,
+        directory: Uic,
+        name: &'a str,
+        rt: &'a str,
+        rt_name: &'a str,
+    },
+    /// `get [--mode M|--blocks] IMAGE DIR NAME HOST`: how which file in which directory becomes a file of the host, and whether up to its
+    /// last block
+    Get {
+        mode: CopyMode,
+        all_blocks: bool,
+        image: &'a str,
+        directory: Directory,
+        name: &'a str,
+        host: &'a str,
+    },
+    /// `get --all IMAGE FOLDER`: the folder in which all files become files of the host
+    GetAll {
+        image: &'a str,
+        folder: &'a str,
+    },
+    /// `home IMAGE`
+    Home {
+        image: &'a str,
+    },
+    /// `init --blocks N --slots N --label L [--max N] IMAGE`: what a fresh volume is made with
+    Init {
+        image: &'a str,
+        blocks: u32,
+        slots: u16,
+        label: &'a str,
+        max_files: u16,
+    },
+    /// `ls IMAGE`: of all directories
+    Ls {
+        image: &'a str,
+    },
+    /// `ls IMAGE DIR`: of one
+    LsIn {
+        image: &'a str,
+        directory: Directory,
+    },
+    /// `name TEXT`
+    Name {
+        text: &'a str,
+    },
+    /// `put [--mode M] IMAGE DIR NAME HOST`: how the file in which directory is made, and one of the host
+    Put {
+        mode: CopyMode,
+        image: &'a str,
+        directory: Directory,
+        name: &'a str,
+        host: &'a str,
+    },
+    /// `rights UIC OWNER WORD`: the caller's code, the owner's, and the file's protection word
+    Rights {
+        caller: Uic,
+        owner: Uic,
+        protection: u16,
+    },
+    /// `rt-del RT NAME`: a file of an RT-11 volume
+    RtDel {
+        rt: &'a str,
+        name: &'a str,
+    },
+    /// `rt-get RT NAME HOST`: a file of an RT-11 volume, and one of the host that is made
+    RtGet {
+        rt: &'a str,
+        name: &'a str,
+        host: &'a str,
+    },
+    /// `rt-get --all RT FOLDER`: the folder in which all files of an RT-11 volume become files of the host
+    RtGetAll {
+        rt: &'a str,
+        folder: &'a str,
+    },
+    /// `rt-init --blocks N --segments N IMAGE`
+    RtInit {
+        image: &'a str,
+        blocks: u16,
+        segments: u16,
+    },
+    /// `rt-list IMAGE`
+    RtList {
+        image: &'a str,
+    },
+    /// `rt-ls RT`
+    RtLs {
+        rt: &'a str,
+    },
+    /// `rt-put RT NAME HOST`: a file of an RT-11 volume that is made, and one of the host
+    RtPut {
+        rt: &'a str,
+        name: &'a str,
+        host: &'a str,
+    },
+    /// `rt-vfy IMAGE`
+    RtVfy {
+        image: &'a str,
+    },
+    /// `run [--quiet] IMAGE SCRIPT`: whether nothing is said of lines that aren't done
+    Run {
+        image: &'a str,
+        script: &'a str,
+        is_quiet: bool,
+    },
+    /// `vfy [--update] IMAGE`
+    Vfy {
+        image: &'a str,
+        update: bool,
+    },
+}
