@@ -1,4 +1,4 @@
-//! The commands, and which files each opens.
+//! The commands, each with the files that the words name for it.
 use crate::copies::{Asked, copy};
 use crate::directory::name_of;
 use crate::folder::get_all;
@@ -19,7 +19,7 @@ const OWNER: Uic = Uic {
     member: 1,
 };
 
-/// Opens the files that the words name, in their order, and does the work.
+/// Does what the words ask for, with the files that they name.
 pub fn run<'a, W: Write>(
     rt: &HostRuntime,
     words: &Words<'a>,

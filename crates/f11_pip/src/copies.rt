@@ -1,6 +1,6 @@
 //! The commands that copy a file between the two file systems: which files they open, and what they say.
 use crate::heard::Heard;
-use crate::host_files::tell_no_directory;
+use crate::host_files::{lacks_directory, tell_no_directory};
 use crate::image::{opened_source, opened_to_write, tell_fault};
 use crate::outcome::Failure;
 use crate::refusals::{self, NO_SUCH_ENTRY, of_finding, of_making, of_rt};
@@ -52,14 +52,23 @@ pub fn copy<'a, W: Write>(
     tell_fault(rt, asked.image, files);
     tell_fault(rt, asked.rt_image, rt_volume);
     if let Some(line) = heard.refusal() {
-        match asked.direction {
-            Direction::FromRt if line == NO_SUCH_ENTRY => {
-                tell_no_directory(rt, directory_name(asked.directory));
-            }
-            _ => refusals::tell(rt, uncopied(asked, line)),
-        }
+        tell_uncopied(rt, asked, line);
     }
     Ok(copied(rt, asked, answer?, remark))
+}
+
+/// Says why a copy is refused, by this line, which of its names isn't there among it.
+fn tell_uncopied(rt: &HostRuntime, asked: &Asked<'_>, line: &str) {
+    let directory = directory_name(asked.directory);
+    if line == NO_SUCH_ENTRY {
+        if asked.direction == Direction::FromRt || lacks_directory(rt, asked.image, directory) {
+            tell_no_directory(rt, directory);
+        } else {
+            remarks::tell(rt, asked.name, Why::NOT_THERE);
+        }
+    } else {
+        refusals::tell(rt, uncopied(asked, line));
+    }
 }
 
 /// What there is to say of a copy that this line refuses.

@@ -281,7 +281,7 @@ pub fn asked_for(words: &[String]) -> Option<&String> {
         [_, first, _, ..] => first,
         _ => return None,
     };
-    if command_of(word).is_some() || is_help(word) {
+    if command_of(word).is_some() || is_help(word) || word.as_str() == "help" {
         return None;
     }
     Some(word)

@@ -330,7 +330,7 @@ pub fn tell_no_directory(rt: &HostRuntime, directory: Name) {
 }
 
 /// Whether the master file directory of a volume doesn't name this directory, as listing it tells.
-fn lacks_directory(rt: &HostRuntime, image: &str, directory: Name) -> bool {
+pub fn lacks_directory(rt: &HostRuntime, image: &str, directory: Name) -> bool {
     let Ok(device) = image_of(rt, image) else {
         return false;
     };

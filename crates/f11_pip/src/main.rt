@@ -1,7 +1,7 @@
 //! The program: `f11_pip COMMAND ..` works on Files-11 volumes in image files.
 //!
-//! [`main`] reads the words ([`f11_words`]), opens the files in their order, calls the command's function of [`f11_commands`], and ends with
-//! the [`status`] of the outcome. The crate stands on these two, on [`f11_dev`] and [`f11_read_ahead`], for images, and on [`f11_store`].
+//! [`main`] has the words read ([`f11_words`]) and the work done ([`run`]), which opens the files in their order and calls the command's
+//! function of [`f11_commands`], and ends with the [`status`] of the outcome. The crate stands on these two, on [`f11_dev`] and [`f11_read_ahead`], for images, and on [`f11_store`].
 #![tactic(auto)]
 
 mod commands;

@@ -2,7 +2,7 @@
 use crate::image::{ReadImage, image_of};
 use crate::outcome::Failure;
 use crate::rt_folder;
-use f11_commands::f11_layout::{InitParams, MOST_BLOCKS, is_label};
+use f11_commands::f11_layout::{InitParams, Layout, MOST_BLOCKS, is_label};
 use f11_commands::{
     Answer, FileAnswer, RtServed, RtState, System, blocks_wanted, print_home, print_rt_ls,
     print_rt_vfy,
@@ -73,6 +73,9 @@ pub enum Why {
     /// Its file, which was made, took no more, and why.
     #[error("not written to its end: {0}")]
     NotWritten(io::Error),
+    /// It is fewer blocks than a fresh volume with so many slots takes, which are so many.
+    #[error("too few for so many slots, which take {0}")]
+    TooFew(u32),
     /// Fewer file headers are free on the volume in it than may be needed.
     #[error("it may need {0} file headers, and fewer are free or can be had: delete files, or take a fresh volume, init with --slots {1} or more")]
     FewHeaders(u64, u64),
@@ -249,8 +252,18 @@ pub fn passed_by(blocks: u32, params: &InitParams<'_>) -> Remark<'static> {
     } else if !is_label(params.label) {
         limit("--label", "1 to 12 characters A to Z and 0 to 9")
     } else {
-        limit("--blocks", "too few for so many slots")
+        Remark::of("--blocks", Why::TooFew(fewest(blocks, params)))
     }
+}
+
+/// With how many blocks a volume can be made with these parameters, of which so many are too few.
+fn fewest(blocks: u32, params: &InitParams<'_>) -> u32 {
+    for more in blocks..MOST_BLOCKS {
+        if Layout::new(params, more).is_some() {
+            return more;
+        }
+    }
+    MOST_BLOCKS
 }
 
 /// The limit of `rt-init` that a parameter passed, where no volume can be made with so many segments.

@@ -33,7 +33,7 @@ use Rattle.f11_words.specs.Lines.{
   run_line,
   to_rt_line,
   update_line,
-  user_line,
+  ls_in_line,
   vfy_line,
 }
 use Rattle.f11_words.specs.Reading.{as_found, found}
@@ -126,18 +126,18 @@ unfolding clap_on_literals
 line-met (dump_line image number) = (tt, refl, refl)
 line-met (from_rt_line mode rt rt_name image uic name) = (tt, refl, refl)
 line-met (to_rt_line mode image uic name rt rt_name) = (tt, refl, refl)
-line-met (get_line None image uic name host) = (tt, refl, refl)
-line-met (get_line (Some mode) image uic name host) = (tt, refl, refl)
-line-met (get_blocks_line image uic name host) = (tt, refl, refl)
+line-met (get_line None image dir name host) = (tt, refl, refl)
+line-met (get_line (Some mode) image dir name host) = (tt, refl, refl)
+line-met (get_blocks_line image dir name host) = (tt, refl, refl)
 line-met (get_all_line image folder) = (refl, refl, refl)
 line-met (home_line image) = (tt, refl, refl)
 line-met (init_line blocks slots label None image) = (tt, refl, refl)
 line-met (init_line blocks slots label (Some max) image) = (tt, refl, refl)
 line-met (ls_line image) = (refl, refl, refl)
-line-met (user_line image uic) = (tt, refl, refl)
+line-met (ls_in_line image dir) = (tt, refl, refl)
 line-met (name_line word) = (tt, refl, refl)
-line-met (put_line None image uic name host) = (tt, refl, refl)
-line-met (put_line (Some mode) image uic name host) = (tt, refl, refl)
+line-met (put_line None image dir name host) = (tt, refl, refl)
+line-met (put_line (Some mode) image dir name host) = (tt, refl, refl)
 line-met (rights_line caller owner word) = (tt, refl, refl)
 line-met (rt_del_line rt name) = (tt, refl, refl)
 line-met (rt_get_line rt name host) = (tt, refl, refl)

@@ -9,7 +9,7 @@ use Rattle.clap.specs.Simple.{App, Shape, built, entered, label_of, names_of}
 use Rattle.clap.specs.Takes.{built_takes, default_passes, entered_passes, is_valid, level_passes, settle_passes, walk_passes}
 use Rattle.clap.specs.Walk.{Held, Names, Rule, Text, Walk, answers_to, finished, idle, nothing_held, rows_after, subcommand_met, walk}
 use Rattle.clap.specs.Walk.{walk_from, walked}
-use Rattle.clap.specs.Words.{is_simple, subcommand_of, takes}
+use Rattle.clap.specs.Words.{is_simple, is_simple_and_free, subcommand_of, takes}
 use Rattle.clap.proofs.OnLiterals.{clap_on_literals}
 use Rattle.f11_words.specs.Lines.{CommandLine, command_in, given_in, words_given}
 use Rattle.f11_words.specs.Reading.{Meets, met_words}
@@ -43,6 +43,10 @@ use Rattle.f11_words.proofs.WalkLemmas.{ArePlain}
 pub is_simple-program : is_simple program_app ≡ true
 unfolding clap_on_literals
 is_simple-program = refl
+
+pub is_simple_and_free-program : is_simple_and_free program_app ≡ true
+unfolding clap_on_literals
+is_simple_and_free-program = refl
 
 -- a walk that has met a subcommand keeps the words behind it
 abbrev pub stopped_at : Held → Text → List Text → Walk

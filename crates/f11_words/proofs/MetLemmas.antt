@@ -35,7 +35,7 @@ use Rattle.f11_words.specs.Lines.{
   run_line,
   to_rt_line,
   update_line,
-  user_line,
+  ls_in_line,
   vfy_line,
 }
 use Rattle.f11_words.specs.Reading.{Has, HasAll, Meets, Reads, ReadsWords, as_found, found, met_words}
@@ -129,15 +129,15 @@ reads-line : (matches : ArgMatches) (result : Option Words) (line : CommandLine)
 reads-line matches result (dump_line image number) reads = reads image number
 reads-line matches result (from_rt_line mode rt rt_name image uic name) reads = reads mode rt rt_name image uic name
 reads-line matches result (to_rt_line mode image uic name rt rt_name) reads = reads mode image uic name rt rt_name
-reads-line matches result (get_line mode image uic name host) reads = reads.file mode image uic name host
-reads-line matches result (get_blocks_line image uic name host) reads = reads.blocks image uic name host
+reads-line matches result (get_line mode image dir name host) reads = reads.file mode image dir name host
+reads-line matches result (get_blocks_line image dir name host) reads = reads.blocks image dir name host
 reads-line matches result (get_all_line image folder) reads = reads.all image folder
 reads-line matches result (home_line image) reads = reads image
 reads-line matches result (init_line blocks slots label max image) reads = reads blocks slots label max image
 reads-line matches result (ls_line image) reads = reads.all image
-reads-line matches result (user_line image uic) reads = reads.one image uic
+reads-line matches result (ls_in_line image dir) reads = reads.one image dir
 reads-line matches result (name_line word) reads = reads word
-reads-line matches result (put_line mode image uic name host) reads = reads mode image uic name host
+reads-line matches result (put_line mode image dir name host) reads = reads mode image dir name host
 reads-line matches result (rights_line caller owner word) reads = reads caller owner word
 reads-line matches result (rt_del_line rt name) reads = reads rt name
 reads-line matches result (rt_get_line rt name host) reads = reads.file rt name host

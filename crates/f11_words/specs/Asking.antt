@@ -28,7 +28,7 @@ use Rattle.f11_words.specs.Lines.{
   run_line,
   to_rt_line,
   update_line,
-  user_line,
+  ls_in_line,
   vfy_line,
 }
 use Rattle.f11_flx.specs.declared.mode.CopyMode.{CopyMode}
@@ -96,10 +96,10 @@ SpellsModeOrNone (Some text) mode = SpellsMode text mode
 -- the words ask that the file of this name in this directory of this image become, in this mode, a file of the host under this name: up to
 -- the end that it states, or up to its last block
 abbrev pub AsksGet : Bool → Option (List ℕ) → List ℕ → List ℕ → List ℕ → List ℕ → Words → Type 0
-AsksGet blocks mode image uic name host (Get in_mode all_blocks from directory file to) =
-    (all_blocks ≡ blocks) × SpellsModeOrNone mode in_mode × (from.now ≡ image) × SpellsDirectory uic directory × (file.now ≡ name)
+AsksGet blocks mode image dir name host (Get in_mode all_blocks from directory file to) =
+    (all_blocks ≡ blocks) × SpellsModeOrNone mode in_mode × (from.now ≡ image) × SpellsDirectory dir directory × (file.now ≡ name)
     × (to.now ≡ host)
-AsksGet blocks mode image uic name host _ = ⊥
+AsksGet blocks mode image dir name host _ = ⊥
 
 -- the words ask that all files of this image become files of the host in this folder
 abbrev pub AsksGetAll : List ℕ → List ℕ → Words → Type 0
@@ -108,9 +108,9 @@ AsksGetAll name text _ = ⊥
 
 -- the words ask that this file of the host become, in this mode, the file of this name in this directory of this image
 abbrev pub AsksPut : Option (List ℕ) → List ℕ → List ℕ → List ℕ → List ℕ → Words → Type 0
-AsksPut mode image uic name host (Put in_mode to directory file from) =
-    SpellsModeOrNone mode in_mode × (to.now ≡ image) × SpellsDirectory uic directory × (file.now ≡ name) × (from.now ≡ host)
-AsksPut mode image uic name host _ = ⊥
+AsksPut mode image dir name host (Put in_mode to directory file from) =
+    SpellsModeOrNone mode in_mode × (to.now ≡ image) × SpellsDirectory dir directory × (file.now ≡ name) × (from.now ≡ host)
+AsksPut mode image dir name host _ = ⊥
 
 -- the words ask for the home block of this image
 abbrev pub AsksHome : List ℕ → Words → Type 0
@@ -143,20 +143,22 @@ abbrev pub AsksRtDel : List ℕ → List ℕ → Words → Type 0
 AsksRtDel image text (RtDel rt name) = (rt.now ≡ image) × (name.now ≡ text)
 AsksRtDel image text _ = ⊥
 
--- the words ask that it be copied to this file of the host, or that a file be made of that one
+-- the words ask that this file of it be copied to this file of the host
 abbrev pub AsksRtGet : List ℕ → List ℕ → List ℕ → Words → Type 0
 AsksRtGet image text path (RtGet rt name host) = (rt.now ≡ image) × (name.now ≡ text) × (host.now ≡ path)
 AsksRtGet image text path _ = ⊥
 
--- the words ask that all files of the RT-11 volume in this image become files of the host in this folder, or that they be listed
+-- the words ask that all files of the RT-11 volume in this image become files of the host in this folder
 abbrev pub AsksRtGetAll : List ℕ → List ℕ → Words → Type 0
 AsksRtGetAll image text (RtGetAll rt folder) = (rt.now ≡ image) × (folder.now ≡ text)
 AsksRtGetAll image text _ = ⊥
 
+-- the words ask that they be listed
 abbrev pub AsksRtLs : List ℕ → Words → Type 0
 AsksRtLs image (RtLs rt) = rt.now ≡ image
 AsksRtLs image _ = ⊥
 
+-- the words ask that this file of the host become a file of this name of the RT-11 volume in this image
 abbrev pub AsksRtPut : List ℕ → List ℕ → List ℕ → Words → Type 0
 AsksRtPut image text path (RtPut rt name host) = (rt.now ≡ image) × (name.now ≡ text) × (host.now ≡ path)
 AsksRtPut image text path _ = ⊥
@@ -185,9 +187,9 @@ SpellsOneOrNone _ _ = ⊥
 
 -- the words ask that this directory be listed, or without a text all
 abbrev pub AsksLs : List ℕ → Option (List ℕ) → Words → Type 0
-AsksLs name uic (Ls image) = (image.now ≡ name) × SpellsOneOrNone uic None
-AsksLs name uic (LsIn image directory) = (image.now ≡ name) × SpellsOneOrNone uic (Some directory)
-AsksLs name uic _ = ⊥
+AsksLs name dir (Ls image) = (image.now ≡ name) × SpellsOneOrNone dir None
+AsksLs name dir (LsIn image directory) = (image.now ≡ name) × SpellsOneOrNone dir (Some directory)
+AsksLs name dir _ = ⊥
 
 -- the words ask for this name's words
 abbrev pub AsksName : List ℕ → Words → Type 0
@@ -204,15 +206,15 @@ abbrev pub Asks : CommandLine → Words → Type 0
 Asks (dump_line image number) words = AsksDump image number words
 Asks (from_rt_line mode rt rt_name image uic name) words = AsksFromRt mode rt rt_name image uic name words
 Asks (to_rt_line mode image uic name rt rt_name) words = AsksToRt mode image uic name rt rt_name words
-Asks (get_line mode image uic name host) words = AsksGet false mode image uic name host words
-Asks (get_blocks_line image uic name host) words = AsksGet true None image uic name host words
+Asks (get_line mode image dir name host) words = AsksGet false mode image dir name host words
+Asks (get_blocks_line image dir name host) words = AsksGet true None image dir name host words
 Asks (get_all_line image folder) words = AsksGetAll image folder words
 Asks (home_line image) words = AsksHome image words
 Asks (init_line blocks slots label max image) words = AsksInit blocks slots label max image words
 Asks (ls_line image) words = AsksLs image None words
-Asks (user_line image uic) words = AsksLs image (Some uic) words
+Asks (ls_in_line image dir) words = AsksLs image (Some dir) words
 Asks (name_line text) words = AsksName text words
-Asks (put_line mode image uic name host) words = AsksPut mode image uic name host words
+Asks (put_line mode image dir name host) words = AsksPut mode image dir name host words
 Asks (rights_line caller owner word) words = AsksRights caller owner word words
 Asks (rt_del_line rt name) words = AsksRtDel rt name words
 Asks (rt_get_line rt name host) words = AsksRtGet rt name host words
@@ -232,11 +234,6 @@ abbrev pub IsNoMax : Option (List ℕ) → Type 0
 IsNoMax None = ⊥
 IsNoMax (Some text) = ¬ IsNumber text
 
--- a text is there, and spells no directory
-abbrev pub IsNoOne : Option (List ℕ) → Type 0
-IsNoOne None = ⊥
-IsNoOne (Some text) = IsNoDirectory text
-
 -- one of the numbers of `init` isn't one
 abbrev pub IsNoInit : List ℕ → List ℕ → Option (List ℕ) → Type 0
 IsNoInit blocks slots max = ¬ IsCount blocks ⊎ (¬ IsNumber slots ⊎ IsNoMax max)
@@ -248,7 +245,7 @@ IsNoModeOrNone (Some text) = ¬ IsMode text
 
 -- a mode is there that isn't one, or a text spells no directory
 abbrev pub IsNoMove : Option (List ℕ) → List ℕ → Type 0
-IsNoMove mode uic = IsNoModeOrNone mode ⊎ IsNoDirectory uic
+IsNoMove mode dir = IsNoModeOrNone mode ⊎ IsNoDirectory dir
 
 -- a copy's mode isn't one, or its user's code
 abbrev pub IsNoCopy : List ℕ → List ℕ → Type 0
@@ -259,15 +256,15 @@ abbrev pub IsUnreadable : CommandLine → Type 0
 IsUnreadable (dump_line image number) = ¬ IsNumber number
 IsUnreadable (from_rt_line mode rt rt_name image uic name) = IsNoCopy mode uic
 IsUnreadable (to_rt_line mode image uic name rt rt_name) = IsNoCopy mode uic
-IsUnreadable (get_line mode image uic name host) = IsNoMove mode uic
-IsUnreadable (get_blocks_line image uic name host) = IsNoDirectory uic
+IsUnreadable (get_line mode image dir name host) = IsNoMove mode dir
+IsUnreadable (get_blocks_line image dir name host) = IsNoDirectory dir
 IsUnreadable (get_all_line image folder) = ⊥
 IsUnreadable (home_line image) = ⊥
 IsUnreadable (init_line blocks slots label max image) = IsNoInit blocks slots max
 IsUnreadable (ls_line image) = ⊥
-IsUnreadable (user_line image uic) = IsNoDirectory uic
+IsUnreadable (ls_in_line image dir) = IsNoDirectory dir
 IsUnreadable (name_line text) = ⊥
-IsUnreadable (put_line mode image uic name host) = IsNoMove mode uic
+IsUnreadable (put_line mode image dir name host) = IsNoMove mode dir
 IsUnreadable (rights_line caller owner word) = IsNoUic caller ⊎ (IsNoUic owner ⊎ ¬ IsProtection word)
 IsUnreadable (rt_del_line rt name) = ⊥
 IsUnreadable (rt_get_line rt name host) = ⊥

@@ -5,3 +5,4 @@ pub mod Lines
 pub mod Reading
 pub mod Told
 pub mod Usage
+pub mod Worked

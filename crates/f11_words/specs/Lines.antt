@@ -29,15 +29,15 @@ pub data CommandLine : Type 0 where
   dump_line : (image number : List ℕ) → CommandLine
   from_rt_line : (mode rt rt_name image uic name : List ℕ) → CommandLine
   to_rt_line : (mode image uic name rt rt_name : List ℕ) → CommandLine
-  get_line : (mode : Option (List ℕ)) → (image uic name host : List ℕ) → CommandLine
-  get_blocks_line : (image uic name host : List ℕ) → CommandLine
+  get_line : (mode : Option (List ℕ)) → (image dir name host : List ℕ) → CommandLine
+  get_blocks_line : (image dir name host : List ℕ) → CommandLine
   get_all_line : (image folder : List ℕ) → CommandLine
   home_line : (image : List ℕ) → CommandLine
   init_line : (blocks slots label : List ℕ) → (max : Option (List ℕ)) → (image : List ℕ) → CommandLine
   ls_line : (image : List ℕ) → CommandLine
-  user_line : (image uic : List ℕ) → CommandLine
+  ls_in_line : (image dir : List ℕ) → CommandLine
   name_line : (word : List ℕ) → CommandLine
-  put_line : (mode : Option (List ℕ)) → (image uic name host : List ℕ) → CommandLine
+  put_line : (mode : Option (List ℕ)) → (image dir name host : List ℕ) → CommandLine
   rights_line : (caller owner word : List ℕ) → CommandLine
   rt_del_line : (rt name : List ℕ) → CommandLine
   rt_get_line : (rt name host : List ℕ) → CommandLine
@@ -57,15 +57,15 @@ abbrev pub command_in : CommandLine → Subcommand
 command_in (dump_line image number) = Dump
 command_in (from_rt_line mode rt rt_name image uic name) = FlxFromRt
 command_in (to_rt_line mode image uic name rt rt_name) = FlxToRt
-command_in (get_line mode image uic name host) = Get
-command_in (get_blocks_line image uic name host) = Get
+command_in (get_line mode image dir name host) = Get
+command_in (get_blocks_line image dir name host) = Get
 command_in (get_all_line image folder) = Get
 command_in (home_line image) = Home
 command_in (init_line blocks slots label max image) = Init
 command_in (ls_line image) = Ls
-command_in (user_line image uic) = Ls
+command_in (ls_in_line image dir) = Ls
 command_in (name_line word) = Name
-command_in (put_line mode image uic name host) = Put
+command_in (put_line mode image dir name host) = Put
 command_in (rights_line caller owner word) = Rights
 command_in (rt_del_line rt name) = RtDel
 command_in (rt_get_line rt name host) = RtGet
@@ -85,18 +85,18 @@ abbrev pub given_in : CommandLine → List Given
 given_in (dump_line image number) = text image ∷ text number ∷ []
 given_in (from_rt_line mode rt rt_name image uic name) = text mode ∷ text rt ∷ text rt_name ∷ text image ∷ text uic ∷ text name ∷ []
 given_in (to_rt_line mode image uic name rt rt_name) = text mode ∷ text image ∷ text uic ∷ text name ∷ text rt ∷ text rt_name ∷ []
-given_in (get_line mode image uic name host) =
-    is_there false ∷ is_there false ∷ says mode ∷ text image ∷ text uic ∷ text name ∷ text host ∷ []
-given_in (get_blocks_line image uic name host) =
-    is_there false ∷ is_there true ∷ says None ∷ text image ∷ text uic ∷ text name ∷ text host ∷ []
+given_in (get_line mode image dir name host) =
+    is_there false ∷ is_there false ∷ says mode ∷ text image ∷ text dir ∷ text name ∷ text host ∷ []
+given_in (get_blocks_line image dir name host) =
+    is_there false ∷ is_there true ∷ says None ∷ text image ∷ text dir ∷ text name ∷ text host ∷ []
 given_in (get_all_line image folder) =
     is_there true ∷ is_there false ∷ says None ∷ text image ∷ text folder ∷ says None ∷ says None ∷ []
 given_in (home_line image) = text image ∷ []
 given_in (init_line blocks slots label max image) = text blocks ∷ text slots ∷ text label ∷ says max ∷ text image ∷ []
 given_in (ls_line image) = text image ∷ says None ∷ []
-given_in (user_line image uic) = text image ∷ text uic ∷ []
+given_in (ls_in_line image dir) = text image ∷ text dir ∷ []
 given_in (name_line word) = text word ∷ []
-given_in (put_line mode image uic name host) = says mode ∷ text image ∷ text uic ∷ text name ∷ text host ∷ []
+given_in (put_line mode image dir name host) = says mode ∷ text image ∷ text dir ∷ text name ∷ text host ∷ []
 given_in (rights_line caller owner word) = text caller ∷ text owner ∷ text word ∷ []
 given_in (rt_del_line rt name) = text rt ∷ text name ∷ []
 given_in (rt_get_line rt name host) = is_there false ∷ text rt ∷ text name ∷ text host ∷ []

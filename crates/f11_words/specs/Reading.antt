@@ -30,7 +30,7 @@ use Rattle.f11_words.specs.Lines.{
   run_line,
   to_rt_line,
   update_line,
-  user_line,
+  ls_in_line,
   vfy_line,
 }
 use Rattle.f11_words.specs.Usage.{Given, Word, flag, is_there, name_of, option, place, says, words_of}
@@ -84,6 +84,7 @@ Has (flag name) given matches = one_text (found_of matches) name ≡ given
 Has (option name is_needed) given matches = first_value (found_of matches) name ≡ given
 Has (place name is_needed) given matches = first_value (found_of matches) name ≡ given
 
+-- a text of this name,
 abbrev pub HasText : Text → Text → ArgMatches → Type 0
 HasText name text matches = first_value (found_of matches) name ≡ Some text
 
@@ -99,8 +100,8 @@ Reads line matches result =
 
 -- What the words of `get` are read as: for one file up to the end that it states, or up to its last block, or for all files.
 pub record ReadsGet (matches : ArgMatches) (result : Option Words) : Type 0 where
-  pub file : (mode : Option Text) → (image uic name host : Text) → Reads (get_line mode image uic name host) matches result
-  pub blocks : (image uic name host : Text) → Reads (get_blocks_line image uic name host) matches result
+  pub file : (mode : Option Text) → (image dir name host : Text) → Reads (get_line mode image dir name host) matches result
+  pub blocks : (image dir name host : Text) → Reads (get_blocks_line image dir name host) matches result
   pub all : (image folder : Text) → Reads (get_all_line image folder) matches result
 
 -- What those of `rt-get` are: for one file, or for all files.
@@ -111,7 +112,7 @@ pub record ReadsRtGet (matches : ArgMatches) (result : Option Words) : Type 0 wh
 -- What those of `ls` are: for all directories, or for one.
 pub record ReadsLs (matches : ArgMatches) (result : Option Words) : Type 0 where
   pub all : (image : Text) → Reads (ls_line image) matches result
-  pub one : (image uic : Text) → Reads (user_line image uic) matches result
+  pub one : (image dir : Text) → Reads (ls_in_line image dir) matches result
 
 -- What those of `run` are: with what is refused told, or not.
 pub record ReadsRun (matches : ArgMatches) (result : Option Words) : Type 0 where
@@ -137,7 +138,7 @@ ReadsWords Init matches result =
 ReadsWords Ls matches result = ReadsLs matches result
 ReadsWords Name matches result = (word : Text) → Reads (name_line word) matches result
 ReadsWords Put matches result =
-    (mode : Option Text) → (image uic name host : Text) → Reads (put_line mode image uic name host) matches result
+    (mode : Option Text) → (image dir name host : Text) → Reads (put_line mode image dir name host) matches result
 ReadsWords Rights matches result = (caller owner word : Text) → Reads (rights_line caller owner word) matches result
 ReadsWords RtDel matches result = (rt name : Text) → Reads (rt_del_line rt name) matches result
 ReadsWords RtGet matches result = ReadsRtGet matches result

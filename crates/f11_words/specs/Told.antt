@@ -1,4 +1,4 @@
--- The commands as `clap` is told of them, and what it has of their words (profile).
+-- The commands as `clap` is told of them (profile).
 use Rattle.std.specs.Prelude.{Some, codes, fold}
 use Rattle.clap.specs.Words.{App, Rule, new_app, new_rule, with_rule, with_subcommand}
 use Rattle.clap.specs.declared.builder.action.ArgAction.TheVariants.{Set, SetTrue}

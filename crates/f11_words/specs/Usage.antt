@@ -33,6 +33,7 @@ pub data Word : Type 0 where
 abbrev pub needed : List ℕ → Word
 needed name = place name true
 
+-- the commands
 abbrev pub all_commands : List Subcommand
 all_commands = Dump ∷ FlxFromRt ∷ FlxToRt ∷ Get ∷ Home ∷ Init ∷ Ls ∷ Name ∷ Put ∷ Rights ∷ RtDel ∷ RtGet ∷ RtInit ∷ RtList ∷ RtLs ∷ RtPut
     ∷ RtVfy ∷ Run ∷ Vfy ∷ []
@@ -95,6 +96,7 @@ pub data Given : Type 0 where
   says : Option (List ℕ) → Given
   is_there : Bool → Given
 
+-- a text that is there
 abbrev pub text : List ℕ → Given
 text word = says (Some word)
 

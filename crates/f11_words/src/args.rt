@@ -1,5 +1,5 @@
 //! The single words of a command, as they are read.
-ghost use Rattle.std.specs.Prelude.{◌≡◌, ℕ, List, Option, None, MatchOption, codes};
+ghost use Rattle.std.specs.Prelude.{◌≡◌, ℕ, List, Option, MatchOption, codes, is_some};
 ghost use Rattle.clap.specs.Words.{first_value, found_of};
 ghost use Rattle.f11_numbers.specs.Octal.{SpellsUic};
 ghost use Rattle.f11_words.specs.Asking.{IsMode, IsNoModeOrNone, SpellsMode, SpellsModeOrNone};
@@ -11,6 +11,13 @@ use clap::ArgMatches;
 use f11_flx::CopyMode;
 use f11_numbers::read_uic;
 use f11_store::Uic;
+
+/// Whether there is a word of this name.
+pub fn has(given: &ArgMatches<'_>, name: &str) -> bool
+    ensures { result ≡ is_some (first_value (found_of given.now) name.now) }
+{
+    given.get_str(name).is_some()
+}
 
 /// The mode of a copy that a text spells.
 pub fn mode_in(text: &str) -> Option<CopyMode>

@@ -58,6 +58,7 @@ fn read_bare(text: &str) -> Option<Directory>
         },
     }
 }
+
 /// The name that a directory's name stands for.
 fn read_name(text: &[u8]) -> Option<Name>
     ensures spelled { IfSome result (Spells (full_name text.now)) }

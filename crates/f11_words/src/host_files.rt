@@ -1,11 +1,10 @@
 //! The words of the commands on files of the host.
-ghost use Rattle.std.specs.Prelude.{◌≡◌, ℕ, List, Option, Some, None, is_some, false, true};
-ghost use Rattle.clap.specs.Words.{first_value, found_of};
+ghost use Rattle.std.specs.Prelude.{ℕ, List, Option};
 ghost use Rattle.f11_words.specs.Lines.{get_all_line, get_blocks_line, get_line};
 ghost use Rattle.f11_words.specs.Reading.{Reads, ReadsWords};
 ghost use Rattle.f11_words.specs.declared.usage.Subcommand.TheVariants as subcommand;
 
-use crate::args::{directory_of, mode_or_image};
+use crate::args::{directory_of, has, mode_or_image};
 use crate::words::Words;
 use clap::ArgMatches;
 use f11_flx::CopyMode;
@@ -68,13 +67,6 @@ fn get_all_of<'a>(given: &ArgMatches<'a>) -> Option<Words<'a>>
         image: given.get_str("image")?,
         folder: given.get_str("dir")?,
     })
-}
-
-/// Whether there is a word of this name.
-pub fn has(given: &ArgMatches<'_>, name: &str) -> bool
-    ensures { result ≡ is_some (first_value (found_of given.now) name.now) }
-{
-    given.get_str(name).is_some()
 }
 
 pub fn put_of<'a>(given: &ArgMatches<'a>) -> Option<Words<'a>>

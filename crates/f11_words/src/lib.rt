@@ -1,7 +1,7 @@
 //! What the words of a command line ask for.
 //!
 //! [`parse`] reads them, and gives [`Words`]: a command, and what each of its words spells. Which commands there are, and which words each
-//! takes, stands in one table, [`Subcommand`]; [`clap`] is told of it, and tells words, options and flags apart. [`misread`] and [`refusal`]
+//! takes, stands in one table, `Subcommand`; [`clap`] is told of it, and tells words, options and flags apart. [`misread`] and [`refusal`]
 //! tell why words aren't taken.
 #![tactic(auto)]
 
@@ -11,16 +11,15 @@ mod directory;
 mod host_files;
 mod program;
 mod reading;
-mod rt_files;
+mod rt11;
 mod spelled;
 mod unread;
 mod usage;
 mod volumes;
 mod words;
+pub mod worked;
 
 pub use directory::{Directory, read_directory};
-pub use f11_flx;
 pub use reading::{Failure, parse};
-pub use unread::{Unread, Wanted, misread, refusal};
-pub use usage::Subcommand;
+pub use unread::{Unread, Why, misread, refusal};
 pub use words::Words;

@@ -1,16 +1,15 @@
 //! The words of a command line, read.
-ghost use Rattle.std.specs.Prelude.{◌≡◌, ◌≤◌, length, map, None, IfNone, IsErr, MatchOption, MatchResult};
-ghost use Rattle.clap.specs.Words.{subcommand_rows_of};
+ghost use Rattle.std.specs.Prelude.{◌≡◌, ◌≢◌, ◌≤◌, [], length, map, None, IfNone, IsErr, MatchOption, MatchResult, true};
+ghost use Rattle.clap.specs.Words.{fault_of, subcommand_of, subcommand_rows_of, takes};
 ghost use Rattle.f11_words.specs.Asking.{Asks, FailsToAsk, IsUnreadable};
 ghost use Rattle.f11_words.specs.Lines.{CommandLine, IsLineOf};
 ghost use Rattle.f11_words.specs.Reading.{Meets, ReadsWords};
+ghost use Rattle.f11_words.specs.Told.{program_app};
 
 use crate::copies::{from_rt_of, to_rt_of};
 use crate::host_files::{get_of, put_of};
 use crate::program::program;
-use crate::rt_files::{
-    rt_del_of, rt_get_of, rt_init_of, rt_list_of, rt_ls_of, rt_put_of, rt_vfy_of,
-};
+use crate::rt11::{rt_del_of, rt_get_of, rt_init_of, rt_list_of, rt_ls_of, rt_put_of, rt_vfy_of};
 use crate::spelled::{name_of, rights_of};
 use crate::usage::Subcommand;
 use crate::volumes::{dump_of, home_of, init_of, ls_of, run_of, vfy_of};
@@ -61,10 +60,16 @@ impl From<clap::Error> for Failure {
 /// [`Failure::Usage`] for words that don't parse, that ask for help, or that are none at all; and for numbers, users' codes, directories and
 /// protection words that [`read_number`](f11_numbers::read_number), [`read_uic`](f11_numbers::read_uic),
 /// [`read_directory`](crate::read_directory) and [`read_protection`](f11_numbers::read_protection) don't read, and modes of a copy but `image`
-/// and `text`.
+/// and `text`. [`Failure::NoMemory`] where there was no memory.
 pub fn parse<'a, S: AsStr>(alloc: Global, words: &'a [S]) -> Result<Words<'a>, Failure>
     ensures asks { (line : CommandLine) → IsLineOf line (map S.text words.entry.now)
         → MatchResult result (Asks line) (FailsToAsk line) }
+
+    // In whatever order `clap` takes them, and only where it takes them.
+    ensures met { (line : CommandLine) → takes program_app (map S.text words.entry.now) ≡ true
+        → Meets line (subcommand_of program_app (map S.text words.entry.now))
+        → MatchResult result (Asks line) (FailsToAsk line) }
+    ensures refused { fault_of program_app (map S.text words.entry.now) ≢ [] → IsErr result }
     ensures none { length words.entry.now ≤ 1 → IsErr result }
 {
     let matches = program(alloc)?.try_get_matches_from(words)?;

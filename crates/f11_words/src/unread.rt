@@ -1,4 +1,4 @@
-//! Which word of a command can't be read, and what such a word is.
+//! Which word of a command can't be read, and why.
 
 use crate::args::mode_in;
 use crate::directory::read_directory;
@@ -9,51 +9,52 @@ use f11_numbers::{read_count, read_number, read_protection, read_uic};
 use std::alloc::Global;
 use thiserror::Error;
 
-/// A word that can't be read, and what such a word is.
+/// What can't be read, a word or the name of one, and why.
 #[derive(Clone, Copy, Debug, Error)]
-#[error("{word}: {wanted}")]
+#[error("{word}: {why}")]
 pub struct Unread<'a> {
     pub word: &'a str,
-    pub wanted: Wanted,
+    pub why: Why,
 }
 
-/// What a word has to be.
+/// Why words that `clap` takes can't be read.
 #[derive(Clone, Copy, Debug, PartialEq, Eq, Error)]
-pub enum Wanted {
-    /// A number that can be given under this name, at most so great.
+pub enum Why {
+    /// It is no number that can be given under this name, at most so great.
     #[error("{0} takes a decimal number, at most {1}")]
-    Number(&'static str, u32),
-    /// With no words but these.
+    NoNumber(&'static str, u32),
+    /// It goes with these words alone.
     #[error("goes with {0} alone")]
     Alone(&'static str),
-    /// Without `--blocks` beside it.
+    /// It doesn't go with `--blocks`.
     #[error("doesn't go with --blocks, which takes whole blocks as they are")]
-    NotBeside,
-    /// There.
+    BesideBlocks,
+    /// It isn't there.
     #[error("missing")]
-    There,
-    /// A mode of a copy.
+    Missing,
+    /// It is no mode of a copy.
     #[error("no mode; one is image or text")]
-    Mode,
-    /// A user's code.
+    NoMode,
+    /// It is no user's code.
     #[error("no user's code; one is two octal numbers of 0 to 377, as 200,1")]
-    User,
-    /// A directory.
+    NoUser,
+    /// It names no directory.
     #[error("no directory; one is a user's code, two octal numbers of 0 to 377 as 200,1, or a name of up to 9 of A to Z, 0 to 9 and $, in brackets or without")]
-    Directory,
-    /// A protection word.
+    NoDirectory,
+    /// It is no protection word.
     #[error("no protection word; one is up to 6 octal digits, at most 177777")]
-    Protection,
+    NoProtection,
 }
 
-/// The first word that can't be read, of words that `clap` takes, and what such a word is; for words that [`parse`](crate::parse) doesn't take.
+/// The first word that can't be read, and why, of words that [`parse`](crate::parse) refuses. `None` for those that it takes, for those that
+/// `clap` doesn't take, and where no memory is left.
 pub fn misread<'a>(alloc: Global, words: &'a [String]) -> Option<Unread<'a>> {
     let matches = program(alloc).ok()?.try_get_matches_from(words).ok()?;
     let (name, given) = matches.subcommand()?;
     first_unread(Subcommand::named(name)?, given)
 }
 
-/// What `clap` says of words that it doesn't take.
+/// What `clap` says of words that it doesn't take. `None` for those that it takes, and where no memory is left.
 pub fn refusal(alloc: Global, words: &[String]) -> Option<String> {
     let error = program(alloc).ok()?.try_get_matches_from(words).err()?;
     format!(in alloc; "{error}").ok()
@@ -82,7 +83,15 @@ fn first_unread<'a>(command: Subcommand, given: &ArgMatches<'a>) -> Option<Unrea
             ))
         }
         Subcommand::RtGet => rt_get(given),
-        _ => None,
+        Subcommand::Home
+        | Subcommand::Name
+        | Subcommand::RtDel
+        | Subcommand::RtList
+        | Subcommand::RtLs
+        | Subcommand::RtPut
+        | Subcommand::RtVfy
+        | Subcommand::Run
+        | Subcommand::Vfy => None,
     }
 }
 
@@ -91,13 +100,13 @@ fn get<'a>(given: &ArgMatches<'a>) -> Option<Unread<'a>> {
     let has_blocks = given.get_flag("blocks");
     if given.get_flag("all") {
         let is_alone = !has_mode && !has_blocks && given.get_str("name").is_none();
-        return unless(is_alone, "--all", Wanted::Alone("IMAGE and FOLDER"));
+        return unless(is_alone, "--all", Why::Alone("IMAGE and FOLDER"));
     }
     mode(given)
         .or(directory(given))
         .or(there(given, "name", "NAME"))
         .or(there(given, "host", "HOST"))
-        .or(unless(!has_mode || !has_blocks, "--mode", Wanted::NotBeside))
+        .or(unless(!has_mode || !has_blocks, "--mode", Why::BesideBlocks))
 }
 
 fn rt_get<'a>(given: &ArgMatches<'a>) -> Option<Unread<'a>> {
@@ -105,7 +114,7 @@ fn rt_get<'a>(given: &ArgMatches<'a>) -> Option<Unread<'a>> {
         return unless(
             given.get_str("host").is_none(),
             "--all",
-            Wanted::Alone("RT and FOLDER"),
+            Why::Alone("RT and FOLDER"),
         );
     }
     there(given, "host", "HOST")
@@ -113,7 +122,7 @@ fn rt_get<'a>(given: &ArgMatches<'a>) -> Option<Unread<'a>> {
 
 /// That a word is missing, unless it is there.
 fn there<'a>(given: &ArgMatches<'a>, id: &str, name: &'static str) -> Option<Unread<'a>> {
-    unless(given.get_str(id).is_some(), name, Wanted::There)
+    unless(given.get_str(id).is_some(), name, Why::Missing)
 }
 
 fn blocks<'a>(given: &ArgMatches<'a>) -> Option<Unread<'a>> {
@@ -121,7 +130,7 @@ fn blocks<'a>(given: &ArgMatches<'a>) -> Option<Unread<'a>> {
     unless(
         read_count(text).is_some(),
         text,
-        Wanted::Number("--blocks", 516_096),
+        Why::NoNumber("--blocks", 516_096),
     )
 }
 
@@ -132,38 +141,34 @@ fn number<'a>(
     most: u32,
 ) -> Option<Unread<'a>> {
     let text = given.get_str(id)?;
-    unless(
-        read_number(text).is_some(),
-        text,
-        Wanted::Number(name, most),
-    )
+    unless(read_number(text).is_some(), text, Why::NoNumber(name, most))
 }
 
 fn user<'a>(given: &ArgMatches<'a>, id: &str) -> Option<Unread<'a>> {
     let text = given.get_str(id)?;
-    unless(read_uic(text).is_some(), text, Wanted::User)
+    unless(read_uic(text).is_some(), text, Why::NoUser)
 }
 
 fn directory<'a>(given: &ArgMatches<'a>) -> Option<Unread<'a>> {
     let text = given.get_str("dir")?;
-    unless(read_directory(text).is_some(), text, Wanted::Directory)
+    unless(read_directory(text).is_some(), text, Why::NoDirectory)
 }
 
 fn mode<'a>(given: &ArgMatches<'a>) -> Option<Unread<'a>> {
     let text = given.get_str("mode")?;
-    unless(mode_in(text).is_some(), text, Wanted::Mode)
+    unless(mode_in(text).is_some(), text, Why::NoMode)
 }
 
 fn protection<'a>(given: &ArgMatches<'a>) -> Option<Unread<'a>> {
     let text = given.get_str("word")?;
-    unless(read_protection(text).is_some(), text, Wanted::Protection)
+    unless(read_protection(text).is_some(), text, Why::NoProtection)
 }
 
-/// What a word has to be, unless it is that.
-fn unless<'a>(is_so: bool, word: &'a str, wanted: Wanted) -> Option<Unread<'a>> {
+/// Why a word isn't read, unless it is.
+fn unless<'a>(is_so: bool, word: &'a str, why: Why) -> Option<Unread<'a>> {
     if is_so {
         return None;
     }
     let word = if word.is_empty() { "''" } else { word };
-    Some(Unread { word, wanted })
+    Some(Unread { word, why })
 }

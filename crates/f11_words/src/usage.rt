@@ -38,35 +38,32 @@ pub(crate) enum Word {
     Place(&'static str, bool),
 }
 
-/// All of them.
-const ALL: [Subcommand; 19] = [
-    Subcommand::Dump,
-    Subcommand::FlxFromRt,
-    Subcommand::FlxToRt,
-    Subcommand::Get,
-    Subcommand::Home,
-    Subcommand::Init,
-    Subcommand::Ls,
-    Subcommand::Name,
-    Subcommand::Put,
-    Subcommand::Rights,
-    Subcommand::RtDel,
-    Subcommand::RtGet,
-    Subcommand::RtInit,
-    Subcommand::RtList,
-    Subcommand::RtLs,
-    Subcommand::RtPut,
-    Subcommand::RtVfy,
-    Subcommand::Run,
-    Subcommand::Vfy,
-];
-
 impl Subcommand {
     /// All commands.
     pub(crate) fn all() -> [Subcommand; 19]
         ensures { result ≡ all_commands }
     {
-        ALL
+        [
+            Subcommand::Dump,
+            Subcommand::FlxFromRt,
+            Subcommand::FlxToRt,
+            Subcommand::Get,
+            Subcommand::Home,
+            Subcommand::Init,
+            Subcommand::Ls,
+            Subcommand::Name,
+            Subcommand::Put,
+            Subcommand::Rights,
+            Subcommand::RtDel,
+            Subcommand::RtGet,
+            Subcommand::RtInit,
+            Subcommand::RtList,
+            Subcommand::RtLs,
+            Subcommand::RtPut,
+            Subcommand::RtVfy,
+            Subcommand::Run,
+            Subcommand::Vfy,
+        ]
     }
 
     /// The command of this name, if there is one.

@@ -1,4 +1,4 @@
-//! The words of the commands on a Files-11 volume, and of those that make a fresh one of either system.
+//! The words of the commands on a Files-11 volume.
 ghost use Rattle.std.specs.Prelude.{◌≡◌, ℕ, List, Option, MatchOption, codes};
 ghost use Rattle.clap.specs.Words.{first_value, found_of};
 ghost use Rattle.f11_words.specs.Asking.{IsNoMax, SpellsMax};

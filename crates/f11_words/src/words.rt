@@ -7,7 +7,7 @@ use f11_store::Uic;
 /// What the words of the command line ask for.
 #[derive(Clone, Copy, Debug, PartialEq, Eq)]
 pub enum Words<'a> {
-    /// `dump IMAGE NUMBER`: the number of a file header
+    /// `dump IMAGE NUMBER`: the number of a file header, 0 to 65,535
     Dump {
         image: &'a str,
         number: u16,
@@ -49,7 +49,8 @@ pub enum Words<'a> {
     Home {
         image: &'a str,
     },
-    /// `init --blocks N --slots N --label L [--max N] IMAGE`: what a fresh volume is made with
+    /// `init --blocks N --slots N --label L [--max N] IMAGE`: what a fresh volume is made with, in blocks of 512 bytes, 0 to
+    /// 4,294,967,295, and in slots and files, 0 to 65,535 each; what can't be is the volume's to refuse
     Init {
         image: &'a str,
         blocks: u32,
@@ -100,7 +101,7 @@ pub enum Words<'a> {
         rt: &'a str,
         folder: &'a str,
     },
-    /// `rt-init --blocks N --segments N IMAGE`
+    /// `rt-init --blocks N --segments N IMAGE`: how many blocks of 512 bytes, and how many segments of the directory, 0 to 65,535 each
     RtInit {
         image: &'a str,
         blocks: u16,

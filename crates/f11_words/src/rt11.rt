@@ -4,7 +4,7 @@ ghost use Rattle.f11_words.specs.Lines.{rt_get_all_line, rt_get_line};
 ghost use Rattle.f11_words.specs.Reading.{Reads, ReadsWords};
 ghost use Rattle.f11_words.specs.declared.usage.Subcommand.TheVariants as subcommand;
 
-use crate::host_files::has;
+use crate::args::has;
 use crate::words::Words;
 use clap::ArgMatches;
 use f11_numbers::read_number;
