@@ -20,3 +20,5 @@ mod taking_out;
 mod tasks;
 #[cfg(test)]
 mod volumes;
+#[cfg(test)]
+mod words;
