@@ -1,0 +1,7 @@
+-- Laws of patterns.
+pub mod LikeLemmas
+pub mod SplitLemmas
+pub mod VersionLemmas
+pub mod PatternLemmas
+pub mod PlainLemmas
+pub mod Worked

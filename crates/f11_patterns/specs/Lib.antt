@@ -1,0 +1,7 @@
+-- The definitions that the contracts of patterns cite.
+pub mod Like
+pub mod Parts
+pub mod Lent
+pub mod Split
+pub mod Pattern
+pub mod Laws
