@@ -10,11 +10,8 @@ ghost use Rattle.f11_bits.specs.Run.{IsFirstRun, NoneFrom};
 
 use crate::lanes::{LANES, bytes_at, ones, sum, words_at};
 use byteorder::{ByteOrder, LittleEndian};
-use f11_dev::f11_bytes::{BLOCK_SIZE, Block, is_set, read_word, set_bit};
+use f11_dev::f11_bytes::{BLOCK_BITS, BLOCK_SIZE, Block, is_set, read_word, set_bit};
 use std::simd::prelude::*;
-
-/// How many bits a block has.
-pub const BITS: u32 = 4096;
 
 /// How many blocks the longest run has.
 pub const LONGEST: u32 = 256;
@@ -38,7 +35,7 @@ pub fn first_run(block: &Block, from: u32, most: u32) -> Option<(u32, u32)>
         (λ run. IsFirstRun (bit_below block.now 4096) from most run.0 run.1) }
 {
     match first_set(block, from) {
-        Some(k) => Some((k, run_length(block, k, most.min(LONGEST), BITS))),
+        Some(k) => Some((k, run_length(block, k, most.min(LONGEST), BLOCK_BITS))),
         None => None,
     }
 }
@@ -48,7 +45,7 @@ fn first_set(block: &Block, from: u32) -> Option<u32>
     ensures { MatchOption result (NoneFrom (bit_below block.now 4096) from)
         (λ k. IsFirstSet (bit_below block.now 4096) from 4096 k) }
 {
-    for part in from / 512..BITS / 512 {
+    for part in from / 512..BLOCK_BITS / 512 {
         if has_ones(block, part)
             && let Some(k) = first_set_by_eights(block, from.max(512 * part), 8 * part + 8)
         {
@@ -121,7 +118,7 @@ pub fn count_free_to(block: &Block, end: u32) -> u32
     requires { end ≤ 4096 }
     ensures { result ≡ count_below (bit block.now) end }
 {
-    if end == BITS {
+    if end == BLOCK_BITS {
         count_free(block)
     } else {
         count_free_below(block, end)
@@ -288,7 +285,7 @@ pub fn set_bits(block: &mut Block, start: u32, count: u32, free: bool)
     ensures before { (k : ℕ) → k < start → bit block.new k ≡ bit block.old k }
     ensures after { (k : ℕ) → start + count ≤ k → k < 4096 → bit block.new k ≡ bit block.old k }
 {
-    if count == BITS {
+    if count == BLOCK_BITS {
         fill(block, free);
         return;
     }

@@ -3,8 +3,8 @@ ghost use Rattle.std.specs.Prelude.{◌≡◌, ◌+◌, ◌*◌, ◌-◌, ◌/�
 ghost use Rattle.f11_bits.specs.Bitmap.{IsBitmap, IsBitmapBlock, LiesWithin, is_free};
 ghost use Rattle.f11_bits.specs.Calls.{Counts, FailsToCount};
 
-use crate::bits::{BITS, LONGEST, count_free_to, first_run_to, run_length, set_bits};
-use f11_dev::f11_bytes::{BLOCK_SIZE, Block};
+use crate::bits::{LONGEST, count_free_to, first_run_to, run_length, set_bits};
+use f11_dev::f11_bytes::{BLOCK_BITS, BLOCK_SIZE, Block};
 use f11_dev::{Device, DeviceFault};
 
 mod take_run;
@@ -83,7 +83,7 @@ impl Storage {
             size,
             free,
             low: 0,
-            kept: (size - 1) / BITS,
+            kept: (size - 1) / BLOCK_BITS,
             block,
         })
     }
@@ -271,12 +271,12 @@ impl Storage {
         ensures failed { OnErr result
             (FailsToFindPart (bitmap_of self.now) from (D.disk device.old) (D.disk device.new)) }
     {
-        for index in from / BITS..self.size.div_ceil(BITS) {
+        for index in from / BLOCK_BITS..self.size.div_ceil(BLOCK_BITS) {
             self.read_block(device, index, block)?;
-            let start = from.saturating_sub(index * BITS);
+            let start = from.saturating_sub(index * BLOCK_BITS);
             let end = bits_in(self.size, index);
             if let Some((at, count)) = first_run_to(block, start, most, end) {
-                return Ok(Some((index * BITS + at, count)));
+                return Ok(Some((index * BLOCK_BITS + at, count)));
             }
         }
         Ok(None)
@@ -300,10 +300,10 @@ impl Storage {
         ensures failed { OnErr result (FailsToFindRest (bitmap_of self.now) end
             (D.disk device.old) (D.disk device.new)) }
     {
-        if end % BITS != 0 || most == 0 || end >= self.size {
+        if end % BLOCK_BITS != 0 || most == 0 || end >= self.size {
             return Ok(0);
         }
-        let index = end / BITS;
+        let index = end / BLOCK_BITS;
         self.read_block(device, index, next)?;
         Ok(run_length(next, 0, most, bits_in(self.size, index)))
     }
@@ -361,9 +361,9 @@ impl Storage {
             (giving_transfers lbn count) (D.disk device.old) (D.disk device.new)) }
     {
         let end = lbn + count;
-        for index in lbn / BITS..end.div_ceil(BITS) {
-            let start = lbn.max(index * BITS);
-            let stop = end.min((index + 1) * BITS);
+        for index in lbn / BLOCK_BITS..end.div_ceil(BLOCK_BITS) {
+            let start = lbn.max(index * BLOCK_BITS);
+            let stop = end.min((index + 1) * BLOCK_BITS);
             self.mark_part(device, start, stop - start, free)?;
         }
         Ok(())
@@ -392,7 +392,7 @@ impl Storage {
             2 (D.disk device.old) (D.disk device.new)) }
     {
         let mut block = [0; BLOCK_SIZE];
-        self.read_block(device, lbn / BITS, &mut block)?;
+        self.read_block(device, lbn / BLOCK_BITS, &mut block)?;
         self.write_bits(device, lbn, count, free, &mut block)
     }
 
@@ -420,10 +420,10 @@ impl Storage {
         ensures failed { OnErr result (FailsToMark free (bitmap_of self.old) lbn count
             1 (D.disk device.old) (D.disk device.new)) }
     {
-        set_bits(block, lbn % BITS, count, free);
-        self.kept = lbn / BITS;
+        set_bits(block, lbn % BLOCK_BITS, count, free);
+        self.kept = lbn / BLOCK_BITS;
         self.block = *block;
-        device.write(self.place(lbn / BITS), block)
+        device.write(self.place(lbn / BLOCK_BITS), block)
     }
 
     /// A bitmap block: the kept one where it is that, and else as it is read.
@@ -478,7 +478,7 @@ fn count_blocks<D: Device>(
         (D.disk device.old) (D.disk device.new)) }
 {
     let mut count = 0;
-    for index in 0..size.div_ceil(BITS) {
+    for index in 0..size.div_ceil(BLOCK_BITS) {
         device.read(places[index as usize], block)?;
         count += count_free_to(block, bits_in(size, index));
     }
@@ -500,5 +500,5 @@ pub(crate) fn bits_in(size: u32, index: u32) -> u32
     requires { 4096 * index < 2 ^ 32 }
     ensures { result ≡ min (size - 4096 * index) 4096 }
 {
-    size.saturating_sub(index * BITS).min(BITS)
+    size.saturating_sub(index * BLOCK_BITS).min(BLOCK_BITS)
 }

@@ -27,3 +27,6 @@ pub type Block = [u8; BLOCK_SIZE];
 
 /// The bytes of a block.
 pub const BLOCK_SIZE: usize = 512;
+
+/// How many bits a block has.
+pub const BLOCK_BITS: u32 = 4096;

@@ -1,4 +1,5 @@
 //! What the line of a file shows.
+ghost use Rattle.f11_store.specs.File.{most_blocks};
 ghost use Rattle.std.specs.Prelude.{◌≡◌, ◌≤◌, IsTrue};
 ghost use Rattle.f11_header.specs.Header.{holds_header};
 
@@ -25,7 +26,7 @@ impl FileFacts {
     /// What the first header of a file of so many blocks says of it.
     pub(crate) fn of(header: &Block, blocks: u32) -> FileFacts
         requires header { IsTrue (holds_header header.now) }
-        requires few { blocks ≤ 8323072 }
+        requires few { blocks ≤ most_blocks }
         ensures { result ≡ facts_in header.now blocks }
     {
         let header = Header::new(header);

@@ -16,7 +16,7 @@ use f11_index::f11_bytes::{BLOCK_SIZE, Block};
 use f11_index::f11_map::in_hand::{lbn_of, len_blocks, segment};
 
 /// How many headers a file has at most (profile).
-const MOST_HEADERS: u16 = 256;
+pub const MOST_HEADERS: u16 = 256;
 
 /// The LBN of block `vbn`, from 1, of file `n`, a slot from 1 to the number of slots. It reads the file's headers up to the one that
 /// names the block, each once.

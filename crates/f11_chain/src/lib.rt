@@ -12,7 +12,8 @@ mod step;
 mod windows;
 
 pub use blocks::{
-    FileEnd, HeaderAt, Place, block_at, last, last_from, locate, seek, seek_on, window,
+    FileEnd, HeaderAt, MOST_HEADERS, Place, block_at, last, last_from, locate, seek, seek_on,
+    window,
 };
 pub use f11_index::f11_map;
 pub use fault::ChainFault;

@@ -5,9 +5,9 @@ use Rattle.f11_dev.specs.Disk.{Disk}
 use Rattle.f11_dev.specs.declared.device.Device.{Ghosts}
 use Rattle.f11_serving.specs.fcp.Lists.{is_sound, store_of_volume}
 use Rattle.f11_serving.specs.fcp.declared.volume.Volume.{Volume}
-use Rattle.f11_flx.proofs.RtCopyLemmas.{has-written, took-puts}
-use Rattle.f11_flx.proofs.RtOutcomeLemmas.{locked-leaves}
-use Rattle.f11_flx.proofs.SeenLemmas.{granted-seen}
+use Rattle.f11_flx.proofs.RtFiles.RtCopyLemmas.{has-written, took-puts}
+use Rattle.f11_flx.proofs.ToRt.RtOutcomeLemmas.{locked-leaves}
+use Rattle.f11_flx.proofs.Made.SeenLemmas.{granted-seen}
 use Rattle.f11_making.proofs.VolumeLemmas.{volume-seen}
 use Rattle.f11_making.specs.Asking.{Asking, Denies, Granted, Grants, FilesService, Who, asks, counts, plain, reads, told, writes}
 use Rattle.f11_making.specs.Volume.{of_volume}

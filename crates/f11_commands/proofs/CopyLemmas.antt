@@ -31,7 +31,7 @@ use Rattle.f11_commands.specs.CopyCommand.{CopiesImages, EndsBetween, TellsKeptC
 use Rattle.f11_commands.specs.Copying.{OutcomeIs, StandsAsIs}
 use Rattle.f11_commands.specs.Finding.{FaresAsAnswered}
 use Rattle.f11_commands.specs.Stopping.{StopsCopy, WhereUnheld}
-use Rattle.f11_commands.specs.declared.copy.FileAnswer.{FileAnswer}
+use Rattle.f11_commands.specs.declared.outcome.FileAnswer.{FileAnswer}
 use Rattle.f11_commands.specs.declared.copy.Copying.{Copying}
 use Rattle.f11_commands.specs.declared.outcome.Failure.{Failure}
 

@@ -10,9 +10,9 @@ use Rattle.f11_dev.specs.Went.{newest}
 use Rattle.f11_dev.specs.declared.device.Device.{Ghosts}
 use Rattle.f11_catalog.specs.image_store.StoreOf.{store_of}
 use Rattle.f11_making.proofs.AskingLemmas.{granted-parts}
-use Rattle.f11_flx.proofs.SeenLemmas.{granted-seen}
-use Rattle.f11_flx.proofs.StatingLemmas.{filling-fills}
-use Rattle.f11_flx.proofs.TriedLemmas.{Tries, only-filling, open-tries, tries-granted, tries-then}
+use Rattle.f11_flx.proofs.Made.SeenLemmas.{granted-seen}
+use Rattle.f11_flx.proofs.Made.StatingLemmas.{filling-fills}
+use Rattle.f11_flx.proofs.Made.TriedLemmas.{Tries, only-filling, open-tries, tries-granted, tries-then}
 use Rattle.f11_making.proofs.VolumeLemmas.{unused, volume-seen}
 use Rattle.f11_making.specs.Asking.{Asking, Denies, Granted, Grants, Tried, asks, counts, plain, reads, told, writes}
 use Rattle.f11_making.specs.Making.{Making, creation, filling, opening}

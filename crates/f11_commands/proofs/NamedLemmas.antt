@@ -8,11 +8,11 @@ use Rattle.f11_serving.specs.fcp.Lists.{failures_of, is_sound, store_of_volume}
 use Rattle.f11_serving.specs.fcp.Serving.{is_spent, state_in}
 use Rattle.f11_serving.specs.fcp.declared.volume.Volume.{Volume}
 use Rattle.f11_serving.specs.files.Answers.{is_fatal, is_fault}
-use Rattle.f11_flx.proofs.FrontLemmas.{front-same}
-use Rattle.f11_flx.proofs.KeptLemmas.{denied-live, rt-apart, same-refusal}
+use Rattle.f11_flx.proofs.RtFiles.FrontLemmas.{front-same}
+use Rattle.f11_flx.proofs.FromRt.KeptLemmas.{denied-live, rt-apart, same-refusal}
 use Rattle.f11_making.specs.Fares.{Fares}
 use Rattle.f11_making.proofs.VolumeLemmas.{denied-fared, granted-fared, volume-seen}
-use Rattle.f11_flx.proofs.TriedLemmas.{asked-for-one}
+use Rattle.f11_flx.proofs.Made.TriedLemmas.{asked-for-one}
 use Rattle.f11_making.specs.Asking.{Asking, Denies, Fails, Grants, Tried, Who, asks, plain, told, who_asks}
 use Rattle.f11_flx.specs.Copying.{FaresFiles, FaresRt, MayMakeFile, MakesRtFile, ReadsFiles, ReadsRt, WhereSound, is_whole}
 use Rattle.f11_making.specs.Volume.{of_volume}

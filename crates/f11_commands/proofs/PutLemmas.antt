@@ -12,10 +12,10 @@ use Rattle.f11_serving.specs.fcp.Mounting.{Mounts}
 use Rattle.f11_serving.specs.fcp.Serving.{is_spent, state_in}
 use Rattle.f11_serving.specs.fcp.declared.volume.Volume.{Volume}
 use Rattle.f11_serving.specs.files.Answers.{is_fatal, is_fault}
-use Rattle.f11_flx.proofs.CopyLemmas.{stated_end-image, stated_end-text}
+use Rattle.f11_flx.proofs.Made.CopyLemmas.{stated_end-image, stated_end-text}
 use Rattle.f11_making.specs.Fares.{Fares}
 use Rattle.f11_making.proofs.VolumeLemmas.{denied-fared, granted-fared, volume-seen}
-use Rattle.f11_flx.proofs.TriedLemmas.{asked-for-one}
+use Rattle.f11_flx.proofs.Made.TriedLemmas.{asked-for-one}
 use Rattle.f11_making.specs.Asking.{Asking, Denies, Fails, Grants, Tried, Who, asks, plain, told, who_asks}
 use Rattle.f11_making.specs.Volume.{of_volume}
 use Rattle.f11_flx.specs.Copying.{MayMake, MayMakeStated, is_whole}
@@ -57,7 +57,7 @@ use Rattle.f11_commands.specs.PutSlots.{AsksForSlots, slots_before}
 use Rattle.f11_commands.specs.PutCommand.{TellsKeptFile}
 use Rattle.f11_commands.specs.Stopping.{EndsWhole, IsStopped, IsUnheld, Stood, StopsBehindSlots, StopsFile, StopsInto, StopsPut}
 use Rattle.f11_commands.specs.Stopping.{StopsPutting, WhereUnheld, growing, grown, making, seeking}
-use Rattle.f11_commands.specs.declared.copy.FileAnswer.{FileAnswer}
+use Rattle.f11_commands.specs.declared.outcome.FileAnswer.{FileAnswer}
 use Rattle.f11_commands.specs.declared.put.Putting.{Putting}
 use Rattle.f11_commands.specs.declared.rt_put.PutFailure.{PutFailure}
 

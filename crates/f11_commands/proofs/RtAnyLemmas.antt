@@ -4,7 +4,7 @@ use Rattle.f11_dev.specs.Disk.{Disk}
 use Rattle.rt11_volume.specs.declared.any_state.RtState.TheVariants.{Faulty}
 use Rattle.f11_commands.specs.RtAny.{EndsUnserved, look_failure, served_so}
 use Rattle.f11_commands.specs.RtLs.{ListsRt}
-use Rattle.f11_commands.specs.declared.copy.FileAnswer.{FileAnswer}
+use Rattle.f11_commands.specs.declared.outcome.FileAnswer.{FileAnswer}
 use Rattle.f11_commands.specs.declared.outcome.Failure.{Failure}
 use Rattle.f11_commands.specs.declared.rt_any.RtServed.{RtServed}
 

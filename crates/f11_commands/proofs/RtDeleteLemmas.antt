@@ -3,7 +3,7 @@ use Rattle.std.proofs.Common.{◌≡◌, inl, inr, ℕ, List, Option, Result, Ok
 use Rattle.f11_dev.specs.Disk.{Disk}
 use Rattle.f11_commands.specs.CopyCommand.{VerifiesRt}
 use Rattle.f11_commands.specs.RtDelete.{EndsDeletion, IsDeleted, TellsDeleted}
-use Rattle.f11_commands.specs.declared.copy.FileAnswer.{FileAnswer}
+use Rattle.f11_commands.specs.declared.outcome.FileAnswer.{FileAnswer}
 use Rattle.f11_commands.specs.declared.outcome.Failure.{Failure}
 
 -- it was, and that was told

@@ -8,14 +8,15 @@ use Rattle.f11_dev.specs.Looked.{Looked}
 use Rattle.f11_dev.specs.Went.{Went}
 use Rattle.f11_dev.specs.declared.device.Device.{Ghosts}
 use Rattle.f11_dev.proofs.LookedLemmas.{looked_none}
-use Rattle.f11_dev.proofs.WentLemmas.{went_looked, went_more, went_weaker, went_within}
+use Rattle.f11_dev.proofs.WentLemmas.{went_more}
 use Rattle.f11_flx.specs.Filling.{Took}
-use Rattle.f11_flx.specs.Target.{FailsPutting, HasRtBlocks, Puts, rt_disk, rt_store}
+use Rattle.f11_flx.specs.Target.{FailsPutting, HasRtBlocks, MakesTransfers, Puts, rt_disk, rt_store}
 use Rattle.f11_flx.specs.ToRt.{rt_takes}
-use Rattle.f11_flx.proofs.FrontLemmas.{front-then}
-use Rattle.f11_flx.proofs.PourLemmas.{took-one}
-use Rattle.f11_flx.proofs.RtCopyLemmas.{has-written, took-puts}
+use Rattle.f11_flx.proofs.RtFiles.FrontLemmas.{front-then}
+use Rattle.f11_flx.proofs.Texts.PourLemmas.{took-one}
+use Rattle.f11_flx.proofs.RtFiles.RtCopyLemmas.{has-written, took-puts}
 use Rattle.f11_flx.proofs.SmallLemmas.{or-false}
+use Rattle.f11_flx.proofs.RtFiles.TargetLemmas.{transfers-looked, transfers-within}
 use Rattle.rt11_volume.specs.Calls.{has_failed}
 use Rattle.rt11_volume.specs.Files.{faults_in, is_fault}
 use Rattle.rt11_volume.specs.Verifying.Verdict.{IsSoundDisk}
@@ -25,21 +26,10 @@ use Rattle.f11_commands.specs.RtFile.{block_transfers}
 use Rattle.f11_host.specs.Pieces.{ReadsPiece, blocks_for, filled_up}
 use Rattle.f11_host.proofs.PieceLemmas.{TakesBlocks, takes-all, takes-more, takes-none}
 use Rattle.f11_commands.specs.RtFilling.{FillsNamed, LacksBytes, StopsFilling}
-use Rattle.f11_commands.specs.RtPut.{MakesTransfers}
-
--- what is said of each image is left out
-pub transfers : (P : Image → Type 0) {old new : Disk} {most faults : ℕ} → Went P old new most faults → MakesTransfers old new most faults
-transfers P went = went_weaker P (λ image. ⊤) (λ image holds. tt) went
-
-pub transfers-looked : {old new : Disk} {most faults : ℕ} → Looked old new most faults → MakesTransfers old new most faults
-transfers-looked looked = went_looked (λ image. ⊤) looked
 
 pub transfers-more : {a b c : Disk} {m n faults : ℕ} → MakesTransfers a b m 0 → MakesTransfers b c n faults
     → MakesTransfers a c (m + n) faults
 transfers-more first then = went_more (λ image. ⊤) first then
-
-pub transfers-within : {a b : Disk} {m n faults : ℕ} → MakesTransfers a b m faults → m ≤ n → MakesTransfers a b n faults
-transfers-within went fewer = went_within (λ image. ⊤) went fewer
 
 -- So many blocks were written, with the bytes that were read.
 pub record Filled {E : Type 0} {met : Ghosts E} (disk : E → Disk) (name : List ℕ) (bytes place left : ℕ) (taken : List ℕ)

@@ -4,9 +4,9 @@ use Rattle.std.proofs.Common.{[], if◌then◌else◌, refl, sym, ap, ◌∙◌,
 use Rattle.f11_dev.specs.Disk.{Disk}
 use Rattle.f11_dev.specs.declared.device.Device.{Ghosts}
 use Rattle.f11_flx.specs.CopyToRt.{HasCopy}
-use Rattle.f11_flx.specs.Target.{DeletesRtFile, FailsDeleting, Makes, SparesFront, rt_disk, rt_store}
-use Rattle.f11_flx.proofs.FrontLemmas.{front-then}
-use Rattle.f11_flx.proofs.RtCopyLemmas.{has-copy, has-gone, has-written, still-lies}
+use Rattle.f11_flx.specs.Target.{DeletesRtFile, FailsDeleting, Makes, MakesTransfers, SparesFront, create_transfers, rt_disk, rt_store}
+use Rattle.f11_flx.proofs.RtFiles.FrontLemmas.{front-then}
+use Rattle.f11_flx.proofs.RtFiles.RtCopyLemmas.{has-copy, has-gone, has-written, still-lies}
 use Rattle.f11_flx.proofs.SmallLemmas.{or-false}
 use Rattle.rt11_volume.specs.Calls.{has_failed}
 use Rattle.rt11_volume.specs.Files.{faults_in, is_fault}
@@ -16,11 +16,12 @@ use Rattle.rt11_volume.specs.declared.volume.RtAccepted.{RtAccepted}
 use Rattle.f11_commands.specs.RtDelete.{delete_transfers}
 use Rattle.f11_commands.specs.RtFilling.{FillsNamed, LacksBytes, StopsFilling, UndoesStoring, stop_of}
 use Rattle.f11_host.specs.Pieces.{blocks_for}
-use Rattle.f11_commands.specs.RtPut.{IsNotStored, IsStored, IsUnstored, PutsFile, MakesTransfers, create_transfers}
+use Rattle.f11_commands.specs.RtPut.{IsNotStored, IsStored, IsUnstored, PutsFile}
 use Rattle.f11_commands.specs.RtPut.{put_transfers}
 use Rattle.f11_commands.specs.declared.rt_file.Stop.{Stop}
 use Rattle.f11_commands.specs.declared.rt_file.Stop.TheVariants.{Volume, Host}
-use Rattle.f11_commands.proofs.RtFillLemmas.{transfers-more, transfers-within}
+use Rattle.f11_flx.proofs.RtFiles.TargetLemmas.{transfers-within}
+use Rattle.f11_commands.proofs.RtFillLemmas.{transfers-more}
 
 never : true ≡ false → ⊥
 never h = absurd (cc)

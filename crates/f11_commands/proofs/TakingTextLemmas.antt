@@ -15,10 +15,10 @@ use Rattle.f11_dev.proofs.LookedLemmas.{looked_more, looked_within}
 use Rattle.f11_dev.specs.Disk.{Disk}
 use Rattle.f11_dev.specs.Image.{Image, IsImage}
 use Rattle.f11_dev.specs.Looked.{Looked}
-use Rattle.f11_flx.proofs.ConvertLemmas.{option_map-append}
-use Rattle.f11_flx.proofs.EndLemmas.{text_ends}
+use Rattle.f11_flx.proofs.Texts.ConvertLemmas.{option_map-append}
+use Rattle.f11_flx.proofs.Texts.EndLemmas.{text_ends}
 use Rattle.f11_flx.proofs.SmallLemmas.{some-one}
-use Rattle.f11_flx.proofs.TextLemmas.{good-is}
+use Rattle.f11_flx.proofs.Texts.TextLemmas.{good-is}
 use Rattle.f11_flx.specs.Lines.{text_with}
 use Rattle.f11_flx.specs.Place.{text_at_bad, text_from}
 use Rattle.f11_flx.specs.Records.{Which, all, good, good_in, layout_of, records_in, records_of}

@@ -7,11 +7,11 @@ use Rattle.f11_serving.specs.fcp.Lists.{is_sound, store_of_volume}
 use Rattle.f11_serving.specs.fcp.Serving.{is_spent, state_in}
 use Rattle.f11_serving.specs.fcp.declared.volume.Volume.{Volume}
 use Rattle.f11_making.proofs.AskingLemmas.{granted-parts}
-use Rattle.f11_flx.proofs.FromRtLemmas.{created-next}
-use Rattle.f11_flx.proofs.GainedLemmas.{not-index}
-use Rattle.f11_flx.proofs.MadeLemmas.{IsSuch, such-created, such-made}
-use Rattle.f11_flx.proofs.NewLemmas.{IsNewIn, new-made}
-use Rattle.f11_flx.proofs.SeenLemmas.{granted-seen}
+use Rattle.f11_flx.proofs.FromRt.FromRtLemmas.{created-next}
+use Rattle.f11_flx.proofs.Made.GainedLemmas.{not-index}
+use Rattle.f11_flx.proofs.FromRt.MadeLemmas.{IsSuch, such-created, such-made}
+use Rattle.f11_flx.proofs.Made.NewLemmas.{IsNewIn, new-made}
+use Rattle.f11_flx.proofs.Made.SeenLemmas.{granted-seen}
 use Rattle.f11_making.proofs.VolumeLemmas.{unused, volume-seen}
 use Rattle.f11_making.specs.Asking.{Asking, Denies, Granted, Grants, Tried, asks, counts, plain, reads, told, writes}
 use Rattle.f11_making.specs.Making.{Making, creation, filling, new_id, opening}

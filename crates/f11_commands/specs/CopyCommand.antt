@@ -31,8 +31,8 @@ use Rattle.f11_commands.specs.RtVolume.{FailsToPrintRt, PrintsFaulty}
 use Rattle.f11_commands.specs.RunCommand.{HasFaults, WritesNothing}
 use Rattle.f11_commands.specs.Stopping.{StopsCopy}
 use Rattle.f11_commands.specs.VfyCommand.{FailsToPrintReport, PrintsReport}
-use Rattle.f11_commands.specs.declared.copy.FileAnswer.{FileAnswer}
-use Rattle.f11_commands.specs.declared.copy.FileAnswer.TheVariants.{Done, Refused, Faulty, BothFaulty}
+use Rattle.f11_commands.specs.declared.outcome.FileAnswer.{FileAnswer}
+use Rattle.f11_commands.specs.declared.outcome.FileAnswer.TheVariants.{Done, Refused, Faulty, BothFaulty}
 use Rattle.f11_commands.specs.declared.copy.Copying.{Copying}
 use Rattle.f11_commands.specs.declared.copy.Direction.{Direction}
 use Rattle.f11_commands.specs.declared.copy.Direction.TheVariants.{ToRt, FromRt}

@@ -1,6 +1,6 @@
 -- What a command on a file answers, as any other does (profile).
-use Rattle.f11_commands.specs.declared.copy.FileAnswer.{FileAnswer}
-use Rattle.f11_commands.specs.declared.copy.FileAnswer.TheVariants as file
+use Rattle.f11_commands.specs.declared.outcome.FileAnswer.{FileAnswer}
+use Rattle.f11_commands.specs.declared.outcome.FileAnswer.TheVariants as file
 use Rattle.f11_commands.specs.declared.outcome.Answer.{Answer}
 use Rattle.f11_commands.specs.declared.outcome.Answer.TheVariants.{Done, Fault}
 

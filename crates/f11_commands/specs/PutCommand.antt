@@ -33,7 +33,7 @@ use Rattle.f11_commands.specs.Finding.{FaresAlone}
 use Rattle.f11_commands.specs.PutSlots.{GetsSlotsFor}
 use Rattle.f11_commands.specs.RtPut.{put_told}
 use Rattle.f11_commands.specs.Stopping.{IsUnheld, Stood, StopsPut}
-use Rattle.f11_commands.specs.declared.copy.FileAnswer.{FileAnswer}
+use Rattle.f11_commands.specs.declared.outcome.FileAnswer.{FileAnswer}
 use Rattle.f11_commands.specs.declared.outcome.Failure.{Failure}
 use Rattle.f11_commands.specs.declared.outcome.Failure.TheVariants.{DeviceFault}
 use Rattle.f11_commands.specs.declared.put.Putting.{Putting}

@@ -15,8 +15,8 @@ use Rattle.rt11_volume.specs.declared.area.RtKind.TheVariants.{Tentative, Empty,
 use Rattle.f11_commands.specs.Output.{WriterTakes}
 use Rattle.f11_commands.specs.RtAny.{replaced_text}
 use Rattle.f11_commands.specs.RtTaking.{StopsTaking, TakesArea, broken_text, first_past}
-use Rattle.f11_commands.specs.declared.copy.FileAnswer.{FileAnswer}
-use Rattle.f11_commands.specs.declared.copy.FileAnswer.TheVariants.{Done, Refused}
+use Rattle.f11_commands.specs.declared.outcome.FileAnswer.{FileAnswer}
+use Rattle.f11_commands.specs.declared.outcome.FileAnswer.TheVariants.{Done, Refused}
 use Rattle.f11_commands.specs.declared.outcome.Failure.{Failure}
 use Rattle.f11_commands.specs.declared.outcome.Failure.TheVariants.{DeviceFault, NoMemory, CannotWrite}
 use Rattle.f11_commands.specs.declared.rt_all.found.RtFate.{RtFate}

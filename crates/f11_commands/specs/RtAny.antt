@@ -15,8 +15,8 @@ use Rattle.rt11_volume.specs.declared.directory.LookFault.TheVariants as look
 use Rattle.rt11_volume.specs.declared.any_state.RtState.{RtState}
 use Rattle.rt11_volume.specs.declared.any_state.RtState.TheVariants.{Faulty}
 use Rattle.f11_commands.specs.CopyCommand.{EndsRt}
-use Rattle.f11_commands.specs.declared.copy.FileAnswer.{FileAnswer}
-use Rattle.f11_commands.specs.declared.copy.FileAnswer.TheVariants.{Done}
+use Rattle.f11_commands.specs.declared.outcome.FileAnswer.{FileAnswer}
+use Rattle.f11_commands.specs.declared.outcome.FileAnswer.TheVariants.{Done}
 use Rattle.f11_commands.specs.declared.outcome.Failure.{Failure}
 use Rattle.f11_commands.specs.declared.outcome.Failure.TheVariants.{DeviceFault, NoMemory, CannotWrite}
 use Rattle.f11_commands.specs.declared.rt_any.RtServed.{RtServed}

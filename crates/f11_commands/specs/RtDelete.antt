@@ -13,8 +13,8 @@ use Rattle.f11_commands.specs.InitCommand.{done_line}
 use Rattle.f11_commands.specs.Output.{WriterTakes}
 use Rattle.f11_commands.specs.RtFile.{TellsRt}
 use Rattle.f11_commands.specs.Syncing.{FailsToSync}
-use Rattle.f11_commands.specs.declared.copy.FileAnswer.{FileAnswer}
-use Rattle.f11_commands.specs.declared.copy.FileAnswer.TheVariants.{Done}
+use Rattle.f11_commands.specs.declared.outcome.FileAnswer.{FileAnswer}
+use Rattle.f11_commands.specs.declared.outcome.FileAnswer.TheVariants.{Done}
 use Rattle.f11_commands.specs.declared.outcome.Failure.{Failure}
 use Rattle.f11_commands.specs.declared.outcome.Failure.TheVariants.{CannotWrite, DeviceFault}
 

@@ -3,7 +3,7 @@ use Rattle.std.specs.Prelude.{ℕ, List, Option, Result, Ok, Err}
 use Rattle.f11_flx.specs.declared.refusal.FlxRefusal.TheVariants.{Rt}
 use Rattle.rt11_volume.specs.declared.refusal.RtRefusal.{RtRefusal}
 use Rattle.f11_commands.specs.CopyCommand.{TellsCopy}
-use Rattle.f11_commands.specs.declared.copy.FileAnswer.{FileAnswer}
+use Rattle.f11_commands.specs.declared.outcome.FileAnswer.{FileAnswer}
 use Rattle.f11_commands.specs.declared.outcome.Failure.{Failure}
 
 -- how the answer of a call is told: how many blocks were copied, or why not

@@ -4,7 +4,7 @@ use Rattle.std.specs.Io.KnownBytes.{Consumes}
 use Rattle.std.specs.List.{concat}
 use Rattle.f11_dev.specs.Disk.{Disk}
 use Rattle.f11_dev.specs.declared.device.Device.{Ghosts}
-use Rattle.f11_flx.specs.Target.{DeletesRtFile, FailsDeleting, Puts, SparesFront, rt_disk}
+use Rattle.f11_flx.specs.Target.{DeletesRtFile, FailsDeleting, MakesTransfers, Puts, SparesFront, rt_disk}
 use Rattle.f11_host.specs.Pieces.{filled_up}
 use Rattle.rt11_volume.specs.Files.{faults_in, is_fault}
 use Rattle.rt11_volume.specs.Verifying.Verdict.{IsSoundDisk}
@@ -13,7 +13,6 @@ use Rattle.rt11_volume.specs.declared.refusal.RtRefusal.TheVariants.{Failed}
 use Rattle.rt11_volume.specs.declared.volume.RtAccepted.{RtAccepted}
 use Rattle.f11_commands.specs.RtDelete.{delete_transfers}
 use Rattle.f11_commands.specs.RtFile.{block_transfers}
-use Rattle.f11_commands.specs.RtPut.{MakesTransfers}
 use Rattle.f11_commands.specs.declared.rt_file.Stop.{Stop}
 use Rattle.f11_commands.specs.declared.rt_file.Stop.TheVariants.{Volume, Host}
 

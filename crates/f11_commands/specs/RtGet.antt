@@ -11,7 +11,7 @@ use Rattle.f11_commands.specs.Output.{WriterTakes}
 use Rattle.f11_commands.specs.RtAny.{CannotServe, ReadsVolume, done_so, replaced_text, served_so}
 use Rattle.f11_commands.specs.RtFile.{TellsRt}
 use Rattle.f11_commands.specs.RtTaking.{StopsTaking, TakesArea, broken_text, first_past}
-use Rattle.f11_commands.specs.declared.copy.FileAnswer.{FileAnswer}
+use Rattle.f11_commands.specs.declared.outcome.FileAnswer.{FileAnswer}
 use Rattle.f11_commands.specs.declared.outcome.Failure.{Failure}
 use Rattle.f11_commands.specs.declared.outcome.Failure.TheVariants.{DeviceFault, NoMemory, CannotWrite}
 use Rattle.f11_commands.specs.declared.rt_any.RtServed.{RtServed}

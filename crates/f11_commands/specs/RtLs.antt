@@ -12,7 +12,7 @@ use Rattle.f11_commands.specs.Output.{WriterTakes}
 use Rattle.f11_commands.specs.RtAny.{EndsUnread, ReadsVolume, replaced_text}
 use Rattle.f11_commands.specs.RtList.{name_shown, protection_shown}
 use Rattle.f11_commands.specs.RtTaking.{broken_text, first_past}
-use Rattle.f11_commands.specs.declared.copy.FileAnswer.TheVariants.{Done}
+use Rattle.f11_commands.specs.declared.outcome.FileAnswer.TheVariants.{Done}
 use Rattle.f11_commands.specs.declared.rt_any.RtServed.{RtServed}
 
 -- what stands behind an entry that isn't a file's

@@ -1,13 +1,11 @@
 -- What `rt-put` does: a file of an RT-11 volume is made, and filled with the bytes of a file of the host (profile).
-use Rattle.std.specs.Prelude.{◌≡◌, ◌≢◌, ◌⊎◌, ⊤, ℕ, ◌+◌, ◌*◌, ◌<◌, false, List, [], length, Option, Result, Ok}
+use Rattle.std.specs.Prelude.{◌≡◌, ◌≢◌, ◌⊎◌, ℕ, ◌+◌, ◌*◌, ◌<◌, false, List, [], length, Option, Result, Ok}
 use Rattle.std.specs.Prelude.{Err}
 use Rattle.std.specs.Io.KnownBytes.{Consumes, Keeps}
 use Rattle.f11_dev.specs.Disk.{Disk}
-use Rattle.f11_dev.specs.Image.{Image}
-use Rattle.f11_dev.specs.Went.{Went}
 use Rattle.f11_flx.specs.CopyToRt.{FailsToMake, HasCopy, HasEmptied, LiesInFirstArea}
 use Rattle.f11_flx.specs.RtOutcome.{HasSameFiles}
-use Rattle.f11_flx.specs.Target.{SparesFront}
+use Rattle.f11_flx.specs.Target.{MakesTransfers, SparesFront, create_transfers}
 use Rattle.f11_host.specs.Pieces.{blocks_for, filled_up}
 use Rattle.rt11_volume.specs.Files.{faults_in, is_fault}
 use Rattle.rt11_volume.specs.Named.{files_named}
@@ -19,7 +17,7 @@ use Rattle.f11_commands.specs.CopyCommand.{EndsRt, VerifiesRt}
 use Rattle.f11_commands.specs.RtDelete.{delete_transfers}
 use Rattle.f11_commands.specs.RtFile.{TellsRt, block_transfers}
 use Rattle.f11_commands.specs.Syncing.{FailsToSync}
-use Rattle.f11_commands.specs.declared.copy.FileAnswer.{FileAnswer}
+use Rattle.f11_commands.specs.declared.outcome.FileAnswer.{FileAnswer}
 use Rattle.f11_commands.specs.declared.outcome.Failure.{Failure}
 use Rattle.f11_commands.specs.declared.outcome.Failure.TheVariants.{DeviceFault}
 use Rattle.f11_commands.specs.declared.rt_file.Stop.{Stop}
@@ -27,14 +25,7 @@ use Rattle.f11_commands.specs.declared.rt_file.Stop.TheVariants.{Volume, Host}
 use Rattle.f11_commands.specs.declared.rt_put.PutFailure.{PutFailure}
 use Rattle.f11_commands.specs.declared.rt_put.PutFailure.TheVariants.{Command, Unread}
 
--- So many transfers were made at most, and so many failed.
-abbrev pub MakesTransfers : Disk → Disk → ℕ → ℕ → Type 0
-MakesTransfers old new most faults = Went (λ (image : Image). ⊤) old new most faults
-
 -- so many are made at most: a file is made, its blocks are written, and it is deleted
-abbrev pub create_transfers : ℕ
-create_transfers = 70
-
 abbrev pub put_transfers : ℕ → ℕ
 put_transfers blocks = create_transfers + block_transfers * blocks + delete_transfers
 

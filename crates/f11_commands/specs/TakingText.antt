@@ -13,7 +13,7 @@ use Rattle.f11_header.specs.Fields.{attributes}
 use Rattle.f11_index.specs.IndexFile.{Index}
 use Rattle.f11_reader.specs.Reading.{contents_to_come, header_in_hand, headers_left}
 use Rattle.f11_reader.specs.declared.file.FileReader.{FileReader}
-use Rattle.f11_store.specs.File.{File, no_file, stated_end}
+use Rattle.f11_store.specs.File.{File, most_blocks, no_file, stated_end}
 use Rattle.f11_commands.specs.Output.{TakesText}
 use Rattle.f11_commands.specs.TakingOut.{BeginsWith, ReadsBefore}
 use Rattle.f11_commands.specs.declared.outcome.Failure.{Failure}
@@ -36,7 +36,7 @@ file_until index disk file broke =
 -- They were counted; headers alone were read.
 pub record CountsBefore (index : Index) (file : FileReader) (broke : Option ℕ) (blocks : ℕ) (old new : Disk) : Type 0 where
   pub count : IsTrue old.honest → blocks ≡ length (blocks_until broke (contents_to_come index old file))
-  pub few : blocks ≤ 8323072
+  pub few : blocks ≤ most_blocks
   pub looked : Looked old new (headers_left file) 0
 
 -- the lines of a file's records; none where they can't be read

@@ -1,20 +1,16 @@
 //! The commands `flx-to-rt` and `flx-from-rt`.
 
-pub(crate) mod finding;
+mod behind;
 pub(crate) mod names;
-pub(crate) mod serving;
-pub(crate) mod telling;
-pub(crate) mod verifying;
+mod serving;
 
-ghost use Rattle.std.specs.Prelude.{◌≡◌};
 ghost use Rattle.f11_commands.specs.CopyCommand.{EndsCopy};
-ghost use Rattle.f11_commands.specs.FileAnswers.{plain_answer};
 ghost use Rattle.f11_commands.specs.declared.copy.Direction.TheVariants as direction;
 
+use crate::copy::behind::{files_behind, rt_behind};
 use crate::copy::serving::serve;
-use crate::copy::verifying::{accept_files, accept_rt, files_behind, rt_behind};
-use crate::outcome::{Answer, Failure};
-use crate::report::System;
+use crate::outcome::{Failure, FileAnswer};
+use crate::verifying::{accept_files, accept_rt};
 use f11_dev::Device;
 use f11_flx::CopyMode;
 use f11_rad50::Name;
@@ -45,33 +41,6 @@ pub struct Copying {
     pub name: Name,
     /// Its name on the RT-11 volume.
     pub rt_name: RtName,
-}
-
-/// How a command on a file ended. Its lines are on the writer.
-#[derive(Clone, Copy, Debug, PartialEq, Eq)]
-pub enum FileAnswer {
-    /// All is well.
-    Done,
-    /// It was refused, and that was written.
-    Refused,
-    /// The volume of this file system has a fault, and its report was written.
-    Faulty(System),
-    /// Both volumes of a copy have, and their reports were written.
-    BothFaulty,
-}
-
-impl FileAnswer {
-    /// What any command answers that ended so: a refusal and a faulty volume are a fault.
-    pub fn answer(self) -> Answer
-        ensures { result ≡ plain_answer self }
-    {
-        match self {
-            FileAnswer::Done => Answer::Done,
-            FileAnswer::Refused => Answer::Fault,
-            FileAnswer::Faulty(_) => Answer::Fault,
-            FileAnswer::BothFaulty => Answer::Fault,
-        }
-    }
 }
 
 /// Verifies a Files-11 volume and an RT-11 volume, the one that is copied from first, and copies a file from the one to the other, as

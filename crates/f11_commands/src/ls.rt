@@ -5,7 +5,7 @@ ghost use Rattle.f11_index.specs.Kept.{index_kept, IndexLiesWithin};
 ghost use Rattle.f11_commands.specs.AnyVolume.{FailsToServe};
 ghost use Rattle.f11_commands.specs.LsCommand.{FailsToListIndex, IsNotListed, ListsIndex, ListsVolume, PrintsListing, WritesListing, listed, one_listed};
 
-use crate::copy::finding::MASTER_DIRECTORY;
+use crate::finding::MASTER_DIRECTORY;
 use crate::outcome::{Answer, Failure};
 use crate::volume::read_index;
 use f11_bytes::NoMemory;

@@ -1,7 +1,7 @@
-//! The command `name`.
+//! The command `name`, and what commands say of a text that is no name.
 ghost use Rattle.std.specs.Prelude.{◌≡◌, ℕ, List, IfErr, IfOk, OnOk};
 ghost use Rattle.f11_rad50.specs.Name.{Spells};
-ghost use Rattle.f11_commands.specs.Name.{PrintsBadName, PrintsName, PrintsWords, words_line};
+ghost use Rattle.f11_commands.specs.Name.{PrintsBadName, PrintsName, PrintsWords, bad_name_line, words_line};
 ghost use Rattle.f11_commands.specs.Output.{WriterTakes};
 
 use crate::outcome::{Answer, Failure};
@@ -42,4 +42,18 @@ fn write_words<W: Write>(words: [u16; 5], writer: &mut W) -> io::Result<()>
 {
     let [first, second, third, kind, version] = words;
     writeln!(writer, "words {first} {second} {third} {kind} {version}")
+}
+
+/// Writes the line `bad name`, and answers [`Answer::Fault`].
+///
+/// # Errors
+///
+/// [`Failure::CannotWrite`] where the writer takes no more.
+pub fn refuse_names<W: Write>(writer: &mut W) -> Result<Answer, Failure>
+    ensures refused { IfOk result (λ answer. (answer ≡ Answer.Fault)
+        × WriterTakes W.contents writer.old writer.new bad_name_line) }
+    ensures failures { IfErr result (λ failure. failure ≡ Failure.CannotWrite) }
+{
+    writeln!(writer, "bad name")?;
+    Ok(Answer::Fault)
 }

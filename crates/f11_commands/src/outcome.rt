@@ -1,7 +1,9 @@
 //! How a command ends.
 ghost use Rattle.std.specs.Prelude.{◌≡◌};
+ghost use Rattle.f11_commands.specs.FileAnswers.{plain_answer};
 ghost use Rattle.f11_commands.specs.declared.outcome.Failure.TheVariants as failures;
 
+use crate::report::System;
 use f11_dev::DeviceFault;
 use std::io;
 
@@ -12,6 +14,33 @@ pub enum Answer {
     Done,
     /// A fault of the volume, or a name or parameter that can't be.
     Fault,
+}
+
+/// How a command on a file ended. Its lines are on the writer.
+#[derive(Clone, Copy, Debug, PartialEq, Eq)]
+pub enum FileAnswer {
+    /// All is well.
+    Done,
+    /// It was refused, and that was written.
+    Refused,
+    /// The volume of this file system has a fault, and its report was written.
+    Faulty(System),
+    /// Both volumes of a copy have, and their reports were written.
+    BothFaulty,
+}
+
+impl FileAnswer {
+    /// What any command answers that ended so: a refusal and a faulty volume are a fault.
+    pub fn answer(self) -> Answer
+        ensures { result ≡ plain_answer self }
+    {
+        match self {
+            FileAnswer::Done => Answer::Done,
+            FileAnswer::Refused => Answer::Fault,
+            FileAnswer::Faulty(_) => Answer::Fault,
+            FileAnswer::BothFaulty => Answer::Fault,
+        }
+    }
 }
 
 /// Why a command's work isn't done.

@@ -7,15 +7,13 @@ ghost use Rattle.f11_commands.specs.Stopping.{StopsInto, StopsPut, StopsPutting,
 
 mod slots;
 
-use crate::copy::FileAnswer;
-use crate::copy::finding::{MASTER_DIRECTORY, OPERATOR, find, first_lun, first_task};
-use crate::copy::serving::dismount;
-use crate::copy::telling::tell;
-use crate::copy::verifying::accept_files;
-use crate::outcome::Failure;
+use crate::finding::{MASTER_DIRECTORY, OPERATOR, dismount, find, first_lun, first_task};
+use crate::outcome::{Failure, FileAnswer};
 use crate::put::slots::{ask_for_slots, slots_before};
 use crate::rt_put::{PutFailure, as_put};
 use crate::sync::synced;
+use crate::telling::tell;
+use crate::verifying::accept_files;
 use f11_dev::Device;
 use f11_flx::{CopyMode, FlxRefusal};
 use f11_host::{HostRefusal, copy_from_host, copy_text_from_host};

@@ -4,10 +4,9 @@ ghost use Rattle.f11_commands.specs.Output.{WriterTakes};
 ghost use Rattle.f11_commands.specs.RtAny.{EndsUnread, EndsUnserved, ReadsVolume, look_failure, replaced_text, served_so};
 ghost use Rattle.rt11_volume.specs.Surveying.{ReadsDirectory};
 
-use crate::copy::FileAnswer;
-use crate::copy::verifying::write_report;
-use crate::outcome::Failure;
+use crate::outcome::{Failure, FileAnswer};
 use crate::report::System;
+use crate::verifying::write_report;
 use f11_dev::Device;
 use rt11_volume::{LookFault, RtBadBlocks, RtEntries, RtState, RtSurvey, read_bad_blocks, survey};
 use std::alloc::Global;

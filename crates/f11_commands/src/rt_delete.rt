@@ -1,11 +1,10 @@
 //! The command `rt-del`.
 ghost use Rattle.f11_commands.specs.RtDelete.{EndsDeletion, TellsDeleted};
 
-use crate::copy::FileAnswer;
-use crate::copy::telling::tell;
-use crate::copy::verifying::accept_rt;
-use crate::outcome::Failure;
+use crate::outcome::{Failure, FileAnswer};
 use crate::sync::synced;
+use crate::telling::tell;
+use crate::verifying::accept_rt;
 use f11_dev::Device;
 use f11_flx::FlxRefusal;
 use rt11_volume::RtName;

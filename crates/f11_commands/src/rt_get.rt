@@ -8,12 +8,11 @@ ghost use Rattle.f11_commands.specs.RtAny.{done_so};
 ghost use Rattle.f11_commands.specs.RtFound.{found_bad, found_device, found_entry, found_state};
 ghost use Rattle.f11_commands.specs.RtGet.{EndsFinding, EndsGet, FindsEntry, taken_line, taken_text};
 
-use crate::copy::FileAnswer;
-use crate::copy::telling::tell;
-use crate::outcome::Failure;
+use crate::outcome::{Failure, FileAnswer};
 use crate::rt_any::{RtServed, read_volume, served, write_replaced};
 use crate::rt_area::{AreaStop, ShownBreak, first_past, write_area};
 use crate::rt_get::found::FoundRtFile;
+use crate::telling::tell;
 use f11_dev::Device;
 use f11_flx::FlxRefusal;
 use rt11_volume::{RtEntry, RtName, RtRefusal, RtState};

@@ -4,8 +4,7 @@ ghost use Rattle.f11_commands.specs.Output.{WriterTakes};
 ghost use Rattle.f11_commands.specs.RtLs.{ListsRt, entry_line, entry_lines, entry_text, read_transfers};
 ghost use Rattle.f11_commands.specs.RtVolume.{FailsToPrintRt};
 
-use crate::copy::FileAnswer;
-use crate::outcome::Failure;
+use crate::outcome::{Failure, FileAnswer};
 use crate::rt_any::{RtServed, read_volume, served, write_replaced};
 use crate::rt_area::{ShownBreak, first_past};
 use crate::rt_list::{ShownName, ShownProtection};

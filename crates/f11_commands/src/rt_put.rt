@@ -1,22 +1,19 @@
 //! The command `rt-put`.
 
 pub(crate) mod filling;
-pub(crate) mod making;
 
 ghost use Rattle.std.specs.Prelude.{◌≡◌, false};
 ghost use Rattle.f11_commands.specs.RtPut.{EndsPut, PutsFile, TellsPut, put_told};
 ghost use Rattle.rt11_volume.specs.Calls.{has_failed, volume_device};
 
-use crate::copy::FileAnswer;
-use crate::copy::telling::tell;
-use crate::copy::verifying::accept_rt;
-use crate::outcome::Failure;
+use crate::outcome::{Failure, FileAnswer};
 use crate::rt_file::Stop;
 use crate::rt_put::filling::{fill, undo};
-use crate::rt_put::making::make;
 use crate::sync::synced;
+use crate::telling::tell;
+use crate::verifying::accept_rt;
 use f11_dev::Device;
-use f11_flx::FlxRefusal;
+use f11_flx::{FlxRefusal, make_file};
 use rt11_volume::{RtAccepted, RtName};
 use std::alloc::Global;
 use std::io::{Read, Write};
@@ -101,7 +98,7 @@ fn put<D: Device, R: Read>(
     ensures puts { PutsFile name.now bytes result (R.remaining host.old) (R.remaining host.new)
         (D.disk (volume_device volume.old)) (D.disk (volume_device volume.new)) }
 {
-    let blocks = match make(volume, name, bytes.div_ceil(512)) {
+    let blocks = match make_file(volume, name, bytes.div_ceil(512), 0) {
         Ok(blocks) => blocks,
         Err(refusal) => return Err(Stop::Volume(refusal)),
     };

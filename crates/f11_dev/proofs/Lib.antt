@@ -4,4 +4,5 @@ pub mod WentLemmas
 pub mod ImageLemmas
 pub mod FileLemmas
 pub mod RunLemmas
+pub mod ZerosLemmas
 pub use Rattle.f11_bytes.proofs as bytes

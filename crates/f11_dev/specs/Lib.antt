@@ -2,6 +2,7 @@ pub mod Image
 pub mod Disk
 pub mod Looked
 pub mod Run
+pub mod Zeros
 pub mod Went
 pub mod Outcomes
 pub mod Memory

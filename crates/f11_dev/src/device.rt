@@ -1,9 +1,11 @@
 //! The trait of block devices.
-ghost use Rattle.std.specs.Prelude.{◌≡◌, ◌<◌, Some, codes, length};
+ghost use Rattle.std.specs.Prelude.{◌≡◌, ◌+◌, ◌<◌, ◌≤◌, Some, codes, length};
 ghost use Rattle.f11_dev.specs.Image.{IsImage};
 ghost use Rattle.f11_dev.specs.Disk.{Disk, Reads, Syncs, Writes};
+ghost use Rattle.f11_dev.specs.Zeros.{WritesZeros};
 
 use crate::Block;
+use f11_bytes::zeros;
 use std::error::Error;
 use std::fmt;
 
@@ -41,6 +43,22 @@ pub trait Device {
     fn write(&mut self, lbn: u32, from: &Block) -> Result<(), DeviceFault>
         requires { lbn < length (disk self.old).image }
         ensures writes { Writes result lbn from.now (disk self.old) (disk self.new) };
+
+    /// Writes zeros to `count` blocks from `lbn` on, one after another, each in one transfer; those after a failure aren't
+    /// written. Unless a device says otherwise each is a write.
+    fn write_zeros(&mut self, lbn: u32, count: u32) -> Result<(), DeviceFault>
+        requires { lbn + count ≤ length (disk self.old).image }
+        ensures zeros { WritesZeros result lbn count (disk self.old) (disk self.new) }
+    {
+        let zeros = zeros();
+        for k in 0..count {
+            match self.write(lbn + k, &zeros) {
+                Ok(()) => {}
+                Err(fault) => return Err(fault),
+            }
+        }
+        Ok(())
+    }
 
     /// Waits until what was written is where a machine that stops keeps it. Where that succeeds it is no transfer; a failure is a
     /// transfer that failed, and changes no block. A device that keeps nothing back has nothing to wait for.

@@ -44,7 +44,7 @@ use Rattle.f11_fcp.specs.Entries.{PutsEntry, FailsToPut}
 use Rattle.f11_fcp.specs.Handles.{of_known}
 use Rattle.f11_fcp.specs.declared.search.Search.{Search}
 use Rattle.f11_fcp.specs.declared.tail.Tail.{Tail}
-use Rattle.f11_fcp.proofs.AccessedLemmas.{extend-never}
+use Rattle.f11_fcp.proofs.AccessedLemmas.{first-among}
 use Rattle.f11_fcp.proofs.EntryLemmas.{there-first, writes-then, writes-weaker}
 use Rattle.f11_fcp.proofs.HandleLemmas.{cause-not-fatal, clean-cause, memory-cases, wants-none, wants-still, within-when}
 use Rattle.f11_fcp.proofs.KnownLemmas.{known-fatal, clean-faults, right-fatal, right-damage}
@@ -415,9 +415,9 @@ module _ (home : HomeFields) (d : FileId) (r : List ℕ) (old : Disk) where
                   subst (λ (x : Refusal). Fails (of_known x)) (sym is)
                   (record {
                     right = right-damage old.honest (entry_causes s d)
-                        (λ honest. extend-never s f 1
+                        (λ honest. absurd (let no : false ≡ true = first-among (causes.extend_causes s f 1) NoSuchFile
                         (sym (there-first (is_missing s d) _ (full honest).end.there) ∙ right.cause honest cause
-                        ∙ ap (λ (x : Refusal). Some x) is));
+                        ∙ ap (λ (x : Refusal). Some x) is) in cc));
                     writes = subst (λ (k : ℕ). WritesAtMost (Meanwhile (work_if (first_of (entry_causes s d)) (entry_work s d r)) home old)
                         (entry_cost s f) old new k) (clean-faults e clean) writes;
                     unchanged = λ no. absurd (cc);

@@ -1,10 +1,10 @@
 -- What a file's header says is read, and changed.
-use Rattle.std.proofs.Common.{◌≡◌, ℕ, ◌<◌, ◌≤◌, ◌==◌, Bool, true, false, IsTrue, [], Some, None, Ok, Err, refl, sym, ◌∙◌, ap, arith}
+use Rattle.std.proofs.Common.{◌∷◌, ◌≡◌, ℕ, ◌<◌, ◌≤◌, ◌==◌, Bool, true, false, IsTrue, [], Some, None, Ok, Err, refl, sym, ◌∙◌, ap, arith}
 use Rattle.std.proofs.Common.{if◌then◌else◌, nat_lt}
 use Rattle.std.specs.Int.{bit_at}
 use Rattle.std.proofs.lemmas.Bool.{lt-ltb, le-ltb}
 use Rattle.f11_home.specs.Home.{HomeFields}
-use Rattle.f11_store.specs.Causes.{first_of, first_refusal, is_bad, is_missing, lacks_change}
+use Rattle.f11_store.specs.Causes.{◌⇐◌, first_of, first_refusal, is_bad, is_missing, lacks_change}
 use Rattle.f11_store.specs.Changes.{with_change, with_replacement}
 use Rattle.f11_store.specs.File.{File, is_marked}
 use Rattle.f11_store.specs.Lags.{one_part, file_changes}
@@ -19,16 +19,16 @@ use Rattle.f11_store.specs.declared.refusals.Refusal.TheVariants.{BadArgument, S
 use Rattle.f11_store.specs.declared.requests.Reply.TheVariants as reply
 use Rattle.f11_store.specs.declared.requests.Request.{Request}
 use Rattle.f11_store.specs.declared.requests.Request.TheVariants as request
-use Rattle.f11_files.specs.Answers.{ReadsAtMost, FailsToRead, is_among, is_clean}
+use Rattle.f11_files.specs.Answers.{ReadsAtMost, FailsToRead, is_clean}
 use Rattle.f11_files.specs.Changing.Fields.{Alters, FailsToAlter}
 use Rattle.f11_files.specs.Operations.{attr_of, file_causes}
 use Rattle.f11_files.specs.image_store.StoreOf.{store_of}
 use Rattle.f11_files.proofs.AnswerLemmas.{reads-within}
 use Rattle.f11_fcp.specs.Accesses.{AccessTable, held_in}
-use Rattle.f11_fcp.specs.Handles.{State, store_at, own_causes, Handles}
+use Rattle.f11_fcp.specs.Handles.{State, store_at, Handles}
 use Rattle.f11_fcp.specs.Rights.{lacks_change_by}
 use Rattle.f11_fcp.proofs.AccessedLemmas.{drop-false, take-true, refused-early, writes-looked}
-use Rattle.f11_fcp.proofs.HandleLemmas.{handled-clean, handled-served, handled-does, handled-refused, same-store}
+use Rattle.f11_fcp.proofs.HandleLemmas.{among-part, handled-clean, handled-served, handled-does, handled-refused, same-store}
 use Rattle.f11_fcp.proofs.NamedLemmas.{found, marks-read, unread, same-behind}
 use Rattle.f11_fcp.proofs.RequestLemmas.{still}
 
@@ -68,12 +68,6 @@ module _ (task : ℕ) (caller : Uic) (id : FileId) (old : State) where
         (λ honest. ap (λ (a : Attr). reply.Attr a) (is honest))
         (λ _. same-store old mid reads.looked.image home table) (λ _. refl)
         (writes-looked task caller (request.ReadAttr id) [] old mid.disk reads (omega arith)) home
-
--- what a change of a file is refused for is the request's own cause
-change-own : (s mid : Store) (task : ℕ) (id : FileId) (c : Change) (caller : Uic) (e : Refusal) → is_among (file_causes mid id) e ≡ true
-    → is_among (own_causes s task caller (request.WriteAttr id c)) e ≡ true
-change-own s mid task id c caller NoSuchFile h = refl
-change-own s mid task id c caller _ h = absurd (cc)
 
 -- WriteAttr
 module _ (task : ℕ) (caller : Uic) (id : FileId) (c : Change) (old : State) where
@@ -174,5 +168,8 @@ module _ (task : ℕ) (caller : Uic) (id : FileId) (c : Change) (old : State) wh
               not-changed e alive fails counts' =
                   handled-refused task caller r [] old e (file_causes um id)
                   (one_part id.number (file_changes id.number (with_replacement c))) mid new [] reads home counts
-                  (still alive fails) (change-own u um task id c caller e) (λ _. omega arith) first (λ _. refl) home' table' counts'
+                  (still alive fails)
+                  (among-part ((BadArgument ⇐ true) ∷ (SystemFile ⇐ true) ∷ []) (file_causes um id)
+                  ((Marked ⇐ true) ∷ (NoPrivilege ⇐ true) ∷ []) e)
+                  (λ _. omega arith) first (λ _. refl) home' table' counts'
                   (λ _. refl)

@@ -49,11 +49,7 @@ keeps-given t t' k l is task lun e held = go ((task == k) && (lun == l)) (ap (λ
     go true none = absurd (cc)
     go false some = keeps-same t task lun e some
 
--- a request that reads and writes no block of a file needs no window
-pub no-block : (task : ℕ) (r : Request) (old new : State) → block_of r ≡ None → TakesOneTransfer task r old new
-no-block task r old new none lun vbn some stands = absurd (let no : None ≡ Some (lun, vbn) = sym none ∙ some in cc)
-
--- one that does takes one transfer, where its block stands in the window of what its lun holds
+-- a request for a block takes one transfer, where its block stands in the window of what its lun holds
 pub one-transfer : (task lun vbn : ℕ) (r : Request) (old new : State) (e : Entry) → block_of r ≡ Some (lun, vbn)
     → old.table task lun ≡ Some e → (HoldsBlock e.window vbn → new.disk.transfers ≤ old.disk.transfers + 1)
     → TakesOneTransfer task r old new

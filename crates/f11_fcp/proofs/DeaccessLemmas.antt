@@ -19,14 +19,17 @@ use Rattle.f11_store.specs.declared.requests.Request.{Request}
 use Rattle.f11_store.specs.declared.requests.Request.TheVariants as request
 use Rattle.f11_dev.specs.Disk.{Disk}
 use Rattle.f11_files.specs.Answers.{WritesAtMost, is_fatal}
+use Rattle.f11_files.specs.Operations.{file_causes}
 use Rattle.f11_files.specs.Removing.Delete.{Deletes, FailsToDelete}
 use Rattle.f11_files.specs.image_store.StoreOf.{store_of}
 use Rattle.f11_fcp.specs.Accesses.{AccessTable, Entry, access_of, with_table_entry, held_in, is_held_in, any_mode, mark_there, mark_kept}
 use Rattle.f11_fcp.specs.Accesses.{HasAccessed}
 use Rattle.f11_store.specs.Accesses.{mark_of}
-use Rattle.f11_fcp.specs.Handles.{State, store_at, WhileServing, Handles, of_accessed}
-use Rattle.f11_fcp.proofs.HandleLemmas.{clean-cause, handled-served, handled-does, reads-none, writes-none}
-use Rattle.f11_fcp.proofs.AccessedLemmas.{among-file, drop-false, take-true, refused-early, accessed-broke, there-marked}
+use Rattle.f11_fcp.specs.Handles.{State, store_at, WhileServing, Handles, of_known}
+use Rattle.f11_fcp.proofs.HandleLemmas.{behind, clean-cause, handled-fatal, handled-served, handled-does, reads-none, work-then}
+use Rattle.f11_fcp.proofs.HandleLemmas.{writes-none}
+use Rattle.f11_fcp.proofs.KnownLemmas.{known-breaks, known-fatal, known-file}
+use Rattle.f11_fcp.proofs.AccessedLemmas.{among-file, drop-false, take-true, refused-early, there-marked}
 use Rattle.f11_store.proofs.FateLaws.{mark-stays, held-at, fate-gone}
 use Rattle.f11_fcp.proofs.OpenLemmas.{same-self}
 
@@ -36,19 +39,15 @@ accessed-same t s id = refl
 
 -- a file that is accessed is refused deletion only where the volume fails
 pub deletion-fatal : {failed : Bool} (home : HomeFields) (id : FileId) (old new : Disk) (e : Refusal) → failed ≡ false
-    → FailsToDelete failed home id e old new → is_fatal (of_accessed e) ≡ true
+    → FailsToDelete failed home id e old new → is_fatal (of_known e) ≡ true
 deletion-fatal home id old new e alive fails = by_fatal (is_fatal e) refl
   where
-    by_fatal : (b : Bool) → is_fatal e ≡ b → is_fatal (of_accessed e) ≡ true
-    by_fatal true fatal = still-fatal e fatal
-      where
-        still-fatal : (e : Refusal) → is_fatal e ≡ true → is_fatal (of_accessed e) ≡ true
-        still-fatal NoSuchFile h = refl
-        still-fatal _ h = h
+    by_fatal : (b : Bool) → is_fatal e ≡ b → is_fatal (of_known e) ≡ true
+    by_fatal true fatal = ap is_fatal (known-fatal e fatal) ∙ fatal
     by_fatal false clean =
         let other : e ≢ VolumeFailed = λ v. absurd (let no : false ≡ true = sym alive ∙ fails.right.volume v in cc) in
         let file = among-file (is_missing (store_of old.image home) id) e (fails.right.among (clean-cause e clean other).0) in
-        ap (λ (x : Refusal). is_fatal (of_accessed x)) file
+        ap (λ (x : Refusal). is_fatal (of_known x)) file
 
 module _ (task lun : ℕ) (caller : Uic) (old : State) where
   abbrev r : Request
@@ -154,10 +153,14 @@ module _ (task lun : ℕ) (caller : Uic) (old : State) where
 
       pub deaccess-fails : {failed : Bool} (new : State) (er res : Refusal) → failed ≡ false
           → FailsToDelete failed old.home e.file er old.disk new.disk → new.home ≡ old.home
-          → res ≡ of_accessed er → Handles task caller r (Err res) old [] new []
+          → res ≡ of_known er → Handles task caller r (Err res) old [] new []
       deaccess-fails new er res alive fails home res_is =
-          accessed-broke task caller r [] old er res (is_missing s0 e.file) (go_work e.file.number) new [] alive fails fewer there
-          (λ _. none-held) works home res_is
+          let breaks = known-breaks (file_causes s0 e.file) er alive (known-file s0 e.file er)
+          (λ honest. drop-false (is_missing s0 e.file) (Some NoSuchFile) None (there honest)) (go_work e.file.number) old.home fails in
+          subst (λ (x : Refusal). Handles task caller r (Err x) old [] new []) (sym res_is)
+          (handled-fatal task caller r [] old (of_known er) new [] breaks.fatal breaks.undamaged
+          (behind task caller r [] old (go_work e.file.number) old new (reads-none old.disk) refl
+          (λ honest. works honest ∙ work-then task caller r [] old none-held) breaks.writes fewer) home)
 
       pub deleted-kept : (t : AccessTable) (s' : Store) → s' ≡ without_file_at s0 e.file.number → t ≡ given → IsTrue old.disk.honest
           → HasAccessed old.table s0 → HasAccessed t s'

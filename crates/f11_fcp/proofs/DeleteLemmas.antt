@@ -1,10 +1,11 @@
 -- A file goes, or is marked where it is accessed.
-use Rattle.std.proofs.Common.{◌≡◌, ℕ, ◌+◌, ◌-◌, ◌<◌, ◌≤◌, ◌==◌, ◌&&◌, not, Bool, true, false, IsTrue, [], Some, None, Ok, Err, refl, sym}
+use Rattle.std.proofs.Common.{◌∷◌, ◌≡◌, ℕ, ◌+◌, ◌-◌, ◌<◌, ◌≤◌, ◌==◌, ◌&&◌, not, Bool, true, false, IsTrue, [], Some, None, Ok, Err, refl}
+use Rattle.std.proofs.Common.{sym}
 use Rattle.std.proofs.Common.{◌∙◌, ap, subst, arith, if◌then◌else◌, nat_lt}
 use Rattle.std.specs.Int.{bit_at}
 use Rattle.std.proofs.lemmas.Bool.{lt-ltb, le-ltb, not_from_true, not_from_false}
 use Rattle.f11_home.specs.Home.{HomeFields}
-use Rattle.f11_store.specs.Causes.{first_of, first_refusal, is_bad, is_missing, lacks}
+use Rattle.f11_store.specs.Causes.{◌⇐◌, first_of, first_refusal, is_bad, is_missing, lacks}
 use Rattle.f11_store.specs.Changes.{after_delete, with_marked_file, without_file_at, with_delete_mark}
 use Rattle.f11_store.specs.Cost.{cut_cost}
 use Rattle.f11_store.specs.File.{is_marked}
@@ -20,26 +21,20 @@ use Rattle.f11_store.specs.declared.refusals.Refusal.TheVariants.{BadArgument, S
 use Rattle.f11_store.specs.declared.requests.Reply.TheVariants as reply
 use Rattle.f11_store.specs.declared.requests.Request.{Request}
 use Rattle.f11_store.specs.declared.requests.Request.TheVariants as request
-use Rattle.f11_files.specs.Answers.{ReadsAtMost, FailsToRead, is_among, is_clean}
+use Rattle.f11_files.specs.Answers.{ReadsAtMost, FailsToRead, is_clean}
 use Rattle.f11_files.specs.Removing.Delete.{Deletes, FailsToDelete}
 use Rattle.f11_files.specs.Changing.Fields.{Alters, FailsToAlter}
 use Rattle.f11_files.specs.Operations.{attr_of, file_causes}
 use Rattle.f11_files.specs.image_store.StoreOf.{store_of}
 use Rattle.f11_files.proofs.AnswerLemmas.{reads-within}
 use Rattle.f11_fcp.specs.Accesses.{AccessTable, held_in, is_held_in, any_mode, with_marks}
-use Rattle.f11_fcp.specs.Handles.{State, store_at, own_causes, Handles}
+use Rattle.f11_fcp.specs.Handles.{State, store_at, Handles}
 use Rattle.f11_fcp.proofs.AccessedLemmas.{drop-false, take-true, refused-early}
 use Rattle.f11_fcp.proofs.DeaccessLemmas.{accessed-same}
-use Rattle.f11_fcp.proofs.HandleLemmas.{handled-clean, handled-does, handled-refused}
+use Rattle.f11_fcp.proofs.HandleLemmas.{among-part, handled-clean, handled-does, handled-refused}
 use Rattle.f11_fcp.proofs.MarkLemmas.{marks-leave}
 use Rattle.f11_fcp.proofs.NamedLemmas.{found, marks-read, unread, same-behind}
 use Rattle.f11_fcp.proofs.RequestLemmas.{still}
-
--- what deleting a file is refused for is the request's own cause
-delete-own : (s mid : Store) (task : ℕ) (id : FileId) (caller : Uic) (e : Refusal) → is_among (file_causes mid id) e ≡ true
-    → is_among (own_causes s task caller (request.Delete id)) e ≡ true
-delete-own s mid task id caller NoSuchFile h = refl
-delete-own s mid task id caller _ h = absurd (cc)
 
 module _ (task : ℕ) (caller : Uic) (id : FileId) (old : State) where
   abbrev r : Request
@@ -155,7 +150,10 @@ module _ (task : ℕ) (caller : Uic) (id : FileId) (old : State) where
                     → Handles task caller r (Err e) old [] new []
                 not-deleted e alive fails counts' =
                     handled-refused task caller r [] old e (file_causes sm id) (go_work id.number) mid new [] reads home counts
-                    (still alive fails) (delete-own s sm task id caller e) (λ _. few) first (λ _. work-is)
+                    (still alive fails)
+                    (among-part ((BadArgument ⇐ true) ∷ (SystemFile ⇐ true) ∷ []) (file_causes sm id)
+                    ((Marked ⇐ true) ∷ (NoPrivilege ⇐ true) ∷ []) e)
+                    (λ _. few) first (λ _. work-is)
                     home' table' counts' (λ _. refl)
 
                 pub unheld-still : is_accessed s id ≡ false
@@ -185,5 +183,8 @@ module _ (task : ℕ) (caller : Uic) (id : FileId) (old : State) where
                     → (is_clean e ≡ true → new.counts ≡ mid.counts) → Handles task caller r (Err e) old [] new []
                 not-marked e alive fails table' counts' =
                     handled-refused task caller r [] old e (file_causes sm id) (mark_work id.number) mid new [] reads home counts
-                    (still alive fails) (delete-own s sm task id caller e) (λ _. omega arith) first
+                    (still alive fails)
+                    (among-part ((BadArgument ⇐ true) ∷ (SystemFile ⇐ true) ∷ []) (file_causes sm id)
+                    ((Marked ⇐ true) ∷ (NoPrivilege ⇐ true) ∷ []) e)
+                    (λ _. omega arith) first
                     (λ _. mark-is) home' table' counts' (λ _. refl)

@@ -1,5 +1,5 @@
 -- A directory that is opened for a request, and looked through.
-use Rattle.std.proofs.Common.{◌≡◌, ◌≢◌, ℕ, ◌+◌, ◌<◌, ◌≤◌, ◌==◌, Bool, true, false, not, IsTrue, List, [], ◌∷◌, ◌++◌, Some, None, refl, sym}
+use Rattle.std.proofs.Common.{◌≡◌, ℕ, ◌+◌, ◌<◌, ◌≤◌, ◌==◌, Bool, true, false, not, IsTrue, List, [], ◌∷◌, ◌++◌, Some, None, refl, sym}
 use Rattle.std.proofs.Common.{◌∙◌, ap, subst, arith, if◌then◌else◌, nat_lt}
 use Rattle.std.specs.Int.{bit_at}
 use Rattle.std.proofs.lemmas.Bool.{lt-ltb, le-ltb}
@@ -9,7 +9,6 @@ use Rattle.f11_store.specs.Causes.{Cause, ◌⇐◌, first_of, is_missing, lacks
 use Rattle.f11_store.specs.Cost.{header_count}
 use Rattle.f11_store.specs.Directory.{entry_count, is_directory}
 use Rattle.f11_store.specs.File.{File, is_marked, length_of}
-use Rattle.f11_store.specs.Refusal.{refusal_number}
 use Rattle.f11_store.specs.Store.{Store, bars, file_named}
 use Rattle.f11_store.specs.declared.callers.Uic.{Uic}
 use Rattle.f11_store.specs.declared.files.Attr.{Attr}
@@ -20,20 +19,20 @@ use Rattle.f11_store.specs.declared.refusals.Refusal.{Refusal}
 use Rattle.f11_store.specs.declared.refusals.Refusal.TheVariants.{SystemFile, NoSuchFile, Marked, NoPrivilege, Conflict, NotDirectory}
 use Rattle.f11_entries.specs.Costs.{look_cost, reading_cost}
 use Rattle.f11_entries.specs.Looks.{Tells, IsLastBlock}
-use Rattle.f11_files.specs.Answers.{FailsToRead, ReadsAtMost, faults_of, is_among}
+use Rattle.f11_files.specs.Answers.{FailsToRead, ReadsAtMost, is_among}
 use Rattle.f11_files.specs.Calls.{ReadsAttr}
 use Rattle.f11_files.specs.Finding.Length.{CountsBlocks}
 use Rattle.f11_files.specs.Operations.{attr_of, file_causes}
 use Rattle.f11_files.specs.image_store.StoreOf.{store_of}
-use Rattle.f11_files.proofs.AnswerLemmas.{fails-more, reads-more, reads-within, right-cause}
+use Rattle.f11_files.proofs.AnswerLemmas.{fails-more, reads-more, reads-within}
 use Rattle.f11_fcp.specs.Accesses.{AccessTable, is_held_in}
 use Rattle.f11_fcp.specs.Directories.{right_for, lacks_for_purpose, is_barred_to, conflict_causes, opening_causes, OpensDirectory}
 use Rattle.f11_fcp.specs.Directories.{LooksThroughDirectory, Searches, IsDirectoryOf}
 use Rattle.f11_fcp.specs.declared.purpose.Purpose.{Purpose}
 use Rattle.f11_fcp.specs.declared.purpose.Purpose.TheVariants as purpose
 use Rattle.f11_fcp.specs.declared.search.Search.{Search}
-use Rattle.f11_fcp.proofs.AccessedLemmas.{drop-false, take-true}
-use Rattle.f11_fcp.proofs.HandleLemmas.{reads-none, within-when}
+use Rattle.f11_fcp.proofs.AccessedLemmas.{drop-false, fails-clean, fails-early, take-true}
+use Rattle.f11_fcp.proofs.HandleLemmas.{within-when}
 use Rattle.f11_fcp.proofs.NamedLemmas.{found, marks-read}
 
 -- where a test is so, its negation isn't
@@ -104,11 +103,7 @@ module _ (p : Purpose) (t : AccessTable) (caller : Uic) (d : FileId) (home : Hom
   causes = opening_causes p t s0 caller d
 
   pub open-system : d.number < 4 → FailsToRead false causes 1 SystemFile old old
-  open-system low = record {
-    right = right-cause old.honest causes SystemFile (λ is. absurd (omega (arith, is))) (λ is. absurd (omega (arith, is))) refl
-        (λ _. take-true (nat_lt d.number 4) _ _ (lt-ltb d.number 4 low));
-    reads = reads-within (omega arith) (reads-none old);
-  }
+  open-system low = fails-early SystemFile refl refl (λ _. take-true (nat_lt d.number 4) _ _ (lt-ltb d.number 4 low))
 
   module _ (late : 4 ≤ d.number) where
     judged : first_of causes
@@ -147,17 +142,8 @@ module _ (p : Purpose) (t : AccessTable) (caller : Uic) (d : FileId) (home : Hom
           (conflict_causes p t d ++ ((NotDirectory ⇐ not (is_directory f)) ∷ []))))
           (marks-read s0 d attr (read.attr_is honest) ∙ is)
 
-      clean : (e : Refusal) → refusal_number e ≢ 1 → refusal_number e ≢ 20 → 0 ≡ faults_of e → is_among causes e ≡ true
-          → (IsTrue old.honest → first_of causes ≡ Some e) → FailsToRead false causes 1 e old new
-      clean e not_failed not_damaged fault among first =
-          record {
-            right = right-cause old.honest causes e not_failed not_damaged among first;
-            reads = subst (λ (k : ℕ). ReadsAtMost 1 old new k) fault read.reads;
-          }
-
       pub open-marked : (bit_at attr.characteristics 15 == 1) ≡ true → FailsToRead false causes 1 Marked old new
-      open-marked marked =
-          clean Marked (λ is. absurd (omega (arith, is))) (λ is. absurd (omega (arith, is))) refl refl (past-file true marked)
+      open-marked marked = fails-clean Marked refl refl (past-file true marked) read.reads
 
       module _ (unmarked : (bit_at attr.characteristics 15 == 1) ≡ false) where
         lacking : IsTrue old.honest → lacks (right_for p) caller f ≡ lacks_for_purpose p caller attr.owner attr.protection
@@ -166,16 +152,16 @@ module _ (p : Purpose) (t : AccessTable) (caller : Uic) (d : FileId) (home : Hom
         pub open-unprivileged : lacks_for_purpose p caller attr.owner attr.protection ≡ true
             → FailsToRead false causes 1 NoPrivilege old new
         open-unprivileged lack =
-            clean NoPrivilege (λ is. absurd (omega (arith, is))) (λ is. absurd (omega (arith, is))) refl refl
+            fails-clean NoPrivilege refl refl
             (λ honest. past-file false unmarked honest ∙ take-true (lacks (right_for p) caller f) _ _ (lacking honest ∙ lack))
+            read.reads
 
         module _ (granted : lacks_for_purpose p caller attr.owner attr.protection ≡ false) where
           pub open-barred : is_barred_to p t d ≡ true → FailsToRead false causes 1 Conflict old new
           open-barred barred =
-              clean Conflict (λ is. absurd (omega (arith, is))) (λ is. absurd (omega (arith, is))) refl
-              (conflict-among p t s0 caller d barred)
+              fails-clean Conflict refl (conflict-among p t s0 caller d barred)
               (λ honest. past-file false unmarked honest ∙ drop-false (lacks (right_for p) caller f) _ _ (lacking honest ∙ granted)
-              ∙ conflict-first p t d _ barred)
+              ∙ conflict-first p t d _ barred) read.reads
 
           module _ (unbarred : is_barred_to p t d ≡ false) where
             past-access : (b : Bool) → IsTrue old.honest → b ≡ is_directory f
@@ -192,8 +178,8 @@ module _ (p : Purpose) (t : AccessTable) (caller : Uic) (d : FileId) (home : Hom
             pub open-other : (b : Bool) → b ≡ false → ((h : File) → h.ident ≡ attr.ident → h.attr ≡ attr.attr → b ≡ is_directory h)
                 → FailsToRead false causes 1 NotDirectory old new
             open-other b other is =
-                clean NotDirectory (λ no. absurd (omega (arith, no))) (λ no. absurd (omega (arith, no))) refl
-                (directory-among p t s0 caller d) (λ honest. past-access false honest (sym other ∙ judged-as is honest))
+                fails-clean NotDirectory refl (directory-among p t s0 caller d)
+                (λ honest. past-access false honest (sym other ∙ judged-as is honest)) read.reads
 
             pub opened : (b : Bool) → b ≡ true → ((h : File) → h.ident ≡ attr.ident → h.attr ≡ attr.attr → b ≡ is_directory h)
                 → OpensDirectory p t caller d attr home old new

@@ -3,21 +3,20 @@ use Rattle.std.proofs.Common.{◌≡◌, ℕ, ◌+◌, ◌≤◌, ◌||◌, Bool
 use Rattle.std.proofs.Common.{refl, sym, ◌∙◌, ap, subst, arith, map}
 use Rattle.f11_dev.specs.declared.device.Device.{Ghosts}
 use Rattle.f11_home.specs.Home.{HomeFields}
-use Rattle.f11_store.specs.Causes.{Cause, ◌⇐◌, first_of, first_refusal, extend_causes, extend_causes_if, is_bad}
+use Rattle.f11_store.specs.Causes.{causes_of, Cause, ◌⇐◌, first_of, first_refusal, extend_causes, extend_causes_if, is_bad}
 use Rattle.f11_store.specs.Changes.{Enters, EntersAt, EntersAtEnd}
 use Rattle.f11_store.specs.Cost.{cost, growth_cost, header_count}
 use Rattle.f11_store.specs.Directory.{index_of_empty, entry_count, is_entered, needs_block, record_bytes}
 use Rattle.f11_store.specs.Headroom.{headers_to_enter}
 use Rattle.f11_store.specs.Lags.{served_work}
 use Rattle.f11_store.specs.Step.{may_want_memory, Step}
-use Rattle.f11_store.specs.Store.{Store, Access, bars_writing, file_named, is_held}
+use Rattle.f11_store.specs.Store.{Store, Access, file_named}
 use Rattle.f11_store.specs.Accesses.{with_accesses}
 use Rattle.f11_store.specs.declared.callers.Uic.{Uic}
 use Rattle.f11_store.specs.declared.files.FileId.{FileId}
 use Rattle.f11_store.specs.declared.files.Mode.TheVariants as mode
 use Rattle.f11_store.specs.declared.refusals.Refusal.{Refusal}
-use Rattle.f11_store.specs.declared.refusals.Refusal.TheVariants.{BadArgument, SystemFile, NoSuchFile, Marked, NoPrivilege, Conflict}
-use Rattle.f11_store.specs.declared.refusals.Refusal.TheVariants.{NotDirectory, DuplicateName, TooManySegments, DeviceFull, NoHeader}
+use Rattle.f11_store.specs.declared.refusals.Refusal.TheVariants.{BadArgument, DuplicateName}
 use Rattle.f11_store.specs.declared.refusals.Refusal.TheVariants.{NoMemory}
 use Rattle.f11_store.specs.declared.requests.Reply.{Reply}
 use Rattle.f11_store.specs.declared.requests.Reply.TheVariants as reply
@@ -32,20 +31,20 @@ use Rattle.f11_entries.specs.declared.spot.Looked.TheVariants as looked
 use Rattle.f11_entries.specs.declared.spot.Spot.{Spot}
 use Rattle.f11_entries.proofs.CostLemmas.{enter_fits}
 use Rattle.f11_entries.proofs.FateLemmas.{fate-enter}
-use Rattle.f11_files.specs.Answers.{FailsToRead, is_among, is_fatal, is_clean, is_refused}
+use Rattle.f11_files.specs.Answers.{FailsToRead, is_fatal, is_clean, is_refused}
 use Rattle.f11_files.specs.Open.{disk_in, has_failed, home_in}
 use Rattle.f11_files.specs.image_store.StoreOf.{store_of}
 use Rattle.f11_files.specs.declared.files.Files.{Files}
 use Rattle.f11_fcp.specs.Accesses.{AccessTable, accesses, held_in}
 use Rattle.f11_fcp.specs.Directories.{opening_causes, Searches}
 use Rattle.f11_fcp.specs.Entries.{cause_if, entry_causes, entry_wants, entry_work, HasEmpty, PutsEntry, FailsToPut}
-use Rattle.f11_fcp.specs.Handles.{State, state_of, store_at, memory_cause, own_causes, Handles, IsOpen, StaysOpen}
+use Rattle.f11_fcp.specs.Handles.{State, state_of, store_at, memory_cause, Handles, IsOpen, StaysOpen}
 use Rattle.f11_fcp.specs.declared.purpose.Purpose.TheVariants as purpose
 use Rattle.f11_fcp.specs.declared.search.Search.{Search}
 use Rattle.f11_fcp.proofs.AccessLemmas.{barred-same}
 use Rattle.f11_fcp.proofs.AccessedLemmas.{drop-false, take-true, refused-early}
 use Rattle.f11_fcp.proofs.DirectoryLemmas.{opened-there, opening_barred}
-use Rattle.f11_fcp.proofs.HandleLemmas.{handled-does, handled-wants}
+use Rattle.f11_fcp.proofs.HandleLemmas.{among-part, handled-does, handled-wants}
 use Rattle.f11_fcp.proofs.NamedLemmas.{same-behind}
 use Rattle.f11_fcp.specs.Windows.{HasWindows}
 use Rattle.std.specs.Prelude.{OnOk}
@@ -78,6 +77,9 @@ module _ (task : ℕ) (caller : Uic) (d : FileId) (name : List ℕ) (id : FileId
   abbrev s0 : Store
   s0 = store_of old.disk.image old.home
 
+  abbrev opening : List Cause
+  opening = opening_causes purpose.Change old.table s0 caller d
+
   abbrev rest : List Cause
   rest = (DuplicateName ⇐ is_entered name (file_named s0 d)) ∷ extend_causes_if (needs_block (file_named s0 d)) s (file_named s0 d) 1
 
@@ -92,36 +94,28 @@ module _ (task : ℕ) (caller : Uic) (d : FileId) (name : List ℕ) (id : FileId
       (take-true (is_bad d || is_bad id) _ _ (ap (λ (b : Bool). b || is_bad id) good ∙ bad))
 
   module _ (good : is_bad d ≡ false) (good' : is_bad id ≡ false) where
-    judged : first_refusal s task caller r ≡ first_of (opening_causes purpose.Change old.table s0 caller d ++ rest)
+    judged : first_refusal s task caller r ≡ first_of (opening ++ rest)
     judged =
         drop-false (is_bad d || is_bad id) _ _ (ap (λ (b : Bool). b || is_bad id) good ∙ good')
         ∙ ap (λ (b : Bool). first_of (opening_barred b old.table s0 caller d ++ rest)) (sym (barred-same mode.Write old.table s0 d))
-
-    enter-own : (e : Refusal) → is_among (opening_causes purpose.Change old.table s0 caller d) e ≡ true
-        → is_among (own_causes s task caller r) e ≡ true
-    enter-own SystemFile h = refl
-    enter-own NoSuchFile h = refl
-    enter-own Marked h = refl
-    enter-own NoPrivilege h = refl
-    enter-own Conflict h = refl
-    enter-own NotDirectory h = refl
-    enter-own _ h = absurd (cc)
 
     fits : look_cost (file_named s0 d) ≤ cost s task r
     fits = let all = enter_fits s task d id name in omega (arith, all)
 
     pub enter-refused : (e : Refusal) (mid : State)
-        → FailsToRead false (opening_causes purpose.Change old.table s0 caller d) (look_cost (file_named s0 d)) e old.disk mid.disk
+        → FailsToRead false opening (look_cost (file_named s0 d)) e old.disk mid.disk
         → mid.home ≡ old.home → mid.table ≡ old.table → mid.counts ≡ old.counts → Handles task caller r (Err e) old [] mid []
     enter-refused e mid fails home table counts =
-        search-refused task caller r old d purpose.Change rest judged e mid fails fits (enter-own e) home table counts
+        search-refused task caller r old opening rest judged e mid fails fits
+        (among-part ((BadArgument ⇐ (is_bad d || is_bad id)) ∷ []) opening (rest ++ (extend_causes s (file_named s d) 1 ++ memory_cause)) e)
+        home table counts
 
     module _ (found : Search) (mid : State) (searches : Searches purpose.Change old.table caller d name found old.home old.disk mid.disk)
         (home : mid.home ≡ old.home) (counts : mid.counts ≡ old.counts) where
       pub enter-found : (spot : Spot) (other : FileId) → found.looked ≡ looked.Found spot other → mid.table ≡ old.table
           → Handles task caller r (Err DuplicateName) old [] mid []
       enter-found spot other is table =
-          search-answered task caller r old d purpose.Change rest judged DuplicateName mid refl refl searches.reads fits searches.no_cause
+          search-answered task caller r old opening rest judged DuplicateName mid refl refl searches.reads fits searches.no_cause
           (λ honest. take-true (is_entered name (file_named s0 d)) _ _
           (subst (λ (l : Looked). Tells name (file_named s0 d) l) is (searches.tells honest)).0.entered) home table counts
 
@@ -157,35 +151,12 @@ module _ (task : ℕ) (caller : Uic) (d : FileId) (name : List ℕ) (id : FileId
             ap (λ (x : Store). first_of (entry_causes x d)) same ∙ by_need (needs_block (file_named s0 d)) refl
             ∙ sym (drop-false (is_entered name (file_named s0 d)) (Some DuplicateName)
             (first_of (extend_causes_if (needs_block (file_named s0 d)) s (file_named s0 d) 1)) (tells honest).0.entered)
-            ∙ sym (search-then task caller r old d purpose.Change rest judged (searches.no_cause honest))
+            ∙ sym (search-then task caller r old opening rest judged (searches.no_cause honest))
           where
             by_need : (b : Bool) → needs_block (file_named s0 d) ≡ b
                 → first_of (map (cause_if b) (extend_causes s0 (file_named s0 d) 1)) ≡ first_of (extend_causes_if b s (file_named s0 d) 1)
             by_need true needs = ap first_of (sym (extend-causes-held (accesses old.table) s0 (file_named s0 d) 1))
             by_need false needs = refl
-
-        -- want of room is a cause of its own, whatever stands before it
-        abbrev all_causes : Bool → Bool → List Cause
-        all_causes held needs =
-            ((BadArgument ⇐ (is_bad d || is_bad id)) ∷ opening_barred held old.table s0 caller d
-            ++ ((DuplicateName ⇐ is_entered name (file_named s0 d)) ∷ extend_causes_if needs s (file_named s0 d) 1))
-            ++ (extend_causes s (file_named s0 d) 1 ++ memory_cause)
-
-        growth-own : (held needs : Bool) (e : Refusal) → is_among (entry_causes sm d) e ≡ true → is_among (all_causes held needs) e ≡ true
-        growth-own held true TooManySegments h = refl
-        growth-own held false TooManySegments h = refl
-        growth-own held true DeviceFull h = refl
-        growth-own held false DeviceFull h = refl
-        growth-own held true NoHeader h = refl
-        growth-own held false NoHeader h = refl
-        growth-own held needs _ h = absurd (cc)
-
-        -- and so is want of memory
-        memory-own : (held needs : Bool) → is_among (all_causes held needs) NoMemory ≡ true
-        memory-own true true = refl
-        memory-own true false = refl
-        memory-own false true = refl
-        memory-own false false = refl
 
         enough : IsTrue old.disk.honest → look_cost (file_named s0 d) + entry_cost sm (file_named sm d) ≤ cost s task r
         enough honest =
@@ -221,8 +192,9 @@ module _ (task : ℕ) (caller : Uic) (d : FileId) (name : List ℕ) (id : FileId
           not-entered e fails counts' =
               handled-wants task caller r [] old e (entry_causes sm d) (entry_work sm d (record_bytes id name)) (entry_wants sm d) mid new
               searches.reads home counts fails
-              (growth-own (is_held bars_writing s d) (needs_block (file_named s0 d)) e)
-              (memory-own (is_held bars_writing s d) (needs_block (file_named s0 d))) enough first work-is wants-is home' table' counts'
+              (among-part (causes_of s task caller r) (extend_causes s (file_named s d) 1) memory_cause e)
+              (among-part (causes_of s task caller r) (extend_causes s (file_named s d) 1 ++ memory_cause) [] NoMemory refl) enough first
+              work-is wants-is home' table' counts'
 
 -- what a step of Enter makes of each file
 entered-fate : (s : Store) (task : ℕ) (caller : Uic) (d : FileId) (name : List ℕ) (id : FileId) (result : Result Reply Refusal) (s' : Store)

@@ -1,9 +1,9 @@
 -- The index file grows.
-use Rattle.std.proofs.Common.{◌≡◌, ℕ, ◌+◌, ◌==◌, Bool, true, false, not, List, [], Some, Ok, Err, refl, sym, ◌∙◌, ap, subst, arith}
+use Rattle.std.proofs.Common.{◌≡◌, ℕ, ◌+◌, ◌==◌, Bool, true, false, not, List, [], ◌∷◌, Some, Ok, Err, refl, sym, ◌∙◌, ap, subst, arith}
 use Rattle.std.proofs.Common.{if◌then◌else◌, nat_lt}
 use Rattle.std.proofs.lemmas.Bool.{eq-eqb, not_from_true, not_from_false}
 use Rattle.f11_home.specs.Home.{HomeFields}
-use Rattle.f11_store.specs.Causes.{Cause, first_of, first_refusal}
+use Rattle.f11_store.specs.Causes.{Cause, ◌⇐◌, first_of, first_refusal}
 use Rattle.f11_store.specs.Changes.{GrowsIndex}
 use Rattle.f11_store.specs.Lags.{grow_work}
 use Rattle.f11_store.specs.Rights.{is_of}
@@ -11,29 +11,19 @@ use Rattle.f11_store.specs.Store.{Store, index_file}
 use Rattle.f11_store.specs.declared.callers.Uic.{Uic}
 use Rattle.f11_store.specs.declared.protection.Class.TheVariants as class
 use Rattle.f11_store.specs.declared.refusals.Refusal.{Refusal}
-use Rattle.f11_store.specs.declared.refusals.Refusal.TheVariants.{BadArgument, NoPrivilege, IndexLimit, TooManySegments, DeviceFull}
-use Rattle.f11_store.specs.declared.refusals.Refusal.TheVariants.{NoHeader}
+use Rattle.f11_store.specs.declared.refusals.Refusal.TheVariants.{BadArgument, NoPrivilege, IndexLimit}
 use Rattle.f11_store.specs.declared.requests.Reply.TheVariants as reply
 use Rattle.f11_store.specs.declared.requests.Request.{Request}
 use Rattle.f11_store.specs.declared.requests.Request.TheVariants as request
 use Rattle.f11_store.proofs.HeldLaws.{growth-held, index-grows-held}
-use Rattle.f11_files.specs.Answers.{is_among, is_clean}
+use Rattle.f11_files.specs.Answers.{is_clean}
 use Rattle.f11_files.specs.GrowingIndex.Runs.{GrowsIndexFile, IsSlotsAfter, FailsToGrow}
 use Rattle.f11_files.specs.Operations.{grow_causes}
 use Rattle.f11_files.specs.image_store.StoreOf.{store_of}
 use Rattle.f11_fcp.specs.Accesses.{AccessTable, accesses, held_in}
-use Rattle.f11_fcp.specs.Handles.{State, store_at, own_causes, Handles}
+use Rattle.f11_fcp.specs.Handles.{State, store_at, memory_cause, Handles}
 use Rattle.f11_fcp.proofs.AccessedLemmas.{drop-false, take-true, refused-early}
-use Rattle.f11_fcp.proofs.HandleLemmas.{handled-does, handled-wants, reads-none, wants-still}
-
--- what growing the index file is refused for is the request's own cause
-grow-own : (s mid : Store) (task n : ℕ) (caller : Uic) (e : Refusal) → is_among (grow_causes mid n) e ≡ true
-    → is_among (own_causes s task caller (request.GrowIndex n)) e ≡ true
-grow-own s mid task n caller IndexLimit h = refl
-grow-own s mid task n caller TooManySegments h = refl
-grow-own s mid task n caller DeviceFull h = refl
-grow-own s mid task n caller NoHeader h = refl
-grow-own s mid task n caller _ h = absurd (cc)
+use Rattle.f11_fcp.proofs.HandleLemmas.{among-part, handled-does, handled-wants, reads-none, wants-still}
 
 module _ (task n : ℕ) (caller : Uic) (old : State) where
   abbrev r : Request
@@ -82,5 +72,6 @@ module _ (task n : ℕ) (caller : Uic) (old : State) where
       not-grown e new alive fails home table counts =
           handled-wants task caller r [] old e (grow_causes s0 n) (grow_work (index_file s0).room n) true old new (reads-none old.disk) refl
           refl
-          (wants-still alive fails) (grow-own s s0 task n caller e) refl (λ _. omega arith) (λ _. first) (λ _. refl) (λ _. refl) home table
+          (wants-still alive fails) (among-part ((BadArgument ⇐ true) ∷ (NoPrivilege ⇐ true) ∷ []) (grow_causes s0 n) memory_cause e) refl
+          (λ _. omega arith) (λ _. first) (λ _. refl) (λ _. refl) home table
           counts

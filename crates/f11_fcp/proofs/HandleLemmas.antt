@@ -1,6 +1,8 @@
 -- How a request was handled, from what the calls on files answered.
-use Rattle.std.proofs.Common.{◌≡◌, ◌≢◌, ◌⊎◌, inl, inr, ℕ, ◌+◌, ◌≤◌, Bool, true, false, IsTrue, List, Option, Some, None, Ok, Err, refl, sym}
-use Rattle.std.proofs.Common.{◌∙◌, ap, subst, arith}
+use Rattle.std.proofs.Common.{◌≡◌, ◌≢◌, ◌⊎◌, inl, inr, ℕ, ◌+◌, ◌≤◌, ◌==◌, Bool, true, false, IsTrue, List, Option, Some, None, Ok, Err}
+use Rattle.std.proofs.Common.{◌++◌, refl, sym, ◌∙◌, ap, subst, arith}
+use Rattle.std.proofs.lemmas.Bool.{or_left, or_right}
+use Rattle.std.proofs.lemmas.List.Folds.{list_any-append}
 use Rattle.f11_dev.specs.Disk.{Disk}
 use Rattle.f11_dev.specs.Image.{Image}
 use Rattle.f11_dev.specs.Looked.{Looked}
@@ -11,6 +13,7 @@ use Rattle.f11_store.specs.Causes.{Cause, first_of, first_refusal}
 use Rattle.f11_store.specs.Changes.{Changes}
 use Rattle.f11_store.specs.Cost.{cost}
 use Rattle.f11_store.specs.Lags.{Work, LagsBy, work_if, work_of, served_work}
+use Rattle.f11_store.specs.Refusal.{refusal_number}
 use Rattle.f11_store.specs.Step.{MayRefuse, asks_for_run, may_want_memory, reply_of, block_after}
 use Rattle.f11_store.specs.Store.{Store}
 use Rattle.f11_store.specs.declared.callers.Uic.{Uic}
@@ -46,6 +49,15 @@ pub cause-not-fatal : (e : Refusal) → is_cause e ≡ true → is_fatal e ≡ f
 cause-not-fatal DeviceFault h = absurd (cc)
 cause-not-fatal Damaged h = absurd (cc)
 cause-not-fatal _ h = refl
+
+-- what is among some causes is among them where they stand between others
+pub among-part : (before causes behind : List Cause) (e : Refusal) → is_among causes e ≡ true
+    → is_among (before ++ (causes ++ behind)) e ≡ true
+among-part before causes behind e h =
+    list_any-append (λ (c : Cause). refusal_number c.refusal == refusal_number e) before (causes ++ behind)
+    ∙ or_right (is_among before e) (is_among (causes ++ behind) e)
+    (list_any-append (λ (c : Cause). refusal_number c.refusal == refusal_number e) causes behind
+    ∙ or_left (is_among causes e) (is_among behind e) h)
 
 -- the first refusal may be the answer
 may-first : (o : Option Refusal) (b c : Bool) (e : Refusal) → o ≡ Some e → MayRefuse o b c e

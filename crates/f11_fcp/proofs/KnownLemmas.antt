@@ -1,5 +1,5 @@
 -- Calls on a directory that was just read are refused only where that fails the volume.
-use Rattle.std.proofs.Common.{◌≡◌, ◌≢◌, ℕ, Bool, true, false, IsTrue, List, [], Option, Some, None, refl, sym, ◌∙◌, subst}
+use Rattle.std.proofs.Common.{◌≡◌, ◌≢◌, ℕ, Bool, true, false, IsTrue, List, Option, Some, None, refl, sym, ◌∙◌, subst}
 use Rattle.f11_dev.specs.Disk.{Disk}
 use Rattle.f11_dev.specs.Image.{Image}
 use Rattle.f11_dev.proofs.WentLemmas.{went_weaker}
@@ -81,20 +81,20 @@ is-damage causes e alive among clean right =
     let other : e ≢ VolumeFailed = λ v. absurd (let no : false ≡ true = sym alive ∙ right.volume v in cc) in
     among (right.among (clean-cause e clean other).0)
 
--- it was read
-pub known-fails : {failed : Bool} {n : ℕ} {old new : Disk} (causes : List Cause) (e : Refusal) → failed ≡ false
+-- it was read, and others are the causes against a call that asks for it
+pub known-fails : {failed : Bool} {n : ℕ} {old new : Disk} {others : List Cause} (causes : List Cause) (e : Refusal) → failed ≡ false
     → (is_among causes e ≡ true → of_known e ≡ Damaged) → (IsTrue old.honest → first_of causes ≡ None)
-    → FailsToRead failed causes n e old new → FailsToRead false [] n (of_known e) old new
-known-fails {n = n} {old = old} {new = new} causes e alive among none fails = by_fatal (is_fatal e) refl
+    → FailsToRead failed causes n e old new → FailsToRead false others n (of_known e) old new
+known-fails {n = n} {old = old} {new = new} {others = others} causes e alive among none fails = by_fatal (is_fatal e) refl
   where
-    by_fatal : (b : Bool) → is_fatal e ≡ b → FailsToRead false [] n (of_known e) old new
+    by_fatal : (b : Bool) → is_fatal e ≡ b → FailsToRead false others n (of_known e) old new
     by_fatal true fatal =
-        subst (λ (x : Refusal). FailsToRead false [] n x old new) (sym (known-fatal e fatal))
-        (record { right = right-fatal [] e alive fatal fails.right; reads = fails.reads })
+        subst (λ (x : Refusal). FailsToRead false others n x old new) (sym (known-fatal e fatal))
+        (record { right = right-fatal others e alive fatal fails.right; reads = fails.reads })
     by_fatal false clean =
-        subst (λ (x : Refusal). FailsToRead false [] n x old new) (sym (is-damage causes e alive among clean fails.right))
+        subst (λ (x : Refusal). FailsToRead false others n x old new) (sym (is-damage causes e alive among clean fails.right))
         (record {
-          right = right-damage old.honest [] (never causes e alive none clean fails.right);
+          right = right-damage old.honest others (never causes e alive none clean fails.right);
           reads = subst (λ (k : ℕ). ReadsAtMost n old new k) (clean-faults e clean) fails.reads;
         })
 

@@ -1,9 +1,9 @@
 mod AccessLemmas
 mod AccessedLemmas
+mod AnswerLemmas
 mod AppendLemmas
 mod AttributeLemmas
 mod ByWindowLemmas
-mod ContiguousLemmas
 mod DeaccessLemmas
 mod DeleteLemmas
 mod DirectoryLemmas
@@ -16,6 +16,7 @@ mod InOneRunLemmas
 mod KnownLemmas
 pub mod ListLemmas
 mod LengthLemmas
+mod LengthenLemmas
 mod LookLemmas
 mod MarkLemmas
 mod NamedLemmas

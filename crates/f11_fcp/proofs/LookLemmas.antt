@@ -103,7 +103,7 @@ module _ {home : HomeFields} {d : FileId} {name : List ℕ} {count number : ℕ}
         next
         → FailsToRead false [] (reading_cost f count) (of_known e) old next
     through-fails e alive fails =
-        let known = known-fails (length_causes (store_of now.image home) d (number + 1)) e alive
+        let known = known-fails {others = []} (length_causes (store_of now.image home) d (number + 1)) e alive
         (known-length (store_of now.image home) d (number + 1) e) next-there fails in
         record {
           right = record {

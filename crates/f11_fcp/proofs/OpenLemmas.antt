@@ -1,6 +1,6 @@
 -- Files stay open, and what is kept of accesses right.
 use Rattle.std.proofs.Common.{◌≡◌, ℕ, true, false, IsTrue, List, [], Option, Some, None, Result, Ok, Err, refl, sym, ◌∙◌, ap, subst}
-use Rattle.std.proofs.Common.{option_map}
+use Rattle.std.proofs.Common.{option_map, ◌<◌}
 use Rattle.f11_dev.specs.declared.device.Device.{Ghosts}
 use Rattle.f11_store.specs.Store.{Store, is_same}
 use Rattle.f11_store.specs.Step.{Step, block_after}
@@ -9,14 +9,15 @@ use Rattle.f11_store.specs.declared.files.FileId.{FileId}
 use Rattle.f11_store.specs.declared.refusals.Refusal.{Refusal}
 use Rattle.f11_store.specs.declared.requests.Reply.{Reply}
 use Rattle.f11_store.specs.declared.requests.Request.{Request}
-use Rattle.f11_files.specs.Answers.{is_fatal, is_refused}
+use Rattle.f11_files.specs.Answers.{is_fatal, is_refused, ReadsAtMost}
 use Rattle.f11_files.specs.Open.{has_failed, disk_in, home_in, is_honest, store_in}
 use Rattle.f11_files.proofs.image_store.StoreLemmas.{unused-is-empty}
 use Rattle.f11_files.specs.image_store.StoreOf.{store_of}
 use Rattle.f11_files.specs.declared.files.Files.{Files}
-use Rattle.f11_fcp.specs.Accesses.{AccessTable, Entry, held_in, mark_there, mark_kept, HasAccessed, access_of}
+use Rattle.f11_fcp.specs.Accesses.{AccessTable, Entry, accesses, held_in, mark_there, mark_kept, HasAccessed, access_of, with_table_entry}
+use Rattle.f11_fcp.specs.Accesses.{with_window}
 use Rattle.f11_dev.proofs.WentLemmas.{went_weaker}
-use Rattle.f11_store.specs.Causes.{first_refusal}
+use Rattle.f11_store.specs.Causes.{first_refusal, is_missing}
 use Rattle.f11_store.specs.Changes.{Changes}
 use Rattle.f11_store.specs.Lags.{Work, LagsBy, work_if, served_work}
 use Rattle.f11_store.specs.declared.requests.Request.TheVariants as request
@@ -24,17 +25,27 @@ use Rattle.f11_store.specs.Accesses.{is_blockless}
 use Rattle.f11_fcp.specs.Handles.{State, WhileServing, state_of, store_at, Handles, IsOpen, StaysOpen}
 use Rattle.f11_fcp.specs.Places.{access_table_of}
 use Rattle.f11_fcp.specs.Serving.{is_spent}
-use Rattle.f11_fcp.specs.Windows.{HasWindows}
+use Rattle.f11_fcp.specs.Windows.{HasWindows, KeepsWindow, LeavesRows}
 use Rattle.f11_fcp.specs.declared.volume.Volume.{Volume}
 use Rattle.std.specs.Prelude.{OnOk}
-use Rattle.f11_fcp.proofs.WindowLemmas.{clean-of, rows-same, windows-on}
+use Rattle.f11_fcp.proofs.AccessedLemmas.{there-held}
+use Rattle.f11_fcp.proofs.RowLemmas.{leaves-behind}
+use Rattle.f11_fcp.proofs.WindowLemmas.{accesses-with, clean-of, handled-on, kept-with, rows-same, windows-on, windows-with}
 use Rattle.f11_store.proofs.FateLaws.{Fate, mark-stays, held-at}
 use Rattle.f11_store.proofs.StepFates.{SimpleIf, fate-step}
 use Rattle.std.proofs.lemmas.Bool.{eq-eqb, and_from}
+use Rattle.std.proofs.lemmas.Option.{same_Some}
+use Rattle.f11_chain.specs.declared.windows.Window.{Window}
 
 -- an identification is the same as itself
 pub same-self : (id : FileId) → is_same id id ≡ true
 same-self id = and_from _ _ (eq-eqb id.number id.number refl) (eq-eqb id.sequence id.sequence refl)
+
+-- a file that is accessed is there
+pub there-open : {D : Type 0} {met : Ghosts D} {t : AccessTable} {files : Files D met} (task lun : ℕ) (e : Entry) → IsOpen t files
+    → (task < 8) × (lun < 4) → t task lun ≡ Some e → is_honest files → is_missing (store_in files) e.file ≡ false
+there-open {t = t} {files = files} task lun e is within held honest =
+    there-held t (store_in files) task lun e (is.kept honest) within.0 within.1 held
 
 -- what is kept of accesses is right after a step that leaves the table
 pub kept-by-step : (t : AccessTable) (s s' : Store) → ((n : ℕ) → Fate (held_in t s) (held_in t s') n) → HasAccessed t s → HasAccessed t s'
@@ -79,6 +90,32 @@ stays-open t old new task caller r result block block' is simple handles alive w
   alive = alive clean;
   windows = windows-after t old new task caller r result block block' is handles clean windows;
   kept = kept-after t old new task caller r result block block' is simple handles clean;
+}
+
+-- so where it was served by a call behind a look that leaves the rows
+pub served-open : {D : Type 0} {met : Ghosts D} (t : AccessTable) (old mid new : Files D met) (task : ℕ) (caller : Uic) (r : Request)
+    (reply : Reply) {m : ℕ} → IsOpen t old → (IsTrue (disk_in old).honest → SimpleIf (Ok reply) (store_at (state_of t old)) r)
+    → Handles task caller r (Ok reply) (state_of t old) [] (state_of t new) [] → ReadsAtMost m (disk_in old) (disk_in mid) 0
+    → home_in mid ≡ home_in old → has_failed new ≡ false → LeavesRows mid new → StaysOpen (Ok reply) t new
+served-open t old mid new task caller r reply is simple handles reads home alive rows =
+    stays-open t old new task caller r (Ok reply) [] [] is simple handles (λ _. alive)
+    (windows-on t old new is handles.writes handles.home
+    (leaves-behind old mid new home reads.looked.honest reads.looked.image rows))
+
+-- and where one access keeps another window
+pub open-with : {D : Type 0} {met : Ghosts D} (t t' : AccessTable) (old new : Files D met) (task lun : ℕ) (caller : Uic) (r : Request)
+    (reply : Reply) (block block' : List ℕ) (e : Entry) (w : Window)
+    → IsOpen t old → (IsTrue (disk_in old).honest → SimpleIf (Ok reply) (store_at (state_of t old)) r)
+    → Handles task caller r (Ok reply) (state_of t old) block (state_of t' new) block' → t task lun ≡ Some e
+    → t' ≡ with_table_entry t task lun (Some (with_window w e)) → KeepsWindow (with_window w e) new → has_failed new ≡ false
+    → HasWindows t new → IsOpen t' new
+open-with t t' old new task lun caller r reply block block' e w is simple handles held value keeps alive windows = record {
+  alive = alive;
+  kept = λ honest. subst (λ (u : AccessTable). HasAccessed u (store_in new)) (sym value) (kept-with t (store_in new) task lun e w held
+      (kept-after t old new task caller r (Ok reply) block block' is simple
+      (handled-on t (sym (ap (λ (u : AccessTable). accesses u) value ∙ accesses-with t task lun e w held)) handles) refl honest));
+  windows = windows-with t t' new task lun (Some (with_window w e)) value
+      (λ x same. subst (λ (y : Entry). KeepsWindow y new) (same_Some (with_window w e) x same) keeps) windows;
 }
 
 -- a request that doesn't touch the block

@@ -21,7 +21,7 @@ use Rattle.f11_store.specs.declared.refusals.Refusal.TheVariants.{DeviceFault, V
 use Rattle.f11_files.specs.volume.Volume.{volume_of}
 use Rattle.f11_files.specs.Answers.{FailsToRead, IsRight, IsUnderWay, Meanwhile, is_fatal}
 use Rattle.f11_files.specs.Finding.Blocks.{FailsToStore, ReadsBlock, StoresBlock, block_work}
-use Rattle.f11_files.specs.Finding.Windows.{FailsToReadBy, FindsFileWindow, HasWindow, IsOfFailure, IsWindowOn, ReadsBy}
+use Rattle.f11_files.specs.Finding.Windows.{FailsToReadBy, HasWindow, IsOfFailure, IsWindowOn, ReadsBy}
 use Rattle.f11_files.specs.Open.{IsIdFrom, disk_in, home_in, is_honest, store_in}
 use Rattle.f11_files.specs.Operations.{length_causes}
 use Rattle.f11_files.proofs.AnswerLemmas.{reads-looked, reads-more, right-fault}
@@ -46,17 +46,6 @@ next-kept home e vbn disk holds on has = record {
   on = on;
   has = has;
   reads = record { reads = 0; looked = looked_none disk; few = λ _. omega arith };
-}
-
--- or one was found
-pub next-found : (home : HomeFields) (e : Entry) (vbn : ℕ) (w : Window) (old new : Disk) → ¬ HoldsBlock e.window vbn
-    → FindsFileWindow home e.file vbn w old new → FindsNext home e vbn w old new
-next-found home e vbn w old new other finds = record {
-  next = record { stays = λ holds. absurd (other holds); filled = λ _. finds.window_is };
-  holds = finds.holds;
-  on = finds.on;
-  has = finds.has;
-  reads = finds.reads;
 }
 
 pub once-none : (old mid : Disk) → mid ≡ old → mid.transfers ≤ old.transfers + 1

@@ -13,8 +13,7 @@ use Rattle.f11_store.specs.declared.callers.Uic.{Uic}
 use Rattle.f11_store.specs.declared.files.FileId.{FileId}
 use Rattle.f11_store.specs.declared.files.Mode.TheVariants as mode
 use Rattle.f11_store.specs.declared.refusals.Refusal.{Refusal}
-use Rattle.f11_store.specs.declared.refusals.Refusal.TheVariants.{BadArgument, SystemFile, NoSuchFile, Marked, NoPrivilege, Conflict}
-use Rattle.f11_store.specs.declared.refusals.Refusal.TheVariants.{NotDirectory, NoSuchEntry}
+use Rattle.f11_store.specs.declared.refusals.Refusal.TheVariants.{BadArgument, NoSuchEntry}
 use Rattle.f11_store.specs.declared.requests.Reply.TheVariants as reply
 use Rattle.f11_store.specs.declared.requests.Request.{Request}
 use Rattle.f11_store.specs.declared.requests.Request.TheVariants as request
@@ -26,18 +25,18 @@ use Rattle.f11_entries.specs.declared.spot.Looked.TheVariants as looked
 use Rattle.f11_entries.specs.declared.spot.Spot.{Spot}
 use Rattle.f11_entries.proofs.CostLemmas.{remove_fits}
 use Rattle.f11_entries.proofs.WritingLemmas.{removing_is_one_write}
-use Rattle.f11_files.specs.Answers.{FailsToRead, Meanwhile, is_among}
+use Rattle.f11_files.specs.Answers.{FailsToRead, Meanwhile}
 use Rattle.f11_files.specs.image_store.StoreOf.{store_of}
 use Rattle.f11_fcp.specs.Accesses.{AccessTable, held_in}
 use Rattle.f11_fcp.specs.Directories.{opening_causes, Searches}
 use Rattle.f11_fcp.specs.Entries.{HoldsSpot, put_at, put_work, ReplacesEntry, BreaksReplacing}
-use Rattle.f11_fcp.specs.Handles.{State, store_at, own_causes, Handles, WhileServing}
+use Rattle.f11_fcp.specs.Handles.{State, store_at, Handles, WhileServing}
 use Rattle.f11_fcp.specs.declared.purpose.Purpose.TheVariants as purpose
 use Rattle.f11_fcp.specs.declared.search.Search.{Search}
 use Rattle.f11_fcp.proofs.AccessLemmas.{barred-same}
 use Rattle.f11_fcp.proofs.AccessedLemmas.{drop-false, take-true, refused-early}
 use Rattle.f11_fcp.proofs.DirectoryLemmas.{opened-there, opening_barred}
-use Rattle.f11_fcp.proofs.HandleLemmas.{behind-by, handled-fatal, handled-served, under-way-by}
+use Rattle.f11_fcp.proofs.HandleLemmas.{among-part, behind-by, handled-fatal, handled-served, under-way-by}
 use Rattle.f11_fcp.proofs.NamedLemmas.{same-behind}
 use Rattle.f11_fcp.proofs.SearchLemmas.{search-refused, search-answered, search-then}
 
@@ -51,6 +50,9 @@ module _ (task : ℕ) (caller : Uic) (d : FileId) (name : List ℕ) (old : State
   abbrev s0 : Store
   s0 = store_of old.disk.image old.home
 
+  abbrev opening : List Cause
+  opening = opening_causes purpose.Change old.table s0 caller d
+
   abbrev rest : List Cause
   rest = (NoSuchEntry ⇐ not (is_entered name (file_named s0 d))) ∷ []
 
@@ -58,36 +60,27 @@ module _ (task : ℕ) (caller : Uic) (d : FileId) (name : List ℕ) (old : State
   remove-bad bad = refused-early task caller r [] old BadArgument refl refl (take-true (is_bad d) _ _ bad)
 
   module _ (good : is_bad d ≡ false) where
-    judged : first_refusal s task caller r ≡ first_of (opening_causes purpose.Change old.table s0 caller d ++ rest)
+    judged : first_refusal s task caller r ≡ first_of (opening ++ rest)
     judged =
         drop-false (is_bad d) _ _ good
         ∙ ap (λ (b : Bool). first_of (opening_barred b old.table s0 caller d ++ rest)) (sym (barred-same mode.Write old.table s0 d))
-
-    remove-own : (e : Refusal) → is_among (opening_causes purpose.Change old.table s0 caller d) e ≡ true
-        → is_among (own_causes s task caller r) e ≡ true
-    remove-own SystemFile h = refl
-    remove-own NoSuchFile h = refl
-    remove-own Marked h = refl
-    remove-own NoPrivilege h = refl
-    remove-own Conflict h = refl
-    remove-own NotDirectory h = refl
-    remove-own _ h = absurd (cc)
 
     fits : look_cost (file_named s0 d) ≤ cost s task r
     fits = let all = remove_fits s task d name in omega (arith, all)
 
     pub remove-refused : (e : Refusal) (mid : State)
-        → FailsToRead false (opening_causes purpose.Change old.table s0 caller d) (look_cost (file_named s0 d)) e old.disk mid.disk
+        → FailsToRead false opening (look_cost (file_named s0 d)) e old.disk mid.disk
         → mid.home ≡ old.home → mid.table ≡ old.table → mid.counts ≡ old.counts → Handles task caller r (Err e) old [] mid []
     remove-refused e mid fails home table counts =
-        search-refused task caller r old d purpose.Change rest judged e mid fails fits (remove-own e) home table counts
+        search-refused task caller r old opening rest judged e mid fails fits
+        (among-part ((BadArgument ⇐ is_bad d) ∷ []) opening rest e) home table counts
 
     module _ (found : Search) (mid : State) (searches : Searches purpose.Change old.table caller d name found old.home old.disk mid.disk)
         (home : mid.home ≡ old.home) where
       pub remove-absent : (empty : Option Spot) → found.looked ≡ looked.Absent empty → mid.table ≡ old.table → mid.counts ≡ old.counts
           → Handles task caller r (Err NoSuchEntry) old [] mid []
       remove-absent empty is table counts =
-          search-answered task caller r old d purpose.Change rest judged NoSuchEntry mid refl refl searches.reads fits searches.no_cause
+          search-answered task caller r old opening rest judged NoSuchEntry mid refl refl searches.reads fits searches.no_cause
           (λ honest. take-true (not (is_entered name (file_named s0 d))) _ _
           (not_from_false _ (subst (λ (l : Looked). Tells name (file_named s0 d) l) is (searches.tells honest)).0.entered)) home table
           counts
@@ -115,7 +108,7 @@ module _ (task : ℕ) (caller : Uic) (d : FileId) (name : List ℕ) (old : State
 
         none : IsTrue old.disk.honest → first_refusal s task caller r ≡ None
         none honest = let first = (tells honest).0 in
-            search-then task caller r old d purpose.Change rest judged (searches.no_cause honest)
+            search-then task caller r old opening rest judged (searches.no_cause honest)
             ∙ drop-false (not (is_entered name (file_named s0 d))) _ _ (not_from_true _ first.entered)
 
         by : IsTrue old.disk.honest → spot.place < 32 → RemovingByWrite s task caller d name spot.number spot.place spot.block []

@@ -12,18 +12,17 @@ use Rattle.f11_store.specs.Store.{Store, free_headers}
 use Rattle.f11_store.specs.declared.callers.Uic.{Uic}
 use Rattle.f11_store.specs.declared.files.FileId.{FileId}
 use Rattle.f11_store.specs.declared.refusals.Refusal.{Refusal}
-use Rattle.f11_store.specs.declared.refusals.Refusal.TheVariants.{DeviceFull, NoHeader}
 use Rattle.f11_store.specs.declared.requests.Reply.TheVariants as reply
 use Rattle.f11_store.specs.declared.requests.Request.TheVariants as request
-use Rattle.f11_files.specs.Answers.{is_among, is_clean, FailsToWrite}
+use Rattle.f11_files.specs.Answers.{is_clean, FailsToWrite}
 use Rattle.f11_files.specs.Create.{Creates, FailsToCreate}
 use Rattle.f11_files.specs.Operations.{IsSpaceOf}
 use Rattle.f11_files.proofs.Overall.{creates-is}
 use Rattle.f11_files.specs.image_store.StoreOf.{store_of}
 use Rattle.f11_fcp.specs.Accesses.{AccessTable, held_in, accesses}
-use Rattle.f11_fcp.specs.Handles.{State, store_at, own_causes, WhileServing, Handles}
+use Rattle.f11_fcp.specs.Handles.{State, store_at, memory_cause, WhileServing, Handles}
 use Rattle.f11_store.proofs.HeldLaws.{create-causes-held, free-held, make-work-held, makes-held}
-use Rattle.f11_fcp.proofs.HandleLemmas.{handled-served, handled-does, handled-wants, reads-none, wants-still, writes-none}
+use Rattle.f11_fcp.proofs.HandleLemmas.{among-part, handled-served, handled-does, handled-wants, reads-none, wants-still, writes-none}
 use Rattle.f11_fcp.proofs.SlotsLemmas.{gets-held, next-held, slots-cost-held}
 
 -- a call on files that hadn't failed
@@ -59,13 +58,6 @@ module _ (task : ℕ) (caller : Uic) (word : ℕ) (ident attr : List ℕ) where
   create-fits : (t : AccessTable) (s : Store) → 0 + (slots_cost s 1 + 3) ≤ cost (held_in t s) task (request.Create word ident attr)
   create-fits t s = let same = slots-cost-held (accesses t) s 1 in omega (arith, same)
 
-  -- what is refused is for one of these causes
-  create-own : (s mid : Store) (e : Refusal) → is_among (create_causes mid) e ≡ true
-      → is_among (own_causes s task caller (request.Create word ident attr)) e ≡ true
-  create-own s mid DeviceFull h = refl
-  create-own s mid NoHeader h = refl
-  create-own s mid _ h = absurd (cc)
-
   pub created : (old new : State) (id : FileId) → Creates old.home caller word ident attr id old.disk new.disk → new.home ≡ old.home
       → new.table ≡ old.table
       → Handles task caller (request.Create word ident attr) (Ok (reply.Created id)) old [] new []
@@ -91,6 +83,7 @@ module _ (task : ℕ) (caller : Uic) (word : ℕ) (ident attr : List ℕ) where
       let s0 = store_of old.disk.image old.home in
       handled-wants task caller (request.Create word ident attr) [] old e (create_causes s0) (make_work s0 caller word ident attr)
       (gets_slots (slots_first s0 1)) old new
-      (reads-none old.disk) refl refl (wants-still alive fails) (create-own (store_at old) s0 e) refl (λ _. create-fits old.table s0)
+      (reads-none old.disk) refl refl (wants-still alive fails) (among-part [] (create_causes s0) memory_cause e) refl
+      (λ _. create-fits old.table s0)
       (λ _. create-first old.table s0) (λ _. create-work old.table s0)
       (λ _. sym (gets-held (accesses old.table) s0 1)) home table counts

@@ -1,20 +1,17 @@
 -- Requests on a directory, from what opening it and looking through it answered.
-use Rattle.std.proofs.Common.{◌≡◌, ◌≢◌, ℕ, ◌≤◌, Bool, true, false, IsTrue, List, [], ◌∷◌, ◌++◌, Option, Some, None, Err, refl, ◌∙◌, subst}
+use Rattle.std.proofs.Common.{◌≡◌, ◌≢◌, ℕ, ◌≤◌, Bool, true, false, IsTrue, List, [], ◌∷◌, ◌++◌, Option, Some, None, Err, refl, ◌∙◌}
+use Rattle.std.proofs.Common.{subst}
 use Rattle.std.proofs.Common.{if◌then◌else◌}
 use Rattle.f11_store.specs.Causes.{Cause, first_of, first_refusal}
 use Rattle.f11_store.specs.Cost.{cost}
 use Rattle.f11_store.specs.Store.{Store}
 use Rattle.f11_store.specs.declared.callers.Uic.{Uic}
-use Rattle.f11_store.specs.declared.files.FileId.{FileId}
 use Rattle.f11_store.specs.declared.refusals.Refusal.{Refusal}
 use Rattle.f11_store.specs.declared.refusals.Refusal.TheVariants.{VolumeFailed}
 use Rattle.f11_store.specs.declared.requests.Request.{Request}
 use Rattle.f11_files.specs.Answers.{FailsToRead, ReadsAtMost, is_among, is_cause, is_fatal}
-use Rattle.f11_files.specs.image_store.StoreOf.{store_of}
 use Rattle.f11_files.proofs.AnswerLemmas.{reads-within}
-use Rattle.f11_fcp.specs.Directories.{opening_causes}
 use Rattle.f11_fcp.specs.Handles.{State, store_at, own_causes, Handles}
-use Rattle.f11_fcp.specs.declared.purpose.Purpose.{Purpose}
 use Rattle.f11_fcp.proofs.AccessedLemmas.{cause-clean, writes-looked}
 use Rattle.f11_fcp.proofs.HandleLemmas.{handled-fatal, handled-clean, clean-cause}
 use Rattle.f11_fcp.proofs.KnownLemmas.{clean-faults}
@@ -38,15 +35,12 @@ pub first-behind : (xs ys : List Cause) → first_of xs ≡ None → first_of (x
 first-behind [] ys h = refl
 first-behind (c ∷ xs) ys h = none-step c.holds c.refusal (first_of xs) (first_of (xs ++ ys)) (first_of ys) (first-behind xs ys) h
 
-module _ (task : ℕ) (caller : Uic) (r : Request) (old : State) (d : FileId) (p : Purpose) (rest : List Cause) where
+module _ (task : ℕ) (caller : Uic) (r : Request) (old : State) (opening rest : List Cause) where
   abbrev s : Store
   s = store_at old
 
-  abbrev opening : List Cause
-  opening = opening_causes p old.table (store_of old.disk.image old.home) caller d
-
   module _ (judged : first_refusal s task caller r ≡ first_of (opening ++ rest)) where
-    -- it wasn't opened, or not looked through
+    -- what is judged first stands against it
     pub search-refused : {m : ℕ} (e : Refusal) (mid : State) → FailsToRead false opening m e old.disk mid.disk → m ≤ cost s task r
         → (is_among opening e ≡ true → is_among (own_causes s task caller r) e ≡ true) → mid.home ≡ old.home → mid.table ≡ old.table
         → mid.counts ≡ old.counts → Handles task caller r (Err e) old [] mid []

@@ -1,5 +1,5 @@
 -- Windows of accesses over calls on files.
-use Rattle.std.proofs.Common.{◌≡◌, ℕ, ◌<◌, ◌==◌, ◌&&◌, Bool, true, false, List, [], ◌++◌, ◌-◌, ◌≤◌, length, Option, Some, None, Ok, refl}
+use Rattle.std.proofs.Common.{◌≡◌, ℕ, ◌<◌, ◌==◌, ◌&&◌, Bool, true, false, List, [], ◌++◌, ◌-◌, length, Option, Some, None, Ok, refl}
 use Rattle.std.proofs.Common.{sym, ◌∙◌, ap, subst, arith, append_assoc, append-nil, option_map, if◌then◌else◌}
 use Rattle.std.proofs.lemmas.Bool.{and_from, and_parts, eq-eqb, eqb-true}
 use Rattle.std.proofs.lemmas.List.{length-append}
@@ -110,11 +110,6 @@ pub file-held : (t : AccessTable) (image : Image) (home : HomeFields) → HasAcc
     → task < 8 → lun < 4 → t task lun ≡ Some e → IsFile (table_of image home) e.file.number
 file-held t image home kept task lun e low small held =
     (is-there image home e.file (there-held t (store_of image home) task lun e kept low small held)).0
-
--- what lies on a device lies on a longer one
-pub lies-within : (w : Window) (m n : ℕ) → m ≤ n → LiesOn w m → LiesOn w n
-lies-within w m n more lies =
-    record { few = lies.few; first = lies.first; within = λ k d low. let here = lies.within k d low in omega (arith, here, more) }
 
 -- a window that holds no run is any file's
 pub empty-kept : {D : Type 0} {met : Ghosts D} (e : Entry) (files : Files D met) → e.window ≡ empty_window → KeepsWindow e files

@@ -122,7 +122,7 @@ abbrev pub of_accessed : Refusal → Refusal
 of_accessed refusal.NoSuchFile = refusal.Damaged
 of_accessed e = e
 
--- and of a call on a file that was just read: none has lost it, or a block of it, but a disk that isn't honest
+-- and of one that asks for no more than what is known to be there: none has lost it, or a block of it, but a disk that isn't honest
 abbrev pub of_known : Refusal → Refusal
 of_known refusal.NoSuchFile = refusal.Damaged
 of_known refusal.EndOfFile = refusal.Damaged

@@ -3,12 +3,11 @@ use Rattle.std.specs.Prelude.{◌≡◌, ℕ, ◌≤◌, ◌||◌, true, false, 
 use Rattle.f11_dev.specs.declared.device.Device.{Ghosts}
 use Rattle.f11_store.specs.Causes.{Cause, ◌⇐◌, holds_none}
 use Rattle.f11_store.specs.Cost.{header_count}
-use Rattle.f11_store.specs.File.{length_of}
+use Rattle.f11_store.specs.File.{length_of, most_blocks}
 use Rattle.f11_store.specs.Store.{file_held}
 use Rattle.f11_store.specs.declared.refusals.Refusal.{Refusal}
 use Rattle.f11_store.specs.declared.refusals.Refusal.TheVariants.{NoSuchAccess, VolumeFailed}
 use Rattle.f11_files.specs.Answers.{FailsToRead, ReadsAtMost, is_fatal, is_refused}
-use Rattle.f11_files.specs.Finding.Length.{most_blocks}
 use Rattle.f11_fcp.specs.Handles.{State, store_at}
 use Rattle.f11_fcp.specs.Serving.{is_spent, state_in}
 use Rattle.f11_fcp.specs.declared.volume.Volume.{Volume}

@@ -4,6 +4,7 @@ pub mod Entries
 pub mod Handles
 pub mod InOneRun
 pub mod Laws
+pub mod Lengthening
 pub mod Lengths
 pub mod Lists
 pub mod Mounting

@@ -3,7 +3,7 @@ ghost use Rattle.std.specs.Prelude.{◌≡◌, ◌+◌, ◌*◌, ◌/◌, ◌<�
 ghost use Rattle.std.specs.List.{slice_get};
 ghost use Rattle.f11_entries.specs.Costs.{append_cost};
 ghost use Rattle.f11_files.specs.Answers.{is_fatal, is_clean, is_refused, Breaks, FailsToRead, ReadsAtMost};
-ghost use Rattle.f11_files.specs.Finding.Length.{most_blocks};
+ghost use Rattle.f11_store.specs.File.{most_blocks};
 ghost use Rattle.f11_files.specs.Open.{counts_in, disk_in, has_failed, home_in, is_honest, store_in, IsIdFrom, CallSparesLost};
 ghost use Rattle.f11_fcp.specs.Entries.{Appending, Appends, FailsToPut, HasEmpty, IsDirectoryEnd, IsFull, IsDirectoryTail, PutsEntry};
 ghost use Rattle.f11_fcp.specs.Windows.{LeavesRows};

@@ -10,7 +10,7 @@ use crate::answer::of_accessed;
 use crate::table::Accesses;
 use f11_dev::Device;
 use f11_files::Files;
-use f11_store::{Lun, Refusal, Reply, Right, Task, Uic, may};
+use f11_store::{Lun, Refusal, Reply, Task, Uic};
 
 impl Accesses {
     /// So many blocks of zeros in one run for a file that has none, the lowest that are free, and the contiguous mark.
@@ -35,21 +35,11 @@ impl Accesses {
             (state_of (access_table_of self.now) files.old) (state_of (access_table_of self.now) files.new) }
         ensures lost { CallSparesLost files.old files.new }
     {
-        if n == 0 {
-            return Err(Refusal::BadArgument);
-        }
-        let held = match self.writer(task, lun) {
-            Some(held) => held,
-            None => return Err(Refusal::NoSuchAccess),
+        let file = match self.may_lengthen(files, task, caller, lun, n) {
+            Ok(file) => file,
+            Err(refusal) => return Err(refusal),
         };
-        let attr = match files.read_attr(held.file) {
-            Ok(attr) => attr,
-            Err(refusal) => return Err(of_accessed(refusal)),
-        };
-        if !may(caller, attr.owner, attr.protection, Right::Extend) {
-            return Err(Refusal::NoPrivilege);
-        }
-        match files.contiguous(held.file, n) {
+        match files.contiguous(file, n) {
             Ok(length) => Ok(Reply::Length(length)),
             Err(refusal) => Err(of_accessed(refusal)),
         }

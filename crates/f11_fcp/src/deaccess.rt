@@ -7,7 +7,7 @@ ghost use Rattle.f11_files.specs.Answers.{is_fatal};
 ghost use Rattle.f11_store.specs.declared.requests.Request.TheVariants as asked;
 ghost use Rattle.f11_files.specs.Open.{CallSparesLost};
 
-use crate::answer::of_accessed;
+use crate::answer::of_known;
 use crate::table::{Accesses, Held};
 use f11_dev::Device;
 use f11_files::Files;
@@ -69,7 +69,7 @@ impl Accesses {
         }
         match files.delete(held.file) {
             Ok(()) => Ok(Reply::Done),
-            Err(refusal) => Err(of_accessed(refusal)),
+            Err(refusal) => Err(of_known(refusal)),
         }
     }
 }

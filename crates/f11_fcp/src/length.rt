@@ -6,7 +6,7 @@ ghost use Rattle.f11_fcp.specs.Lengths.{Measures};
 ghost use Rattle.f11_fcp.specs.Places.{access_table_of};
 ghost use Rattle.f11_files.specs.Open.{CallSparesLost};
 
-use crate::answer::{is_fatal, of_accessed};
+use crate::answer::{is_fatal, of_known};
 use crate::table::Accesses;
 use crate::volume::Volume;
 use f11_dev::Device;
@@ -37,7 +37,7 @@ impl Accesses {
         };
         match files.length(held.file) {
             Ok(blocks) => Ok(blocks),
-            Err(refusal) => Err(of_accessed(refusal)),
+            Err(refusal) => Err(of_known(refusal)),
         }
     }
 }

@@ -1,6 +1,6 @@
 //! A directory in which a name was looked for.
 ghost use Rattle.std.specs.Prelude.{◌*◌, ◌≤◌};
-ghost use Rattle.f11_files.specs.Finding.Length.{most_blocks};
+ghost use Rattle.f11_store.specs.File.{most_blocks};
 
 use f11_bytes::Block;
 use f11_entries::Looked;

@@ -1,6 +1,6 @@
 //! Where the next record of a directory goes.
 ghost use Rattle.std.specs.Prelude.{◌≤◌, ◌+◌};
-ghost use Rattle.f11_files.specs.Finding.Length.{most_blocks};
+ghost use Rattle.f11_store.specs.File.{most_blocks};
 
 use f11_entries::Spot;
 

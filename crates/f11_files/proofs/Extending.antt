@@ -1,6 +1,7 @@
 -- A file that grows, from the room for it to the header that names its new blocks.
 pub mod Room
 pub mod Zero
+pub mod ZeroRun
 pub mod Reserved
 pub mod Written
 pub mod Pieces

@@ -32,10 +32,13 @@ use Rattle.f11_image_store.specs.Allocation.{named_by, BeginsWith, GainsBlocksAs
 use Rattle.f11_image_store.specs.Allocation.{NamesMore}
 use Rattle.f11_image_store.specs.StoreOf.{store_of}
 use Rattle.f11_image_store.proofs.KeptBlocksLemmas.{file-keeps-blocks, held-stored, is-stored}
+use Rattle.f11_files.specs.Changing.Fields.{altered_by}
 use Rattle.f11_files.specs.Extending.Runs.{headers_for}
 use Rattle.f11_files.specs.GrowingIndex.Headroom.{AllotsSlots, ReadiesHeaders}
 use Rattle.f11_files.specs.Rows.{AlteredKeepsRows, CreatedKeepsRows, CutKeepsRows, DeletedKeepsRows, ExtendedKeepsRows, GrownKeepsRows}
 use Rattle.f11_files.specs.Rows.{KeepsRows, LaidOutKeepsRows, ReplacedKeepsRows, StoredKeepsRows, no_number, this_number}
+use Rattle.f11_files.specs.declared.change.fields.Alteration.{Alteration}
+use Rattle.f11_files.specs.declared.change.fields.Alteration.TheVariants as alteration
 use Rattle.f11_files.proofs.Finding.Windows.{is-there}
 
 -- the headers of a file of the plain store, where there is one
@@ -93,10 +96,15 @@ pub none-in : (ns : List ℕ) (n : ℕ) → ((m : ℕ) → Contains ns m → m �
 none-in ns n away = list_any_none (λ m. m == n) ns (all-from (λ m. (m == n) ≡ false) ns (λ m has. ne_eqb m n (away m has)))
 
 -- what is replaced leaves a file's headers
-pub replacement-held : (change : Change) (f : File) → (with_replacement change f).held ≡ f.held
+replacement-held : (change : Change) (f : File) → (with_replacement change f).held ≡ f.held
 replacement-held (change.Attr attr) f = refl
 replacement-held (change.Ident ident) f = refl
 replacement-held (change.Protect word) f = refl
+
+pub alteration-held : (a : Alteration) (f : File) → (altered_by a f).held ≡ f.held
+alteration-held (alteration.Replace change) f = replacement-held change f
+alteration-held alteration.Mark f = refl
+alteration-held alteration.MarkContiguous f = refl
 
 -- a header of a file of a sound volume has a byte as its segment number
 pub small-segment : (image : Image) (home : HomeFields) → HasSoundVolume image home → (f n : ℕ) → IsHeaderOf (table_of image home) f n

@@ -1,6 +1,5 @@
 //! A file that is laid out in one run of blocks.
 
 pub(crate) mod lay;
-pub(crate) mod mark;
 pub(crate) mod room;
 pub(crate) mod take;

@@ -10,9 +10,9 @@ use Rattle.f11_flx.specs.Lines.{has_long_line, in_whole_blocks, lines_of, text_o
 use Rattle.f11_flx.specs.Records.{records_of}
 use Rattle.f11_flx.specs.Spelled.{image_attributes, longest_of, text_attributes, variable_records}
 use Rattle.f11_flx.specs.declared.mode.CopyMode.TheVariants.{Image, Text}
-use Rattle.f11_flx.proofs.CopyLemmas.{copy_has_lines, image_ends_with_blocks}
-use Rattle.f11_flx.proofs.LineLemmas.{lines_come_back}
-use Rattle.f11_flx.proofs.PassedLemmas.{some-of}
+use Rattle.f11_flx.proofs.Made.CopyLemmas.{copy_has_lines, image_ends_with_blocks}
+use Rattle.f11_flx.proofs.Texts.LineLemmas.{lines_come_back}
+use Rattle.f11_flx.proofs.FromRt.PassedLemmas.{some-of}
 
 -- all of a list
 take-all : (n : ℕ) (blocks : List (List ℕ)) → n ≡ length blocks → take n blocks ≡ blocks

@@ -28,12 +28,12 @@ use Rattle.f11_flx.specs.ThereAndBack.{SourceIsKept}
 use Rattle.f11_flx.specs.declared.mode.CopyMode.{CopyMode}
 use Rattle.f11_flx.specs.declared.mode.CopyMode.TheVariants.{Image, Text}
 use Rattle.f11_flx.proofs.BackLemmas.{copied-has-lines, image_comes_back}
-use Rattle.f11_flx.proofs.LineLemmas.{lines_come_back, without_zeros-in_whole_blocks}
-use Rattle.f11_flx.proofs.MadeLemmas.{copy-of}
-use Rattle.f11_flx.proofs.MakingLemmas.{same-blocks}
-use Rattle.f11_flx.proofs.PassedLemmas.{some-of}
-use Rattle.f11_flx.proofs.PourLemmas.{whole-length}
-use Rattle.f11_flx.proofs.ReadingLemmas.{accessed, source_stays}
+use Rattle.f11_flx.proofs.Texts.LineLemmas.{lines_come_back, without_zeros-in_whole_blocks}
+use Rattle.f11_flx.proofs.FromRt.MadeLemmas.{copy-of}
+use Rattle.f11_flx.proofs.FromRt.MakingLemmas.{same-blocks}
+use Rattle.f11_flx.proofs.FromRt.PassedLemmas.{some-of}
+use Rattle.f11_flx.proofs.Texts.PourLemmas.{whole-length}
+use Rattle.f11_flx.proofs.ToRt.ReadingLemmas.{accessed, source_stays}
 use Rattle.f11_flx.proofs.SmallLemmas.{some-one}
 
 -- the only file of a name is the one that is found by it

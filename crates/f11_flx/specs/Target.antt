@@ -1,7 +1,8 @@
 -- What making, writing and deleting a file tells of an RT-11 volume (profile).
-use Rattle.std.specs.Prelude.{◌≡◌, ◌≢◌, ℕ, ◌+◌, ◌<◌, ◌≤◌, suc, ◌||◌, Bool, true, false, if◌then◌else◌, List, [], ◌∷◌, ◌++◌, All, length}
+use Rattle.std.specs.Prelude.{◌≡◌, ◌≢◌, ℕ, ◌+◌, ◌<◌, ◌≤◌, suc, ◌||◌, Bool, true, false, if◌then◌else◌, List, [], ◌∷◌, ◌++◌, All, length, ⊤}
 use Rattle.f11_dev.specs.Disk.{Disk}
 use Rattle.f11_dev.specs.Image.{Image, image_block}
+use Rattle.f11_dev.specs.Went.{Went}
 use Rattle.f11_dev.specs.declared.device.Device.{Ghosts}
 use Rattle.rt11_volume.specs.Calls.{has_failed, volume_device}
 use Rattle.rt11_volume.specs.Files.{is_fault}
@@ -22,6 +23,14 @@ rt_disk disk v = disk (volume_device v)
 
 abbrev pub rt_store : {E : Type 0} {met : Ghosts E} → (E → Disk) → RtAccepted E met → RtStore
 rt_store disk v = rt_store_of (rt_disk disk v).image
+
+-- So many transfers were made at most, and so many failed.
+abbrev pub MakesTransfers : Disk → Disk → ℕ → ℕ → Type 0
+MakesTransfers old new most faults = Went (λ (image : Image). ⊤) old new most faults
+
+-- a file is made in so many at most
+abbrev pub create_transfers : ℕ
+create_transfers = 70
 
 -- blocks 0 to 5, which lie before the directory, are as they were
 abbrev pub KeepsFront : Image → Image → Type 0

@@ -1,7 +1,7 @@
 //! What the attributes of a file say of its records, and those of a copy (Files-11 On-Disk Structure Level 1, file attributes).
 ghost use Rattle.std.specs.Prelude.{◌≡◌, ◌+◌, ◌*◌, ◌/◌, ◌<◌, ◌≤◌, ◌∷◌, ◌++◌, min, length, replicate, IfSome};
 ghost use Rattle.f11_bytes.specs.Words.{word_bytes as bytes_of_word, long_bytes as bytes_of_long};
-ghost use Rattle.f11_store.specs.File.{File, length_of, stated_end};
+ghost use Rattle.f11_store.specs.File.{File, length_of, most_blocks, stated_end};
 ghost use Rattle.f11_store.specs.Directory.{with_end};
 ghost use Rattle.f11_flx.specs.Records.{layout_of, some_of};
 ghost use Rattle.f11_flx.specs.Spelled.{text_attributes as attributes_of_text, image_attributes as attributes_of_image, image_attributes_to as attributes_of_image_to, image_of};
@@ -48,7 +48,7 @@ pub fn layout(attr: &[u8; 32]) -> Option<Layout>
 /// The end in bytes of a file of so many blocks.
 #[tactic(auto, unfolding(f11_store::specs::File::stated_end))]
 pub fn end(attr: &[u8; 32], allocation: u32) -> u32
-    requires { allocation ≤ 8323072 }
+    requires { allocation ≤ most_blocks }
     ensures { result ≡ min (stated_end attr.now) (512 * allocation) }
 {
     let most = 512 * allocation;
@@ -63,7 +63,7 @@ pub fn end(attr: &[u8; 32], allocation: u32) -> u32
 
 /// How many blocks a copy of such a file as it is takes: those up to its end, rounded up.
 pub fn image_blocks(attr: &[u8; 32], allocation: u32) -> u32
-    requires { allocation ≤ 8323072 }
+    requires { allocation ≤ most_blocks }
     ensures count { result ≡ (min (stated_end attr.now) (512 * allocation) + 511) / 512 }
     ensures image { (file : File) → file.attr ≡ attr.now → length_of file ≡ allocation
         → result ≡ length (image_of file) }

@@ -1,4 +1,5 @@
 //! The blocks of a file, copied one by one.
+ghost use Rattle.f11_store.specs.File.{most_blocks};
 ghost use Rattle.std.specs.Prelude.{◌≡◌, ◌-◌, ◌+◌, ◌*◌, ◌≤◌, ◌<◌, ◌++◌, false, length, replicate, take, IfErr, IfOk, OnOk};
 ghost use Rattle.f11_making.specs.Asking.{who_asks};
 ghost use Rattle.f11_flx.specs.Copies.{CopiesBlocks, CopiesText, FailsToCopyBlocks, FailsToCopyText};
@@ -22,7 +23,7 @@ pub fn copy_blocks<S: Asked, T: Takes>(
     target: &mut T,
     name: &RtName,
 ) -> Result<(), FlxRefusal>
-    requires { count ≤ 8323072 }
+    requires { count ≤ most_blocks }
     ensures copied { OnOk result (CopiesBlocks S.service T.took (who_asks by.now.task by.now.uic) by.now.lun
         name.now count service.old service.new target.old target.new) }
     ensures fails { IfErr result (λ e. FailsToCopyBlocks S.service T.took T.refused
@@ -52,7 +53,7 @@ pub fn copy_text<S: Asked, T: Takes>(
     target: &mut T,
     name: &RtName,
 ) -> Result<u32, FlxRefusal>
-    requires few { count ≤ 8323072 }
+    requires few { count ≤ most_blocks }
     requires whole { rest_of text ≤ 512 * count }
     requires begins { ends_record text ≡ false }
     ensures copied { IfOk result (λ blocks. CopiesText S.service T.took (who_asks by.now.task by.now.uic) by.now.lun

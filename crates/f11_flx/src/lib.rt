@@ -59,6 +59,7 @@ pub use lines::{Extent, end_lines};
 pub use mode::CopyMode;
 pub use records::{BadRecord, Records};
 pub use refusal::FlxRefusal;
+pub use target::make_file;
 pub use to_records::{LONGEST_LINE, LineTooLong, ToRecords};
 pub use to_text::ToText;
 pub use undoing::undo;

@@ -1,4 +1,5 @@
 //! The source of a copy to an RT-11 volume.
+ghost use Rattle.f11_store.specs.File.{most_blocks};
 ghost use Rattle.std.specs.Prelude.{◌≡◌, ◌≤◌, false, IfErr, IfNone, IfOk, IfSome};
 ghost use Rattle.f11_store.specs.declared.files.Attr.{Attr as Attributes};
 ghost use Rattle.f11_store.specs.declared.requests.Reply.TheVariants as answer;
@@ -57,7 +58,7 @@ fn attributes<S: Asked>(service: &mut S, by: &Asker, source: FileId) -> Result<[
 pub fn look<S: Asked>(service: &mut S, by: &Asker, source: FileId) -> Result<Source, Refusal>
     ensures told { IfOk result (λ s. TellsSource S.service (who_asks by.now.task by.now.uic)
         by.now.lun source s.attr s.blocks service.old service.new) }
-    ensures few { IfOk result (λ s. s.blocks ≤ 8323072) }
+    ensures few { IfOk result (λ s. s.blocks ≤ most_blocks) }
     ensures fails { IfErr result (λ e. TellsNothing S.service (who_asks by.now.task by.now.uic)
         by.now.lun source e service.old service.new) }
 {
@@ -78,7 +79,7 @@ pub fn copy_lines<S: Asked, T: Takes>(
     target: &mut T,
     name: &RtName,
 ) -> Result<u32, FlxRefusal>
-    requires { source.now.blocks ≤ 8323072 }
+    requires { source.now.blocks ≤ most_blocks }
     ensures copied { IfOk result (λ count. CopiesAs mode.Text S.service T.took
         (who_asks by.now.task by.now.uic) by.now.lun name.now source.now.attr source.now.blocks count
         service.old service.new target.old target.new) }
@@ -107,7 +108,7 @@ pub fn copy<S: Asked, T: Takes>(
     target: &mut T,
     name: &RtName,
 ) -> Result<u32, FlxRefusal>
-    requires { source.now.blocks ≤ 8323072 }
+    requires { source.now.blocks ≤ most_blocks }
     ensures copied { IfOk result (λ count. CopiesAs mode S.service T.took
         (who_asks by.now.task by.now.uic) by.now.lun name.now source.now.attr source.now.blocks count
         service.old service.new target.old target.new) }

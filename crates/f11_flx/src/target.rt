@@ -1,6 +1,7 @@
 //! A file on an RT-11 volume that a copy makes.
-ghost use Rattle.std.specs.Prelude.{◌≡◌, ℕ, ◌<◌, [], ◌∷◌, IfErr, OnOk};
-ghost use Rattle.f11_flx.specs.Target.{DeletesRtFile, FailsDeleting, FailsMaking, FailsPutting, Makes, Puts};
+ghost use Rattle.std.specs.Prelude.{◌≡◌, ℕ, ◌<◌, Err, [], ◌∷◌, IfErr, IfOk, OnOk};
+ghost use Rattle.f11_flx.specs.Target.{DeletesRtFile, FailsDeleting, FailsMaking, FailsPutting, Makes, MakesTransfers, Puts, create_transfers, rt_disk};
+ghost use Rattle.rt11_volume.specs.Files.{faults_in};
 
 use crate::refusal::FlxRefusal;
 use crate::takes::Takes;
@@ -8,30 +9,45 @@ use f11_bytes::Block;
 use f11_dev::Device;
 use rt11_volume::{RtAccepted, RtName, RtRefusal};
 
-/// The most blocks that a file has.
+/// The most blocks that a file of an RT-11 volume has.
 const MOST: u32 = 65_535;
 
-/// Makes a file of so many blocks. Where no file has so many, it is refused as one for which there is no area.
-pub fn make<E: Device>(
+/// Makes a file of so many blocks on an RT-11 volume: how many they are. Where no file has so many, it is refused as one for which there is
+/// no area.
+///
+/// # Errors
+///
+/// Those of [`RtAccepted::create`].
+pub fn make_file<E: Device>(
     rt: &mut RtAccepted<E>,
     name: &RtName,
-    blocks: u32,
+    blocks: u64,
     date: u16,
-) -> Result<(), RtRefusal>
+) -> Result<u16, RtRefusal>
     ensures made { OnOk result (Makes E.disk name.now blocks date rt.old rt.new) }
+    ensures count { IfOk result (λ n. n ≡ blocks) }
     ensures refused { IfErr result (λ e. FailsMaking E.disk name.now blocks e rt.old rt.new) }
+    ensures went { MakesTransfers (rt_disk E.disk rt.old) (rt_disk E.disk rt.new)
+        create_transfers (faults_in result) }
 {
-    if blocks > MOST {
+    if blocks > u64::from(MOST) {
         return Err(refusal_of(rt, name));
     }
     // So that the proof knows that the words are those of a name.
     let _ = name.words();
-    rt.create(name, blocks as u16, date)
+    let length = blocks as u16;
+    match rt.create(name, length, date) {
+        Ok(()) => Ok(length),
+        Err(refusal) => Err(refusal),
+    }
 }
 
 /// Why no file of over 65,535 blocks is made.
 fn refusal_of<E: Device>(rt: &mut RtAccepted<E>, name: &RtName) -> RtRefusal
-    ensures { (blocks : ℕ) → 65535 < blocks → FailsMaking E.disk name.now blocks result rt.old rt.new }
+    ensures refused { (blocks : ℕ) → 65535 < blocks
+        → FailsMaking E.disk name.now blocks result rt.old rt.new }
+    ensures went { MakesTransfers (rt_disk E.disk rt.old) (rt_disk E.disk rt.new)
+        create_transfers (faults_in {T = Unit} (Err result)) }
 {
     match rt.find(name) {
         Ok(_) => RtRefusal::DuplicateName,

@@ -1,4 +1,5 @@
 //! A copy to an RT-11 volume, of whatever answers for the Files-11 volume.
+ghost use Rattle.f11_store.specs.File.{most_blocks};
 ghost use Rattle.std.specs.Prelude.{◌≡◌, ◌≤◌, IfErr, IfOk, OnErr, OnOk};
 ghost use Rattle.f11_fcp.specs.files.Answers.{is_fatal};
 ghost use Rattle.f11_making.specs.Asking.{who_asks};
@@ -10,7 +11,7 @@ use crate::attributes::image_blocks;
 use crate::mode::CopyMode;
 use crate::refusal::FlxRefusal;
 use crate::source::{Source, copy, copy_lines, look};
-use crate::target::{Nowhere, delete, make};
+use crate::target::{Nowhere, delete, make_file};
 use f11_dev::Device;
 use f11_making::{Asked, Asker, ask};
 use f11_store::{FileId, Mode, Refusal, Request};
@@ -85,7 +86,7 @@ fn count<S: Asked>(
     mode: CopyMode,
     name: &RtName,
 ) -> Result<u32, FlxRefusal>
-    requires { source.now.blocks ≤ 8323072 }
+    requires { source.now.blocks ≤ most_blocks }
     ensures counted { IfOk result (λ count. CountsAs mode S.service (who_asks by.now.task by.now.uic)
         by.now.lun name.now source.now.attr source.now.blocks count service.old service.new) }
     ensures fails { IfErr result (λ e. FailsToCountAs mode S.service (who_asks by.now.task by.now.uic)
@@ -114,7 +115,7 @@ fn fill<S: Asked, E: Device>(
     count: u32,
     date: u16,
 ) -> Result<(), FlxRefusal>
-    requires { source.now.blocks ≤ 8323072 }
+    requires { source.now.blocks ≤ most_blocks }
     ensures filled { OnOk result (FillsToRt mode S.service E.disk (who_asks by.now.task by.now.uic)
         by.now.lun name.now source.now.attr source.now.blocks count date
         service.old service.new rt.old rt.new) }
@@ -122,8 +123,8 @@ fn fill<S: Asked, E: Device>(
         (who_asks by.now.task by.now.uic) by.now.lun name.now source.now.attr source.now.blocks
         count date e service.old service.new rt.old rt.new) }
 {
-    match make(rt, name, count, date) {
-        Ok(()) => {}
+    match make_file(rt, name, u64::from(count), date) {
+        Ok(_) => {}
         Err(refusal) => return Err(FlxRefusal::Rt(refusal)),
     }
     match copy(service, by, source, mode, rt, name) {

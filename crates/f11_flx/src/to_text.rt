@@ -1,4 +1,5 @@
 //! From records to text.
+ghost use Rattle.f11_store.specs.File.{most_blocks};
 ghost use Rattle.std.specs.Prelude.{◌≡◌, ◌↔◌, ◌+◌, ◌-◌, ◌*◌, ◌<◌, ◌≤◌, ℕ, true, false, List, ◌∷◌, IsTrue, length, min, slice_range, None, option_map, option_to_list, IsErr, IfOk, IfSome, IfNone, OnErr};
 ghost use Rattle.f11_flx.specs.Place.{behind_line, has_place, is_ending, wanted_at, ReadsByte, RefusesByte};
 ghost use Rattle.f11_flx.specs.Puts.{PutsAt};
@@ -39,7 +40,7 @@ impl ToText {
     ///
     /// `BadRecord` where the attributes don't say how the records lie.
     pub fn new(attr: &[u8; 32], allocation: u32) -> Result<ToText, BadRecord>
-        requires { allocation ≤ 8323072 }
+        requires { allocation ≤ most_blocks }
         ensures starts { IfOk result (λ text. (file : File) → file.attr ≡ attr.now
             → length_of file ≡ allocation
             → text_left text (concat file.blocks) ≡ converted_text file) }
@@ -57,7 +58,7 @@ impl ToText {
     ///
     /// `BadRecord` where the attributes don't say how the records lie.
     pub fn ending(attr: &[u8; 32], allocation: u32, ends: LineEnd) -> Result<ToText, BadRecord>
-        requires { allocation ≤ 8323072 }
+        requires { allocation ≤ most_blocks }
         ensures starts { IfOk result (λ text. (which : Which) (file : File) → file.attr ≡ attr.now
             → length_of file ≡ allocation
             → text_by which text (concat file.blocks) ≡ converted_by ends which file) }

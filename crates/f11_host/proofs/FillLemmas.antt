@@ -12,7 +12,7 @@ use Rattle.f11_flx.specs.Spelled.{image_attributes_to}
 use Rattle.f11_flx.specs.declared.refusal.FlxRefusal.{FlxRefusal}
 use Rattle.f11_flx.specs.declared.refusal.FlxRefusal.TheVariants.{BadRecord, Files, LineTooLong, Rt}
 use Rattle.f11_making.proofs.AskingLemmas.{breaks-before, granted-append, granted-one, writes-append}
-use Rattle.f11_flx.proofs.MakingLemmas.{breaks-filling, breaks-giving, same-blocks}
+use Rattle.f11_flx.proofs.FromRt.MakingLemmas.{breaks-filling, breaks-giving, same-blocks}
 use Rattle.f11_host.specs.Filling.{BreaksFilling, FailsToFillFromHost, FailsToWriteBytes, FillsFromHost, HostFile, LacksBlock, StopsAtBlock}
 use Rattle.f11_host.specs.Filling.{WritesBytes, host_file}
 use Rattle.f11_host.specs.Pieces.{IsInBlocks, ReadsPiece, blocks_for, filled_up}

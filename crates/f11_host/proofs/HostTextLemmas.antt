@@ -25,16 +25,16 @@ use Rattle.f11_flx.specs.Refusal.{is_lethal}
 use Rattle.f11_flx.specs.declared.lines.Extent.{Extent}
 use Rattle.f11_flx.specs.declared.refusal.FlxRefusal.{FlxRefusal}
 use Rattle.f11_flx.specs.declared.refusal.FlxRefusal.TheVariants.{BadRecord, Files, LineTooLong, Rt}
-use Rattle.f11_flx.proofs.EndedLemmas.{making-ends}
-use Rattle.f11_flx.proofs.FaredLemmas.{calm-none, made-fares, of-calm, unmade-fares}
-use Rattle.f11_flx.proofs.FromRtLemmas.{making-seen}
-use Rattle.f11_flx.proofs.FromVolumeLemmas.{may-make, may-not-make}
-use Rattle.f11_flx.proofs.KeptLemmas.{dead-made, dead-unmade, given, made-keeps, refused, same-refusal, unmade-keeps}
-use Rattle.f11_flx.proofs.NotMadeLemmas.{IsRefusal, IsShort, bad-no-files, making-refused, making-undone}
+use Rattle.f11_flx.proofs.FromRt.EndedLemmas.{making-ends}
+use Rattle.f11_flx.proofs.FromRt.FaredLemmas.{calm-none, made-fares, of-calm, unmade-fares}
+use Rattle.f11_flx.proofs.FromRt.FromRtLemmas.{making-seen}
+use Rattle.f11_flx.proofs.FromRt.FromVolumeLemmas.{may-make, may-not-make}
+use Rattle.f11_flx.proofs.FromRt.KeptLemmas.{dead-made, dead-unmade, given, made-keeps, refused, same-refusal, unmade-keeps}
+use Rattle.f11_flx.proofs.FromRt.NotMadeLemmas.{IsRefusal, IsShort, bad-no-files, making-refused, making-undone}
 use Rattle.f11_flx.proofs.SmallLemmas.{not-true}
-use Rattle.f11_flx.proofs.StatingLemmas.{made-in-order, unmade-in-order}
-use Rattle.f11_flx.proofs.TriedLemmas.{made-tries, none-for-one, unmade-tries}
-use Rattle.f11_flx.proofs.UndoneLemmas.{as-before, clean-undoing}
+use Rattle.f11_flx.proofs.Made.StatingLemmas.{made-in-order, unmade-in-order}
+use Rattle.f11_flx.proofs.Made.TriedLemmas.{made-tries, none-for-one, unmade-tries}
+use Rattle.f11_flx.proofs.FromRt.UndoneLemmas.{as-before, clean-undoing}
 use Rattle.f11_making.proofs.VolumeLemmas.{standing, unused, volume-seen}
 use Rattle.f11_host.specs.CopyTextFromHost.{CopiesTextFromHost, FailsTextSpent, FailsToCopyTextFromHost, IsTextNotCopied, IsTextRefusedIf}
 use Rattle.f11_host.specs.CopyTextFromHost.{AsksForText, HoldText, Judges, ReadsIf, ReadsTexts, is_text_too_long}

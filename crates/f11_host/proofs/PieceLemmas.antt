@@ -9,8 +9,8 @@ use Rattle.std.proofs.lemmas.Bool.{cases_lt}
 use Rattle.std.proofs.lemmas.List.{append-nil, drop-replicate, drop_all, length-append, length-replicate, take-append-drop}
 use Rattle.std.proofs.lemmas.List.Elements.{All-append, All-cons, All-nil}
 use Rattle.std.proofs.lemmas.List.Folds.{concat-append}
-use Rattle.f11_flx.proofs.PassedLemmas.{chop}
-use Rattle.f11_flx.proofs.PourLemmas.{whole-length}
+use Rattle.f11_flx.proofs.FromRt.PassedLemmas.{chop}
+use Rattle.f11_flx.proofs.Texts.PourLemmas.{whole-length}
 use Rattle.f11_host.specs.Pieces.{IsInBlocks, ReadsPiece, blocks_for, filled_up}
 
 -- a block that was zeros, with bytes in its front

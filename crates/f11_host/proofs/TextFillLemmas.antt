@@ -12,7 +12,7 @@ use Rattle.f11_flx.specs.declared.lines.Extent.{Extent}
 use Rattle.f11_flx.specs.declared.refusal.FlxRefusal.{FlxRefusal}
 use Rattle.f11_flx.specs.declared.refusal.FlxRefusal.TheVariants.{BadRecord, Files, LineTooLong, Rt}
 use Rattle.f11_making.proofs.AskingLemmas.{breaks-before, granted-append}
-use Rattle.f11_flx.proofs.MakingLemmas.{breaks-filling, breaks-giving}
+use Rattle.f11_flx.proofs.FromRt.MakingLemmas.{breaks-filling, breaks-giving}
 use Rattle.f11_host.specs.Filling.{HostFile, host_file}
 use Rattle.f11_host.specs.TextFilling.{BreaksFillingText, CopiesAgain, FailsToCopyAgain, FailsToFillFromText, FillsFromText}
 use Rattle.f11_host.specs.TextFilling.{as_unread}

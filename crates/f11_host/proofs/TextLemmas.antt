@@ -23,13 +23,13 @@ use Rattle.f11_flx.specs.Writing.{FailsToWritePieces, MeetsLongLine, StopsAtPiec
 use Rattle.f11_flx.specs.declared.refusal.FlxRefusal.{FlxRefusal}
 use Rattle.f11_flx.specs.declared.refusal.FlxRefusal.TheVariants.{BadRecord, Files, LineTooLong, Rt}
 use Rattle.f11_flx.specs.declared.to_records.ToRecords.{ToRecords}
-use Rattle.f11_flx.proofs.MakingLemmas.{same-blocks}
-use Rattle.f11_flx.proofs.PassedLemmas.{chop, some-of}
-use Rattle.f11_flx.proofs.PassLemmas.{few-to-come, granted-writes, in-whole-behind, to-come, writes-then, writes-then-long}
-use Rattle.f11_flx.proofs.PassLemmas.{writes-then-stops}
-use Rattle.f11_flx.proofs.PlanLemmas.{dry-takes}
-use Rattle.f11_flx.proofs.PourLemmas.{whole-length}
-use Rattle.f11_flx.proofs.WritingLemmas.{is-whole, writes-start}
+use Rattle.f11_flx.proofs.FromRt.MakingLemmas.{same-blocks}
+use Rattle.f11_flx.proofs.FromRt.PassedLemmas.{chop, some-of}
+use Rattle.f11_flx.proofs.FromRt.PassLemmas.{few-to-come, granted-writes, in-whole-behind, to-come, writes-then, writes-then-long}
+use Rattle.f11_flx.proofs.FromRt.PassLemmas.{writes-then-stops}
+use Rattle.f11_flx.proofs.FromRt.PlanLemmas.{dry-takes}
+use Rattle.f11_flx.proofs.Texts.PourLemmas.{whole-length}
+use Rattle.f11_flx.proofs.Texts.WritingLemmas.{is-whole, writes-start}
 use Rattle.f11_host.specs.Pieces.{ReadsPiece}
 use Rattle.f11_host.specs.TextPasses.{CopiesText, FailsToCopyText, FailsToPlanText, FailsToReadText, LacksText, PlansText, ReadsText}
 use Rattle.f11_host.specs.Texts.{IsCopiedText, copied_text, crs_behind, ends_in_cr, with_crs}

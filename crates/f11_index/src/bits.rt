@@ -3,8 +3,8 @@ ghost use Rattle.std.specs.Prelude.{◌≡◌, ◌*◌, ◌<◌, ◌≤◌, true
 ghost use Rattle.f11_index.specs.IndexFile.{slots, bit_of_slot};
 ghost use Rattle.f11_index.specs.Kept.{index_kept, room, IndexLiesWithin};
 
-use crate::index_file::{BITS, IndexFile};
-use f11_bytes::{Block, is_set, set_bit};
+use crate::index_file::IndexFile;
+use f11_bytes::{BLOCK_BITS, Block, is_set, set_bit};
 use f11_dev::{Device, DeviceFault};
 
 /// The bit of slot `n` in the blocks of an index bitmap, which have it.
@@ -14,7 +14,10 @@ pub(crate) fn is_slot_set(bitmap: &[Block], n: u32) -> bool
     requires within { n ≤ 4096 * length bitmap.now }
     ensures { result ≡ bit_of_slot bitmap.now n }
 {
-    is_set(&bitmap[((n - 1) / BITS) as usize], (n - 1) % BITS)
+    is_set(
+        &bitmap[((n - 1) / BLOCK_BITS) as usize],
+        (n - 1) % BLOCK_BITS,
+    )
 }
 
 impl IndexFile {
@@ -69,7 +72,7 @@ impl IndexFile {
             (D.disk device.old) (D.disk device.new)) }
         ensures room { room self.new ≡ room self.old }
     {
-        let place = (u32::from(n) - 1) / BITS;
+        let place = (u32::from(n) - 1) / BLOCK_BITS;
         self.keep_bit(n, value);
         device.write(self.bitmap_lbn + place, &self.bitmap[place as usize])
     }
@@ -81,6 +84,10 @@ impl IndexFile {
         ensures room { room self.new ≡ room self.old }
     {
         let bit = u32::from(n) - 1;
-        set_bit(&mut self.bitmap[(bit / BITS) as usize], bit % BITS, value);
+        set_bit(
+            &mut self.bitmap[(bit / BLOCK_BITS) as usize],
+            bit % BLOCK_BITS,
+            value,
+        );
     }
 }

@@ -5,9 +5,6 @@ ghost use Rattle.f11_index.specs.IndexFile.{IsIndex};
 use crate::bits::is_slot_set;
 use f11_bytes::Block;
 
-/// How many bits a block of the index bitmap has.
-pub(crate) const BITS: u32 = 4096;
-
 /// The least slot that is given to a new header: the first five are those of the volume's own files (profile).
 pub(crate) const FIRST_FREE: u32 = 6;
 

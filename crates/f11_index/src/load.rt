@@ -11,9 +11,9 @@ ghost use Rattle.f11_index.specs.Walk.{ReadsBitmap};
 use crate::bits::is_slot_set;
 use crate::blocks::{Blocks, FIRST_HEADERS};
 use crate::fault::IndexFault;
-use crate::index_file::{BITS, IndexFile};
+use crate::index_file::IndexFile;
 use crate::walk::follow;
-use f11_bytes::{BLOCK_SIZE, Block, NoMemory};
+use f11_bytes::{BLOCK_BITS, BLOCK_SIZE, Block, NoMemory};
 use f11_dev::{Device, DeviceFault};
 use f11_home::Home;
 use std::alloc::Global;
@@ -92,7 +92,7 @@ impl IndexFile {
         ensures { MatchOption result (HasNonePast (index_kept self.now))
             (λ n. IsFirstPast (index_kept self.now) n) }
     {
-        let bits = BITS * self.bitmap.len() as u32;
+        let bits = BLOCK_BITS * self.bitmap.len() as u32;
         for n in self.slots() + 1..bits + 1 {
             if is_slot_set(&self.bitmap, n) {
                 return Some(n);

@@ -6,8 +6,8 @@ ghost use Rattle.f11_bytes.specs.Bits.{bit};
 
 use crate::bits::is_slot_set;
 use crate::blocks::push_run;
-use crate::index_file::{BITS, FIRST_FREE, IndexFile};
-use f11_bytes::{Block, NoMemory, read_word};
+use crate::index_file::{FIRST_FREE, IndexFile};
+use f11_bytes::{BLOCK_BITS, Block, NoMemory, read_word};
 
 /// How many bits a word has.
 const WORD: u32 = 16;
@@ -67,7 +67,7 @@ impl IndexFile {
         ensures grown { index_kept self.new ≡ with_blocks_behind (index_kept self.old) lbn count }
         ensures room { room self.old ≤ room self.new + count }
     {
-        let most = (BITS * self.bitmap.len() as u32).min(65535);
+        let most = (BLOCK_BITS * self.bitmap.len() as u32).min(65535);
         let more = count.min(most - self.slots());
         push_run(&mut self.headers, lbn, more);
     }

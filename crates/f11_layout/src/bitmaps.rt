@@ -2,8 +2,8 @@
 ghost use Rattle.std.specs.Prelude.{◌≡◌, ◌<◌};
 ghost use Rattle.f11_layout.specs.IndexBitmap.{fresh_index_bitmap};
 
-use crate::layout::{BITS, Layout, bit_blocks};
-use f11_bytes::{Block, set_bit, write_long, zeros};
+use crate::layout::{Layout, bit_blocks};
+use f11_bytes::{BLOCK_BITS, Block, set_bit, write_long, zeros};
 
 /// The bits of slots 1 to 5, which are in use.
 const OWN_BITS: u8 = 0b11111;
@@ -32,8 +32,8 @@ impl Layout {
     {
         let used = self.used_blocks();
         *block = zeros();
-        for bit in 0..BITS {
-            let lbn = BITS * i + bit;
+        for bit in 0..BLOCK_BITS {
+            let lbn = BLOCK_BITS * i + bit;
             set_bit(block, bit, used <= lbn && lbn < self.blocks);
         }
     }

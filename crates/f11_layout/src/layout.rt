@@ -3,11 +3,8 @@ ghost use Rattle.std.specs.Prelude.{◌≡◌, ◌↔◌, ◌≤◌, IsTrue};
 ghost use Rattle.f11_layout.specs.Places.{bit_blocks, used_blocks, AreNumbers};
 
 use crate::params::{InitParams, is_label};
-use f11_bytes::put_bytes;
+use f11_bytes::{BLOCK_BITS, put_bytes};
 use f11_map::f11_store::Uic;
-
-/// How many bits a block has.
-pub(crate) const BITS: u32 = 4096;
 
 /// How many blocks a volume may have: as many as 126 blocks have bits.
 pub const MOST_BLOCKS: u32 = 516_096;
@@ -97,7 +94,7 @@ pub(crate) fn bit_blocks(things: u32) -> u32
     requires { things ≤ 516096 }
     ensures { result ≡ bit_blocks things }
 {
-    things.div_ceil(BITS)
+    things.div_ceil(BLOCK_BITS)
 }
 
 /// How many blocks are in use on a fresh volume.

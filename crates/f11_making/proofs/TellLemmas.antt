@@ -32,7 +32,7 @@ or-first : (b c : Bool) → (b || c) ≡ false → b ≡ false
 or-first true c h = absurd (true-false h)
 or-first false c h = refl
 
-right-reply : (r : Request) (s : Store) (task : _) → names_one r ≡ true → names_file (reply_of s task r) ≡ true
+right-reply : (r : Request) (s : Store) (task : _) → names_one r ≡ true → names_file r (reply_of s task r) ≡ true
 right-reply (request.Create p i a) s task h = refl
 right-reply (request.Find d n) s task h = refl
 right-reply _ s task h = absurd (true-false (sym h))
@@ -96,7 +96,7 @@ module _ {D : Type 0} {met : Ghosts D} (who : Who) where
   denied-fares : (x : Asking) (e : Refusal) (v w : Volume D met) → Denies of_volume who x e v w → Tells (Err e) v w
   denied-fares x e v w d = fares-as (is_fault e) (is_fatal e) v w (denied-fared who x e v w d)
 
-  wrong-fares : (r : Request) (a : Reply) (v w : Volume D met) → names_one r ≡ true → names_file a ≡ false
+  wrong-fares : (r : Request) (a : Reply) (v w : Volume D met) → names_one r ≡ true → names_file r a ≡ false
       → Grants of_volume who (told r a) v w → Tells (Err Damaged) v w
   wrong-fares r a v w one wrong g =
       let h = granted-fared who (told r a) v w g in
@@ -116,7 +116,7 @@ module _ {D : Type 0} {met : Ghosts D} (who : Who) where
       never honest false is =
           let sound : is_sound v ≡ true = parts-sound (state_in v).disk.honest (is_spent v) honest is in
           let step = (volume-seen.granted who (told r a) v w g sound).0.2 in
-          let right : names_file a ≡ true = ap names_file step.reply_is ∙ right-reply r (store_of_volume v) who.task one in
+          let right : names_file r a ≡ true = ap (names_file r) step.reply_is ∙ right-reply r (store_of_volume v) who.task one in
           absurd (true-false (sym right ∙ wrong))
 
   single-fares : (q : Question) (a : Result (AnswerOf q) Refusal) (v w : Volume D met) → IsFitting q → Asks of_volume who q a v w
@@ -163,6 +163,7 @@ module _ {V : Type 0} (S : FilesService V) (who : Who) where
       at = last.at;
       tried = tried-then S who h.asked last.asked u v last.at h.tried last.tried;
       last = last.last;
+      fits = last.fits;
       refused = last.refused;
     }),
     (λ calm. cleanly-then S who u v w h (k.1 calm)),
@@ -171,25 +172,26 @@ module _ {V : Type 0} (S : FilesService V) (who : Who) where
   granted-ends : (x : Asking) (v w : V) → Grants S who x v w → Ends (Ok tt) v w
   granted-ends x v w g = cleanly-all S who (x ∷ []) v w (w, g, refl)
 
-  denied-ends : (q : Question) (x : Asking) (e : Refusal) (v w : V) → Asks S who q (Err e) v w → Denies S who x e v w → Ends (Err e) v w
-  denied-ends q x e v w h d = (
-    (λ fatal. record { asked = []; at = v; tried = refl; last = q; refused = h }),
+  denied-ends : (q : Question) (x : Asking) (e : Refusal) (v w : V) → IsFitting q → Asks S who q (Err e) v w → Denies S who x e v w
+      → Ends (Err e) v w
+  denied-ends q x e v w is h d = (
+    (λ fatal. record { asked = []; at = v; tried = refl; last = q; fits = is; refused = h }),
     (λ calm. cleanly-denied S who x e v w calm d),
   )
 
   single-ends : (q : Question) (a : Result (AnswerOf q) Refusal) (v w : V) → IsFitting q → Asks S who q a v w → Ends (bare a) v w
   single-ends (done r) (Ok x) v w is h = granted-ends (asks r) v w h
-  single-ends (done r) (Err e) v w is h = denied-ends (done r) (asks r) e v w h h
+  single-ends (done r) (Err e) v w is h = denied-ends (done r) (asks r) e v w is h h
   single-ends (names r) (Ok id) v w is h = granted-ends (told r h.0) v w h.2
-  single-ends (names r) (Err e) v w is (inl h) = denied-ends (names r) (asks r) e v w (inl h) h
+  single-ends (names r) (Err e) v w is (inl h) = denied-ends (names r) (asks r) e v w is (inl h) h
   single-ends (names r) (Err e) v w is (inr h) = (
-    (λ fatal. record { asked = []; at = v; tried = refl; last = names r; refused = inr h }),
+    (λ fatal. record { asked = []; at = v; tried = refl; last = names r; fits = is; refused = inr h }),
     (λ calm. granted-ends (told r h.0) v w h.3),
   )
   single-ends (reads lun vbn) (Ok block) v w is h = granted-ends (reads_block lun vbn block) v w h
-  single-ends (reads lun vbn) (Err e) v w is h = denied-ends (reads lun vbn) (reads_block lun vbn h.0) e v w h h.1
+  single-ends (reads lun vbn) (Err e) v w is h = denied-ends (reads lun vbn) (reads_block lun vbn h.0) e v w is h h.1
   single-ends (writes lun vbn block) (Ok x) v w is h = granted-ends (writes_block lun vbn block) v w h
-  single-ends (writes lun vbn block) (Err e) v w is h = denied-ends (writes lun vbn block) (writes_block lun vbn block) e v w h h
+  single-ends (writes lun vbn block) (Err e) v w is h = denied-ends (writes lun vbn block) (writes_block lun vbn block) e v w is h h
 
   pub adds-ends : AddsUp S who IsFitting Ends
   adds-ends = record {

@@ -33,6 +33,7 @@ pub record EndsAt {V : Type 0} (S : FilesService V) (who : Who) (e : Refusal) (o
   pub at : V
   pub tried : TriedCleanly S who asked old at
   pub last : Question
+  pub fits : IsFitting last
   pub refused : Asks S who last (Err e) at new
 
 -- The plan was carried out. A transfer failed exactly where a device fault is the answer, and none followed, as in `FaresAs`; where a

@@ -5,6 +5,7 @@ use Rattle.f11_store.specs.declared.refusals.Refusal.{Refusal}
 use Rattle.f11_store.specs.declared.requests.Reply.{Reply}
 use Rattle.f11_store.specs.declared.requests.Reply.TheVariants as reply
 use Rattle.f11_store.specs.declared.requests.Request.{Request}
+use Rattle.f11_store.specs.declared.requests.Request.TheVariants as request
 use Rattle.f11_fcp.specs.files.Answers.{is_fatal}
 use Rattle.f11_making.specs.Asking.{Denies, Fails, Grants, FilesService, Who, asks, told}
 use Rattle.f11_making.specs.Asking.{reads as reads_block, writes as writes_block}
@@ -24,21 +25,21 @@ AnswerOf (names r) = FileId
 AnswerOf (reads lun vbn) = List ℕ
 AnswerOf (writes lun vbn block) = Unit {0}
 
--- the file that a reply names
-abbrev pub file_in : Reply → Option FileId
-file_in (reply.Created id) = Some id
-file_in (reply.Found id) = Some id
-file_in _ = None
+-- the file that the reply to a request names: the one created, or found
+abbrev pub file_in : Request → Reply → Option FileId
+file_in (request.Create protection ident attr) (reply.Created id) = Some id
+file_in (request.Find dir name) (reply.Found id) = Some id
+file_in _ _ = None
 
-abbrev pub names_file : Reply → Bool
-names_file a = is_some (file_in a)
+abbrev pub names_file : Request → Reply → Bool
+names_file r a = is_some (file_in r a)
 
 -- it was asked, and so answered
 abbrev pub Asks : {V : Type 0} → FilesService V → Who → (q : Question) → Result (AnswerOf q) Refusal → V → V → Type 0
 Asks S who (done r) (Ok x) old new = Grants S who (asks r) old new
 Asks S who (done r) (Err e) old new = Denies S who (asks r) e old new
-Asks S who (names r) (Ok id) old new = (a : Reply) × (file_in a ≡ Some id) × Grants S who (told r a) old new
-Asks S who (names r) (Err e) old new = Fails S who names_file r e old new
+Asks S who (names r) (Ok id) old new = (a : Reply) × (file_in r a ≡ Some id) × Grants S who (told r a) old new
+Asks S who (names r) (Err e) old new = Fails S who (names_file r) r e old new
 Asks S who (reads lun vbn) (Ok block) old new = Grants S who (reads_block lun vbn block) old new
 Asks S who (reads lun vbn) (Err e) old new = (block : List ℕ) × Denies S who (reads_block lun vbn block) e old new
 Asks S who (writes lun vbn block) (Ok x) old new = Grants S who (writes_block lun vbn block) old new

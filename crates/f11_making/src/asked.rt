@@ -1,4 +1,5 @@
 //! What is asked of a volume.
+ghost use Rattle.f11_store.specs.File.{most_blocks};
 ghost use Rattle.std.specs.Prelude.{◌≡◌, ◌≤◌, length, IfOk, IfErr, OnOk};
 ghost use Rattle.f11_runs.specs.Each.{answer_with, call_with};
 ghost use Rattle.f11_store.specs.declared.requests.Request.TheVariants as request;
@@ -29,7 +30,7 @@ pub trait Asked {
     /// How many blocks the file has that the task accesses by the lun: no more than 256 headers can name.
     fn length(&mut self, task: Task, lun: Lun) -> Result<u32, Refusal>
         ensures measures { service.measures task lun result self.old self.new }
-        ensures few { IfOk result (λ blocks. blocks ≤ 8323072) };
+        ensures few { IfOk result (λ blocks. blocks ≤ most_blocks) };
 }
 
 /// Who asks: a task, by one of its luns, for a user.
@@ -99,7 +100,7 @@ pub fn write<S: Asked>(
 
 /// How many blocks the file has that is accessed.
 pub fn length<S: Asked>(service: &mut S, by: &Asker) -> Result<u32, Refusal>
-    ensures few { IfOk result (λ blocks. blocks ≤ 8323072) }
+    ensures few { IfOk result (λ blocks. blocks ≤ most_blocks) }
     ensures granted { IfOk result (λ blocks. Grants S.service (who_asks by.now.task by.now.uic)
         (counts by.now.lun blocks) service.old service.new) }
     ensures denied { IfErr result (λ e. Denies S.service (who_asks by.now.task by.now.uic)

@@ -2,7 +2,7 @@
 ghost use Rattle.std.specs.Prelude.{◌≡◌, Err};
 ghost use Rattle.f11_fcp.specs.files.Answers.{is_fatal as is_fatal_refusal};
 ghost use Rattle.f11_making.specs.Asking.{who_asks};
-ghost use Rattle.f11_making.specs.FilesPlan.{Carried, done, names, one, undoing};
+ghost use Rattle.f11_making.specs.FilesPlan.{Carried, done, file_in, names, one, undoing};
 
 use crate::asked::{Asked, Asker, ask};
 use f11_store::{FileId, Refusal, Reply, Request};
@@ -22,7 +22,7 @@ pub fn ask_done<S: Asked>(service: &mut S, by: &Asker, request: Request) -> Resu
     }
 }
 
-/// Asks which file the reply to a request names.
+/// Asks which file the reply to a request names, which creates or finds one.
 ///
 /// # Errors
 ///
@@ -32,10 +32,22 @@ pub fn ask_file<S: Asked>(service: &mut S, by: &Asker, request: Request) -> Resu
         service.old service.new }
 {
     match ask(service, by, request) {
-        Ok(Reply::Created(id)) => Ok(id),
-        Ok(Reply::Found(id)) => Ok(id),
-        Ok(_) => Err(Refusal::Damaged),
+        Ok(reply) => match file_in(&request, &reply) {
+            Some(id) => Ok(id),
+            None => Err(Refusal::Damaged),
+        },
         Err(refusal) => Err(refusal),
+    }
+}
+
+/// The file that the reply to a request names: the one created, or found.
+fn file_in(request: &Request, reply: &Reply) -> Option<FileId>
+    ensures { result ≡ file_in request.now reply.now }
+{
+    match (request, reply) {
+        (Request::Create { .. }, Reply::Created(id)) => Some(*id),
+        (Request::Find(..), Reply::Found(id)) => Some(*id),
+        _ => None,
     }
 }
 

@@ -34,6 +34,12 @@ fn writes(device: &mut impl Device, lbn: u32, block: &Block) -> bool {
     lbn < device.blocks() && device.write(lbn, block).is_ok()
 }
 
+/// Whether so many blocks become zeros.
+fn zeroes(device: &mut impl Device, lbn: u32, count: u32) -> bool {
+    let blocks = device.blocks();
+    count <= blocks && lbn <= blocks - count && device.write_zeros(lbn, count).is_ok()
+}
+
 /// Whether a block is read, and is this one.
 fn has(device: &mut impl Device, lbn: u32, block: &Block) -> bool {
     let mut found = ZEROS;
@@ -116,6 +122,8 @@ const NUMBERED: &str = "read_ahead_numbered.dsk";
 
 const CUT: &str = "read_ahead_cut.dsk";
 
+const ZEROED: &str = "read_ahead_zeroed.dsk";
+
 /// A file of eight blocks each of whose bytes is the block's own number.
 fn eight() -> [u8; 4096] {
     let mut bytes = [0; 4096];
@@ -160,5 +168,42 @@ fn a_file_that_is_cut_tells_the_block_that_was_asked(rt: HostRuntime) -> Result<
     assert!(rt; !has(&mut image, 3, &ZEROS) && !reads_two(&mut image, 4));
     assert!(rt; matches!(image.fault(), Some(Fault::Read(3, _))));
     fs::remove_file(&rt, CUT)?;
+    Ok(())
+}
+
+#[test]
+fn blocks_of_a_file_become_zeros_at_once(rt: HostRuntime) -> Result<(), Fail> {
+    let mut image = FileImage::create(&rt, ZEROED, 200)?;
+    for lbn in 0..200 {
+        assert!(rt; writes(&mut image, lbn, &numbered(lbn)));
+    }
+    assert!(rt; zeroes(&mut image, 10, 150) && zeroes(&mut image, 199, 0));
+    for lbn in 0..200 {
+        let expected = if (10..160).contains(&lbn) {
+            ZEROS
+        } else {
+            numbered(lbn)
+        };
+        assert!(rt; has(&mut image, lbn, &expected), "{lbn}");
+    }
+    assert!(rt; image.fault().is_none());
+    drop(image);
+    let mut image = FileImage::open_to_read(&rt, ZEROED)?;
+    assert!(rt; !zeroes(&mut image, 1, 3));
+    assert!(rt; matches!(image.fault(), Some(Fault::WriteZeros(1, _))));
+    assert!(rt; are_numbered(&mut image, 0, 10));
+    fs::remove_file(&rt, ZEROED)?;
+    Ok(())
+}
+
+#[test]
+fn zeros_stop_where_a_device_stops(rt: HostRuntime) -> Result<(), Fail> {
+    let mut device = Fuse::new(device(rt.alloc())?, 3);
+    assert!(rt; !zeroes(&mut device, 2, 5));
+    let mut inner = device.into_inner();
+    assert!(rt; are_numbered(&mut inner, 0, 2) && are_numbered(&mut inner, 5, 8));
+    for lbn in 2..5 {
+        assert!(rt; has(&mut inner, lbn, &ZEROS), "{lbn}");
+    }
     Ok(())
 }

@@ -1,6 +1,7 @@
 -- A file that is read along its headers, on any volume: it has the blocks that are reached from its first header, and ends where a link
 -- isn't to a next header (Files-11 On-Disk Structure Level 1, "File Header" and "Map Area"; profile: a block past the device's end counts
 -- as zeros).
+use Rattle.f11_store.specs.File.{most_blocks}
 use Rattle.std.specs.Prelude.{◌≡◌, ℕ, ◌+◌, ◌-◌, ◌≤◌, IsTrue, List, [], ◌∷◌, ◌++◌, length, drop, map}
 use Rattle.f11_chain.specs.Calls.{HoldsHeader, table}
 use Rattle.f11_chain.specs.FileHeaders.{blocks_by}
@@ -71,7 +72,7 @@ pub record FindsNone (index : Index) (id : FileId) (old new : Disk) : Type 0 whe
 -- So many blocks are still to come; headers alone were read.
 pub record CountsBlocks (index : Index) (file : FileReader) (blocks : ℕ) (old new : Disk) : Type 0 where
   pub count : IsTrue old.honest → blocks ≡ length (blocks_to_come (table index old) file)
-  pub few : blocks ≤ 8323072
+  pub few : blocks ≤ most_blocks
   pub looked : Looked old new (headers_left file) 0
 
 -- later the same blocks are to come

@@ -11,14 +11,11 @@ ghost use Rattle.f11_reader.specs.Steps.{ReadsOrZeros, StepsOn, StepsNowhere, Fa
 
 use crate::file::FileReader;
 use f11_bytes::{BLOCK_SIZE, Block};
-use f11_chain::{ChainFault, first, next};
+use f11_chain::{ChainFault, MOST_HEADERS, first, next};
 use f11_dev::{Device, DeviceFault};
 use f11_header::Header;
 use f11_index::IndexFile;
 use f11_store::FileId;
-
-/// How many headers a file has at most (profile).
-const MOST_HEADERS: u32 = 256;
 
 /// The sequence number of a header.
 pub(crate) fn sequence(block: &Block) -> u16

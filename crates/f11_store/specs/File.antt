@@ -88,3 +88,7 @@ end_of f = min (stated_end f.attr) (512 * length_of f)
 -- n blocks of zeros
 unfoldable pub zero_blocks : ℕ → List (List ℕ)
 zero_blocks n = replicate n zero_block
+
+-- the most blocks that a file has: those of 256 headers (profile), each of which names up to 127 times 256 (file header, map area)
+abbrev pub most_blocks : ℕ
+most_blocks = 8323072

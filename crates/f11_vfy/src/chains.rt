@@ -10,10 +10,8 @@ use crate::survey::bits::Bits;
 use crate::survey::slot::{Slot, State};
 use crate::survey::tally::Tally;
 use f11_bytes::NoMemory;
+use f11_chain::MOST_HEADERS;
 use std::alloc::Global;
-
-/// How many headers a file has at most (profile).
-pub(crate) const MOST_HEADERS: u32 = 256;
 
 /// What the links of a volume's headers say.
 #[derive(Drop)]

@@ -1,7 +1,7 @@
 //! Runs of free blocks that are as long as they are asked for.
 use super::{Storage, bits_in};
-use crate::bits::{BITS, next_room};
-use f11_dev::f11_bytes::{BLOCK_SIZE, Block};
+use crate::bits::next_room;
+use f11_dev::f11_bytes::{BLOCK_BITS, BLOCK_SIZE, Block};
 use f11_dev::{Device, DeviceFault};
 
 impl Storage {
@@ -78,16 +78,16 @@ impl Storage {
         ensures failed { OnErr result (Looked (D.disk device.old) (D.disk device.new)
             (length (bitmap_of self.now).places) 1) }
     {
-        let first = self.low / BITS;
-        let mut start = first * BITS;
-        for index in first..self.size.div_ceil(BITS) {
+        let first = self.low / BLOCK_BITS;
+        let mut start = first * BLOCK_BITS;
+        for index in first..self.size.div_ceil(BLOCK_BITS) {
             if n > self.size - start {
                 return Ok(None);
             }
             self.read_block(device, index, block)?;
             let end = bits_in(self.size, index);
-            start = next_room(block, index * BITS, start, n, end);
-            if start + n <= index * BITS + end {
+            start = next_room(block, index * BLOCK_BITS, start, n, end);
+            if start + n <= index * BLOCK_BITS + end {
                 return Ok(Some(start));
             }
         }
@@ -115,7 +115,7 @@ impl Storage {
         ensures failed { OnErr result (FailsToMark false (bitmap_of self.old) lbn n
             (giving_transfers lbn n - 1) (D.disk device.old) (D.disk device.new)) }
     {
-        let last = (lbn + n - 1) / BITS * BITS;
+        let last = (lbn + n - 1) / BLOCK_BITS * BLOCK_BITS;
         if last <= lbn {
             self.write_bits(device, lbn, n, false, block)?;
             return Ok(());

@@ -1,14 +1,10 @@
 //! The names of a copy.
-ghost use Rattle.std.specs.Prelude.{◌≡◌, ◌*◌, List, ℕ, Some, IfOk, IfErr, IfSome};
-ghost use Rattle.f11_commands.specs.Name.{bad_name_line};
-ghost use Rattle.f11_commands.specs.Output.{WriterTakes};
+ghost use Rattle.std.specs.Prelude.{◌≡◌, ◌*◌, List, ℕ, Some, IfSome};
 ghost use Rattle.f11_rad50.specs.Name.{Spells};
 ghost use Rattle.rt11_volume.specs.RtName.{RtSpells};
 
-use crate::outcome::{Answer, Failure};
 use f11_rad50::Name;
 use rt11_volume::RtName;
-use std::io::Write;
 
 /// The names that two texts spell, of a file on a Files-11 volume and of one on an RT-11 volume; nothing where one of them spells none.
 pub fn read_names(name: &str, rt_name: &str) -> Option<(Name, RtName)>
@@ -24,18 +20,4 @@ pub fn read_names(name: &str, rt_name: &str) -> Option<(Name, RtName)>
         Ok(rt_name) => Some((name, rt_name)),
         Err(_) => None,
     }
-}
-
-/// Writes the line `bad name`, and answers [`Answer::Fault`].
-///
-/// # Errors
-///
-/// [`Failure::CannotWrite`] where the writer takes no more.
-pub fn refuse_names<W: Write>(writer: &mut W) -> Result<Answer, Failure>
-    ensures refused { IfOk result (λ answer. (answer ≡ Answer.Fault)
-        × WriterTakes W.contents writer.old writer.new bad_name_line) }
-    ensures failures { IfErr result (λ failure. failure ≡ Failure.CannotWrite) }
-{
-    writeln!(writer, "bad name")?;
-    Ok(Answer::Fault)
 }

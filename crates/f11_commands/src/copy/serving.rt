@@ -5,21 +5,20 @@ ghost use Rattle.f11_commands.specs.Copying.{OutcomeIs};
 ghost use Rattle.f11_commands.specs.Finding.{FaresAsAnswered, WithinDirectory};
 ghost use Rattle.f11_commands.specs.Stopping.{StopsCopy, StopsWithin};
 ghost use Rattle.f11_commands.specs.declared.copy.Direction.TheVariants as direction;
-ghost use Rattle.f11_serving.specs.fcp.Serving.{device_in};
 ghost use Rattle.f11_serving.specs.vfy.Accepted.{device_of};
 ghost use Rattle.rt11_volume.specs.Calls.{has_failed, volume_device};
 ghost use Rattle.rt11_volume.specs.Verifying.Verdict.{IsRtAccepted};
 
-use crate::copy::finding::{
-    MASTER_DIRECTORY, OPERATOR, directory_name, find, first_lun, first_task,
+use crate::copy::{Copying, Direction};
+use crate::finding::{
+    MASTER_DIRECTORY, OPERATOR, directory_name, dismount, find, first_lun, first_task,
 };
-use crate::copy::telling::tell;
-use crate::copy::{Copying, Direction, FileAnswer};
-use crate::outcome::Failure;
+use crate::outcome::{Failure, FileAnswer};
 use crate::sync::synced;
+use crate::telling::tell;
 use f11_dev::Device;
 use f11_flx::{FlxRefusal, copy_from_rt, copy_to_rt};
-use f11_serving::f11_fcp::{Failed, Volume};
+use f11_serving::f11_fcp::Volume;
 use f11_serving::f11_files::OpenFault;
 use f11_serving::f11_vfy::Accepted;
 use f11_store::FileId;
@@ -102,16 +101,6 @@ fn synced_target<D: Device, E: Device>(
             Ok(files) => Ok((files, rt)),
             Err(files) => Err((files, rt)),
         },
-    }
-}
-
-/// Gives a volume up, and its device.
-pub fn dismount<D: Device>(volume: Volume<D>) -> D
-    ensures { result ≡ device_in volume }
-{
-    match volume.dismount() {
-        Ok(accepted) => accepted.device(),
-        Err(Failed(device)) => device,
     }
 }
 

@@ -13,7 +13,7 @@ ghost use Rattle.f11_commands.specs.GetCommand.{file_entered, file_identified, f
 ghost use Rattle.f11_commands.specs.TakingOut.{bytes_to_come, lbns_to_come};
 ghost use Rattle.f11_commands.specs.TakingText.{file_to_come};
 
-use crate::copy::finding::MASTER_DIRECTORY;
+use crate::finding::MASTER_DIRECTORY;
 use crate::get::found::FoundFile;
 use crate::get::open::open_file;
 use crate::get::sought::Sought;

@@ -9,7 +9,7 @@ ghost use Rattle.f11_store.specs.declared.requests.Request.TheVariants as reques
 ghost use Rattle.f11_commands.specs.Copying.{operator};
 ghost use Rattle.f11_commands.specs.PutSlots.{AsksForSlots, slots_before as slots_before_file, slots_for};
 
-use crate::copy::finding::{OPERATOR, first_task};
+use crate::finding::{OPERATOR, first_task};
 use f11_bytes::BLOCK_SIZE;
 use f11_dev::Device;
 use f11_serving::f11_fcp::Volume;

@@ -3,9 +3,8 @@ ghost use Rattle.std.specs.Prelude.{◌≡◌, IfErr, IfNone, IfOk, IfSome, OnEr
 ghost use Rattle.f11_commands.specs.Output.{WriterTakes};
 ghost use Rattle.f11_commands.specs.RtAll.{copied_at_line, copied_text, counted_copied, counted_refused, counts_answer, counts_line, not_copied_line, one_more, one_more_if};
 
-use crate::copy::FileAnswer;
 use crate::get::all::taking::HostFull;
-use crate::outcome::Failure;
+use crate::outcome::{Failure, FileAnswer};
 use crate::rt_all::found::{RtFileAt, RtPlace, RtWhyNot, file_at, is_lost, why_of};
 use crate::rt_all::state::{RtCounts, TakingAllRt};
 use crate::rt_all::taking::{RtTaken, take_out};

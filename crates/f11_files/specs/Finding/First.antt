@@ -1,5 +1,5 @@
 -- What reading a file's first header finds (Files-11 On-Disk Structure Level 1, "File Header").
-use Rattle.std.specs.Prelude.{◌≡◌, ◌⊎◌, ℕ, List}
+use Rattle.std.specs.Prelude.{◌≡◌, ◌⊎◌, ◌==◌, ℕ, if◌then◌else◌, List, Option, None, Some}
 use Rattle.f11_dev.specs.Disk.{Disk}
 use Rattle.f11_dev.specs.Looked.{Looked}
 use Rattle.f11_header.specs.Fields.{file_sequence}
@@ -11,6 +11,7 @@ use Rattle.f11_chain.specs.Calls.{HoldsHeader, table}
 use Rattle.f11_store.specs.declared.files.FileId.{FileId}
 use Rattle.f11_store.specs.declared.refusals.Refusal.{Refusal}
 use Rattle.f11_store.specs.declared.refusals.Refusal.TheVariants.{NoSuchFile, Damaged}
+use Rattle.f11_files.specs.declared.extend.tail.Tail.{Tail}
 
 -- A block is the first header of the file with this identification, whatever the relative volume.
 pub record IsFirstHeaderOf (f : FileId) (block : List ℕ) : Type 0 where
@@ -27,6 +28,11 @@ IsOther f block refusal =
 pub record HoldsFile (index : Index) (f : FileId) (block : List ℕ) (disk : Disk) : Type 0 where
   pub header : HoldsHeader index f.number block disk
   pub is_first : IsFirstHeaderOf f block
+
+-- how many blocks are read for it at most, with this header in hand, or none
+abbrev pub reads_for : FileId → Option Tail → ℕ
+reads_for f None = 1
+reads_for f (Some tail) = if tail.number == f.number then 0 else 1
 
 -- It was read.
 pub record FindsFile (index : Index) (f : FileId) (block : List ℕ) (old new : Disk) : Type 0 where

@@ -4,16 +4,12 @@ use Rattle.f11_dev.specs.Disk.{Disk}
 use Rattle.f11_home.specs.Home.{HomeFields}
 use Rattle.f11_store.specs.Causes.{first_of}
 use Rattle.f11_store.specs.Cost.{header_count}
-use Rattle.f11_store.specs.File.{length_of}
+use Rattle.f11_store.specs.File.{length_of, most_blocks}
 use Rattle.f11_store.specs.Store.{file_named}
 use Rattle.f11_store.specs.declared.files.FileId.{FileId}
 use Rattle.f11_files.specs.Answers.{ReadsAtMost}
 use Rattle.f11_files.specs.Operations.{file_causes}
 use Rattle.f11_image_store.specs.StoreOf.{store_of}
-
--- the most blocks that 256 headers can name: each has at most 127 pointers of 256 blocks
-abbrev pub most_blocks : ℕ
-most_blocks = 8323072
 
 -- A file's blocks were counted.
 pub record CountsBlocks (home : HomeFields) (f : FileId) (blocks : ℕ) (old new : Disk) : Type 0 where

@@ -2,17 +2,29 @@
 ghost use Rattle.std.specs.Prelude.{◌≡◌, false, IsTrue};
 ghost use Rattle.f11_bytes.specs.Words.{word_sum};
 ghost use Rattle.f11_image_store.specs.FieldLaws.{SaysBut};
+ghost use Rattle.f11_files.specs.Changing.Fields.{altered_by};
 ghost use Rattle.f11_files.specs.Finding.First.{IsFirstHeaderOf};
 ghost use Rattle.f11_header.specs.Fields.{characteristics, check_word, map_area};
 ghost use Rattle.f11_header.specs.Header.{header_in, header_with, holds_header};
 ghost use Rattle.f11_header.specs.MapFields.{segment};
-ghost use Rattle.f11_store.specs.Changes.{with_delete_mark, with_replacement};
+ghost use Rattle.f11_store.specs.Changes.{with_replacement};
 ghost use Rattle.f11_store.specs.File.{with_contiguous, with_mark, without_contiguous};
-ghost use Rattle.f11_store.specs.Lags.{with_contiguous_mark, with_no_mark};
+ghost use Rattle.f11_store.specs.Lags.{with_no_mark};
 
 use f11_bytes::Block;
 use f11_header::{Header, HeaderMut};
 use f11_store::{Change, FileId};
+
+/// What a file's first header is to say otherwise.
+#[derive(Clone, Copy)]
+pub(crate) enum Alteration {
+    /// A part of the file's attributes.
+    Replace(Change),
+    /// That it is marked for delete (SC.MDL).
+    Mark,
+    /// That it is marked contiguous (UC.CON).
+    MarkContiguous,
+}
 
 /// The bit of the characteristics by which a file is marked for delete (SC.MDL).
 const MARKED: u16 = 0o100000;
@@ -93,8 +105,8 @@ fn not_contiguous(block: &Block) -> u16
     Header::new(block).characteristics() & NOT_CONTIGUOUS
 }
 
-/// Makes a change of a file's attributes in its first header.
-pub(crate) fn replace(block: &mut Block, f: FileId, change: &Change)
+/// Replaces a part of a file's attributes in its first header.
+fn replace(block: &mut Block, f: FileId, change: &Change)
     requires { IsFirstHeaderOf f block.old }
     ensures { SaysBut (with_replacement change.now) block.old block.new }
 {
@@ -105,22 +117,22 @@ pub(crate) fn replace(block: &mut Block, f: FileId, change: &Change)
     }
 }
 
-/// Marks a file for delete in its first header.
-pub(crate) fn set_mark(block: &mut Block, f: FileId)
+/// Alters what a file's first header says.
+pub(crate) fn apply(block: &mut Block, f: FileId, alteration: Alteration)
     requires { IsFirstHeaderOf f block.old }
-    ensures { SaysBut with_delete_mark block.old block.new }
+    ensures { SaysBut (altered_by alteration) block.old block.new }
 {
-    let characteristics = marked(block);
-    set_characteristics(block, characteristics);
-}
-
-/// Sets the contiguous mark in a file's first header.
-pub(crate) fn set_contiguous(block: &mut Block, f: FileId)
-    requires { IsFirstHeaderOf f block.old }
-    ensures { SaysBut with_contiguous_mark block.old block.new }
-{
-    let characteristics = contiguous(block);
-    set_characteristics(block, characteristics);
+    match alteration {
+        Alteration::Replace(change) => replace(block, f, &change),
+        Alteration::Mark => {
+            let characteristics = marked(block);
+            set_characteristics(block, characteristics);
+        }
+        Alteration::MarkContiguous => {
+            let characteristics = contiguous(block);
+            set_characteristics(block, characteristics);
+        }
+    }
 }
 
 /// Clears the contiguous mark in a file's first header, and says whether it was set.

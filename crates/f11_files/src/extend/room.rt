@@ -15,13 +15,10 @@ ghost use Rattle.f11_store.specs.Store.{file_named};
 use crate::answer::refusal_for;
 use crate::structure::Structure;
 use f11_bytes::Block;
-use f11_chain::{FileEnd, last_from};
+use f11_chain::{FileEnd, MOST_HEADERS, last_from};
 use f11_dev::Device;
 use f11_map::in_hand::map;
 use f11_store::{FileId, Refusal};
-
-/// How many headers a file has at most (profile).
-const MOST_HEADERS: u32 = 256;
 
 /// How many blocks a header of its own is reckoned for (profile): so many pointers it has places for.
 const POINTERS: usize = 102;
@@ -81,7 +78,7 @@ pub(crate) fn is_too_long(headers: u16, room: usize, n: u32) -> bool
     requires { headers ≤ 256 }
     ensures { result ≡ nat_lt 256 (headers + need room n) }
 {
-    need(room, n) > MOST_HEADERS - u32::from(headers)
+    need(room, n) > u32::from(MOST_HEADERS - headers)
 }
 
 impl Structure {

@@ -8,7 +8,6 @@ ghost use Rattle.f11_volume.specs.Volume.{volume_of};
 ghost use Rattle.f11_writes.specs.NameLaws.{AreUnreferenced};
 
 use crate::structure::Structure;
-use f11_bytes::zeros;
 use f11_dev::{Device, DeviceFault};
 
 impl Structure {
@@ -34,10 +33,6 @@ impl Structure {
         ensures confined { ConfinesTo self.now no_header (range_with_len lbn count)
             (D.disk device.old) (D.disk device.new) }
     {
-        let zeros = zeros();
-        for k in 0..count {
-            device.write(lbn + k, &zeros)?;
-        }
-        Ok(())
+        device.write_zeros(lbn, count)
     }
 }

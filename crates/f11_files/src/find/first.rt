@@ -1,11 +1,13 @@
 //! A file's first header.
-ghost use Rattle.std.specs.Prelude.{◌≡◌, false, OnOk, IfErr};
+ghost use Rattle.std.specs.Option.{option_copied};
+ghost use Rattle.std.specs.Prelude.{◌≡◌, false, OnOk, IfErr, IfSome};
 ghost use Rattle.f11_chain.specs.Calls.{HoldsHeader};
 ghost use Rattle.f11_files.specs.Answers.{FailsToRead, MakesAtMost};
-ghost use Rattle.f11_files.specs.Finding.First.{FindsFile, IsFirstHeaderOf, IsOther};
+ghost use Rattle.f11_files.specs.Finding.First.{FindsFile, IsFirstHeaderOf, IsOther, reads_for};
 ghost use Rattle.f11_files.specs.Operations.{file_causes};
 ghost use Rattle.f11_files.specs.Structure.{index_in, store_on, IsStructureFor};
 
+use crate::extend::tail::Tail;
 use crate::structure::Structure;
 use f11_bytes::Block;
 use f11_dev::Device;
@@ -64,8 +66,8 @@ impl Structure {
         }
     }
 
-    /// Finds the first header of a file in the block where that holds this header and it is the file's first, by its number; else reads
-    /// it into the block, as [`Structure::read_first`] does. No transfer where it is in hand, and else one at most.
+    /// Puts the first header of a file into the block: the header in hand, if there is one, and it is that by its number; else it is
+    /// read, as [`Structure::read_first`] does. No transfer where it is in hand, and else one at most.
     ///
     /// # Errors
     ///
@@ -75,21 +77,29 @@ impl Structure {
         &self,
         device: &mut D,
         f: FileId,
-        number: u16,
+        held: Option<&Tail>,
         block: &mut Block,
     ) -> Result<(), Refusal>
         requires is_for { IsStructureFor self.now (D.disk device.old) }
-        requires holds { HoldsHeader (index_in self.now) number block.old (D.disk device.old) }
+        requires holds { IfSome held (λ tail. HoldsHeader (index_in self.now) tail.now.number
+            tail.now.block (D.disk device.old)) }
         ensures found { OnOk result
             (FindsFile (index_in self.now) f block.new (D.disk device.old) (D.disk device.new)) }
         ensures refused { IfErr result (λ refusal. FailsToRead false
             (file_causes (store_on self.now (D.disk device.old)) f) 1 refusal
             (D.disk device.old) (D.disk device.new)) }
-        ensures none { number ≡ f.number → D.disk device.new ≡ D.disk device.old }
+        ensures bounded { MakesAtMost (reads_for f (option_copied held.entry)) (D.disk device.old)
+            (D.disk device.new) }
     {
-        if number == f.number {
-            return judge_first(block, f);
+        match held {
+            None => self.read_first(device, f, block),
+            Some(tail) => {
+                if tail.number != f.number {
+                    return self.read_first(device, f, block);
+                }
+                *block = tail.block;
+                judge_first(block, f)
+            }
         }
-        self.read_first(device, f, block)
     }
 }

@@ -20,13 +20,10 @@ use crate::extend::room::{judge, need, room_of};
 use crate::extend::runs::tail_of;
 use crate::files::Files;
 use crate::structure::Structure;
-use f11_bytes::{BLOCK_SIZE, Block};
+use f11_bytes::{BLOCK_BITS, BLOCK_SIZE, Block};
 use f11_chain::FileEnd;
 use f11_dev::Device;
 use f11_store::{FileId, Refusal};
-
-/// How many slots have their bits in a block of the index bitmap.
-const BITS: u32 = 4096;
 
 /// The highest file number.
 const LAST_NUMBER: u32 = 65535;
@@ -47,7 +44,7 @@ impl Structure {
     fn most_slots(&self) -> u32
         ensures { result ≡ slot_limit (home_of self.now) }
     {
-        let bits = BITS * u32::from(self.home.index_blocks());
+        let bits = BLOCK_BITS * u32::from(self.home.index_blocks());
         u32::from(self.home.max_files()).min(bits.min(LAST_NUMBER))
     }
 

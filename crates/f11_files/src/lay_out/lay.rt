@@ -20,6 +20,7 @@ ghost use Rattle.f11_volume.specs.Volume.{volume_of};
 ghost use Rattle.f11_writes.specs.NameLaws.{AreUnreferenced};
 
 use crate::answer::{is_fatal, is_no_file};
+use crate::change::fields::Alteration;
 use crate::extend::room::{PLACES, need, room_of};
 use crate::extend::runs::tail_of;
 use crate::extend::tail::Tail;
@@ -140,7 +141,7 @@ impl Structure {
         };
         let mut tail = tail_of(f, first, end.number, last);
         self.lay_run(device, &mut tail, lbn, n)?;
-        match self.mark_contiguous(device, f, &tail) {
+        match self.alter(device, f, Some(&tail), Alteration::MarkContiguous) {
             Ok(()) => Ok(()),
             Err(refusal) => Err(when_found(refusal)),
         }

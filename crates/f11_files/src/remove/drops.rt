@@ -16,14 +16,11 @@ ghost use Rattle.f11_writes.specs.NameLaws.{AreUnreferenced};
 use crate::answer::refusal_for;
 use crate::structure::Structure;
 use f11_bytes::Block;
-use f11_chain::next;
+use f11_chain::{MOST_HEADERS, next};
 use f11_dev::Device;
 use f11_header::kill;
 use f11_map::in_hand;
 use f11_store::Refusal;
-
-/// How many headers a file has at most (profile).
-const MOST_HEADERS: u16 = 256;
 
 impl Structure {
     /// Marks `count` blocks from LBN `lbn` on free, 256 at most: two bitmap blocks at most are read and written.

@@ -1,4 +1,5 @@
 //! What is found of a volume's directories, one record after another.
+ghost use Rattle.f11_store.specs.File.{most_blocks};
 ghost use Rattle.std.specs.Prelude.{◌≡◌, ◌+◌, ◌<◌, length, slice_index_or, [], IfOk, OnOk};
 ghost use Rattle.f11_dir.specs.Records.{record_of_bytes};
 ghost use Rattle.f11_store.specs.Directory.{record_at};
@@ -105,7 +106,7 @@ impl Later {
         block: &Block,
     ) -> Result<(), NoMemory>
         requires limit { limit_of self.old.entered ≡ length slots.now + 1 }
-        requires few { at < 8323072 }
+        requires few { at < most_blocks }
         ensures { OnOk result (TakesOn slots.now dir.d
             (λ _ blocks. slice_index_or blocks at [] ≡ block.now)
             (until dir.end at) (until dir.end (at + 1)) self.old self.new) }

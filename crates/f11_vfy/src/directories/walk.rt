@@ -1,4 +1,5 @@
 //! A directory, header by header along the links that are kept, and each header's blocks one after another.
+ghost use Rattle.f11_store.specs.File.{most_blocks};
 ghost use Rattle.std.specs.Prelude.{◌≡◌, ◌+◌, ◌-◌, ◌<◌, ◌≤◌, ◌/◌, ◌^◌, length, IfOk, IsErrOf, IsTrue, OnOk};
 ghost use Rattle.std.specs.List.{range_with_len};
 ghost use Rattle.f11_dev.specs.Looked.{Looked};
@@ -13,13 +14,11 @@ use crate::fault::ReadFault;
 use crate::survey::headers::read_slot;
 use crate::survey::slot::Slot;
 use f11_bytes::{BLOCK_SIZE, Block};
+use f11_chain::MOST_HEADERS;
 use f11_dev::Device;
 use f11_index::IndexFile;
 use f11_map::in_hand::map;
 use std::alloc::Global;
-
-/// How many headers a file has at most (profile).
-const MOST_HEADERS: u32 = 256;
 
 impl Later {
     ghost use Rattle.f11_vfy.specs.Surveying.Bits.{limit_of};
@@ -43,7 +42,7 @@ impl Later {
         into: &mut Block,
     ) -> Result<(), ReadFault>
         requires limit { limit_of self.old.entered ≡ length slots.now + 1 }
-        requires few { at < 8323072 }
+        requires few { at < most_blocks }
         requires within { lbn < length (D.disk device.old).image }
         ensures takes { OnOk result (TakesOn slots.now dir.d (HoldsDirectoryBlock (D.disk device.old) lbn at)
             (until dir.end at) (until dir.end (at + 1)) self.old self.new) }
@@ -79,7 +78,7 @@ impl Later {
         into: &mut Block,
     ) -> Result<(), ReadFault>
         requires limit { limit_of self.old.entered ≡ length slots.now + 1 }
-        requires few { at + run.1 ≤ 8323072 }
+        requires few { at + run.1 ≤ most_blocks }
         requires lbn { run.0 < 2 ^ 24 }
         ensures takes { OnOk result (TakesBlocks slots.now dir at (range_with_len run.0 run.1)
             self.old self.new (D.disk device.old) (D.disk device.new)) }
@@ -115,7 +114,7 @@ impl Later {
     ) -> Result<u32, ReadFault>
         requires header { IsTrue (holds_header block.now) }
         requires limit { limit_of self.old.entered ≡ length slots.now + 1 }
-        requires few { at + 32512 ≤ 8323072 }
+        requires few { at + 32512 ≤ most_blocks }
         ensures count { IfOk result (λ count. count ≡ length (blocks_named block.now)) }
         ensures few { IfOk result (λ count. count ≤ 32512) }
         ensures takes { OnOk result (TakesBlocks slots.now dir at (blocks_named block.now)
@@ -155,7 +154,7 @@ impl Later {
     ) -> Result<u32, ReadFault>
         requires within { IndexLiesWithin (index_kept index.now) (length (D.disk device.old).image) }
         requires limit { limit_of self.old.entered ≡ length slots.now + 1 }
-        requires few { at + 32512 ≤ 8323072 }
+        requires few { at + 32512 ≤ most_blocks }
         ensures takes { IfOk result (λ count.
             TakesHeader (index_kept index.now) slots.now dir at n count
             self.old self.new (D.disk device.old) (D.disk device.new)) }

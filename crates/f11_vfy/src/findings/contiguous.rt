@@ -8,12 +8,12 @@ ghost use Rattle.f11_findings.specs.Found.{Finds, FoundAmong};
 ghost use Rattle.f11_vfy.specs.Surveying.Extent.{LieAs};
 ghost use Rattle.f11_volume.specs.Contents.{blocks_reached};
 
-use crate::chains::MOST_HEADERS;
 use crate::findings::reading::Reading;
 use crate::findings::scans::has_bit;
 use crate::survey::extent::Extent;
 use crate::survey::slot::Slot;
 use f11_bytes::NoMemory;
+use f11_chain::MOST_HEADERS;
 use f11_findings::{Finding, Findings};
 
 /// The code of a file that is marked contiguous, and isn't.

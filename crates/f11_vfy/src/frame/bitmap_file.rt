@@ -9,14 +9,11 @@ ghost use Rattle.f11_vfy.specs.Frames.Parts.{needed, KeepsIf, ReadsBitmapFile, F
 
 use crate::fault::ReadFault;
 use f11_bytes::{BLOCK_SIZE, Block, NoMemory};
-use f11_chain::{ChainFault, first, next};
+use f11_chain::{ChainFault, MOST_HEADERS, first, next};
 use f11_dev::Device;
 use f11_index::IndexFile;
 use f11_map::in_hand::map;
 use std::alloc::Global;
-
-/// How many headers a file has at most (profile).
-const MOST_HEADERS: u16 = 256;
 
 /// How many of the first blocks of the storage bitmap file can be needed: the control block, and 126 bitmap blocks.
 const NEEDED: u32 = 127;

@@ -11,15 +11,12 @@ ghost use Rattle.f11_vfy.specs.Frames.Earlier.{Puts, PutsNamed, JudgesEarlier};
 use crate::fault::ReadFault;
 use crate::survey::bits::Bits;
 use f11_bytes::{BLOCK_SIZE, Block};
-use f11_chain::{ChainFault, first, next};
+use f11_chain::{ChainFault, MOST_HEADERS, first, next};
 use f11_dev::{Device, DeviceFault};
 use f11_home::candidate_count;
 use f11_index::IndexFile;
 use f11_map::in_hand::map;
 use std::alloc::Global;
-
-/// How many headers a file has at most (profile).
-const MOST_HEADERS: u16 = 256;
 
 /// The file of which each candidate before the home block is a block, file 3.
 const FILE: u16 = 3;

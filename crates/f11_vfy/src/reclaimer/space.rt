@@ -8,11 +8,8 @@ ghost use Rattle.f11_vfy.specs.Surveying.Bits.{limit_of};
 
 use crate::findings::reading::Reading;
 use crate::survey::bits::Bits;
-use f11_bytes::{Block, set_bit};
+use f11_bytes::{BLOCK_BITS, Block, set_bit};
 use f11_dev::{Device, DeviceFault};
-
-/// How many bits a block of the storage bitmap has.
-const BITS: u32 = 4096;
 
 /// Makes each block of a volume of `size` blocks, which was read, free that no header named or that is in the set, and each other one used. A block
 /// of the storage bitmap is written only where a block whose bit is in it is free otherwise; `last` is the last one that has such a bit, which may
@@ -62,7 +59,7 @@ fn is_to_change(free: &Bits, named: &Bits, unreferenced: &Bits, size: u32, i: u3
     requires unreferenced { size ≤ limit_of unreferenced.now }
     ensures { IsTrue result ↔ IsToChange size free.now named.now unreferenced.now i }
 {
-    for lbn in BITS * i..size.min(BITS * i + BITS) {
+    for lbn in BLOCK_BITS * i..size.min(BLOCK_BITS * i + BLOCK_BITS) {
         if free.contains(lbn) != is_wanted(named, unreferenced, lbn) {
             return true;
         }
@@ -81,10 +78,10 @@ fn wanted_bits(named: &Bits, unreferenced: &Bits, last: &Block, size: u32, i: u3
     ensures past { (k : ℕ) → size ≤ 4096 * i + k → bit result k ≡ bit last.now k }
 {
     let mut block = *last;
-    for lbn in BITS * i..size.min(BITS * i + BITS) {
+    for lbn in BLOCK_BITS * i..size.min(BLOCK_BITS * i + BLOCK_BITS) {
         set_bit(
             &mut block,
-            lbn - BITS * i,
+            lbn - BLOCK_BITS * i,
             is_wanted(named, unreferenced, lbn),
         );
     }

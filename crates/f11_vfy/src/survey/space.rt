@@ -8,12 +8,9 @@ ghost use Rattle.f11_vfy.specs.Surveying.Free.{ReadsFree, has_bit};
 
 use crate::fault::ReadFault;
 use crate::survey::bits::Bits;
-use f11_bytes::{Block, is_set, read_word};
+use f11_bytes::{BLOCK_BITS, Block, is_set, read_word};
 use f11_dev::Device;
 use std::alloc::Global;
-
-/// How many bits a block has.
-const BITS: u32 = 4096;
 
 /// The set of the free blocks of a volume of `size` blocks whose bitmap blocks are at these places, in order: at most 126 places, on
 /// the device, with a bit for each block; one may be there more than once. Each place is read once at most, into `block`, where the last
@@ -42,10 +39,10 @@ pub fn free_blocks<D: Device>(
         → Looked (D.disk device.old) (D.disk device.new) 0 0 }
 {
     let mut free = Bits::new(alloc, size)?;
-    for index in 0..size.div_ceil(BITS) {
+    for index in 0..size.div_ceil(BLOCK_BITS) {
         device.read(places[index as usize], block)?;
-        let count = (size - index * BITS).min(BITS);
-        add_bits(&mut free, index * BITS, block, count);
+        let count = (size - index * BLOCK_BITS).min(BLOCK_BITS);
+        add_bits(&mut free, index * BLOCK_BITS, block, count);
     }
     Ok(free)
 }

@@ -8,31 +8,31 @@ use Rattle.f11_commands.proofs.rt_put.put.Goals as goal
 pub returns-in-Ok-fill : goal.returns-in-Ok-fill
 returns-in-Ok-fill g c =
     let count : c.div_ceil.result ≡ blocks_for c.args.bytes = omega (arith, c.div_ceil.ensures) in
-    let makes = subst (λ n. Makes g.D.Device.disk c.args.name.now n 0 c.args.volume.now c.make.new.volume) count c.in-Ok.ensures.made in
+    let makes = subst (λ n. Makes g.D.Device.disk c.args.name.now n 0 c.args.volume.now c.make_file.new.rt) count c.in-Ok.ensures.made in
     record {
-      puts = stored g.D.Device.disk c.args.name.now c.args.bytes _ c.args.volume.now c.make.new.volume makes c.in-Ok.ensures.went
+      puts = stored g.D.Device.disk c.args.name.now c.args.bytes _ c.args.volume.now c.make_file.new.rt makes c.in-Ok.ensures.went
           _ _ c.fill.new.volume (c.in-Ok.ensures.count ∙ count) c.in-Ok-fill.ensures.filled;
     }
 
 pub returns-in-Err-Volume : goal.returns-in-Err-Volume
 returns-in-Err-Volume g c =
     let count : c.div_ceil.result ≡ blocks_for c.args.bytes = omega (arith, c.div_ceil.ensures) in
-    let makes = subst (λ n. Makes g.D.Device.disk c.args.name.now n 0 c.args.volume.now c.make.new.volume) count c.in-Ok.ensures.made in
+    let makes = subst (λ n. Makes g.D.Device.disk c.args.name.now n 0 c.args.volume.now c.make_file.new.rt) count c.in-Ok.ensures.made in
     record {
       puts = stopped g.D.Device.disk c.args.name.now c.args.bytes (g.R.Read.remaining c.args.host.now) c.args.volume.now
-          c.make.new.volume makes c.in-Ok.ensures.went c.in-Err-Volume.refusal c.fill.new.volume
-          (subst (λ n. StopsFilling g.D.Device.disk n c.in-Err-Volume.refusal c.make.new.volume c.fill.new.volume)
+          c.make_file.new.rt makes c.in-Ok.ensures.went c.in-Err-Volume.refusal c.fill.new.volume
+          (subst (λ n. StopsFilling g.D.Device.disk n c.in-Err-Volume.refusal c.make_file.new.rt c.fill.new.volume)
           (c.in-Ok.ensures.count ∙ count) (rw c.in-Err-Volume.field-0-is at c.in-Err-Volume.ensures.failed));
     }
 
 pub returns-in-Err-Host : goal.returns-in-Err-Host
 returns-in-Err-Host g c =
     let count : c.div_ceil.result ≡ blocks_for c.args.bytes = omega (arith, c.div_ceil.ensures) in
-    let makes = subst (λ n. Makes g.D.Device.disk c.args.name.now n 0 c.args.volume.now c.make.new.volume) count c.in-Ok.ensures.made in
+    let makes = subst (λ n. Makes g.D.Device.disk c.args.name.now n 0 c.args.volume.now c.make_file.new.rt) count c.in-Ok.ensures.made in
     record {
-      puts = undone g.D.Device.disk c.args.name.now c.args.bytes _ c.args.volume.now c.make.new.volume makes c.in-Ok.ensures.went
+      puts = undone g.D.Device.disk c.args.name.now c.args.bytes _ c.args.volume.now c.make_file.new.rt makes c.in-Ok.ensures.went
           c.fill.new.volume c.undo.new.volume
-          (subst (λ n. LacksBytes g.D.Device.disk c.args.name.now n c.make.new.volume c.fill.new.volume)
+          (subst (λ n. LacksBytes g.D.Device.disk c.args.name.now n c.make_file.new.rt c.fill.new.volume)
           (c.in-Ok.ensures.count ∙ count) (rw c.in-Err-Host.field-0-is at c.in-Err-Host.ensures.failed)) _ c.undo.result
           c.undo.ensures.undoes;
     }

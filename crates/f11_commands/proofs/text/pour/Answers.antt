@@ -1,7 +1,7 @@
 use Rattle.std.proofs.Common.{ℕ, take, refl, arith, length-append}
 use Rattle.std.proofs.KnownBytes.{Appends-nil, Appends-trans}
 use Rattle.std.proofs.lemmas.List.{length-take-le, take_rest}
-use Rattle.f11_flx.proofs.TextLemmas.{ending_at-few}
+use Rattle.f11_flx.proofs.Texts.TextLemmas.{ending_at-few}
 use Rattle.f11_commands.proofs.TakingTextLemmas.{giving-bad, giving-ends, giving-more, giving-none}
 use Rattle.f11_commands.proofs.text.pour.Goals as goal
 

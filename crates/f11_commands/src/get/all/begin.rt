@@ -5,7 +5,7 @@ ghost use Rattle.f11_index.specs.Kept.{index_kept, IndexLiesWithin};
 ghost use Rattle.f11_commands.specs.AllCommand.{BeginsAll, BeginsWithEnd, FailsToBeginAll, FailsWithEnd, counts_of, device_of, files_of, has_failed, has_faults, index_of, no_counts, size_of, wide_of};
 ghost use Rattle.f11_commands.specs.AnyVolume.{IsVerified, TellsFault};
 
-use crate::copy::finding::MASTER_DIRECTORY;
+use crate::finding::MASTER_DIRECTORY;
 use crate::get::all::counts::Counts;
 use crate::get::all::state::TakingAll;
 use crate::ls::Served;

@@ -1,5 +1,5 @@
 use Rattle.f11_making.specs.Asking.{who_asks}
-use Rattle.f11_flx.proofs.CopiesLemmas.{blocks-denied, blocks-more, blocks-refused, blocks-start}
+use Rattle.f11_flx.proofs.ToRt.CopiesLemmas.{blocks-denied, blocks-more, blocks-refused, blocks-start}
 use Rattle.f11_flx.proofs.copies.copy_blocks.Goals as goal
 
 pub loop-k-init : goal.loop-k-init

@@ -3,7 +3,7 @@ use Rattle.std.proofs.lemmas.Result.{IfErr-weaker, IfOk-weaker}
 use Rattle.f11_making.specs.Asking.{who_asks}
 use Rattle.f11_flx.specs.Copies.{CopiesText, FailsToCopyText}
 use Rattle.f11_flx.specs.Filling.{FailsToFinish, FinishesBlocks, out_of}
-use Rattle.f11_flx.proofs.CopiesLemmas.{TextSoFar, text-denied, text-fails, text-finishes, text-more, text-start, text-unfinished}
+use Rattle.f11_flx.proofs.ToRt.CopiesLemmas.{TextSoFar, text-denied, text-fails, text-finishes, text-more, text-start, text-unfinished}
 use Rattle.f11_flx.proofs.copies.copy_text.Goals as goal
 
 pub loop-k-init : goal.loop-k-init

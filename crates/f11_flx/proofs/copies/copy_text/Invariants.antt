@@ -1,6 +1,6 @@
 use Rattle.f11_making.specs.Asking.{who_asks}
 use Rattle.f11_flx.specs.Filling.{out_of}
-use Rattle.f11_flx.proofs.CopiesLemmas.{TextSoFar}
+use Rattle.f11_flx.proofs.ToRt.CopiesLemmas.{TextSoFar}
 use Rattle.f11_flx.proofs.copies.copy_text.Given as goal
 
 -- the first k blocks are converted

@@ -1,7 +1,7 @@
 use Rattle.std.proofs.Common.{refl}
-use Rattle.f11_flx.proofs.CopiedLemmas.{copied}
-use Rattle.f11_flx.proofs.RefusedLemmas.{refused}
-use Rattle.f11_flx.proofs.RtOutcomeLemmas.{file-leaves}
+use Rattle.f11_flx.proofs.ToRt.CopiedLemmas.{copied}
+use Rattle.f11_flx.proofs.ToRt.RefusedLemmas.{refused}
+use Rattle.f11_flx.proofs.ToRt.RtOutcomeLemmas.{file-leaves}
 use Rattle.f11_flx.proofs.copy_laws.copies.Goals as goal
 
 pub returns-clause-copied : goal.returns-clause-copied

@@ -1,4 +1,4 @@
-use Rattle.f11_flx.proofs.ReadingLemmas.{access_alone_is_refused, reading_is_of_file, refused_source_stays, source_stays}
+use Rattle.f11_flx.proofs.ToRt.ReadingLemmas.{access_alone_is_refused, reading_is_of_file, refused_source_stays, source_stays}
 use Rattle.f11_flx.proofs.copy_laws.reading.Goals as goal
 
 pub returns-clause-file : goal.returns-clause-file

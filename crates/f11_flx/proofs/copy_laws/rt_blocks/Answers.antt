@@ -1,7 +1,7 @@
 use Rattle.rt11_volume.specs.Calls.{volume_device}
 use Rattle.rt11_volume.proofs.Verifying.Sound.{sound_from}
 use Rattle.f11_flx.specs.Target.{rt_disk}
-use Rattle.f11_flx.proofs.RtBlockLemmas.{contents-whole}
+use Rattle.f11_flx.proofs.RtFiles.RtBlockLemmas.{contents-whole}
 use Rattle.f11_flx.proofs.copy_laws.rt_blocks.Goals as goal
 
 pub returns : goal.returns

@@ -1,8 +1,8 @@
 use Rattle.f11_making.specs.Asking.{Who, who_asks}
 use Rattle.f11_making.specs.Volume.{of_volume}
-use Rattle.f11_flx.proofs.EndedLemmas.{copy-ends}
-use Rattle.f11_flx.proofs.FromVolumeLemmas.{copy-made, copy-not-made, file-made, file-not-made, source-read, source-refused}
-use Rattle.f11_flx.proofs.SpentLemmas.{spent-made, spent-unmade}
+use Rattle.f11_flx.proofs.FromRt.EndedLemmas.{copy-ends}
+use Rattle.f11_flx.proofs.FromRt.FromVolumeLemmas.{copy-made, copy-not-made, file-made, file-not-made, source-read, source-refused}
+use Rattle.f11_flx.proofs.FromRt.SpentLemmas.{spent-made, spent-unmade}
 use Rattle.f11_flx.proofs.from_rt.copy_from_rt.Goals as goal
 
 pub returns-in-Ok-clause-source : goal.returns-in-Ok-clause-source

@@ -1,6 +1,6 @@
 use Rattle.f11_making.specs.Asking.{who_asks}
-use Rattle.f11_flx.proofs.CopyingLemmas.{copies, ends, refuses, refuses-failed, target}
-use Rattle.f11_flx.proofs.RanLemmas.{files-told}
+use Rattle.f11_flx.proofs.ToRt.CopyingLemmas.{copies, ends, refuses, refuses-failed, target}
+use Rattle.f11_flx.proofs.Made.RanLemmas.{files-told}
 use Rattle.f11_flx.proofs.into_rt.copy_to_rt.Goals as goal
 
 pub returns-clause-files : goal.returns-clause-files

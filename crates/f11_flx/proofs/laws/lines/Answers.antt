@@ -1,4 +1,4 @@
-use Rattle.f11_flx.proofs.LineLemmas.{lines_of-line, lines_of-last}
+use Rattle.f11_flx.proofs.Texts.LineLemmas.{lines_of-line, lines_of-last}
 use Rattle.f11_flx.proofs.laws.lines.Goals as goal
 
 pub returns : goal.returns

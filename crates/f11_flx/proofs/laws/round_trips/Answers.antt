@@ -1,5 +1,5 @@
-use Rattle.f11_flx.proofs.LineLemmas.{lines_come_back}
-use Rattle.f11_flx.proofs.RecordLemmas.{records_come_back}
+use Rattle.f11_flx.proofs.Texts.LineLemmas.{lines_come_back}
+use Rattle.f11_flx.proofs.Texts.RecordLemmas.{records_come_back}
 use Rattle.f11_flx.proofs.laws.round_trips.Goals as goal
 
 pub returns : goal.returns

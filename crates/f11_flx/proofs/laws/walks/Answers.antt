@@ -1,4 +1,4 @@
-use Rattle.f11_flx.proofs.WalkLemmas.{start_has_all, taken_is_first, refused_is_bad, end_has_none}
+use Rattle.f11_flx.proofs.Texts.WalkLemmas.{start_has_all, taken_is_first, refused_is_bad, end_has_none}
 use Rattle.f11_flx.proofs.laws.walks.Goals as goal
 
 pub returns : goal.returns

@@ -1,7 +1,7 @@
 use Rattle.std.proofs.Common.{refl}
 use Rattle.f11_making.specs.Asking.{Who, who_asks}
 use Rattle.f11_flx.specs.Filling.{out_of}
-use Rattle.f11_flx.proofs.PassLemmas.{end-fails, end-few, ends-lines, stops-at-last}
+use Rattle.f11_flx.proofs.FromRt.PassLemmas.{end-fails, end-few, ends-lines, stops-at-last}
 use Rattle.f11_flx.proofs.lines.end_lines.Goals as goal
 
 pub returns-in-Err-write_lines-clause-fails : goal.returns-in-Err-write_lines-clause-fails

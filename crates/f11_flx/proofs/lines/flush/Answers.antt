@@ -1,7 +1,7 @@
 use Rattle.std.proofs.Common.{arith, refl}
 use Rattle.f11_making.specs.Asking.{Who, who_asks}
 use Rattle.f11_flx.specs.Filling.{Out, out_of}
-use Rattle.f11_flx.proofs.PassLemmas.{flush-last}
+use Rattle.f11_flx.proofs.FromRt.PassLemmas.{flush-last}
 use Rattle.f11_flx.proofs.lines.flush.Goals as goal
 
 pub returns-in-Ok-clause-flushes : goal.returns-in-Ok-clause-flushes

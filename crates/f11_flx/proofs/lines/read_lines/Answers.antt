@@ -1,7 +1,7 @@
 use Rattle.std.proofs.Common.{arith}
 use Rattle.f11_making.specs.Asking.{Who, who_asks}
 use Rattle.f11_flx.specs.Filling.{out_of}
-use Rattle.f11_flx.proofs.PassLemmas.{lines-fail, lines-few, lines-more, lines-none, lines-unread}
+use Rattle.f11_flx.proofs.FromRt.PassLemmas.{lines-fail, lines-few, lines-more, lines-none, lines-unread}
 use Rattle.f11_flx.proofs.lines.read_lines.Goals as goal
 
 pub loop-place-init : goal.loop-place-init

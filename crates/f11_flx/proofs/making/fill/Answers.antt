@@ -1,7 +1,7 @@
 use Rattle.std.proofs.Common.{inl, refl}
 use Rattle.f11_store.specs.declared.requests.Request.TheVariants as request
 use Rattle.f11_making.specs.Asking.{Who, who_asks}
-use Rattle.f11_flx.proofs.MakingLemmas.{fills, not-copied, not-extended, not-given}
+use Rattle.f11_flx.proofs.FromRt.MakingLemmas.{fills, not-copied, not-extended, not-given}
 use Rattle.f11_making.proofs.AskingLemmas.{granted-told}
 use Rattle.f11_flx.proofs.making.fill.Goals as goal
 

@@ -1,4 +1,4 @@
-use Rattle.f11_flx.proofs.MadeLemmas.{copied-holds, granted-is-made}
+use Rattle.f11_flx.proofs.FromRt.MadeLemmas.{copied-holds, granted-is-made}
 use Rattle.f11_flx.proofs.making_laws.making.Goals as goal
 
 pub returns : goal.returns

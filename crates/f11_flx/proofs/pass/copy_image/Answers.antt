@@ -1,7 +1,7 @@
 use Rattle.std.proofs.Common.{arith, subst, ap, ◌≡◌, ◌+◌}
 use Rattle.f11_making.specs.Asking.{Who, who_asks}
 use Rattle.f11_flx.specs.Passes.{CopiesImage}
-use Rattle.f11_flx.proofs.PassedLemmas.{image-copies, image-more, image-refused, image-stops}
+use Rattle.f11_flx.proofs.FromRt.PassedLemmas.{image-copies, image-more, image-refused, image-stops}
 use Rattle.f11_flx.proofs.pass.copy_image.Goals as goal
 
 pub returns-in-Err-clause-fails : goal.returns-in-Err-clause-fails

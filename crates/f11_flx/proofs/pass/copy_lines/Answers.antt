@@ -2,7 +2,7 @@ use Rattle.std.proofs.Common.{arith}
 use Rattle.f11_making.specs.Asking.{Who, who_asks}
 use Rattle.f11_flx.specs.Filling.{out_of}
 use Rattle.f11_flx.specs.Passes.{BeginsLines}
-use Rattle.f11_flx.proofs.PassedLemmas.{text-copies, text-end-fails, text-fails, text-few}
+use Rattle.f11_flx.proofs.FromRt.PassedLemmas.{text-copies, text-end-fails, text-fails, text-few}
 use Rattle.f11_flx.proofs.pass.copy_lines.Goals as goal
 
 pub returns-in-Err-clause-fails : goal.returns-in-Err-clause-fails

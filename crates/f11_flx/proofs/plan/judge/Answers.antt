@@ -2,7 +2,7 @@ use Rattle.std.proofs.Common.{◌≡◌, subst, sym, ap, ◌∙◌}
 use Rattle.f11_making.specs.Asking.{who_asks}
 use Rattle.f11_flx.specs.Planning.{FailsToPlan, Plans}
 use Rattle.f11_flx.specs.Spelled.{image_attributes}
-use Rattle.f11_flx.proofs.PlanLemmas.{image-plan, text-plan, text-unplanned}
+use Rattle.f11_flx.proofs.FromRt.PlanLemmas.{image-plan, text-plan, text-unplanned}
 use Rattle.f11_flx.proofs.plan.judge.Goals as goal
 
 pub returns-in-Image-clause-plans : goal.returns-in-Image-clause-plans

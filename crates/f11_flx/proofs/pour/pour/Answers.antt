@@ -1,7 +1,7 @@
 use Rattle.std.proofs.Common.{◌≡◌, length, arith, refl}
 use Rattle.std.proofs.lemmas.List.{take_rest}
 use Rattle.f11_flx.specs.Filling.{Out, out_of}
-use Rattle.f11_flx.proofs.PourLemmas.{pouring-ends-at, pouring-few, pouring-gave, pouring-read, pouring-refused}
+use Rattle.f11_flx.proofs.Texts.PourLemmas.{pouring-ends-at, pouring-few, pouring-gave, pouring-read, pouring-refused}
 use Rattle.f11_flx.proofs.pour.pour.Goals as goal
 
 pub returns-then-out-lt-BLOCK_SIZE-clause-pours : goal.returns-then-out-lt-BLOCK_SIZE-clause-pours

@@ -1,4 +1,4 @@
-use Rattle.f11_flx.proofs.RtSourceLemmas.{finds-file, finds-no-file}
+use Rattle.f11_flx.proofs.RtFiles.RtSourceLemmas.{finds-file, finds-no-file}
 use Rattle.f11_flx.proofs.rt_source.find.Goals as goal
 
 pub returns-in-Ok-clause-found : goal.returns-in-Ok-clause-found

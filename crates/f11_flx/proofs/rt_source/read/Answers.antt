@@ -1,4 +1,4 @@
-use Rattle.f11_flx.proofs.RtSourceLemmas.{fails-to-read-place, reads-place}
+use Rattle.f11_flx.proofs.RtFiles.RtSourceLemmas.{fails-to-read-place, reads-place}
 use Rattle.f11_flx.proofs.rt_source.read.Goals as goal
 
 pub returns-clause-read : goal.returns-clause-read

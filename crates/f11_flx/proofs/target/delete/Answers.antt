@@ -1,4 +1,4 @@
-use Rattle.f11_flx.proofs.TargetLemmas.{deletes, fails-deleting}
+use Rattle.f11_flx.proofs.RtFiles.TargetLemmas.{deletes, fails-deleting}
 use Rattle.f11_flx.proofs.target.delete.Goals as goal
 
 pub returns-clause-deleted : goal.returns-clause-deleted

@@ -1,4 +1,4 @@
-use Rattle.f11_flx.proofs.TargetLemmas.{fails-putting, puts}
+use Rattle.f11_flx.proofs.RtFiles.TargetLemmas.{fails-putting, puts}
 use Rattle.f11_flx.proofs.target.put.Goals as goal
 
 pub returns-clause-put : goal.returns-clause-put

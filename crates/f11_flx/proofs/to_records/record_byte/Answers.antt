@@ -1,7 +1,7 @@
 use Rattle.std.proofs.Common.{◌≡◌, ◌-◌, suc, sym, ap, ◌∙◌, arith}
 use Rattle.std.specs.Prelude.{slice_index}
 use Rattle.f11_flx.specs.Spelled.{variable_record}
-use Rattle.f11_flx.proofs.GiveLemmas.{record-own, record-pad, record-low, record-high}
+use Rattle.f11_flx.proofs.Texts.GiveLemmas.{record-own, record-pad, record-low, record-high}
 use Rattle.f11_flx.proofs.to_records.record_byte.Goals as goal
 
 pub returns-in-0 : goal.returns-in-0

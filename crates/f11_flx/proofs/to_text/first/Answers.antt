@@ -3,7 +3,7 @@ use Rattle.f11_flx.specs.Place.{ReadsByte, RefusesByte}
 use Rattle.f11_flx.specs.Records.{some_of}
 use Rattle.f11_flx.specs.declared.layout.Layout.{Layout}
 use Rattle.f11_flx.specs.declared.place.Place.TheVariants as place
-use Rattle.f11_flx.proofs.TextLemmas.{reads-fixed, reads-low, refuses-fixed, refuses-low}
+use Rattle.f11_flx.proofs.Texts.TextLemmas.{reads-fixed, reads-low, refuses-fixed, refuses-low}
 use Rattle.f11_flx.proofs.to_text.first.Goals as goal
 
 pub returns-then-from-rest-clause-bad : goal.returns-then-from-rest-clause-bad

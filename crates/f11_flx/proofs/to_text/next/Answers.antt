@@ -2,7 +2,7 @@ use Rattle.std.proofs.Common.{◌-◌, ap, sym, ◌∙◌, Some, subst, arith}
 use Rattle.f11_flx.specs.Place.{is_ending, wanted_at, ReadsByte}
 use Rattle.f11_flx.specs.declared.place.Place.{Place}
 use Rattle.f11_flx.specs.declared.place.Place.TheVariants as place
-use Rattle.f11_flx.proofs.TextLemmas.{reads-within}
+use Rattle.f11_flx.proofs.Texts.TextLemmas.{reads-within}
 use Rattle.f11_flx.proofs.to_text.next.Goals as goal
 
 pub returns-in-Within-clause-reads : goal.returns-in-Within-clause-reads

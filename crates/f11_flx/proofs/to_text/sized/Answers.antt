@@ -1,5 +1,5 @@
 use Rattle.std.proofs.Common.{arith}
-use Rattle.f11_flx.proofs.TextLemmas.{reads-high, refuses-high}
+use Rattle.f11_flx.proofs.Texts.TextLemmas.{reads-high, refuses-high}
 use Rattle.f11_flx.proofs.to_text.sized.Goals as goal
 
 pub returns-then-from-rest-clause-bad : goal.returns-then-from-rest-clause-bad

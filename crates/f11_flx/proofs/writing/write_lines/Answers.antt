@@ -2,8 +2,8 @@ use Rattle.std.proofs.Common.{◌≡◌, drop, arith, refl}
 use Rattle.std.proofs.lemmas.List.{take_rest}
 use Rattle.f11_making.specs.Asking.{Who, who_asks}
 use Rattle.f11_flx.specs.Filling.{Out, out_of}
-use Rattle.f11_flx.proofs.WritingLemmas.{fewer-to-come, within-more, writes-ends-at, writes-few-blocks, writes-gave, writes-read}
-use Rattle.f11_flx.proofs.WritingLemmas.{writes-refused}
+use Rattle.f11_flx.proofs.Texts.WritingLemmas.{fewer-to-come, within-more, writes-ends-at, writes-few-blocks, writes-gave, writes-read}
+use Rattle.f11_flx.proofs.Texts.WritingLemmas.{writes-refused}
 use Rattle.f11_flx.proofs.writing.write_lines.Goals as goal
 
 pub returns-then-out-lt-BLOCK_SIZE-clause-writes : goal.returns-then-out-lt-BLOCK_SIZE-clause-writes

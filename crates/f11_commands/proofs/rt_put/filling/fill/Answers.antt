@@ -1,7 +1,8 @@
 use Rattle.std.proofs.Common.{◌≡◌, ◌<◌, Ok, Err, [], subst, arith}
-use Rattle.f11_flx.proofs.TargetLemmas.{fails-putting, puts}
+use Rattle.f11_flx.proofs.RtFiles.TargetLemmas.{fails-putting, puts}
 use Rattle.f11_host.specs.Pieces.{blocks_for}
-use Rattle.f11_commands.proofs.RtFillLemmas.{filled-more, filled-none, fills, lacks-bytes, stops-filling, transfers}
+use Rattle.f11_flx.proofs.RtFiles.TargetLemmas.{transfers}
+use Rattle.f11_commands.proofs.RtFillLemmas.{filled-more, filled-none, fills, lacks-bytes, stops-filling}
 use Rattle.f11_commands.proofs.rt_put.filling.fill.Goals as goal
 
 pub loop-place-init : goal.loop-place-init

@@ -1,7 +1,7 @@
 use Rattle.std.proofs.Common.{◌∙◌, Ok, Err, inl, inr, refl, sym, ap, if◌then◌else◌}
-use Rattle.f11_flx.proofs.TargetLemmas.{deletes, fails-deleting}
+use Rattle.f11_flx.proofs.RtFiles.TargetLemmas.{deletes, fails-deleting}
 use Rattle.f11_commands.specs.declared.rt_file.Stop.TheVariants.{Volume, Host}
-use Rattle.f11_commands.proofs.RtFillLemmas.{transfers}
+use Rattle.f11_flx.proofs.RtFiles.TargetLemmas.{transfers}
 use Rattle.f11_commands.proofs.rt_put.filling.undo.Goals as goal
 
 pub returns-in-Ok : goal.returns-in-Ok

@@ -11,8 +11,9 @@ use Rattle.f11_fcp.specs.Places.{access_table_of, entry_of}
 use Rattle.f11_fcp.proofs.ByWindowLemmas.{keeps-given}
 use Rattle.f11_fcp.proofs.RowLemmas.{deleted-leaves}
 use Rattle.f11_fcp.proofs.WindowLemmas.{windows-with, windows-without}
-use Rattle.f11_fcp.proofs.AccessedLemmas.{mark-held, there-held}
+use Rattle.f11_fcp.proofs.AccessedLemmas.{mark-held}
 use Rattle.f11_fcp.proofs.DeaccessLemmas.{deaccess-plain, deaccess-deletes, deaccess-fails, deleted-kept, deletion-fatal, given-kept}
+use Rattle.f11_fcp.proofs.OpenLemmas.{there-open}
 use Rattle.f11_fcp.proofs.table.Accesses.give_up.Goals as goal
 
 pub returns-then-not-held-clause-handles : goal.returns-then-not-held-clause-handles
@@ -68,8 +69,7 @@ returns-in-Ok-clause-open g c = λ _. record {
       (λ honest. sym H.writes.went.honest ∙ honest) H.home
       (λ honest. given-kept c.args.task c.args.lun c.args.caller (state_of t c.args.files.now) (access_table_of c.set.new.self)
       (store_in c.args.files.now) refl c.set.ensures.value (c.requires.open.kept honest))
-      (λ honest. there-held t (store_in c.args.files.now) c.args.task c.args.lun (entry_of c.args.held) (c.requires.open.kept honest)
-      c.set.ensures.within.0 c.set.ensures.within.1 c.requires.held)
+      (there-open c.args.task c.args.lun (entry_of c.args.held) c.requires.open c.set.ensures.within c.requires.held)
       (deleted-leaves c.args.files.now c.delete.new.self (g.met.D.Device.is_image c.args.files.now.device)
       (g.met.D.Device.is_image c.delete.new.self.device) c.in-Ok.ensures.answers.home c.args.held.file c.in-Ok.ensures.deleted)
       (sym c.is_accessed.ensures ∙ c.if-is_accessed.false)
@@ -97,12 +97,12 @@ returns-in-Err-clause-handles g c =
     (not-false _ c.if-not-held.false)
     (sym c.if-is_accessed.false ∙ c.is_accessed.ensures ∙ ap (λ (t : AccessTable). is_held_in any_mode t c.args.held.file)
     c.set.ensures.value)
-    (state_of (access_table_of c.set.new.self) c.delete.new.self) c.in-Err.refusal c.of_accessed.result c.requires.open.alive
-    c.in-Err.ensures.refused c.in-Err.ensures.answers.home c.of_accessed.ensures
+    (state_of (access_table_of c.set.new.self) c.delete.new.self) c.in-Err.refusal c.of_known.result c.requires.open.alive
+    c.in-Err.ensures.refused c.in-Err.ensures.answers.home c.of_known.ensures
 
 pub returns-in-Err-clause-fatal : goal.returns-in-Err-clause-fatal
 returns-in-Err-clause-fatal g c =
-    subst (λ (e : Refusal). is_fatal e ≡ true) (sym c.of_accessed.ensures)
+    subst (λ (e : Refusal). is_fatal e ≡ true) (sym c.of_known.ensures)
     (deletion-fatal (home_in c.args.files.now) c.args.held.file (disk_in c.args.files.now) (disk_in c.delete.new.self) c.in-Err.refusal
     c.requires.open.alive c.in-Err.ensures.refused)
 

@@ -1,10 +1,10 @@
 use Rattle.std.proofs.Common.{◌∙◌, ◌||◌, false, ap, sym, refl}
 use Rattle.f11_files.specs.Answers.{is_fatal}
-use Rattle.f11_files.specs.Open.{store_in}
 use Rattle.f11_fcp.specs.Handles.{state_of}
 use Rattle.f11_fcp.specs.Places.{access_table_of, entry_of}
-use Rattle.f11_fcp.proofs.AccessedLemmas.{of-accessed-clean, there-held}
+use Rattle.f11_fcp.proofs.KnownLemmas.{known-clean}
 use Rattle.f11_fcp.proofs.LengthLemmas.{measure-none, measured, measured-open, not-measured}
+use Rattle.f11_fcp.proofs.OpenLemmas.{there-open}
 use Rattle.f11_fcp.proofs.table.Accesses.length.Goals as goal
 
 pub returns-in-None-clause-measures : goal.returns-in-None-clause-measures
@@ -15,8 +15,7 @@ pub returns-in-Ok-clause-measures : goal.returns-in-Ok-clause-measures
 returns-in-Ok-clause-measures g c =
     let t = access_table_of c.args.self.now in
     measured c.args.task c.args.lun (state_of t c.args.files.now) (entry_of c.in-Some.held) (sym c.in-Some.ensures.value)
-    (λ honest. there-held t (store_in c.args.files.now) c.args.task c.args.lun (entry_of c.in-Some.held) (c.requires.open.kept honest)
-    c.in-Some.ensures.within.0 c.in-Some.ensures.within.1 (sym c.in-Some.ensures.value))
+    (there-open c.args.task c.args.lun (entry_of c.in-Some.held) c.requires.open c.in-Some.ensures.within (sym c.in-Some.ensures.value))
     c.in-Ok.blocks (state_of t c.length.new.self) c.in-Ok.ensures.counts c.in-Ok.ensures.answers.home refl c.in-Ok.ensures.told.counts
 
 pub returns-in-Ok-clause-open : goal.returns-in-Ok-clause-open
@@ -29,14 +28,13 @@ pub returns-in-Err-clause-measures : goal.returns-in-Err-clause-measures
 returns-in-Err-clause-measures g c =
     let t = access_table_of c.args.self.now in
     not-measured c.args.task c.args.lun (state_of t c.args.files.now) (entry_of c.in-Some.held) (sym c.in-Some.ensures.value)
-    (λ honest. there-held t (store_in c.args.files.now) c.args.task c.args.lun (entry_of c.in-Some.held) (c.requires.open.kept honest)
-    c.in-Some.ensures.within.0 c.in-Some.ensures.within.1 (sym c.in-Some.ensures.value))
-    c.in-Err.refusal c.of_accessed.result (state_of t c.length.new.self) c.requires.open.alive c.in-Err.ensures.refused
-    c.in-Err.ensures.answers.home refl c.in-Err.ensures.told.counts c.of_accessed.ensures
+    (there-open c.args.task c.args.lun (entry_of c.in-Some.held) c.requires.open c.in-Some.ensures.within (sym c.in-Some.ensures.value))
+    c.in-Err.refusal c.of_known.result (state_of t c.length.new.self) c.requires.open.alive c.in-Err.ensures.refused
+    c.in-Err.ensures.answers.home refl c.in-Err.ensures.told.counts c.of_known.ensures
 
 pub returns-in-Err-clause-open : goal.returns-in-Err-clause-open
 returns-in-Err-clause-open g c clean =
     measured-open (access_table_of c.args.self.now) c.args.files.now c.length.new.self c.requires.open c.in-Err.ensures.refused.reads
     c.in-Err.ensures.answers.home
     (c.in-Err.ensures.answers.next ∙ ap (λ b. b || is_fatal c.in-Err.refusal) c.requires.open.alive
-    ∙ of-accessed-clean c.in-Err.refusal (ap is_fatal (sym c.of_accessed.ensures) ∙ clean))
+    ∙ known-clean c.in-Err.refusal (ap is_fatal (sym c.of_known.ensures) ∙ clean))

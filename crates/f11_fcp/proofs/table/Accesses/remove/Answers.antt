@@ -2,9 +2,7 @@ use Rattle.std.proofs.Common.{[], refl, sym, ◌∙◌}
 use Rattle.f11_files.proofs.writes.LostLemmas.{lost-then}
 use Rattle.f11_fcp.specs.Handles.{state_of}
 use Rattle.f11_fcp.specs.Places.{access_table_of}
-use Rattle.f11_fcp.proofs.WindowLemmas.{windows-on}
-use Rattle.f11_fcp.proofs.RowLemmas.{leaves-behind}
-use Rattle.f11_fcp.proofs.OpenLemmas.{stays-open}
+use Rattle.f11_fcp.proofs.OpenLemmas.{served-open, stays-open}
 use Rattle.f11_fcp.proofs.RemoveLemmas.{remove-bad, remove-refused, remove-absent, remove-holds, removed, not-removed}
 use Rattle.f11_fcp.proofs.table.Accesses.remove.Goals as goal
 
@@ -54,12 +52,9 @@ returns-in-Ok-clear_entry-clause-handles g c =
 
 pub returns-in-Ok-clear_entry-clause-open : goal.returns-in-Ok-clear_entry-clause-open
 returns-in-Ok-clear_entry-clause-open g c =
-    stays-open (access_table_of c.args.self.now) c.args.files.now c.clear_entry.new.files c.args.task c.args.caller _ _ [] []
-    c.requires.open (λ _. tt) (returns-in-Ok-clear_entry-clause-handles g c) (λ _. c.in-Ok-clear_entry.ensures.alive)
-    (windows-on (access_table_of c.args.self.now) c.args.files.now c.clear_entry.new.files c.requires.open
-    (returns-in-Ok-clear_entry-clause-handles g c).writes (returns-in-Ok-clear_entry-clause-handles g c).home
-    (leaves-behind c.args.files.now c.search.new.files c.clear_entry.new.files c.search.ensures.home
-    c.in-Ok.ensures.searched.reads.looked.honest c.in-Ok.ensures.searched.reads.looked.image c.in-Ok-clear_entry.ensures.rows))
+    served-open (access_table_of c.args.self.now) c.args.files.now c.search.new.files c.clear_entry.new.files c.args.task c.args.caller _ _
+    c.requires.open (λ _. tt) (returns-in-Ok-clear_entry-clause-handles g c) c.in-Ok.ensures.searched.reads c.search.ensures.home
+    c.in-Ok-clear_entry.ensures.alive c.in-Ok-clear_entry.ensures.rows
 
 pub returns-in-Err-clear_entry-clause-handles : goal.returns-in-Err-clear_entry-clause-handles
 returns-in-Err-clear_entry-clause-handles g c =

@@ -7,8 +7,8 @@ use Rattle.f11_fcp.specs.Accesses.{HasAccessed, AccessTable, accesses}
 use Rattle.f11_fcp.specs.Windows.{HasWindows}
 use Rattle.f11_fcp.proofs.RowLemmas.{cut-leaves}
 use Rattle.f11_fcp.proofs.WindowLemmas.{accesses-emptied, handled-on, kept-emptied, windows-cut}
-use Rattle.f11_fcp.proofs.OpenLemmas.{stays-open, kept-after}
-use Rattle.f11_fcp.proofs.AccessedLemmas.{of-accessed-clean, there-held}
+use Rattle.f11_fcp.proofs.OpenLemmas.{there-open, stays-open, kept-after}
+use Rattle.f11_fcp.proofs.AccessedLemmas.{of-accessed-clean}
 use Rattle.f11_fcp.proofs.TruncateLemmas.{truncate-none, cut, not-cut}
 use Rattle.f11_fcp.proofs.table.Accesses.truncate.Goals as goal
 
@@ -22,18 +22,14 @@ returns-in-Ok-clause-handles g c =
     (ap (λ (u : AccessTable). accesses u) c.empty_windows.ensures ∙ accesses-emptied c.in-Some.held.file t)
     (cut c.args.task c.args.lun c.args.caller (state_of t c.args.files.now) (entry_of c.in-Some.held) c.in-Some.ensures.some.0
     c.in-Some.ensures.some.1 c.args.to
-    (λ honest. there-held t (store_in c.args.files.now) c.args.task c.args.lun (entry_of c.in-Some.held) (c.requires.open.kept honest)
-    c.in-Some.ensures.within.0 c.in-Some.ensures.within.1 c.in-Some.ensures.some.0) c.in-Ok.length (state_of t c.truncate.new.self)
-    c.in-Ok.ensures.cut.0 c.in-Ok.ensures.cut.1 c.in-Ok.ensures.answers.home refl)
+    (there-open c.args.task c.args.lun (entry_of c.in-Some.held) c.requires.open c.in-Some.ensures.within c.in-Some.ensures.some.0)
+    c.in-Ok.length (state_of t c.truncate.new.self) c.in-Ok.ensures.cut.0 c.in-Ok.ensures.cut.1 c.in-Ok.ensures.answers.home refl)
 
 pub returns-in-Ok-clause-open : goal.returns-in-Ok-clause-open
 returns-in-Ok-clause-open g c = λ clean.
     let t = access_table_of c.args.self.now in
-    let H = cut c.args.task c.args.lun c.args.caller (state_of t c.args.files.now) (entry_of c.in-Some.held) c.in-Some.ensures.some.0
-    c.in-Some.ensures.some.1 c.args.to
-    (λ honest. there-held t (store_in c.args.files.now) c.args.task c.args.lun (entry_of c.in-Some.held) (c.requires.open.kept honest)
-    c.in-Some.ensures.within.0 c.in-Some.ensures.within.1 c.in-Some.ensures.some.0) c.in-Ok.length (state_of t c.truncate.new.self)
-    c.in-Ok.ensures.cut.0 c.in-Ok.ensures.cut.1 c.in-Ok.ensures.answers.home refl in
+    let H = handled-on t (sym (ap (λ (u : AccessTable). accesses u) c.empty_windows.ensures ∙ accesses-emptied c.in-Some.held.file t))
+    (returns-in-Ok-clause-handles g c) in
     record {
       alive = c.in-Ok.ensures.answers.next ∙ ap (λ b. b || false) c.requires.open.alive;
       kept = λ honest.
@@ -45,8 +41,7 @@ returns-in-Ok-clause-open g c = λ clean.
           subst (λ (u : AccessTable). HasWindows u c.truncate.new.self) (sym c.empty_windows.ensures)
           (windows-cut t c.args.files.now c.truncate.new.self c.in-Some.held.file H.writes.went.size
           (λ honest. sym H.writes.went.honest ∙ honest) H.home c.requires.open.kept
-          (λ honest. there-held t (store_in c.args.files.now) c.args.task c.args.lun (entry_of c.in-Some.held)
-          (c.requires.open.kept honest) c.in-Some.ensures.within.0 c.in-Some.ensures.within.1 c.in-Some.ensures.some.0)
+          (there-open c.args.task c.args.lun (entry_of c.in-Some.held) c.requires.open c.in-Some.ensures.within c.in-Some.ensures.some.0)
           (cut-leaves c.args.files.now c.truncate.new.self (g.met.D.Device.is_image c.args.files.now.device)
           (g.met.D.Device.is_image c.truncate.new.self.device) c.in-Ok.ensures.answers.home c.in-Some.held.file c.args.to
           c.in-Ok.ensures.cut.1) c.requires.open.windows);
@@ -57,8 +52,8 @@ returns-in-Err-clause-handles g c =
     let t = access_table_of c.args.self.now in
     not-cut c.args.task c.args.lun c.args.caller (state_of t c.args.files.now) (entry_of c.in-Some.held) c.in-Some.ensures.some.0
     c.in-Some.ensures.some.1 c.args.to
-    (λ honest. there-held t (store_in c.args.files.now) c.args.task c.args.lun (entry_of c.in-Some.held) (c.requires.open.kept honest)
-    c.in-Some.ensures.within.0 c.in-Some.ensures.within.1 c.in-Some.ensures.some.0) (state_of t c.truncate.new.self) c.in-Err.refusal
+    (there-open c.args.task c.args.lun (entry_of c.in-Some.held) c.requires.open c.in-Some.ensures.within c.in-Some.ensures.some.0)
+    (state_of t c.truncate.new.self) c.in-Err.refusal
     c.of_accessed.result c.requires.open.alive c.in-Err.ensures.refused c.in-Err.ensures.answers.home refl
     c.in-Err.ensures.answers.counts c.of_accessed.ensures
 

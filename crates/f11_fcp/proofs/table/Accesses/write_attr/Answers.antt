@@ -3,9 +3,8 @@ use Rattle.f11_files.specs.Answers.{is_fatal}
 use Rattle.f11_files.proofs.writes.LostLemmas.{lost-then}
 use Rattle.f11_fcp.specs.Handles.{state_of}
 use Rattle.f11_fcp.specs.Places.{access_table_of}
-use Rattle.f11_fcp.proofs.WindowLemmas.{windows-on}
-use Rattle.f11_fcp.proofs.RowLemmas.{replaced-leaves, leaves-behind}
-use Rattle.f11_fcp.proofs.OpenLemmas.{stays-open}
+use Rattle.f11_fcp.proofs.RowLemmas.{replaced-leaves}
+use Rattle.f11_fcp.proofs.OpenLemmas.{served-open, stays-open}
 use Rattle.f11_fcp.proofs.AttributeLemmas.{change-bad, change-system, change-unread, change-marked, change-unprivileged, changed}
 use Rattle.f11_fcp.proofs.AttributeLemmas.{not-changed}
 use Rattle.f11_fcp.proofs.table.Accesses.write_attr.Goals as goal
@@ -73,17 +72,13 @@ returns-in-Ok-write_attr-clause-handles g c =
 
 pub returns-in-Ok-write_attr-clause-open : goal.returns-in-Ok-write_attr-clause-open
 returns-in-Ok-write_attr-clause-open g c =
-    stays-open (access_table_of c.args.self.now) c.args.files.now c.write_attr.new.self c.args.task c.args.caller _ _ [] [] c.requires.open
-    (λ _. tt) (returns-in-Ok-write_attr-clause-handles g c)
-    (λ _. c.in-Ok-write_attr.ensures.answers.next
+    served-open (access_table_of c.args.self.now) c.args.files.now c.read_attr.new.self c.write_attr.new.self c.args.task c.args.caller _ _
+    c.requires.open (λ _. tt) (returns-in-Ok-write_attr-clause-handles g c) c.in-Ok.ensures.read.reads c.in-Ok.ensures.answers.home
+    (c.in-Ok-write_attr.ensures.answers.next
     ∙ ap (λ b. b || false) (c.in-Ok.ensures.answers.next ∙ ap (λ b. b || false) c.requires.open.alive))
-    (windows-on (access_table_of c.args.self.now) c.args.files.now c.write_attr.new.self c.requires.open
-    (returns-in-Ok-write_attr-clause-handles g c).writes (returns-in-Ok-write_attr-clause-handles g c).home
-    (leaves-behind c.args.files.now c.read_attr.new.self c.write_attr.new.self c.in-Ok.ensures.answers.home
-    c.in-Ok.ensures.read.reads.looked.honest c.in-Ok.ensures.read.reads.looked.image
     (replaced-leaves c.read_attr.new.self c.write_attr.new.self (g.met.D.Device.is_image c.read_attr.new.self.device)
     (g.met.D.Device.is_image c.write_attr.new.self.device) c.in-Ok-write_attr.ensures.answers.home c.args.file c.args.change.now
-    c.in-Ok-write_attr.ensures.altered)))
+    c.in-Ok-write_attr.ensures.altered)
 
 pub returns-in-Err-write_attr-clause-handles : goal.returns-in-Err-write_attr-clause-handles
 returns-in-Err-write_attr-clause-handles g c =

@@ -1,18 +1,15 @@
 use Rattle.f11_store.specs.declared.requests.Request.TheVariants as request
-use Rattle.std.proofs.Common.{◌∙◌, ◌||◌, false, ap, sym, refl, subst}
+use Rattle.std.proofs.Common.{◌∙◌, ◌||◌, false, ap, sym, refl}
 use Rattle.std.proofs.lemmas.Bool.{ne_eqb}
 use Rattle.f11_files.specs.Answers.{is_fatal}
-use Rattle.f11_files.specs.Open.{store_in}
 use Rattle.f11_fcp.specs.Handles.{state_of}
 use Rattle.f11_fcp.specs.Places.{access_table_of, entry_of}
-use Rattle.f11_fcp.specs.Accesses.{Entry, HasAccessed, AccessTable, accesses}
-use Rattle.f11_fcp.specs.Windows.{KeepsWindow}
-use Rattle.std.proofs.lemmas.Option.{same_Some}
+use Rattle.f11_fcp.specs.Accesses.{AccessTable, accesses}
 use Rattle.f11_fcp.proofs.ByWindowLemmas.{none-made, one-transfer}
 use Rattle.f11_fcp.proofs.RowLemmas.{stored-leaves}
-use Rattle.f11_fcp.proofs.WindowLemmas.{accesses-with, handled-on, kept-with, windows-with, windows-on}
-use Rattle.f11_fcp.proofs.OpenLemmas.{stays-open, kept-after}
-use Rattle.f11_fcp.proofs.AccessedLemmas.{write-zero, write-none, wrote, not-written, of-accessed-clean, there-held}
+use Rattle.f11_fcp.proofs.WindowLemmas.{accesses-with, handled-on, windows-on}
+use Rattle.f11_fcp.proofs.OpenLemmas.{open-with, there-open, stays-open}
+use Rattle.f11_fcp.proofs.AccessedLemmas.{write-zero, write-none, wrote, not-written, of-accessed-clean}
 use Rattle.f11_fcp.proofs.table.Accesses.write_block.Goals as goal
 
 pub returns-then-vbn-eq0-clause-handles : goal.returns-then-vbn-eq0-clause-handles
@@ -27,8 +24,7 @@ write_by-requires-clause-held g c =
     let t = access_table_of c.args.self.now in
     record {
       alive = c.requires.open.alive;
-      there = λ honest. there-held t (store_in c.args.files.now) c.args.task c.args.lun (entry_of c.in-Some.held)
-          (c.requires.open.kept honest) c.in-Some.ensures.within.0 c.in-Some.ensures.within.1 c.in-Some.ensures.some.0;
+      there = there-open c.args.task c.args.lun (entry_of c.in-Some.held) c.requires.open c.in-Some.ensures.within c.in-Some.ensures.some.0;
       keeps = c.requires.open.windows c.args.task c.args.lun (entry_of c.in-Some.held) c.in-Some.ensures.within.0 c.in-Some.ensures.within.1
           c.in-Some.ensures.some.0;
     }
@@ -41,42 +37,28 @@ returns-in-Ok-clause-handles g c =
     c.in-Ok.window c.in-Some.ensures.some.0)
     (wrote c.args.task c.args.lun c.args.caller (state_of t c.args.files.now) (entry_of c.in-Some.held) c.in-Some.ensures.some.0 c.args.vbn
     (ne_eqb _ _ c.if-vbn-eq0.false)
-    (λ honest. there-held t (store_in c.args.files.now) c.args.task c.args.lun (entry_of c.in-Some.held) (c.requires.open.kept honest)
-    c.in-Some.ensures.within.0 c.in-Some.ensures.within.1 c.in-Some.ensures.some.0) c.in-Some.ensures.some.1 c.args.block.now
-    (state_of t c.write_by.new.files) c.in-Ok.ensures.stored c.in-Ok.ensures.answers.home refl)
+    (there-open c.args.task c.args.lun (entry_of c.in-Some.held) c.requires.open c.in-Some.ensures.within c.in-Some.ensures.some.0)
+    c.in-Some.ensures.some.1 c.args.block.now (state_of t c.write_by.new.files) c.in-Ok.ensures.stored c.in-Ok.ensures.answers.home refl)
 
 pub returns-in-Ok-clause-open : goal.returns-in-Ok-clause-open
 returns-in-Ok-clause-open g c = λ clean.
     let t = access_table_of c.args.self.now in
-    let H = wrote c.args.task c.args.lun c.args.caller (state_of t c.args.files.now) (entry_of c.in-Some.held) c.in-Some.ensures.some.0
-    c.args.vbn (ne_eqb _ _ c.if-vbn-eq0.false)
-    (λ honest. there-held t (store_in c.args.files.now) c.args.task c.args.lun (entry_of c.in-Some.held) (c.requires.open.kept honest)
-    c.in-Some.ensures.within.0 c.in-Some.ensures.within.1 c.in-Some.ensures.some.0) c.in-Some.ensures.some.1 c.args.block.now
-    (state_of t c.write_by.new.files) c.in-Ok.ensures.stored c.in-Ok.ensures.answers.home refl in
-    record {
-      alive = c.in-Ok.ensures.answers.next ∙ ap (λ b. b || false) c.requires.open.alive;
-      kept = λ honest.
-          subst (λ (u : AccessTable). HasAccessed u (store_in c.write_by.new.files)) (sym c.keep.ensures.value)
-          (kept-with t (store_in c.write_by.new.files) c.args.task c.args.lun (entry_of c.in-Some.held) c.in-Ok.window
-          c.in-Some.ensures.some.0
-          (kept-after t c.args.files.now c.write_by.new.files c.args.task c.args.caller _ _ c.args.block.now c.args.block.now
-          c.requires.open (λ _. tt) H refl honest));
-      windows =
-          windows-with t (access_table_of c.keep.new.self) c.write_by.new.files c.args.task c.args.lun _ c.keep.ensures.value
-          (λ e is. subst (λ (x : Entry). KeepsWindow x c.write_by.new.files) (same_Some _ _ is) c.in-Ok.ensures.next.keeps)
-          (windows-on t c.args.files.now c.write_by.new.files c.requires.open H.writes H.home
-          (stored-leaves c.args.files.now c.write_by.new.files (g.met.D.Device.is_image c.args.files.now.device)
-          (g.met.D.Device.is_image c.write_by.new.files.device) c.in-Ok.ensures.answers.home c.in-Some.held.file c.args.vbn
-          c.args.block.now c.in-Ok.ensures.stored));
-    }
+    let H = returns-in-Ok-clause-handles g c in
+    open-with t (access_table_of c.keep.new.self) c.args.files.now c.write_by.new.files c.args.task c.args.lun c.args.caller _ _
+    c.args.block.now c.args.block.now (entry_of c.in-Some.held) c.in-Ok.window c.requires.open (λ _. tt) H c.in-Some.ensures.some.0
+    c.keep.ensures.value c.in-Ok.ensures.next.keeps (c.in-Ok.ensures.answers.next ∙ ap (λ b. b || false) c.requires.open.alive)
+    (windows-on t c.args.files.now c.write_by.new.files c.requires.open H.writes H.home
+    (stored-leaves c.args.files.now c.write_by.new.files (g.met.D.Device.is_image c.args.files.now.device)
+    (g.met.D.Device.is_image c.write_by.new.files.device) c.in-Ok.ensures.answers.home c.in-Some.held.file c.args.vbn c.args.block.now
+    c.in-Ok.ensures.stored))
 
 pub returns-in-Err-clause-handles : goal.returns-in-Err-clause-handles
 returns-in-Err-clause-handles g c =
     let t = access_table_of c.args.self.now in
     not-written c.args.task c.args.lun c.args.caller (state_of t c.args.files.now) (entry_of c.in-Some.held) c.in-Some.ensures.some.0
     c.args.vbn (ne_eqb _ _ c.if-vbn-eq0.false)
-    (λ honest. there-held t (store_in c.args.files.now) c.args.task c.args.lun (entry_of c.in-Some.held) (c.requires.open.kept honest)
-    c.in-Some.ensures.within.0 c.in-Some.ensures.within.1 c.in-Some.ensures.some.0) c.in-Some.ensures.some.1 c.args.block.now
+    (there-open c.args.task c.args.lun (entry_of c.in-Some.held) c.requires.open c.in-Some.ensures.within c.in-Some.ensures.some.0)
+    c.in-Some.ensures.some.1 c.args.block.now
     (state_of t c.write_by.new.files) c.in-Err.refusal c.of_accessed.result c.requires.open.alive c.in-Err.ensures.refused
     c.in-Err.ensures.answers.home refl c.in-Err.ensures.answers.counts c.of_accessed.ensures
 

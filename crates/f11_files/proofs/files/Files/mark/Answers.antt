@@ -1,41 +1,6 @@
-use Rattle.f11_files.specs.Open.{disk_in, has_failed, home_in}
-use Rattle.f11_files.proofs.Opening.Values.{files-for}
-use Rattle.f11_files.specs.Structure.{StaysFor}
-use Rattle.f11_files.proofs.Opening.Kept.{stays-opened}
-use Rattle.f11_files.proofs.WriteLemmas.{had-failed}
-use Rattle.f11_writes.proofs.LostLemmas.{lost-none}
-use Rattle.f11_files.specs.Answers.{is_fatal, is_refused}
-use Rattle.f11_store.specs.Changes.{with_delete_mark}
-use Rattle.std.proofs.Common.{[], refl}
-use Rattle.f11_image_store.specs.Confines.{only_header}
-use Rattle.f11_files.proofs.Confining.Parts.{to-only}
-use Rattle.f11_files.proofs.Lost.Calls.{as-answered, altered-beside}
+use Rattle.std.proofs.Common.{arith}
 use Rattle.f11_files.proofs.files.Files.mark.Goals as goal
 
-pub mark-answer-requires-clause-is_for : goal.mark-answer-requires-clause-is_for
-mark-answer-requires-clause-is_for g c = files-for c.args.self.now (g.met.D.Device.is_image c.args.self.now.device) c.if-self.false
-
-pub invariant_of-self : goal.invariant_of-self
-invariant_of-self g c =
-    let failed = c.is_fatal-self.result in
-    let stays : StaysFor failed c.args.self.now.structure c.args.self.now.structure (g.D.Device.disk c.mark-answer.new.device) =
-    rw c.is_fatal-self.ensures c.mark-answer.ensures.stays in
-    let is = stays-opened _ _ failed _ (g.met.D.Device.is_image c.mark-answer.new.device) stays in
-    record { lies = is.lies; accepted = is.accepted; home = is.home; keeps = is.keeps; lies_seen = λ _. tt }
-
-pub returns-then-self-clause-refused : goal.returns-then-self-clause-refused
-returns-then-self-clause-refused g c = had-failed _ c.if-self.true
-
-pub returns-then-self-clause-lost : goal.returns-then-self-clause-lost
-returns-then-self-clause-lost g c = lost-none (has_failed c.args.self.now) (disk_in c.args.self.now)
-
-pub returns-clause-lost : goal.returns-clause-lost
-returns-clause-lost g c =
-    let for = files-for c.args.self.now (g.met.D.Device.is_image c.args.self.now.device) c.if-self.false in
-    let old = disk_in c.args.self.now in
-    let new = g.D.Device.disk c.mark-answer.new.device in
-    as-answered _ c.is_fatal-self.result (is_refused is_fatal c.mark-answer.result) old new c.if-self.false c.is_fatal-self.ensures
-    (altered-beside (home_in c.args.self.now) old new for.sound with_delete_mark (λ _. refl) c.args.f c.mark-answer.result
-    c.mark-answer.ensures.altered
-    c.mark-answer.ensures.refused
-    (to-only c.args.self.now.structure (only_header c.args.f.number) [] old new for (λ _. c.mark-answer.ensures.confined)))
+pub alter-requires : goal.alter-requires
+alter-requires g c =
+    let six = c.requires.id.number in record { id = record { number = omega (arith, six); volume = c.requires.id.volume } }

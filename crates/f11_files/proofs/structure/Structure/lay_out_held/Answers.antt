@@ -1,4 +1,4 @@
-use Rattle.std.proofs.Common.{◌∙◌}
+use Rattle.std.proofs.Common.{refl, ◌∙◌}
 use Rattle.f11_files.specs.LayingOut.Whole.{lost}
 use Rattle.f11_files.proofs.AnswerLemmas.{handed, not-clean}
 use Rattle.f11_files.proofs.LayingOut.Held.{taken-empty, taken-for, taken-last, taken-may, taken-within}
@@ -101,7 +101,7 @@ returns-in-Ok-clause-laid g c =
     (g.met.D.Device.is_image c.args.device.now) _ c.tail_of-tail.ensures.tail _ _ _
     (rw c.in-Ok-Some.field-0-is at c.in-Ok-Some.ensures.taken) c.in-Ok-Some.ensures.stays c.lay_run.new.self _
     c.in_ok-lay_run.ensures.laid (rw c.in_ok-lay_run.was at c.lay_run.ensures.stays) (g.met.D.Device.is_image c.lay_run.new.device) _
-    c.in-Ok.ensures.altered c.in-Ok.ensures.gains
+    c.in-Ok.ensures.altered (c.in-Ok.ensures.gains refl)
 
 pub returns-in-Ok-clause-stays : goal.returns-in-Ok-clause-stays
 returns-in-Ok-clause-stays g c =
@@ -112,36 +112,36 @@ returns-in-Ok-clause-confined g c = λ honest.
     marking-confined c.args.self.now c.args.f c.args.end _ _ _ c.requires.is_for c.requires.room.ends honest _ _ _ _
     (rw c.in-Ok-Some.field-0-is at c.in-Ok-Some.ensures.taken) c.take_whole_run.ensures.places c.take_whole_run.ensures.confined _
     c.tail_of-tail.ensures.tail c.lay_run.ensures.confined _ _
-    c.in_ok-lay_run.ensures.places c.mark_contiguous.ensures.confined
+    c.in_ok-lay_run.ensures.places c.alter.ensures.confined
 
-pub returns-in-Err-mark_contiguous-clause-refused : goal.returns-in-Err-mark_contiguous-clause-refused
-returns-in-Err-mark_contiguous-clause-refused g c =
+pub returns-in-Err-alter-clause-refused : goal.returns-in-Err-alter-clause-refused
+returns-in-Err-alter-clause-refused g c =
     rw c.when_found.ensures (fails-held c.args.self.now c.args.f c.args.n c.args.end _ _ _ c.requires.is_for c.requires.own c.requires.some
     c.requires.room (g.met.D.Device.is_image c.args.device.now) _ _
     (breaks-mark c.args.self.now c.args.f c.args.n c.args.end _ _ _ c.requires.is_for c.requires.own c.requires.some c.requires.room
     (g.met.D.Device.is_image c.args.device.now) _ c.tail_of-tail.ensures.tail _ _ _
     (rw c.in-Ok-Some.field-0-is at c.in-Ok-Some.ensures.taken) c.in-Ok-Some.ensures.stays c.lay_run.new.self _
     c.in_ok-lay_run.ensures.laid (rw c.in_ok-lay_run.was at c.lay_run.ensures.stays) (g.met.D.Device.is_image c.lay_run.new.device) _ _
-    c.in-Err-mark_contiguous.ensures.refused))
+    c.in-Err-alter.ensures.refused))
 
-pub returns-in-Err-mark_contiguous-clause-confined : goal.returns-in-Err-mark_contiguous-clause-confined
-returns-in-Err-mark_contiguous-clause-confined g c = λ honest.
+pub returns-in-Err-alter-clause-confined : goal.returns-in-Err-alter-clause-confined
+returns-in-Err-alter-clause-confined g c = λ honest.
     marking-confined c.args.self.now c.args.f c.args.end _ _ _ c.requires.is_for c.requires.room.ends honest _ _ _ _
     (rw c.in-Ok-Some.field-0-is at c.in-Ok-Some.ensures.taken) c.take_whole_run.ensures.places c.take_whole_run.ensures.confined _
     c.tail_of-tail.ensures.tail c.lay_run.ensures.confined _ _
-    c.in_ok-lay_run.ensures.places c.mark_contiguous.ensures.confined
+    c.in_ok-lay_run.ensures.places c.alter.ensures.confined
 
 pub returns-in-Ok-None-clause-counts : goal.returns-in-Ok-None-clause-counts
 returns-in-Ok-None-clause-counts g c = λ _. (rw c.in-Ok-None.field-0-is at c.in-Ok-None.ensures.counts)
 
-pub mark_contiguous-requires-clause-is_for : goal.mark_contiguous-requires-clause-is_for
-mark_contiguous-requires-clause-is_for g c = stays-for (rw c.in_ok-lay_run.was at c.lay_run.ensures.stays)
+pub alter-requires-clause-is_for : goal.alter-requires-clause-is_for
+alter-requires-clause-is_for g c = stays-for (rw c.in_ok-lay_run.was at c.lay_run.ensures.stays)
 
-pub mark_contiguous-requires-clause-last : goal.mark_contiguous-requires-clause-last
-mark_contiguous-requires-clause-last g c = c.in_ok-lay_run.ensures.last.header
+pub alter-requires-clause-holds : goal.alter-requires-clause-holds
+alter-requires-clause-holds g c = c.in_ok-lay_run.ensures.last.header
 
-pub returns-in-Err-mark_contiguous-clause-stays : goal.returns-in-Err-mark_contiguous-clause-stays
-returns-in-Err-mark_contiguous-clause-stays g c =
+pub returns-in-Err-alter-clause-stays : goal.returns-in-Err-alter-clause-stays
+returns-in-Err-alter-clause-stays g c =
     rw c.when_found.ensures (broken-stays c.args.self.now c.args.f c.args.n c.args.end _ _ _ c.requires.is_for c.requires.own
     c.requires.some c.requires.room (g.met.D.Device.is_image c.args.device.now) c.lay_run.new.self _ _
     (c.lay_run.ensures.stays.home ∙ c.take_whole_run.ensures.home)
@@ -149,13 +149,13 @@ returns-in-Err-mark_contiguous-clause-stays g c =
     (g.met.D.Device.is_image c.args.device.now) _ c.tail_of-tail.ensures.tail _ _ _
     (rw c.in-Ok-Some.field-0-is at c.in-Ok-Some.ensures.taken) c.in-Ok-Some.ensures.stays c.lay_run.new.self _
     c.in_ok-lay_run.ensures.laid (rw c.in_ok-lay_run.was at c.lay_run.ensures.stays) (g.met.D.Device.is_image c.lay_run.new.device) _ _
-    c.in-Err-mark_contiguous.ensures.refused))
+    c.in-Err-alter.ensures.refused))
 
-pub returns-in-Err-mark_contiguous-clause-counts : goal.returns-in-Err-mark_contiguous-clause-counts
-returns-in-Err-mark_contiguous-clause-counts g c =
-    rw c.when_found.ensures (λ clean. fatal-unclean (lost c.in-Err-mark_contiguous.refusal)
+pub returns-in-Err-alter-clause-counts : goal.returns-in-Err-alter-clause-counts
+returns-in-Err-alter-clause-counts g c =
+    rw c.when_found.ensures (λ clean. fatal-unclean (lost c.in-Err-alter.refusal)
     (breaks-mark c.args.self.now c.args.f c.args.n c.args.end _ _ _ c.requires.is_for c.requires.own c.requires.some c.requires.room
     (g.met.D.Device.is_image c.args.device.now) _ c.tail_of-tail.ensures.tail _ _ _
     (rw c.in-Ok-Some.field-0-is at c.in-Ok-Some.ensures.taken) c.in-Ok-Some.ensures.stays c.lay_run.new.self _
     c.in_ok-lay_run.ensures.laid (rw c.in_ok-lay_run.was at c.lay_run.ensures.stays) (g.met.D.Device.is_image c.lay_run.new.device) _
-    (g.D.Device.disk c.mark_contiguous.new.device) c.in-Err-mark_contiguous.ensures.refused).fatal clean)
+    (g.D.Device.disk c.alter.new.device) c.in-Err-alter.ensures.refused).fatal clean)

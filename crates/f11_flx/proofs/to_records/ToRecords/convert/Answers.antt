@@ -1,6 +1,6 @@
 use Rattle.std.proofs.Common.{arith}
-use Rattle.f11_flx.proofs.PutLemmas.{PutsAt-more, slice_range-more}
-use Rattle.f11_flx.proofs.ReadLemmas.{ConvertsText-more}
+use Rattle.f11_flx.proofs.Texts.PutLemmas.{PutsAt-more, slice_range-more}
+use Rattle.f11_flx.proofs.Texts.ReadLemmas.{ConvertsText-more}
 use Rattle.f11_flx.proofs.to_records.ToRecords.convert.Goals as goal
 
 pub loop-to-preserved : goal.loop-to-preserved

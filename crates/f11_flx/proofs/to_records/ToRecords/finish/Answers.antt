@@ -2,8 +2,8 @@ use Rattle.std.proofs.Common.{[], List, ℕ, ◌<◌, length, refl, sym, ap, ◌
 use Rattle.f11_flx.specs.Lines.{has_crlf}
 use Rattle.f11_flx.specs.Stage.{given_in, lines_from, with_cr}
 use Rattle.f11_flx.specs.declared.stage.Stage.TheVariants.{Giving}
-use Rattle.f11_flx.proofs.ReadLemmas.{GivesBytes-same, is_too_long-end, lines_left-end}
-use Rattle.f11_flx.proofs.TextLemmas.{some-left}
+use Rattle.f11_flx.proofs.Texts.ReadLemmas.{GivesBytes-same, is_too_long-end, lines_left-end}
+use Rattle.f11_flx.proofs.Texts.TextLemmas.{some-left}
 use Rattle.f11_flx.proofs.to_records.ToRecords.finish.Goals as goal
 
 pub returns-then-remaining_capacity-cr_bytes-clause-bad : goal.returns-then-remaining_capacity-cr_bytes-clause-bad

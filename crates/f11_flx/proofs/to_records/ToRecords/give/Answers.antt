@@ -2,7 +2,7 @@ use Rattle.std.proofs.Common.{◌+◌, ◌%◌, ◌<◌, ℕ, List, length, max,
 use Rattle.std.specs.Prelude.{slice_index}
 use Rattle.f11_flx.specs.Spelled.{variable_record}
 use Rattle.f11_flx.specs.Stage.{given_in}
-use Rattle.f11_flx.proofs.GiveLemmas.{GivesBytes-given, GivesBytes-last}
+use Rattle.f11_flx.proofs.Texts.GiveLemmas.{GivesBytes-given, GivesBytes-last}
 use Rattle.f11_flx.proofs.to_records.ToRecords.give.Goals as goal
 
 pub returns-then-given-length-clause-gives : goal.returns-then-given-length-clause-gives

@@ -1,7 +1,7 @@
 use Rattle.std.proofs.Common.{refl, sym, ap, ◌∙◌, ne_eqb, arith}
 use Rattle.f11_flx.specs.Lines.{has_crlf}
 use Rattle.f11_flx.specs.Stage.{given_in}
-use Rattle.f11_flx.proofs.ReadLemmas.{GivesBytes-same, lines_left-lf, is_too_long-push, whole-push, ended-push}
+use Rattle.f11_flx.proofs.Texts.ReadLemmas.{GivesBytes-same, lines_left-lf, is_too_long-push, whole-push, ended-push}
 use Rattle.f11_flx.proofs.to_records.ToRecords.read.Goals as goal
 
 pub invariant_of-self : goal.invariant_of-self

@@ -1,4 +1,4 @@
-use Rattle.f11_flx.proofs.ConvertLemmas.{none-behind}
+use Rattle.f11_flx.proofs.Texts.ConvertLemmas.{none-behind}
 use Rattle.f11_flx.proofs.to_text.ToText.convert.Goals as goal
 
 pub returns-then-bad-clause-bad : goal.returns-then-bad-clause-bad

@@ -1,6 +1,6 @@
 use Rattle.std.proofs.Common.{arith}
-use Rattle.f11_flx.proofs.ConvertLemmas.{Converts-more}
-use Rattle.f11_flx.proofs.PutLemmas.{PutsAt-more, slice_range-more}
+use Rattle.f11_flx.proofs.Texts.ConvertLemmas.{Converts-more}
+use Rattle.f11_flx.proofs.Texts.PutLemmas.{PutsAt-more, slice_range-more}
 use Rattle.f11_flx.proofs.to_text.ToText.convert_good.Goals as goal
 
 pub loop-to-preserved : goal.loop-to-preserved

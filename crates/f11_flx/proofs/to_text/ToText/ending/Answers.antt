@@ -3,7 +3,7 @@ use Rattle.std.specs.List.{concat}
 use Rattle.f11_store.specs.File.{stated_end}
 use Rattle.f11_flx.specs.Place.{text_in}
 use Rattle.f11_flx.specs.Records.{layout_of}
-use Rattle.f11_flx.proofs.TextLemmas.{converted_by-in}
+use Rattle.f11_flx.proofs.Texts.TextLemmas.{converted_by-in}
 use Rattle.f11_flx.proofs.to_text.ToText.ending.Goals as goal
 
 pub returns-clause-starts : goal.returns-clause-starts

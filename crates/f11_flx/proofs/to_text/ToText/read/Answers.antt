@@ -1,5 +1,5 @@
 use Rattle.f11_bytes.proofs.ResultLemmas.{OnErr-given}
-use Rattle.f11_flx.proofs.TextLemmas.{refuses-on}
+use Rattle.f11_flx.proofs.Texts.TextLemmas.{refuses-on}
 use Rattle.f11_flx.proofs.to_text.ToText.read.Goals as goal
 
 pub returns-in_err-place-clause-bad : goal.returns-in_err-place-clause-bad
