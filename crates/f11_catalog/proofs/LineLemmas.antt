@@ -1,5 +1,7 @@
 -- The line of a record that was read.
 use Rattle.std.proofs.Common.{◌≡◌, ◌≢◌, ◌∙◌, ℕ, Bool, true, false, List, [], Option, Some, None, SomeIff, cond, length, sym, ap, inl, inr}
+use Rattle.std.proofs.Common.{Result, Ok, Err, subst}
+use Rattle.std.specs.Prelude.{IfErr, IsErrAnd}
 use Rattle.std.proofs.lemmas.Bool.{eqb-false}
 use Rattle.std.proofs.lemmas.Bool.Decides.{eqb_tells}
 use Rattle.std.specs.Bool.{Decides}
@@ -34,6 +36,12 @@ use Rattle.f11_catalog.proofs.OpenLemmas.{header-facts}
 pub breaks-behind : (fault : ListFault) (a b c : Disk) → Reads a b 0 → BreaksOff fault b c → BreaksOff fault a c
 breaks-behind DeviceFault a b c reads breaks = reads-then reads breaks
 breaks-behind CannotWrite a b c reads breaks = reads-then reads breaks
+
+-- and where a fault is handed on
+pub breaks-handed : {T : Type 0} (r : Result T ListFault) (fault : ListFault) (old new : Disk) → IsErrAnd r (λ e. e ≡ fault)
+    → BreaksOff fault old new → IfErr r (λ e. BreaksOff e old new)
+breaks-handed (Ok x) fault old new is breaks = absurd is
+breaks-handed (Err e) fault old new is breaks = subst (λ (f : ListFault). BreaksOff f old new) (sym is) breaks
 
 -- what a name is, where the record isn't empty
 pub is-named : {A : Type 0} (found : Option (List ℕ)) (words : List ℕ) → A → SomeIff found (A × IsName words) words

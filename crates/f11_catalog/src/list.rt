@@ -49,10 +49,8 @@ pub fn list_directory<D: Device, W: Write>(
     };
     let by = found.index_by(index, wide);
     let mut directory = found.directory;
-    match write_records(device, by, index, wide, writer, &mut directory) {
-        Ok(()) => Ok(Ok(())),
-        Err(fault) => Err(fault),
-    }
+    write_records(device, by, index, wide, writer, &mut directory)?;
+    Ok(Ok(()))
 }
 
 /// Writes the lines of the records that are still to come, of a directory that is read by an index file.
@@ -116,10 +114,8 @@ pub fn list_directories<D: Device, W: Write>(
     };
     let by = found.index_by(index, wide);
     let mut directory = found.directory;
-    match write_directories(device, by, index, wide, writer, &mut directory) {
-        Ok(()) => Ok(Ok(())),
-        Err(fault) => Err(fault),
-    }
+    write_directories(device, by, index, wide, writer, &mut directory)?;
+    Ok(Ok(()))
 }
 
 /// Writes the lines of the directories that the records still to come name, of the master file directory, read by an index file.
@@ -202,8 +198,5 @@ fn write_directory<D: Device, W: Write>(
     }
     let by = found.index_by(index, wide);
     let mut directory = found.directory;
-    match write_records(device, by, index, wide, writer, &mut directory) {
-        Ok(()) => Ok(()),
-        Err(fault) => Err(fault),
-    }
+    write_records(device, by, index, wide, writer, &mut directory)
 }

@@ -7,9 +7,9 @@ mod LsLemmas
 mod GetLemmas
 mod RunLemmas
 mod UpdateLemmas
-mod AskedLemmas
+pub mod AskedLemmas
 mod BrokenLemmas
-mod CopyLemmas
+pub mod CopyLemmas
 mod NamedLemmas
 mod OthersLemmas
 mod ReadOnlyLemmas

@@ -6,7 +6,7 @@ use Rattle.std.specs.Prelude.{slice_index}
 use Rattle.std.proofs.lemmas.Bool.{and_from, eq-eqb, eqb-true, ne_eqb}
 use Rattle.std.proofs.lemmas.List.Elements.{All-cons, All-head, All-tail}
 use Rattle.f11_dev.specs.Image.{Image}
-use Rattle.f11_flx.proofs.Made.GainedLemmas.{enters-from, not-index}
+use Rattle.f11_making.proofs.GainedLemmas.{enters-from, not-index}
 use Rattle.f11_making.specs.Asking.{Asking, Denies, Grants, Tried, asks, counts, plain, reads, told, writes}
 use Rattle.f11_making.specs.AsksFor.{Creates, IsMakingOf, MakesBy}
 use Rattle.f11_home.specs.Home.{HomeFields}

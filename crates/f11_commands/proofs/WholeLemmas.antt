@@ -8,7 +8,7 @@ use Rattle.f11_serving.specs.fcp.Serving.{is_spent, state_in}
 use Rattle.f11_serving.specs.fcp.declared.volume.Volume.{Volume}
 use Rattle.f11_making.proofs.AskingLemmas.{granted-parts}
 use Rattle.f11_flx.proofs.FromRt.FromRtLemmas.{created-next}
-use Rattle.f11_flx.proofs.Made.GainedLemmas.{not-index}
+use Rattle.f11_making.proofs.GainedLemmas.{not-index}
 use Rattle.f11_flx.proofs.FromRt.MadeLemmas.{IsSuch, such-created, such-made}
 use Rattle.f11_flx.proofs.Made.NewLemmas.{IsNewIn, new-made}
 use Rattle.f11_flx.proofs.Made.SeenLemmas.{granted-seen}

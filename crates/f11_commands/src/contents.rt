@@ -59,12 +59,10 @@ pub(crate) fn put_contents<D: Device, W: Write>(
     ensures stops { IfErr result (λ stop. StopsWriting stop (index_kept index.now)
         file end (D.disk device.old) (D.disk device.new) W.contents writer.old writer.new) }
 {
-    match put_blocks(device, index, file, end, writer) {
-        Ok(count) => match writer.flush() {
-            Ok(()) => Ok(count),
-            Err(_) => Err(Stop::CannotWrite),
-        },
-        Err(stop) => Err(stop),
+    let count = put_blocks(device, index, file, end, writer)?;
+    match writer.flush() {
+        Ok(()) => Ok(count),
+        Err(_) => Err(Stop::CannotWrite),
     }
 }
 
@@ -91,7 +89,7 @@ fn put_blocks<D: Device, W: Write>(
             Ok(false) => return Ok(end - left),
             Err(DeviceFault) => return Err(Stop::DeviceFault(end - left)),
         }
-        let count = left.min(512);
+        let count = left.min(BLOCK_SIZE as u64);
         match writer.write_all(&block[..count as usize]) {
             Ok(()) => {}
             Err(_) => return Err(Stop::CannotWrite),

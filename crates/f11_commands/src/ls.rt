@@ -92,10 +92,7 @@ fn list_volume<D: Device, W: Write>(
 {
     match read_index(alloc, device) {
         Ok(Ok((_, index))) => match index.with_all_in_use(alloc) {
-            Ok(wide) => match list_index(device, &index, &wide, writer, directory) {
-                Ok(answer) => Ok(answer),
-                Err(failure) => Err(failure),
-            },
+            Ok(wide) => list_index(device, &index, &wide, writer, directory),
             Err(NoMemory) => Err(Failure::NoMemory),
         },
         Ok(Err(fault)) => match writeln!(writer, "fault {fault}") {

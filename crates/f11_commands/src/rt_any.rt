@@ -26,10 +26,8 @@ pub struct RtServed {
 pub(crate) fn served(state: RtState, told: Result<FileAnswer, Failure>) -> Result<RtServed, Failure>
     ensures { result ≡ served_so state told }
 {
-    match told {
-        Ok(answer) => Ok(RtServed { answer, state }),
-        Err(failure) => Err(failure),
-    }
+    let answer = told?;
+    Ok(RtServed { answer, state })
 }
 
 /// Looks how the RT-11 volume on a device is, and reads its entries. Where its directory hasn't the size that it should have it writes the
@@ -65,12 +63,10 @@ pub(crate) fn read_volume<D: Device, W: Write>(
     ensures ended { IfErr result (λ told. EndsUnserved told
         (D.disk device.old) (D.disk device.new) W.contents writer.old writer.new) }
 {
-    match read_directory(alloc, device, writer) {
-        Ok((state, entries)) => match read_bad_blocks(alloc, device) {
-            Ok(bad) => Ok((state, entries, bad)),
-            Err(fault) => Err(Err(look_failure(fault))),
-        },
-        Err(told) => Err(told),
+    let (state, entries) = read_directory(alloc, device, writer)?;
+    match read_bad_blocks(alloc, device) {
+        Ok(bad) => Ok((state, entries, bad)),
+        Err(fault) => Err(Err(look_failure(fault))),
     }
 }
 

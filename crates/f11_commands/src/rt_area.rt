@@ -74,12 +74,10 @@ pub(crate) fn write_area<D: Device, H: Write>(
     ensures failed { IfErr result (λ stop. FailsToTakeArea first blocks stop
         (D.disk device.old) (D.disk device.new) H.contents host.old host.new) }
 {
-    match write_blocks(device, first, blocks, host) {
-        Ok(()) => match host.flush() {
-            Ok(()) => Ok(()),
-            Err(_) => Err(AreaStop::HostFull),
-        },
-        Err(stop) => Err(stop),
+    write_blocks(device, first, blocks, host)?;
+    match host.flush() {
+        Ok(()) => Ok(()),
+        Err(_) => Err(AreaStop::HostFull),
     }
 }
 

@@ -12,6 +12,7 @@ use crate::rt_put::filling::{fill, undo};
 use crate::sync::synced;
 use crate::telling::tell;
 use crate::verifying::accept_rt;
+use f11_bytes::BLOCK_SIZE;
 use f11_dev::Device;
 use f11_flx::{FlxRefusal, make_file};
 use rt11_volume::{RtAccepted, RtName};
@@ -98,7 +99,7 @@ fn put<D: Device, R: Read>(
     ensures puts { PutsFile name.now bytes result (R.remaining host.old) (R.remaining host.new)
         (D.disk (volume_device volume.old)) (D.disk (volume_device volume.new)) }
 {
-    let blocks = match make_file(volume, name, bytes.div_ceil(512), 0) {
+    let blocks = match make_file(volume, name, bytes.div_ceil(BLOCK_SIZE as u64), 0) {
         Ok(blocks) => blocks,
         Err(refusal) => return Err(Stop::Volume(refusal)),
     };

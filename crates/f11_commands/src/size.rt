@@ -8,7 +8,7 @@ ghost use Rattle.f11_index.specs.Kept.{index_kept, IndexLiesWithin};
 use crate::get::open::open_file;
 use crate::outcome::Failure;
 use crate::volume::read_index;
-use f11_bytes::{BLOCK_SIZE, Block, NoMemory, read_long};
+use f11_bytes::{BLOCK_BITS, BLOCK_SIZE, Block, NoMemory, read_long};
 use f11_dev::{Device, DeviceFault};
 use f11_index::IndexFile;
 use f11_reader::FileReader;
@@ -133,7 +133,7 @@ fn size_in(block: &Block) -> Option<u32>
         return None;
     }
     let size = read_long(block, 4 + 4 * count);
-    if size == 0 || size > 4096 * count as u32 {
+    if size == 0 || size > BLOCK_BITS * count as u32 {
         return None;
     }
     Some(size)

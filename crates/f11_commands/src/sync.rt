@@ -9,7 +9,7 @@ use f11_dev::{Device, DeviceFault};
 /// # Errors
 ///
 /// The device, where that failed: a transfer that failed, which changed no block.
-pub(crate) fn synced<D: Device>(device: D) -> Result<D, D>
+pub fn synced<D: Device>(device: D) -> Result<D, D>
     ensures synced { IfOk result (λ d. D.disk d ≡ D.disk device) }
     ensures failed { IfErr result (λ d. D.disk d ≡ with_transfer false (D.disk device)) }
 {

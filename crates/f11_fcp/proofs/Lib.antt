@@ -11,6 +11,7 @@ mod EnterLemmas
 mod EntryLemmas
 mod FindLemmas
 mod GrowIndexLemmas
+mod HandedLemmas
 mod HandleLemmas
 mod InOneRunLemmas
 mod KnownLemmas

@@ -46,10 +46,7 @@ impl Accesses {
         if file.number < 4 {
             return Err(Refusal::SystemFile);
         }
-        let attr = match files.read_attr(file) {
-            Ok(attr) => attr,
-            Err(refusal) => return Err(refusal),
-        };
+        let attr = files.read_attr(file)?;
         if is_marked(&attr) {
             return Err(Refusal::Marked);
         }

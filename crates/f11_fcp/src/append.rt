@@ -107,10 +107,7 @@ fn append_entry<D: Device>(
     ensures home { home_in files.new ≡ home_in files.old }
     ensures lost { CallSparesLost files.old files.new }
 {
-    match replace_entry(files, directory, &tail.spot, file, name) {
-        Ok(()) => {}
-        Err(refusal) => return Err(refusal),
-    }
+    replace_entry(files, directory, &tail.spot, file, name)?;
     let count = RECORDS * tail.spot.number + tail.spot.place as u32 + 1;
     let attr = moved_end(&tail.attr, tail.length, RECORD_SIZE * count);
     match files.write_attr(directory, &Change::Attr(attr)) {
@@ -141,16 +138,10 @@ fn append_in_block<D: Device>(
     ensures home { home_in files.new ≡ home_in files.old }
     ensures lost { CallSparesLost files.old files.new }
 {
-    let block = match end_block(files, directory, found) {
-        Ok(block) => block,
-        Err(refusal) => return Err(refusal),
-    };
+    let block = end_block(files, directory, found)?;
     let place = (found.count % RECORDS) as usize;
     let tail = tail_at(found, found.count / RECORDS, place, &block, found.length);
-    match append_entry(files, directory, &tail, file, name) {
-        Ok(()) => Ok(()),
-        Err(refusal) => Err(refusal),
-    }
+    append_entry(files, directory, &tail, file, name)
 }
 
 /// Puts a record at the end of a directory whose records fill its blocks: it gets one more, by the rules for extending a file.
@@ -179,10 +170,7 @@ fn append_in_new_block<D: Device>(
         Err(refusal) => return Err(of_known(refusal)),
     }
     let tail = tail_at(found, found.length, 0, &zeros(), found.length + 1);
-    match append_entry(files, directory, &tail, file, name) {
-        Ok(()) => Ok(()),
-        Err(refusal) => Err(refusal),
-    }
+    append_entry(files, directory, &tail, file, name)
 }
 
 /// Enters a record into a directory that was looked through, of which this is the first empty record: in its place, or at the end.
@@ -213,18 +201,12 @@ pub(crate) fn put_entry<D: Device>(
     ensures lost { CallSparesLost files.old files.new }
 {
     match empty {
-        Some(spot) => match replace_entry(files, directory, &spot, file, name) {
-            Ok(()) => Ok(()),
-            Err(refusal) => Err(refusal),
-        },
+        Some(spot) => replace_entry(files, directory, &spot, file, name),
         None => {
             if found.count >= RECORDS * found.length {
                 return append_in_new_block(files, directory, found, file, name);
             }
-            match append_in_block(files, directory, found, file, name) {
-                Ok(()) => Ok(()),
-                Err(refusal) => Err(refusal),
-            }
+            append_in_block(files, directory, found, file, name)
         }
     }
 }

@@ -34,10 +34,8 @@ impl Accesses {
         if is_bad(file) {
             return Err(Refusal::BadArgument);
         }
-        match files.read_attr(file) {
-            Ok(attr) => Ok(Reply::Attr(attr)),
-            Err(refusal) => Err(refusal),
-        }
+        let attr = files.read_attr(file)?;
+        Ok(Reply::Attr(attr))
     }
 
     /// A part of what a file's header says of it is replaced.
@@ -65,19 +63,14 @@ impl Accesses {
         if file.number < 4 {
             return Err(Refusal::SystemFile);
         }
-        let attr = match files.read_attr(file) {
-            Ok(attr) => attr,
-            Err(refusal) => return Err(refusal),
-        };
+        let attr = files.read_attr(file)?;
         if is_marked(&attr) {
             return Err(Refusal::Marked);
         }
         if lacks_change(change, caller, &attr) {
             return Err(Refusal::NoPrivilege);
         }
-        match files.write_attr(file, change) {
-            Ok(()) => Ok(Reply::Done),
-            Err(refusal) => Err(refusal),
-        }
+        files.write_attr(file, change)?;
+        Ok(Reply::Done)
     }
 }

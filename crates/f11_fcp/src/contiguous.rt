@@ -35,10 +35,7 @@ impl Accesses {
             (state_of (access_table_of self.now) files.old) (state_of (access_table_of self.now) files.new) }
         ensures lost { CallSparesLost files.old files.new }
     {
-        let file = match self.may_lengthen(files, task, caller, lun, n) {
-            Ok(file) => file,
-            Err(refusal) => return Err(refusal),
-        };
+        let file = self.may_lengthen(files, task, caller, lun, n)?;
         match files.contiguous(file, n) {
             Ok(length) => Ok(Reply::Length(length)),
             Err(refusal) => Err(of_accessed(refusal)),

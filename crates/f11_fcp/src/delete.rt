@@ -47,10 +47,7 @@ impl Accesses {
         if file.number < 6 {
             return Err(Refusal::SystemFile);
         }
-        let attr = match files.read_attr(file) {
-            Ok(attr) => attr,
-            Err(refusal) => return Err(refusal),
-        };
+        let attr = files.read_attr(file)?;
         let accessed = self.is_accessed(file);
         if is_going(&attr, accessed) {
             return Err(Refusal::Marked);
@@ -64,12 +61,8 @@ impl Accesses {
                 Err(refusal) => Err(refusal),
             };
         }
-        match files.mark(file) {
-            Ok(()) => {
-                self.set_marks(file);
-                Ok(Reply::Done)
-            }
-            Err(refusal) => Err(refusal),
-        }
+        files.mark(file)?;
+        self.set_marks(file);
+        Ok(Reply::Done)
     }
 }

@@ -68,10 +68,7 @@ impl Accesses {
         if directory.number < 4 {
             return Err(Refusal::SystemFile);
         }
-        let attr = match files.read_attr(directory) {
-            Ok(attr) => attr,
-            Err(refusal) => return Err(refusal),
-        };
+        let attr = files.read_attr(directory)?;
         if is_marked(&attr) {
             return Err(Refusal::Marked);
         }
@@ -114,25 +111,20 @@ impl Accesses {
         ensures home { home_in files.new ≡ home_in files.old }
         ensures lost { CallSparesLost files.old files.new }
     {
-        let attr = match self.open_directory(files, caller, directory, purpose) {
-            Ok(attr) => attr,
-            Err(refusal) => return Err(refusal),
-        };
+        let attr = self.open_directory(files, caller, directory, purpose)?;
         let length = match files.length(directory) {
             Ok(length) => length,
             Err(refusal) => return Err(of_known(refusal)),
         };
         let count = entry_count(&attr.attr, length);
         let mut last = zeros();
-        match look_through(files, directory, count, name, &mut last) {
-            Ok(looked) => Ok(Search {
-                attr,
-                length,
-                count,
-                looked,
-                last,
-            }),
-            Err(refusal) => Err(refusal),
-        }
+        let looked = look_through(files, directory, count, name, &mut last)?;
+        Ok(Search {
+            attr,
+            length,
+            count,
+            looked,
+            last,
+        })
     }
 }

@@ -43,17 +43,12 @@ impl Accesses {
         if is_bad(file) {
             return Err(Refusal::BadArgument);
         }
-        let found = match self.search(files, caller, directory, name, Purpose::Change) {
-            Ok(found) => found,
-            Err(refusal) => return Err(refusal),
-        };
+        let found = self.search(files, caller, directory, name, Purpose::Change)?;
         match found.looked {
             Looked::Found(..) => Err(Refusal::DuplicateName),
             Looked::Absent(empty) => {
-                match put_entry(files, directory, &found, empty, file, name) {
-                    Ok(()) => Ok(Reply::Done),
-                    Err(refusal) => Err(refusal),
-                }
+                put_entry(files, directory, &found, empty, file, name)?;
+                Ok(Reply::Done)
             }
         }
     }

@@ -68,10 +68,7 @@ pub(crate) fn replace_entry<D: Device>(
 {
     let mut block = spot.block;
     put(&mut block, spot.place, file, name);
-    match write_known(files, directory, spot.number, &block) {
-        Ok(()) => Ok(()),
-        Err(refusal) => Err(refusal),
-    }
+    write_known(files, directory, spot.number, &block)
 }
 
 /// A record in a place that is in hand becomes empty: one write of its block. It is refused only where that fails the volume.
@@ -94,8 +91,5 @@ pub(crate) fn clear_entry<D: Device>(
 {
     let mut block = spot.block;
     clear(&mut block, spot.place);
-    match write_known(files, directory, spot.number, &block) {
-        Ok(()) => Ok(()),
-        Err(refusal) => Err(refusal),
-    }
+    write_known(files, directory, spot.number, &block)
 }

@@ -38,10 +38,7 @@ impl Accesses {
         if is_bad(directory) {
             return Err(Refusal::BadArgument);
         }
-        let found = match self.search(files, caller, directory, name, Purpose::Look) {
-            Ok(found) => found,
-            Err(refusal) => return Err(refusal),
-        };
+        let found = self.search(files, caller, directory, name, Purpose::Look)?;
         match found.looked {
             Looked::Found(_, file) => Ok(Reply::Found(file)),
             Looked::Absent(_) => Err(Refusal::NoSuchEntry),

@@ -35,9 +35,7 @@ impl Accesses {
         if !is_of(caller, caller, Class::System) {
             return Err(Refusal::NoPrivilege);
         }
-        match files.grow_index(n) {
-            Ok(slots) => Ok(Reply::Slots(slots)),
-            Err(refusal) => Err(refusal),
-        }
+        let slots = files.grow_index(n)?;
+        Ok(Reply::Slots(slots))
     }
 }

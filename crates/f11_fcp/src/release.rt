@@ -36,10 +36,7 @@ impl Accesses {
                 Some(held) => held,
                 None => continue,
             };
-            match self.give_up(files, task, caller, lun, held) {
-                Ok(_) => {}
-                Err(refusal) => return Err(refusal),
-            }
+            self.give_up(files, task, caller, lun, held)?;
         }
         Ok(Reply::Done)
     }

@@ -38,10 +38,7 @@ impl Accesses {
         if is_bad(directory) {
             return Err(Refusal::BadArgument);
         }
-        let found = match self.search(files, caller, directory, name, Purpose::Change) {
-            Ok(found) => found,
-            Err(refusal) => return Err(refusal),
-        };
+        let found = self.search(files, caller, directory, name, Purpose::Change)?;
         match found.looked {
             Looked::Found(spot, _) => match clear_entry(files, directory, &spot) {
                 Ok(()) => Ok(Reply::Done),

@@ -84,14 +84,12 @@ impl<D: Device> Volume<D> {
         ensures refused { IfErr result (λ fault.
             FailsToOpen D.disk (D.disk (device_of accepted)) fault) }
     {
-        match Files::open(alloc, accepted) {
-            Ok(files) => Ok(Volume {
-                files,
-                accesses: Accesses::none(),
-                failed: false,
-            }),
-            Err(fault) => Err(fault),
-        }
+        let files = Files::open(alloc, accepted)?;
+        Ok(Volume {
+            files,
+            accesses: Accesses::none(),
+            failed: false,
+        })
     }
 
     /// Gives all accesses up, without a transfer, and the volume.

@@ -72,14 +72,9 @@ pub(crate) fn read_by<D: Device>(
     ensures kept { is_refused is_fatal result ≡ false → OnErr result (block.new ≡ block.old) }
     ensures lost { CallSparesLost files.old files.new }
 {
-    let window = match next_window(files, held, vbn) {
-        Ok(window) => window,
-        Err(refusal) => return Err(refusal),
-    };
-    match files.read_in(&window, vbn, block) {
-        Ok(()) => Ok(window),
-        Err(refusal) => Err(refusal),
-    }
+    let window = next_window(files, held, vbn)?;
+    files.read_in(&window, vbn, block)?;
+    Ok(window)
 }
 
 /// Writes block `vbn` of the file of an access, from 1, and answers the window by which it was reached. Where the block stands in the window
@@ -109,12 +104,7 @@ pub(crate) fn write_by<D: Device>(
         (disk_in files.old) (disk_in files.new)) }
     ensures lost { CallSparesLost files.old files.new }
 {
-    let window = match next_window(files, held, vbn) {
-        Ok(window) => window,
-        Err(refusal) => return Err(refusal),
-    };
-    match files.write_in(&window, vbn, block) {
-        Ok(()) => Ok(window),
-        Err(refusal) => Err(refusal),
-    }
+    let window = next_window(files, held, vbn)?;
+    files.write_in(&window, vbn, block)?;
+    Ok(window)
 }

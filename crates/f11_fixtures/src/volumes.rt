@@ -1,10 +1,12 @@
 //! Files-11 volumes.
 use crate::{SYSTEM, ZEROS, file, keep, linked, memory};
 use f11_bytes::{Block, write_word};
-use f11_dev::{DeviceFault, Memory};
+use f11_dev::{Device, DeviceFault, Memory};
+use f11_fcp::Volume;
 use f11_home::seal;
-use f11_vfy::{InitError, InitParams, init};
+use f11_vfy::{InitError, InitParams, Report, init, verify};
 use std::alloc::Global;
+use std::test::Fail;
 
 /// The blocks of the smallest devices here.
 pub const BLOCKS: u32 = 24;
@@ -92,4 +94,19 @@ pub fn small_index_file(alloc: Global, slots: u16) -> Result<Memory, DeviceFault
     let mut bits = ZEROS;
     write_word(&mut bits, 0, slots);
     index_file(alloc, &bits, &[(0, 18)])
+}
+
+/// Mounts the volume of a device.
+///
+/// # Errors
+///
+/// Where it isn't accepted, or can't be mounted.
+pub fn mounted<D: Device + Drop>(alloc: Global, device: D) -> Result<Volume<D>, Fail> {
+    let Ok(Report::Accepted(accepted, _)) = verify(alloc, device) else {
+        return Err(DeviceFault)?;
+    };
+    match Volume::mount(alloc, accepted) {
+        Ok(volume) => Ok(volume),
+        Err(_) => Err(DeviceFault)?,
+    }
 }

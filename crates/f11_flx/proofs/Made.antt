@@ -2,7 +2,6 @@
 pub mod ApartLemmas
 pub mod CopyLemmas
 pub mod EnteredLemmas
-pub mod GainedLemmas
 pub mod LeavesLemmas
 pub mod NewLemmas
 pub mod RanLemmas

@@ -36,10 +36,7 @@ pub fn copy_blocks<S: Asked, T: Takes>(
             Ok(()) => {}
             Err(refusal) => return Err(FlxRefusal::Files(refusal)),
         }
-        match target.take(name, k, &block) {
-            Ok(()) => {}
-            Err(refusal) => return Err(refusal),
-        }
+        target.take(name, k, &block)?;
     }
     Ok(())
 }
@@ -70,10 +67,7 @@ pub fn copy_text<S: Asked, T: Takes>(
             Ok(()) => {}
             Err(refusal) => return Err(FlxRefusal::Files(refusal)),
         }
-        match pour(&mut text, &block, &mut out, target, name) {
-            Ok(()) => {}
-            Err(refusal) => return Err(refusal),
-        }
+        pour(&mut text, &block, &mut out, target, name)?;
     }
     finish(&mut out, target, name)
 }
@@ -100,8 +94,6 @@ fn finish<T: Takes>(out: &mut Filling, target: &mut T, name: &RtName) -> Result<
         return Ok(out.place);
     }
     clear(&mut out.block, out.to);
-    match target.take(name, out.place, &out.block) {
-        Ok(()) => Ok(out.place + 1),
-        Err(refusal) => Err(refusal),
-    }
+    target.take(name, out.place, &out.block)?;
+    Ok(out.place + 1)
 }

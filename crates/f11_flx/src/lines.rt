@@ -52,10 +52,7 @@ pub fn read_lines<E: Device, S: Asked>(
             Ok(()) => {}
             Err(refusal) => return Err(FlxRefusal::Rt(refusal)),
         }
-        match write_lines(lines, &block, out, service, by) {
-            Ok(()) => {}
-            Err(refusal) => return Err(refusal),
-        }
+        write_lines(lines, &block, out, service, by)?;
     }
     Ok(())
 }
@@ -69,15 +66,13 @@ fn flush<S: Asked>(out: &mut Filling, service: &mut S, by: &Asker) -> Result<u32
     ensures fails { IfErr result (λ e. FailsToFlush S.service (who_asks by.now.task by.now.uic)
         by.now.lun (out_of out.old) e service.old service.new) }
 {
-    let end = out.place * 512 + out.to as u32;
+    let end = out.place * BLOCK_SIZE as u32 + out.to as u32;
     if out.to == 0 {
         return Ok(end);
     }
     clear(&mut out.block, out.to);
-    match give(out, service, by) {
-        Ok(()) => Ok(end),
-        Err(refusal) => Err(refusal),
-    }
+    give(out, service, by)?;
+    Ok(end)
 }
 
 /// Ends the text, and writes the rest of its blocks.
@@ -99,10 +94,7 @@ pub fn end_lines<S: Asked>(
         Ok(()) => {}
         Err(_) => return Err(FlxRefusal::LineTooLong),
     }
-    match write_lines(lines, &[], out, service, by) {
-        Ok(()) => {}
-        Err(refusal) => return Err(refusal),
-    }
+    write_lines(lines, &[], out, service, by)?;
     match flush(out, service, by) {
         Ok(end) => Ok(Extent {
             blocks: out.place,

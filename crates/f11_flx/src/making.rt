@@ -32,10 +32,7 @@ fn copy_file<E: Device, S: Asked>(
         rt.old rt.new service.old service.new) }
 {
     match mode {
-        CopyMode::Image => match copy_image(rt, name, source, service, by) {
-            Ok(()) => Ok(()),
-            Err(refusal) => Err(refusal),
-        },
+        CopyMode::Image => copy_image(rt, name, source, service, by),
         CopyMode::Text => match copy_lines(rt, name, source, service, by) {
             Ok(_) => Ok(()),
             Err(refusal) => Err(refusal),
@@ -63,10 +60,7 @@ fn fill<E: Device, S: Asked>(
         Ok(()) => {}
         Err(refusal) => return Err(FlxRefusal::Files(refusal)),
     }
-    match copy_file(rt, name, plan.source, mode, service, by) {
-        Ok(()) => {}
-        Err(refusal) => return Err(refusal),
-    }
+    copy_file(rt, name, plan.source, mode, service, by)?;
     match ask(service, by, Request::Deaccess(by.lun)) {
         Ok(_) => Ok(()),
         Err(refusal) => Err(FlxRefusal::Files(refusal)),

@@ -62,12 +62,6 @@ pub fn copy_lines<E: Device, S: Asked>(
 {
     let mut lines = ToRecords::new();
     let mut out = Filling::new();
-    match read_lines(rt, name, many, &mut lines, &mut out, service, by) {
-        Ok(()) => {}
-        Err(refusal) => return Err(refusal),
-    }
-    match end_lines(&mut lines, &mut out, service, by) {
-        Ok(extent) => Ok(extent),
-        Err(refusal) => Err(refusal),
-    }
+    read_lines(rt, name, many, &mut lines, &mut out, service, by)?;
+    end_lines(&mut lines, &mut out, service, by)
 }

@@ -18,14 +18,10 @@ fn give<T: Takes>(out: &mut Filling, target: &mut T, name: &RtName) -> Result<()
     ensures refused { IfErr result (λ e. T.refused name.now out.old.place out.old.block e
         target.old target.new) }
 {
-    match target.take(name, out.place, &out.block) {
-        Ok(()) => {
-            out.place += 1;
-            out.to = 0;
-            Ok(())
-        }
-        Err(refusal) => Err(refusal),
-    }
+    target.take(name, out.place, &out.block)?;
+    out.place += 1;
+    out.to = 0;
+    Ok(())
 }
 
 /// Converts bytes of a file into blocks for the target, and gives it those that are full.
@@ -57,9 +53,6 @@ pub fn pour<T: Takes>(
         if out.to < BLOCK_SIZE {
             return Ok(());
         }
-        match give(out, target, name) {
-            Ok(()) => {}
-            Err(refusal) => return Err(refusal),
-        }
+        give(out, target, name)?;
     }
 }

@@ -11,10 +11,8 @@ pub fn find<E: Device>(rt: &mut RtAccepted<E>, name: &RtName) -> Result<u16, RtR
     ensures found { IfOk result (λ blocks. FindsRtFile E.disk name.now blocks rt.old rt.new) }
     ensures refused { IfErr result (λ e. FindsNoRtFile E.disk name.now e rt.old rt.new) }
 {
-    match rt.find(name) {
-        Ok((_, blocks)) => Ok(blocks),
-        Err(refusal) => Err(refusal),
-    }
+    let (_, blocks) = rt.find(name)?;
+    Ok(blocks)
 }
 
 /// Reads the block at a place of the file, from 0.

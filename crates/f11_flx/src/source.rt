@@ -45,12 +45,10 @@ fn attributes<S: Asked>(service: &mut S, by: &Asker, source: FileId) -> Result<[
     ensures fails { IfErr result (λ e. Fails S.service (who_asks by.now.task by.now.uic) is_attr
         (request.ReadAttr source) e service.old service.new) }
 {
-    match ask(service, by, Request::ReadAttr(source)) {
-        Ok(reply) => match attributes_in(reply) {
-            Some(attr) => Ok(attr),
-            None => Err(Refusal::Damaged),
-        },
-        Err(refusal) => Err(refusal),
+    let reply = ask(service, by, Request::ReadAttr(source))?;
+    match attributes_in(reply) {
+        Some(attr) => Ok(attr),
+        None => Err(Refusal::Damaged),
     }
 }
 
@@ -62,13 +60,9 @@ pub fn look<S: Asked>(service: &mut S, by: &Asker, source: FileId) -> Result<Sou
     ensures fails { IfErr result (λ e. TellsNothing S.service (who_asks by.now.task by.now.uic)
         by.now.lun source e service.old service.new) }
 {
-    match attributes(service, by, source) {
-        Ok(attr) => match length(service, by) {
-            Ok(blocks) => Ok(Source { attr, blocks }),
-            Err(refusal) => Err(refusal),
-        },
-        Err(refusal) => Err(refusal),
-    }
+    let attr = attributes(service, by, source)?;
+    let blocks = length(service, by)?;
+    Ok(Source { attr, blocks })
 }
 
 /// Copies the text of the file that is accessed: how many blocks the copy has.
@@ -90,10 +84,7 @@ pub fn copy_lines<S: Asked, T: Takes>(
     match ToText::new(&source.attr, source.blocks) {
         Ok(text) => {
             let count = image_blocks(&source.attr, source.blocks);
-            match copy_text(service, by, text, count, target, name) {
-                Ok(blocks) => Ok(blocks),
-                Err(refusal) => Err(refusal),
-            }
+            copy_text(service, by, text, count, target, name)
         }
         Err(_) => Err(FlxRefusal::BadRecord),
     }
@@ -117,16 +108,11 @@ pub fn copy<S: Asked, T: Takes>(
         service.old service.new target.old target.new) }
 {
     match mode {
-        CopyMode::Text => match copy_lines(service, by, source, target, name) {
-            Ok(blocks) => Ok(blocks),
-            Err(refusal) => Err(refusal),
-        },
+        CopyMode::Text => copy_lines(service, by, source, target, name),
         CopyMode::Image => {
             let count = image_blocks(&source.attr, source.blocks);
-            match copy_blocks(service, by, count, target, name) {
-                Ok(()) => Ok(count),
-                Err(refusal) => Err(refusal),
-            }
+            copy_blocks(service, by, count, target, name)?;
+            Ok(count)
         }
     }
 }

@@ -36,10 +36,8 @@ pub fn make_file<E: Device>(
     // So that the proof knows that the words are those of a name.
     let _ = name.words();
     let length = blocks as u16;
-    match rt.create(name, length, date) {
-        Ok(()) => Ok(length),
-        Err(refusal) => Err(refusal),
-    }
+    rt.create(name, length, date)?;
+    Ok(length)
 }
 
 /// Why no file of over 65,535 blocks is made.

@@ -96,10 +96,7 @@ fn count<S: Asked>(
         CopyMode::Image => Ok(image_blocks(&source.attr, source.blocks)),
         CopyMode::Text => {
             let mut nowhere = Nowhere;
-            match copy_lines(service, by, source, &mut nowhere, name) {
-                Ok(count) => Ok(count),
-                Err(refusal) => Err(refusal),
-            }
+            copy_lines(service, by, source, &mut nowhere, name)
         }
     }
 }
@@ -154,14 +151,9 @@ fn copy_locked<S: Asked, E: Device>(
         Ok(source) => source,
         Err(refusal) => return Err(FlxRefusal::Files(refusal)),
     };
-    let count = match count(service, by, &source, mode, name) {
-        Ok(count) => count,
-        Err(refusal) => return Err(refusal),
-    };
-    match fill(service, by, &source, mode, rt, name, count, date) {
-        Ok(()) => Ok(count),
-        Err(refusal) => Err(refusal),
-    }
+    let count = count(service, by, &source, mode, name)?;
+    fill(service, by, &source, mode, rt, name, count, date)?;
+    Ok(count)
 }
 
 /// Copies a file: how many blocks the copy has.

@@ -27,12 +27,7 @@ pub fn copy_from<E: Device, S: Asked>(
         (who_asks by.now.task by.now.uic) by.now.lun name.now entry.now.dir entry.now.name
         entry.now.protection e rt.old rt.new service.old service.new) }
 {
-    let plan = match judge(rt, name, mode, by) {
-        Ok(plan) => plan,
-        Err(refusal) => return Err(refusal),
-    };
-    match make(rt, name, mode, &plan, service, by, entry) {
-        Ok(()) => Ok(plan.blocks),
-        Err(refusal) => Err(refusal),
-    }
+    let plan = judge(rt, name, mode, by)?;
+    make(rt, name, mode, &plan, service, by, entry)?;
+    Ok(plan.blocks)
 }

@@ -21,14 +21,10 @@ pub fn give<S: Asked>(out: &mut Filling, service: &mut S, by: &Asker) -> Result<
     ensures refused { IfErr result (λ e. Denies S.service (who_asks by.now.task by.now.uic)
         (writes by.now.lun (suc out.old.place) out.old.block) e service.old service.new) }
 {
-    match write(service, by, out.place + 1, &mut out.block) {
-        Ok(()) => {
-            out.place += 1;
-            out.to = 0;
-            Ok(())
-        }
-        Err(refusal) => Err(refusal),
-    }
+    write(service, by, out.place + 1, &mut out.block)?;
+    out.place += 1;
+    out.to = 0;
+    Ok(())
 }
 
 /// Converts bytes of a text into blocks of the file, and writes those that are full.

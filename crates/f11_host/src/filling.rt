@@ -30,7 +30,7 @@ fn write_bytes<R: Read, S: Asked>(
     let mut block = [0; BLOCK_SIZE];
     let mut left = bytes;
     for place in 0..blocks {
-        let count = left.min(512);
+        let count = left.min(BLOCK_SIZE as u32);
         match read_piece(host, count as usize, &mut block) {
             Ok(()) => {}
             Err(_) => return Err(FlxRefusal::BadRecord),
@@ -59,15 +59,12 @@ pub fn fill<R: Read, S: Asked>(
         (who_asks by.now.task by.now.uic) by.now.lun bytes e (host_file (R.remaining host.old) [])
         (host_file (R.remaining host.new) taken) service.old service.new) }
 {
-    let blocks = bytes.div_ceil(512);
+    let blocks = bytes.div_ceil(BLOCK_SIZE as u32);
     match extend(service, by, blocks) {
         Ok(()) => {}
         Err(refusal) => return Err(FlxRefusal::Files(refusal)),
     }
-    match write_bytes(host, bytes, blocks, service, by) {
-        Ok(()) => {}
-        Err(refusal) => return Err(refusal),
-    }
+    write_bytes(host, bytes, blocks, service, by)?;
     match ask(service, by, Request::Deaccess(by.lun)) {
         Ok(_) => Ok(()),
         Err(refusal) => Err(FlxRefusal::Files(refusal)),

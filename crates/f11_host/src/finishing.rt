@@ -28,12 +28,6 @@ pub fn finish<S: Asked>(
         (entry_of (as_stated entry.now.name entry.now.dir entry.now.protection first attr blocks) id) e
         service.old service.new) }
 {
-    match ask(service, by, Request::WriteAttr(id, Change::Attr(attr))) {
-        Ok(_) => {}
-        Err(refusal) => return Err(refusal),
-    }
-    match enter(service, by, entry, id) {
-        Ok(()) => Ok(()),
-        Err(refusal) => Err(refusal),
-    }
+    ask(service, by, Request::WriteAttr(id, Change::Attr(attr)))?;
+    enter(service, by, entry, id)
 }

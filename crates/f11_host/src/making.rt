@@ -8,6 +8,7 @@ ghost use Rattle.f11_host.specs.Pieces.{blocks_for};
 
 use crate::filling::fill;
 use crate::finishing::finish;
+use f11_bytes::BLOCK_SIZE;
 use f11_flx::{FlxRefusal, image_attributes_to, undo};
 use f11_making::{Asked, Asker, Entry, ask, create};
 use f11_store::{FileId, Mode, Request};
@@ -63,7 +64,7 @@ pub fn make<R: Read, S: Asked>(
         (host_file (R.remaining host.old) []) (host_file (R.remaining host.new) taken)
         service.old service.new)) }
 {
-    let blocks = bytes.div_ceil(512);
+    let blocks = bytes.div_ceil(BLOCK_SIZE as u32);
     let first = image_attributes_to(blocks, 0);
     let id = match create(service, by, &entry.name, first) {
         Ok(id) => id,

@@ -39,16 +39,13 @@ fn read_text<R: Read, S: Asked>(
     let mut cr = false;
     let mut left = bytes;
     while left > 0 {
-        let count = left.min(512);
+        let count = left.min(BLOCK_SIZE as u32);
         match read_piece(host, count as usize, &mut block) {
             Ok(()) => {}
             Err(_) => return Err(FlxRefusal::BadRecord),
         }
         cr = expand(&block, count as usize, cr, &mut text);
-        match write_lines(lines, &text, out, service, by) {
-            Ok(()) => {}
-            Err(refusal) => return Err(refusal),
-        }
+        write_lines(lines, &text, out, service, by)?;
         left -= count;
     }
     Ok(())
@@ -71,14 +68,8 @@ pub fn copy_text<R: Read, S: Asked>(
 {
     let mut lines = ToRecords::new();
     let mut out = Filling::new();
-    match read_text(host, bytes, &mut lines, &mut out, service, by) {
-        Ok(()) => {}
-        Err(refusal) => return Err(refusal),
-    }
-    match end_lines(&mut lines, &mut out, service, by) {
-        Ok(extent) => Ok(extent),
-        Err(refusal) => Err(refusal),
-    }
+    read_text(host, bytes, &mut lines, &mut out, service, by)?;
+    end_lines(&mut lines, &mut out, service, by)
 }
 
 /// Walks over a text of so many bytes that the host gives: what its copy is.

@@ -81,10 +81,7 @@ fn fill_text<R: Read, S: Asked>(
         Ok(()) => {}
         Err(refusal) => return Err(FlxRefusal::Files(refusal)),
     }
-    match copy_again(host, bytes, plan, service, by) {
-        Ok(()) => {}
-        Err(refusal) => return Err(refusal),
-    }
+    copy_again(host, bytes, plan, service, by)?;
     match ask(service, by, Request::Deaccess(by.lun)) {
         Ok(_) => Ok(()),
         Err(refusal) => Err(FlxRefusal::Files(refusal)),

@@ -6,7 +6,7 @@ ghost use Rattle.f11_map.specs.HeaderBlock.{blocks_named};
 ghost use Rattle.f11_index.specs.IndexFile.{most_slots};
 ghost use Rattle.f11_index.specs.Walk.{lbn_due, first_place, FitFrom, AddsTo, AddsIf};
 
-use f11_bytes::{Block, NoMemory};
+use f11_bytes::{BLOCK_BITS, Block, NoMemory};
 use f11_home::Home;
 use f11_map::in_hand::map;
 use std::alloc::Global;
@@ -93,7 +93,7 @@ impl Blocks {
 pub(crate) fn most_slots(home: &Home) -> u32
     ensures { result ≡ most_slots home.now }
 {
-    (4096 * u32::from(home.index_blocks())).min(65535)
+    (BLOCK_BITS * u32::from(home.index_blocks())).min(65535)
 }
 
 /// Whether these blocks are where they should be, those of them that are among the first of an index file.

@@ -1,5 +1,6 @@
 -- Laws of plans: parts of them, and the volume seen as the plain store.
 use Rattle.std.proofs.Common.{◌≡◌, inl, inr, not, Bool, true, false, if◌then◌else◌, Result, Ok, Err, refl, sym, ap, ◌∙◌, subst}
+use Rattle.std.specs.Prelude.{IsErrAnd}
 use Rattle.f11_store.specs.Store.{Store}
 use Rattle.f11_store.specs.declared.refusals.Refusal.{Refusal}
 use Rattle.f11_store.specs.declared.requests.Request.{Request}
@@ -26,6 +27,14 @@ module _ {V : Type 0} (S : FilesService V) (who : Who) where
   goes-parts (gives z) on y v u h = (z, v, (refl, refl), h)
   goes-parts (asking q more) on y v u h =
       let rest = goes-parts (more h.0) on y h.1 u h.3 in (rest.0, rest.1, (h.0, h.1, h.2, rest.2), rest.3)
+
+  -- where the first part is refused nothing follows
+  pub refused-first : {T U : Type 0} (p : FilesPlan (Result T Refusal)) (on : T → FilesPlan (Result U Refusal)) (r : Result U Refusal)
+      (e : Refusal) (v w : V) → Carried S who p (Err e) v w → IsErrAnd r (λ x. x ≡ e) → Carried S who (if_granted p on) r v w
+  refused-first p on (Ok y) e v w h is = absurd is
+  refused-first p on (Err y) e v w h is =
+      subst (λ x. Carried S who (if_granted p on) (Err x) v w) (sym is)
+      (goes-then p (on_ok on) (Err e) (Err e) v w w h (refl, refl))
 
   -- what undoes something was granted, or refused
   pub undone-granted : (T : Type 0) (r : Request) (e : Refusal) (v w : V) → is_fatal e ≡ false → Grants S who (asks r) v w

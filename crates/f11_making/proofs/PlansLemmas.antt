@@ -1,39 +1,63 @@
 -- Each plan is tidy.
-use Rattle.std.proofs.Common.{refl, ℕ, List}
+use Rattle.std.proofs.Common.{refl, ℕ, List, Result}
 use Rattle.f11_store.specs.Ident.{ident_with}
 use Rattle.f11_store.specs.declared.files.FileId.{FileId}
 use Rattle.f11_store.specs.declared.files.Change.TheVariants as change
 use Rattle.f11_store.specs.declared.requests.Request.TheVariants as request
 use Rattle.f11_making.specs.Carrying.{IsFitting}
-use Rattle.f11_making.specs.Plans.{deletes, enters, makes_empty, renames}
-use Rattle.f11_making.specs.FilesPlan.{done, if_granted, names, one, or_undone}
+use Rattle.f11_making.specs.Actions.{plan_of, within}
+use Rattle.f11_making.specs.Plans.{deletes, enters, makes_empty, moves, protects, removes, renames, sets}
+use Rattle.f11_making.specs.FilesPlan.{FilesPlan, Question, done, if_granted, names, one, or_undone}
+use Rattle.f11_making.specs.declared.action.Action.{Action}
+use Rattle.f11_making.specs.declared.action.Action.TheVariants as action
+use Rattle.f11_store.specs.declared.refusals.Refusal.{Refusal}
 use Rattle.f11_making.specs.Telling.{IsTidy}
 use Rattle.f11_making.proofs.PlanLemmas.{clean-if, clean-one, clean-undone}
 
-clean-removal : (dir : FileId) (name : List ℕ) (id : FileId)
-    → IsTidy IsFitting (if_granted (one (done (request.Remove dir name)))
-    (λ x. or_undone (request.Enter dir name id) (one (done (request.Delete id)))))
-clean-removal dir name id =
-    clean-if IsFitting (one (done (request.Remove dir name))) (λ x. or_undone (request.Enter dir name id) (one (done (request.Delete id))))
-    (clean-one IsFitting (done (request.Remove dir name)) tt) (λ x.
-    clean-undone IsFitting (request.Enter dir name id) (one (done (request.Delete id))) tt
-    (clean-one IsFitting (done (request.Delete id)) tt))
+module _ (P : Question → Type 0) where
+  pub tidy-removal : (dir : FileId) (name : List ℕ) (id : FileId) → P (done (request.Remove dir name))
+      → P (done (request.Enter dir name id))
+      → P (done (request.Delete id)) → IsTidy P (removes dir name id)
+  tidy-removal dir name id remove enter delete =
+      clean-if P (one (done (request.Remove dir name)))
+      (λ x. or_undone (request.Enter dir name id) (one (done (request.Delete id)))) (clean-one P (done (request.Remove dir name)) remove)
+      (λ x. clean-undone P (request.Enter dir name id) (one (done (request.Delete id))) enter
+      (clean-one P (done (request.Delete id)) delete))
 
-pub clean-deletes : (dir : FileId) (name : List ℕ) → IsTidy IsFitting (deletes dir name)
-clean-deletes dir name =
-    clean-if IsFitting (one (names (request.Find dir name))) (λ id.
-    if_granted (one (done (request.Remove dir name))) (λ x. or_undone (request.Enter dir name id) (one (done (request.Delete id)))))
-    (clean-one IsFitting (names (request.Find dir name)) refl) (λ id. clean-removal dir name id)
+  pub tidy-renaming : (dir : FileId) (old : List ℕ) (to : FileId) (new : List ℕ) (id : FileId) → P (done (request.Enter to new id))
+      → P (done (request.Remove to new)) → P (done (request.Remove dir old)) → IsTidy P (moves dir old to new id)
+  tidy-renaming dir old to new id enter back remove =
+      clean-if P (one (done (request.Enter to new id))) (λ x. or_undone (request.Remove to new) (one (done (request.Remove dir old))))
+      (clean-one P (done (request.Enter to new id)) enter)
+      (λ x. clean-undone P (request.Remove to new) (one (done (request.Remove dir old))) back
+      (clean-one P (done (request.Remove dir old)) remove))
 
-pub clean-renames : (dir : FileId) (old : List ℕ) (to : FileId) (new : List ℕ) → IsTidy IsFitting (renames dir old to new)
+-- a look for a name, and then this
+behind-find : (dir : FileId) (name : List ℕ) (on : FileId → FilesPlan (Result (Unit {0}) Refusal))
+    → ((id : FileId) → IsTidy IsFitting (on id)) → IsTidy IsFitting (if_granted (one (names (request.Find dir name))) on)
+behind-find dir name on tidy =
+    clean-if IsFitting (one (names (request.Find dir name))) on (clean-one IsFitting (names (request.Find dir name)) refl) tidy
+
+clean-deletes : (dir : FileId) (name : List ℕ) → IsTidy IsFitting (deletes dir name)
+clean-deletes dir name = behind-find dir name (λ id. removes dir name id) (λ id. tidy-removal IsFitting dir name id tt tt tt)
+
+clean-renames : (dir : FileId) (old : List ℕ) (to : FileId) (new : List ℕ) → IsTidy IsFitting (renames dir old to new)
 clean-renames dir old to new =
-    clean-if IsFitting (one (names (request.Find dir old))) (λ id.
-    if_granted (one (done (request.Enter to new id))) (λ x. or_undone (request.Remove to new) (one (done (request.Remove dir old)))))
-    (clean-one IsFitting (names (request.Find dir old)) refl) (λ id.
-    clean-if IsFitting (one (done (request.Enter to new id))) (λ x. or_undone (request.Remove to new) (one (done (request.Remove dir old))))
-    (clean-one IsFitting (done (request.Enter to new id)) tt) (λ x.
-    clean-undone IsFitting (request.Remove to new) (one (done (request.Remove dir old))) tt
-    (clean-one IsFitting (done (request.Remove dir old)) tt)))
+    behind-find dir old (λ id. moves dir old to new id) (λ id. tidy-renaming IsFitting dir old to new id tt tt tt)
+
+clean-protects : (dir : FileId) (name : List ℕ) (protection : ℕ) → IsTidy IsFitting (protects dir name protection)
+clean-protects dir name protection =
+    behind-find dir name (λ id. sets id protection)
+    (λ id. clean-one IsFitting (done (request.WriteAttr id (change.Protect protection))) tt)
+
+pub clean-action : (master : FileId) (a : Action) → IsTidy IsFitting (plan_of master a)
+clean-action master (action.Delete directory name) =
+    behind-find master directory (λ dir. deletes dir name) (λ dir. clean-deletes dir name)
+clean-action master (action.Rename directory name to new) =
+    behind-find master directory (λ dir. within master to (λ into. renames dir name into new)) (λ dir.
+    behind-find master to (λ into. renames dir name into new) (λ into. clean-renames dir name into new))
+clean-action master (action.Protect directory name protection) =
+    behind-find master directory (λ dir. protects dir name protection) (λ dir. clean-protects dir name protection)
 
 clean-enters : (dir : FileId) (name : List ℕ) (protection : ℕ) (id : FileId) → IsTidy IsFitting (enters dir name protection id)
 clean-enters dir name protection id =

@@ -1,3 +1,4 @@
+pub mod Actions
 pub mod Asking
 pub mod AsksFor
 pub mod AsBefore
@@ -9,6 +10,7 @@ pub mod Making
 pub mod Plan
 pub mod Plans
 pub mod Seen
+pub mod Sparing
 pub mod Telling
 pub mod Volume
 pub use Rattle.f11_fcp.specs.files as files

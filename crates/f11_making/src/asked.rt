@@ -69,10 +69,8 @@ pub fn read<S: Asked>(
     ensures denied { IfErr result (λ e. Denies S.service (who_asks by.now.task by.now.uic)
         (reads by.now.lun vbn block.new) e service.old service.new) }
 {
-    match service.serve(by.task, by.uic, &Request::ReadBlock(by.lun, vbn), block) {
-        Ok(_) => Ok(()),
-        Err(refusal) => Err(refusal),
-    }
+    service.serve(by.task, by.uic, &Request::ReadBlock(by.lun, vbn), block)?;
+    Ok(())
 }
 
 /// Writes the block at a VBN of the file that is accessed. What the block is then isn't known.
@@ -92,10 +90,8 @@ pub fn write<S: Asked>(
     ensures denied { IfErr result (λ e. Denies S.service (who_asks by.now.task by.now.uic)
         (writes by.now.lun vbn block.old) e service.old service.new) }
 {
-    match service.serve(by.task, by.uic, &Request::WriteBlock(by.lun, vbn), block) {
-        Ok(_) => Ok(()),
-        Err(refusal) => Err(refusal),
-    }
+    service.serve(by.task, by.uic, &Request::WriteBlock(by.lun, vbn), block)?;
+    Ok(())
 }
 
 /// How many blocks the file has that is accessed.

@@ -3,18 +3,21 @@
 //! Requests are asked of a volume, or of whatever else answers them ([`Asked`]): [`ask`] asks one, [`read`], [`write`] and [`length`] those
 //! on the file that is accessed. What makes a file from any source asks by the same steps: [`create`], [`extend`] and [`enter`].
 //!
-//! What is done to a file by its name, [`delete`] and [`rename`], and an empty file, [`make`], is said by the plan of what it asks: a tree of
-//! questions, each by the answers before.
+//! What is done to a file by its name, an [`Action`], and an empty file, [`make`], is said by the plan of what it asks: a tree of questions,
+//! each by the answers before. [`carry_out`] does it on a volume.
 #![tactic(auto)]
 
+mod action;
 mod asked;
+pub mod laws;
 mod making;
 mod named;
 mod plans;
 mod steps;
 mod volume;
 
+pub use action::Action;
 pub use asked::{Asked, Asker, ask, length, read, write};
 pub use f11_fcp;
 pub use making::{Entry, create, enter, extend};
-pub use named::{delete, make, rename};
+pub use named::{carry_out, make};

@@ -61,10 +61,8 @@ pub fn extend<S: Asked>(service: &mut S, by: &Asker, blocks: u32) -> Result<(), 
     if blocks == 0 {
         return Ok(());
     }
-    match ask(service, by, Request::Extend(by.lun, blocks)) {
-        Ok(_) => Ok(()),
-        Err(refusal) => Err(refusal),
-    }
+    ask(service, by, Request::Extend(by.lun, blocks))?;
+    Ok(())
 }
 
 /// Enters the file into the directory, and protects it.
@@ -87,13 +85,8 @@ pub fn enter<S: Asked>(
         (entry_of (as_file entry.now.name entry.now.dir entry.now.protection attr blocks) id) e
         service.old service.new) }
 {
-    match ask(service, by, Request::Enter(entry.dir, entry.name, id)) {
-        Ok(_) => {}
-        Err(refusal) => return Err(refusal),
-    }
+    ask(service, by, Request::Enter(entry.dir, entry.name, id))?;
     let protect = Change::Protect(entry.protection);
-    match ask(service, by, Request::WriteAttr(id, protect)) {
-        Ok(_) => Ok(()),
-        Err(refusal) => Err(refusal),
-    }
+    ask(service, by, Request::WriteAttr(id, protect))?;
+    Ok(())
 }

@@ -1,56 +1,43 @@
 //! What is done to a file of a volume by its name.
 ghost use Rattle.f11_making.specs.Asking.{who_asks};
+ghost use Rattle.f11_making.specs.Actions.{plan_of};
 ghost use Rattle.f11_making.specs.Carrying.{Carries};
-ghost use Rattle.f11_making.specs.Plans.{deletes, makes_empty, renames};
+ghost use Rattle.f11_making.specs.Plans.{makes_empty};
 
+use crate::action::Action;
 use crate::asked::Asker;
-use crate::plans::{delete_file, make_empty, rename_file};
+use crate::plans::{act, make_empty};
 use f11_dev::Device;
 use f11_fcp::Volume;
 use f11_rad50::Name;
 use f11_store::{FileId, Refusal};
 
-/// Deletes the file that a directory has under a name: its name is removed first, and entered again where the file can't be deleted.
+/// Does to a file what is to be done, where `master` is the directory that has the others.
+///
+/// A deletion removes the name first, and enters it again where the file can't be deleted. A file that is renamed gets its new name first,
+/// which is removed again where the old one can't be; its own header keeps the name that it was created with, since no request changes that.
 ///
 /// # Errors
 ///
-/// The refusal of the first request that is refused: of the look for the name, of its removal, or of the deletion; or a device fault or
+/// The refusal of the first request that is refused: of the look for a directory or the name, or of what is done then; or a device fault or
 /// `Damaged` that was met in undoing.
-pub fn delete<D: Device>(
+pub fn carry_out<D: Device>(
     vol: &mut Volume<D>,
     by: &Asker,
-    dir: FileId,
-    name: &Name,
+    master: FileId,
+    action: &Action,
 ) -> Result<(), Refusal>
-    ensures carries { Carries (who_asks by.now.task by.now.uic) (deletes dir name.now) result vol.old vol.new }
+    ensures carries { Carries (who_asks by.now.task by.now.uic) (plan_of master action.now) result
+        vol.old vol.new }
 {
-    delete_file(vol, by, dir, name)
-}
-
-/// Renames a file, within a directory or to another: it gets its new name first, which is removed again where the old one can't be. Its own
-/// header keeps the name that it was created with.
-///
-/// # Errors
-///
-/// As of [`delete`]: of the look for the old name, of the entry of the new one, or of the old one's removal.
-pub fn rename<D: Device>(
-    vol: &mut Volume<D>,
-    by: &Asker,
-    dir: FileId,
-    old: &Name,
-    to: FileId,
-    new: &Name,
-) -> Result<(), Refusal>
-    ensures carries { Carries (who_asks by.now.task by.now.uic) (renames dir old.now to new.now) result vol.old vol.new }
-{
-    rename_file(vol, by, dir, old, to, new)
+    act(vol, by, master, action)
 }
 
 /// Makes a file without blocks: created, entered and protected; it is deleted where its name can't be entered.
 ///
 /// # Errors
 ///
-/// As of [`delete`]: of the creation, of the entry, or of the protection.
+/// As of [`carry_out`]: of the creation, of the entry, or of the protection.
 pub fn make<D: Device>(
     vol: &mut Volume<D>,
     by: &Asker,

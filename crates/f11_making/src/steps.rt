@@ -16,10 +16,8 @@ pub fn ask_done<S: Asked>(service: &mut S, by: &Asker, request: Request) -> Resu
     ensures goes { Carried S.service (who_asks by.now.task by.now.uic) (one (done request)) result
         service.old service.new }
 {
-    match ask(service, by, request) {
-        Ok(_) => Ok(()),
-        Err(refusal) => Err(refusal),
-    }
+    ask(service, by, request)?;
+    Ok(())
 }
 
 /// Asks which file the reply to a request names, which creates or finds one.
@@ -31,12 +29,10 @@ pub fn ask_file<S: Asked>(service: &mut S, by: &Asker, request: Request) -> Resu
     ensures goes { Carried S.service (who_asks by.now.task by.now.uic) (one (names request)) result
         service.old service.new }
 {
-    match ask(service, by, request) {
-        Ok(reply) => match file_in(&request, &reply) {
-            Some(id) => Ok(id),
-            None => Err(Refusal::Damaged),
-        },
-        Err(refusal) => Err(refusal),
+    let reply = ask(service, by, request)?;
+    match file_in(&request, &reply) {
+        Some(id) => Ok(id),
+        None => Err(Refusal::Damaged),
     }
 }
 

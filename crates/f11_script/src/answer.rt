@@ -11,7 +11,7 @@ ghost use Rattle.f11_script.specs.Answers as specs;
 ghost use Rattle.f11_script.specs.Pieces.{PutsUpTo};
 
 use crate::text::{Text, put, put_number, put_octal};
-use f11_bytes::{read_long, read_word};
+use f11_bytes::{Block, read_long, read_word};
 use f11_rad50::Name;
 use f11_store::{Attr, FileId, Refusal, Reply, Request, Uic, name_words};
 
@@ -53,7 +53,7 @@ fn put_hex(text: &mut Text, bytes: &[u8])
 }
 
 /// Puts a block in hex up to its last byte that isn't 0, and `-` for a block of zeros.
-fn put_data(text: &mut Text, block: &[u8; 512])
+fn put_data(text: &mut Text, block: &Block)
     requires { length text.old.items + 1024 ≤ 1040 }
     ensures { PutsUpTo 1024 text.old.items text.new.items (specs.data_text block.now) }
 {
@@ -209,7 +209,7 @@ fn put_space(text: &mut Text, free: u32, headers: u32, slots: u32)
 }
 
 /// Puts the answer where nothing is told but that the request is done.
-fn put_done(text: &mut Text, request: &Request, block: &[u8; 512])
+fn put_done(text: &mut Text, request: &Request, block: &Block)
     requires { length text.old.items + 1032 ≤ 1040 }
     ensures { PutsUpTo 1032 text.old.items text.new.items
         (specs.done_text request.now block.now) }
@@ -223,7 +223,7 @@ fn put_done(text: &mut Text, request: &Request, block: &[u8; 512])
 }
 
 /// Puts the text of a reply.
-fn put_reply(text: &mut Text, request: &Request, reply: &Reply, block: &[u8; 512])
+fn put_reply(text: &mut Text, request: &Request, reply: &Reply, block: &Block)
     requires { length text.old.items + 1032 ≤ 1040 }
     ensures { PutsUpTo 1032 text.old.items text.new.items
         (specs.reply_text request.now block.now reply.now) }
@@ -253,12 +253,7 @@ fn put_refusal(text: &mut Text, refusal: Refusal)
 }
 
 /// Puts the text of an answer.
-fn put_result(
-    text: &mut Text,
-    request: &Request,
-    answer: &Result<Reply, Refusal>,
-    block: &[u8; 512],
-)
+fn put_result(text: &mut Text, request: &Request, answer: &Result<Reply, Refusal>, block: &Block)
     requires { length text.old.items + 1032 ≤ 1040 }
     ensures { PutsUpTo 1032 text.old.items text.new.items
         (specs.answer_text request.now block.now answer.now) }
@@ -270,11 +265,7 @@ fn put_result(
 }
 
 /// The line of an answer.
-pub(crate) fn answer_line(
-    request: &Request,
-    answer: &Result<Reply, Refusal>,
-    block: &[u8; 512],
-) -> Text
+pub(crate) fn answer_line(request: &Request, answer: &Result<Reply, Refusal>, block: &Block) -> Text
     ensures { result.items ≡ specs.answer_line request.now block.now answer.now }
 {
     let mut text = Text::new();

@@ -7,6 +7,7 @@ ghost use Rattle.f11_script.specs.Lines as specs;
 use crate::fields;
 use crate::verb::Verb;
 use crate::words::Words;
+use f11_bytes::Block;
 use f11_store::{Request, Task, Uic};
 
 /// The most bytes of a line, without the line feed at its end and a carriage return before it.
@@ -47,7 +48,7 @@ pub enum Parsed {
 /// REMOVE d name         ATTR f                 PROTECT f word    SPACE
 /// SETATTR f rtyp ratt rsiz hibk efbk ffby
 /// ```
-pub fn parse(line: &[u8], block: &mut [u8; 512]) -> Parsed
+pub fn parse(line: &[u8], block: &mut Block) -> Parsed
     ensures exact { specs.line_parsed result block.new ≡ specs.line_of line.now block.old }
     ensures stays { specs.KeepsBlock result block.old block.new }
 {
@@ -72,7 +73,7 @@ fn is_comment(line: &[u8]) -> bool
 
 /// The request of a line's words.
 #[tactic(auto, unfolding(crate::specs::Lines::call_of))]
-fn call(words: Words<'_>, block: &mut [u8; 512]) -> Option<Parsed>
+fn call(words: Words<'_>, block: &mut Block) -> Option<Parsed>
     ensures exact { Gives (λ parsed. specs.line_parsed parsed block.new) result
         (option_map specs.request_line (specs.call_of (words_left words.entry) block.old)) }
     ensures stays { IfNone result (block.new ≡ block.old) }

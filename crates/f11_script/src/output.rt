@@ -6,6 +6,7 @@ ghost use Rattle.f11_script.specs.Answers.{AppendsSome, answer_line, bad_line_te
 
 use crate::answer::answer_line;
 use crate::errors::{ScriptError, TRIES};
+use f11_bytes::Block;
 use f11_store::{Refusal, Reply, Request};
 use std::io::{ErrorKind, Write};
 
@@ -22,7 +23,7 @@ pub fn reply<W: Write>(
     writer: &mut W,
     request: &Request,
     answer: &Result<Reply, Refusal>,
-    block: &[u8; 512],
+    block: &Block,
 ) -> Result<(), ScriptError>
     ensures done { OnOk result (Appends (W.contents writer.old) (W.contents writer.new)
         (answer_line request.now block.now answer.now)) }

@@ -5,6 +5,7 @@ ghost use Rattle.std.specs.Prelude.{◌≡◌, IfNone, IfSome};
 use crate::verb::Verb;
 use crate::words::Words;
 use crate::{areas, blocks, fields};
+use f11_bytes::Block;
 use f11_store::{Change, FileId, Mode, Request, ident_with};
 
 impl<'a> Words<'a> {
@@ -269,7 +270,7 @@ impl<'a> Words<'a> {
 
     /// `FILL lun vbn octal`
     #[tactic(auto, unfolding(crate::specs::Requests::fill_asks))]
-    fn fill(self, block: &mut [u8; 512]) -> Option<Request>
+    fn fill(self, block: &mut Block) -> Option<Request>
         ensures exact { Gives (λ r. (r, block.new)) result
             (with_block block.old (fill_asks (words_left self.entry))) }
         ensures stays { IfNone result (block.new ≡ block.old) }
@@ -287,7 +288,7 @@ impl<'a> Words<'a> {
 
     /// `WRITE lun vbn hex`
     #[tactic(auto, unfolding(crate::specs::Requests::write_asks))]
-    fn write(self, block: &mut [u8; 512]) -> Option<Request>
+    fn write(self, block: &mut Block) -> Option<Request>
         ensures exact { Gives (λ r. (r, block.new)) result
             (with_block block.old (write_asks (words_left self.entry))) }
         ensures stays { IfNone result (block.new ≡ block.old) }
@@ -305,7 +306,7 @@ impl<'a> Words<'a> {
 
     /// The request of a verb with these words behind it; the block becomes that of `FILL` and `WRITE`.
     #[tactic(auto, using(crate::proofs::AskLemmas::kept))]
-    pub(crate) fn request(self, verb: Verb, block: &mut [u8; 512]) -> Option<Request>
+    pub(crate) fn request(self, verb: Verb, block: &mut Block) -> Option<Request>
         ensures exact { Gives (λ r. (r, block.new)) result
             (with_block block.old (verb_asks verb (words_left self.entry))) }
         ensures stays { IfNone result (block.new ≡ block.old) }

@@ -4,7 +4,7 @@ ghost use Rattle.std.specs.Prelude.{◌≡◌};
 ghost use Rattle.f11_script.specs.Input.{left_of, number_read};
 ghost use Rattle.f11_serving.specs.Serving.{AnswersLine, ServesScript, place_of};
 
-use f11_bytes::Block;
+use f11_bytes::{BLOCK_SIZE, Block};
 use f11_making::Asked;
 use f11_script::{Line, Parsed, ScriptError, ScriptReader, bad_line, parse, reply};
 use std::io::{Read, Write};
@@ -31,10 +31,8 @@ fn answer_line<W: Write, S: Asked>(
             request,
         } => {
             let answer = service.serve(task, caller, &request, block);
-            match reply(writer, &request, &answer, block) {
-                Ok(()) => Ok(true),
-                Err(error) => Err(error),
-            }
+            reply(writer, &request, &answer, block)?;
+            Ok(true)
         }
     }
 }
@@ -61,7 +59,7 @@ pub fn serve_lines<R: Read, W: Write, S: Asked>(
         (W.contents writer.new) result }
 {
     let mut line = Line::new();
-    let mut block = [0; 512];
+    let mut block = [0; BLOCK_SIZE];
     let mut count = 0;
     loop {
         match script.read_line(&mut line) {
@@ -72,13 +70,9 @@ pub fn serve_lines<R: Read, W: Write, S: Asked>(
                 }
             }
         }
-        match answer_line(line.as_slice(), &mut block, writer, service) {
-            Err(error) => return Err(error),
-            Ok(asked) => {
-                if asked {
-                    count += 1;
-                }
-            }
+        let asked = answer_line(line.as_slice(), &mut block, writer, service)?;
+        if asked {
+            count += 1;
         }
     }
 }

@@ -1,19 +1,11 @@
 //! The index file.
 use f11_bytes::NoMemory;
 use f11_dev::Memory;
+use f11_fixtures::index::{header_lbn, load};
 use f11_fixtures::volumes::small_index_file;
-use f11_home::find;
 use f11_index::{IndexFault, IndexFile};
 use std::alloc::Global;
 use std::test::Fail;
-
-/// Finds the home block of a device, and loads its index file.
-fn load(alloc: Global, device: &mut Memory) -> Result<IndexFile, IndexFault> {
-    let Ok(home) = find(device) else {
-        return Err(IndexFault::DeviceFault);
-    };
-    IndexFile::load(alloc, device, &home)
-}
 
 /// Loads the index file, once more where there was no memory.
 fn loaded(alloc: Global, device: &mut Memory) -> Result<IndexFile, IndexFault> {
@@ -21,14 +13,6 @@ fn loaded(alloc: Global, device: &mut Memory) -> Result<IndexFile, IndexFault> {
         Err(IndexFault::NoMemory) => load(alloc, device),
         answer => answer,
     }
-}
-
-/// The LBN of header `n`, where there is such a slot.
-fn header_lbn(index: &IndexFile, n: u16) -> Option<u32> {
-    if n == 0 || u32::from(n) > index.slots() {
-        return None;
-    }
-    Some(index.lbn_of_header(n))
 }
 
 #[test]

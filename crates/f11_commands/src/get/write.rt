@@ -14,6 +14,7 @@ use crate::get::told::Told;
 use crate::ls::Served;
 use crate::outcome::{Answer, Failure};
 use crate::text::write_text;
+use f11_bytes::BLOCK_SIZE;
 use f11_dev::{Device, DeviceFault};
 use f11_flx::CopyMode;
 use f11_index::IndexFile;
@@ -62,7 +63,7 @@ pub fn write_file<D: Device, H: Write, W: Write>(
     } = found;
     let mut device = device;
     let limit = limit(mode, size, device.blocks());
-    match file.first_missing(&mut device, &index, end.div_ceil(512), limit) {
+    match file.first_missing(&mut device, &index, end.div_ceil(BLOCK_SIZE as u64), limit) {
         Ok(broke) => match write_as(mode, &mut device, &index, file, end, broke, host, writer) {
             Ok(answer) => (device, Ok(Served { answer, faulty })),
             Err(failure) => (device, Err(failure)),
@@ -106,10 +107,7 @@ fn write_as<D: Device, H: Write, W: Write>(
             Ok(()) => Ok(Answer::Done),
             Err(failure) => Err(failure),
         },
-        CopyMode::Text => match write_records(device, index, file, broke, host, writer) {
-            Ok(answer) => Ok(answer),
-            Err(failure) => Err(failure),
-        },
+        CopyMode::Text => write_records(device, index, file, broke, host, writer),
     }
 }
 
@@ -133,13 +131,8 @@ fn write_image<D: Device, H: Write, W: Write>(
         writer.old writer.new) }
 {
     let cut = end_before(end, broke);
-    match write_contents(device, index, file, cut, host) {
-        Ok(count) => match tell_zeros(device, index, file, cut, count, broke, writer) {
-            Ok(()) => Ok(()),
-            Err(failure) => Err(failure),
-        },
-        Err(failure) => Err(failure),
-    }
+    let count = write_contents(device, index, file, cut, host)?;
+    tell_zeros(device, index, file, cut, count, broke, writer)
 }
 
 /// Writes the line of a file of which so many bytes were given: it tells for which block before an end zeros were the first, if for any, and
@@ -161,7 +154,7 @@ fn tell_zeros<D: Device, W: Write>(
         (D.disk device.old) (D.disk device.new) writer.old writer.new) }
 {
     let blocks = device.blocks();
-    match file.first_missing(device, index, cut.div_ceil(512), blocks) {
+    match file.first_missing(device, index, cut.div_ceil(BLOCK_SIZE as u64), blocks) {
         Ok(zeros) => {
             let told = Told::Copied(count);
             let missing = ShownMissing { zeros, broke };

@@ -68,15 +68,13 @@ fn grow<D: Device>(volume: &mut Volume<D>, slots: u32) -> Result<(), Refusal>
         (asks (request.GrowIndex slots)) e volume.old volume.new) }
 {
     let mut block = [0; BLOCK_SIZE];
-    match volume.serve(
+    volume.serve(
         first_task(),
         OPERATOR,
         &Request::GrowIndex(slots),
         &mut block,
-    ) {
-        Ok(_) => Ok(()),
-        Err(refusal) => Err(refusal),
-    }
+    )?;
+    Ok(())
 }
 
 /// Asks for so many slots, where there are any. That they are refused is no failure: what needs them is refused itself then.

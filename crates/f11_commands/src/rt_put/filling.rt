@@ -34,7 +34,7 @@ pub(crate) fn fill<D: Device, R: Read>(
     let mut block = [0; BLOCK_SIZE];
     let mut left = bytes;
     for place in 0..blocks {
-        let count = left.min(512);
+        let count = left.min(BLOCK_SIZE as u64);
         match read_piece(host, count as usize, &mut block) {
             Ok(()) => {}
             Err(_) => return Err(Stop::Host),

@@ -3,7 +3,7 @@ use f11_bytes::Block;
 use f11_commands::f11_flx::f11_fcp::Volume;
 use f11_commands::f11_flx::{CopyMode, FlxRefusal, copy_from_rt, copy_to_rt};
 use f11_dev::{Device, DeviceFault, Memory};
-use f11_fixtures::f11_vfy::{Report, verify};
+pub use f11_fixtures::volumes::mounted;
 use f11_fixtures::{SYSTEM, ZEROS, file, memory, volumes};
 use f11_rad50::Name;
 use f11_store::{Lun, Mode, Refusal, Reply, Request, Task};
@@ -64,17 +64,6 @@ pub fn find<D: Device>(volume: &mut Volume<D>) -> Result<Reply, Refusal> {
     match Name::parse(b"A.TXT;1") {
         Ok(name) => ask(volume, Request::Find(file(4, 4), name)),
         Err(_) => Err(Refusal::Damaged),
-    }
-}
-
-/// Mounts the volume of a device.
-pub fn mounted<D: Device + Drop>(alloc: Global, device: D) -> Result<Volume<D>, Fail> {
-    let Ok(Report::Accepted(accepted, _)) = verify(alloc, device) else {
-        return Err(DeviceFault)?;
-    };
-    match Volume::mount(alloc, accepted) {
-        Ok(volume) => Ok(volume),
-        Err(_) => Err(DeviceFault)?,
     }
 }
 

@@ -34,7 +34,7 @@ use Rattle.f11_store.proofs.FileLaws.{made_id}
 use Rattle.f11_flx.proofs.Made.ApartLemmas.{apart-from, copy-is-none}
 use Rattle.f11_making.proofs.AskingLemmas.{granted-parts}
 use Rattle.f11_flx.proofs.Made.EnteredLemmas.{new-stated}
-use Rattle.f11_flx.proofs.Made.GainedLemmas.{enters-from, index-stays, index-then, not-index, ready-slots}
+use Rattle.f11_making.proofs.GainedLemmas.{enters-from, index-stays, index-then, not-index, ready-slots}
 use Rattle.f11_flx.proofs.Made.NewLemmas.{IsNewIn, IsOpenIn, closed, given-back, holds, length-zeros, new-made, written}
 use Rattle.f11_flx.proofs.FromRt.UndoneLemmas.{extension-stays, writes-stay}
 

@@ -24,7 +24,7 @@ use Rattle.f11_store.proofs.StoreLemmas.{same_number}
 use Rattle.f11_runs.proofs.AccessLemmas.{there-file}
 use Rattle.f11_making.specs.Asking.{BreaksOffAsking, Who, plain}
 use Rattle.f11_making.specs.Making.{Making, entry, naming, stating}
-use Rattle.f11_flx.proofs.Made.GainedLemmas.{index-stays, not-index}
+use Rattle.f11_making.proofs.GainedLemmas.{index-stays, not-index}
 use Rattle.f11_flx.proofs.Made.NewLemmas.{IsNewIn, none-of, other-index}
 use Rattle.f11_flx.proofs.SmallLemmas.{bad-not}
 

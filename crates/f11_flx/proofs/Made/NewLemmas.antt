@@ -40,7 +40,7 @@ use Rattle.f11_making.specs.Asking.{Denies, Granted, Grants, Who, asks, plain, w
 use Rattle.f11_making.specs.AsBefore.{IndexAfter, IsAsBefore}
 use Rattle.f11_making.specs.Making.{Making, creation}
 use Rattle.f11_flx.proofs.FromRt.FromRtLemmas.{created-next}
-use Rattle.f11_flx.proofs.Made.GainedLemmas.{index-gained, index-stays, index-then, not-index, ready-last, ready-slots}
+use Rattle.f11_making.proofs.GainedLemmas.{index-gained, index-stays, index-then, not-index, ready-last, ready-slots}
 use Rattle.f11_flx.proofs.SmallLemmas.{bad-not}
 
 -- A store is s with one file more, which is the caller's and bars nobody, and with slots that its index file got first; accesses are these.

@@ -4,6 +4,7 @@ use f11_bytes::{Block, word_bytes};
 use f11_dev::{Device, DeviceFault, Memory};
 use f11_dir::put_words;
 use f11_fcp::{Call, Volume};
+pub use f11_fixtures::volumes::mounted;
 use f11_fixtures::{SEVENS, SYSTEM, ZEROS, file, volumes};
 use f11_rad50::Name;
 use f11_store::{Change, FileId, Lun, Mode, Refusal, Reply, Request, Task, Uic};
@@ -287,17 +288,6 @@ pub fn first_wrong_in_list<D: Device>(
         }
     }
     Ok(None)
-}
-
-/// Mounts the volume of a device.
-pub fn mounted<D: Device + Drop>(alloc: Global, device: D) -> Result<Volume<D>, Fail> {
-    let Ok(Report::Accepted(accepted, _)) = verify(alloc, device) else {
-        return Err(DeviceFault)?;
-    };
-    match Volume::mount(alloc, accepted) {
-        Ok(volume) => Ok(volume),
-        Err(_) => Err(DeviceFault)?,
-    }
 }
 
 /// Gives the device of a volume back, which no request may have failed, and whose volume has to be accepted.

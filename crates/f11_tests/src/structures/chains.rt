@@ -6,10 +6,10 @@ ghost use Rattle.f11_dev.specs.Image.{image_block};
 ghost use Rattle.f11_index.specs.IndexFile.{slots};
 ghost use Rattle.f11_index.specs.Kept.{index_kept, IndexLiesWithin};
 
-use crate::structures::index::load;
 use f11_bytes::Block;
 use f11_chain::{ChainFault, FileEnd, Place, Window, first, last, locate, next, seek, window};
 use f11_dev::{Device, FailOnce, Liar, Memory};
+use f11_fixtures::index::load;
 use f11_fixtures::volumes::{index_file, small_index_file};
 use f11_fixtures::{SEVENS, ZEROS, file, get, linked, put};
 use f11_header::HeaderMut;

@@ -5,22 +5,12 @@ ghost use Rattle.f11_index.specs.Kept.{index_kept, IndexLiesWithin};
 
 use f11_dev::{Device, DeviceFault, FailOnce, Memory};
 use f11_fixtures::ZEROS;
+use f11_fixtures::index::{header_lbn, load};
 use f11_fixtures::volumes::{index_file, small_index_file};
 use f11_home::find;
 use f11_index::{IndexFault, IndexFile};
 use std::alloc::Global;
 use std::test::Fail;
-
-/// Finds the home block of a device, and loads its index file, by three transfers on a small volume.
-pub fn load<D: Device>(alloc: Global, device: &mut D) -> Result<IndexFile, IndexFault>
-    ensures { IfOk result (λ index. IndexLiesWithin (index_kept index)
-        (length (D.disk device.new).image)) }
-{
-    let Ok(home) = find(device) else {
-        return Err(IndexFault::DeviceFault);
-    };
-    IndexFile::load(alloc, device, &home)
-}
 
 /// Finds the home block of a device, and reads its index file, whatever its bits past the slots are.
 fn read_index<D: Device>(alloc: Global, device: &mut D) -> Result<IndexFile, IndexFault> {
@@ -183,14 +173,6 @@ fn slots_are_taken(rt: HostRuntime) -> Result<(), Fail> {
         assert_eq!(rt; take_slot(&mut index, &mut device)?, slot);
     }
     Ok(())
-}
-
-/// The LBN of header `n`, where there is such a slot.
-fn header_lbn(index: &IndexFile, n: u16) -> Option<u32> {
-    if n == 0 || u32::from(n) > index.slots() {
-        return None;
-    }
-    Some(index.lbn_of_header(n))
 }
 
 /// Headers where 3 slots were added at block 40, and 2 at block 60, and their LBNs.

@@ -6,9 +6,9 @@ ghost use Rattle.f11_index.specs.Kept.{index_kept, IndexLiesWithin};
 ghost use Rattle.f11_volume.specs.Contents.{block_or_zeros, blocks_reached};
 
 use crate::structures::chains::{change, long_file, two_headers};
-use crate::structures::index::load;
 use f11_bytes::Block;
 use f11_dev::{Device, DeviceFault, FailOnce, Liar, Memory};
+use f11_fixtures::index::load;
 use f11_fixtures::{SEVENS, ZEROS, file, put};
 use f11_index::IndexFile;
 use f11_reader::FileReader;

@@ -2,7 +2,7 @@
 ghost use Rattle.std.specs.Prelude.{◌≡◌, MatchOption};
 ghost use Rattle.f11_volume.specs.Space.{bitmap_count, stated_size, IsControlBlock};
 
-use f11_bytes::{Block, read_long};
+use f11_bytes::{BLOCK_BITS, Block, read_long};
 
 /// The most blocks that a storage bitmap has (Files-11 On-Disk Structure Level 1, "Storage Bitmap File").
 const MOST_BITMAP: usize = 126;
@@ -30,7 +30,7 @@ pub(crate) fn judge_control(block: &Block, file: usize, device: u32) -> Option<C
         return None;
     }
     let size = read_long(block, 4 + 4 * count);
-    if size == 0 || size > 4096 * count as u32 || size > device {
+    if size == 0 || size > BLOCK_BITS * count as u32 || size > device {
         return None;
     }
     Some(Control { count, size })

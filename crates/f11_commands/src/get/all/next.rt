@@ -80,10 +80,7 @@ impl<D: Device> TakingAll<D> {
             }
             Content::Missing(absence) => {
                 let why = LeftOut::Missing(found.place.id(), absence);
-                match self.leave_out(&found.place, &why, writer) {
-                    Ok(()) => Ok(()),
-                    Err(failure) => Err(failure),
-                }
+                self.leave_out(&found.place, &why, writer)
             }
         }
     }

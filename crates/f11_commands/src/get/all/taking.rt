@@ -12,6 +12,7 @@ use crate::get::blocks::last_end;
 use crate::get::missing::end_before as end_cut;
 use crate::get::open::has_open_end;
 use crate::outcome::Stop;
+use f11_bytes::BLOCK_SIZE;
 use f11_catalog::stated_end;
 use f11_dev::{Device, DeviceFault};
 use f11_header::Header;
@@ -125,7 +126,7 @@ fn take_out<D: Device, H: Write>(
 {
     match end_taken(device, index, file) {
         Ok((end, all_blocks)) => {
-            match file.first_missing(device, index, end.div_ceil(512), size) {
+            match file.first_missing(device, index, end.div_ceil(BLOCK_SIZE as u64), size) {
                 Ok(broke) => match take_to(device, index, *file, end, broke, all_blocks, host) {
                     Ok(taken) => Ok(taken),
                     Err(HostFull) => Err(HostFull),
@@ -172,7 +173,12 @@ fn take_to<D: Device, H: Write>(
     let cut = end_cut(end, broke);
     let blocks = device.blocks();
     match put_contents(device, index, file, cut, host) {
-        Ok(bytes) => match file.first_missing(device, index, cut.div_ceil(512), blocks) {
+        Ok(bytes) => match file.first_missing(
+            device,
+            index,
+            cut.div_ceil(BLOCK_SIZE as u64),
+            blocks,
+        ) {
             Ok(zeros) => Ok(Taken {
                 bytes,
                 zeros,
@@ -191,7 +197,7 @@ fn take_to<D: Device, H: Write>(
         Err(Stop::DeviceFault(bytes)) => Ok(Taken {
             bytes,
             zeros: None,
-            broke: Some(bytes / 512 + 1),
+            broke: Some(bytes / BLOCK_SIZE as u64 + 1),
             failed: true,
             all_blocks,
         }),

@@ -1,4 +1,5 @@
 use Rattle.std.proofs.Common.{◌∙◌, ◌||◌, ap, sym, subst}
+use Rattle.std.proofs.lemmas.Result.{IfErr-weaker, on_ok_weaker}
 use Rattle.f11_files.specs.Answers.{is_clean, is_fatal}
 use Rattle.f11_files.specs.Open.{disk_in, home_in}
 use Rattle.f11_files.specs.image_store.StoreOf.{store_of}
@@ -11,6 +12,7 @@ use Rattle.f11_fcp.proofs.RowLemmas.{extended-honest, extended-leaves, leaves-th
 use Rattle.f11_fcp.proofs.AppendLemmas.{appends-at-home, breaks-at-home, new-appended, new-not-appended, new-tail, not-extended-by-one}
 use Rattle.f11_fcp.proofs.AppendLemmas.{not-index}
 use Rattle.f11_fcp.proofs.KnownLemmas.{known-clean, known-leaves}
+use Rattle.f11_fcp.proofs.HandedLemmas.{breaks-fatal, fatal-alive, fatal-never}
 use Rattle.f11_fcp.proofs.append.append_in_new_block.Goals as goal
 
 pub returns-in-Err-clause-refused : goal.returns-in-Err-clause-refused
@@ -41,35 +43,46 @@ append_entry-requires-clause-there g c =
     c.in-Ok.ensures.extended.1
     t.result t.ensures.number t.ensures.place (t.ensures.block ∙ c.zeros.ensures) t.ensures.attr t.ensures.length sure)
 
-pub returns-in-Ok-append_entry-clause-put : goal.returns-in-Ok-append_entry-clause-put
-returns-in-Ok-append_entry-clause-put g c =
+pub returns-clause-put : goal.returns-clause-put
+returns-clause-put g c =
     let t = c.tail_at-tail in
-    new-appended (home_in c.args.files.now) c.args.directory (record_bytes c.args.file c.args.name.now) (disk_in c.args.files.now)
+    on_ok_weaker c.append_entry.result
+    (λ done. new-appended (home_in c.args.files.now) c.args.directory (record_bytes c.args.file c.args.name.now) (disk_in c.args.files.now)
     (disk_in c.extend.new.self) c.args.found.now (not-index c.args.directory c.requires.id.number) c.requires.full
     c.in-Ok.ensures.extended.1
     t.result t.ensures.number t.ensures.place (t.ensures.block ∙ c.zeros.ensures) t.ensures.attr t.ensures.length
-    (appends-at-home c.in-Ok.ensures.answers.home c.in-Ok-append_entry.ensures.appended)
+    (appends-at-home c.in-Ok.ensures.answers.home done))
+    c.append_entry.ensures.appended
 
-pub returns-in-Err-append_entry-clause-refused : goal.returns-in-Err-append_entry-clause-refused
-returns-in-Err-append_entry-clause-refused g c =
+pub returns-clause-refused : goal.returns-clause-refused
+returns-clause-refused g c =
     let t = c.tail_at-tail in
-    new-not-appended (home_in c.args.files.now) c.args.directory (record_bytes c.args.file c.args.name.now) (disk_in c.args.files.now)
+    IfErr-weaker c.append_entry.result _ _
+    (λ e breaks. new-not-appended (home_in c.args.files.now) c.args.directory (record_bytes c.args.file c.args.name.now)
+    (disk_in c.args.files.now)
     (disk_in c.extend.new.self) c.args.found.now (not-index c.args.directory c.requires.id.number) c.requires.full
     c.in-Ok.ensures.extended.1
     t.result t.ensures.number t.ensures.place (t.ensures.block ∙ c.zeros.ensures) t.ensures.attr t.ensures.length
     (breaks-at-home c.args.directory t.result (record_bytes c.args.file c.args.name.now) (disk_in c.extend.new.self)
-    c.in-Ok.ensures.answers.home c.in-Err-append_entry.ensures.refused)
+    c.in-Ok.ensures.answers.home breaks))
+    c.append_entry.ensures.refused
 
-pub returns-in-Ok-append_entry-clause-rows : goal.returns-in-Ok-append_entry-clause-rows
-returns-in-Ok-append_entry-clause-rows g c =
-    leaves-then c.args.files.now c.extend.new.self c.append_entry.new.files c.in-Ok.ensures.answers.home
+pub returns-clause-counts : goal.returns-clause-counts
+returns-clause-counts g c = fatal-never c.append_entry.result (breaks-fatal _ _ _ _ c.append_entry.result c.append_entry.ensures.refused)
+
+pub returns-clause-alive : goal.returns-clause-alive
+returns-clause-alive g c =
+    fatal-alive c.append_entry.result c.append_entry.ensures.alive
+    (breaks-fatal _ _ _ _ c.append_entry.result c.append_entry.ensures.refused)
+
+pub returns-clause-rows : goal.returns-clause-rows
+returns-clause-rows g c =
+    on_ok_weaker c.append_entry.result
+    (leaves-then c.args.files.now c.extend.new.self c.append_entry.new.files c.in-Ok.ensures.answers.home
     (extended-honest c.in-Ok.ensures.extended.1)
     (extended-leaves c.args.files.now c.extend.new.self (g.met.D.Device.is_image c.args.files.now.device)
-    (g.met.D.Device.is_image c.extend.new.self.device) c.in-Ok.ensures.answers.home c.args.directory 1 c.in-Ok.ensures.extended.1)
-    c.in-Ok-append_entry.ensures.rows
+    (g.met.D.Device.is_image c.extend.new.self.device) c.in-Ok.ensures.answers.home c.args.directory 1 c.in-Ok.ensures.extended.1))
+    c.append_entry.ensures.rows
 
-pub returns-in-Ok-append_entry-clause-lost : goal.returns-in-Ok-append_entry-clause-lost
-returns-in-Ok-append_entry-clause-lost g c = lost-then _ _ _ _ _ _ c.extend.ensures.lost c.append_entry.ensures.lost
-
-pub returns-in-Err-append_entry-clause-lost : goal.returns-in-Err-append_entry-clause-lost
-returns-in-Err-append_entry-clause-lost g c = lost-then _ _ _ _ _ _ c.extend.ensures.lost c.append_entry.ensures.lost
+pub returns-clause-lost : goal.returns-clause-lost
+returns-clause-lost g c = lost-then _ _ _ _ _ _ c.extend.ensures.lost c.append_entry.ensures.lost

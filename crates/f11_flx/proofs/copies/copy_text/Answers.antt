@@ -1,5 +1,5 @@
 use Rattle.std.proofs.Common.{◌≡◌, arith, subst}
-use Rattle.std.proofs.lemmas.Result.{IfErr-weaker, IfOk-weaker}
+use Rattle.std.proofs.lemmas.Result.{IfErr-weaker, IfOk-weaker, err_from_is_err_and}
 use Rattle.f11_making.specs.Asking.{who_asks}
 use Rattle.f11_flx.specs.Copies.{CopiesText, FailsToCopyText}
 use Rattle.f11_flx.specs.Filling.{FailsToFinish, FinishesBlocks, out_of}
@@ -20,14 +20,15 @@ returns-in-Err-clause-fails g c =
     c.read.new.service c.args.target.now c.loop-k.target
     c.loop-k.invariant c.in-Err.ensures.denied c.loop-k-test.true
 
-pub returns-in-Err-pour-clause-fails : goal.returns-in-Err-pour-clause-fails
-returns-in-Err-pour-clause-fails g c =
-    text-fails g.S.Asked.service g.T.Takes.took g.T.Takes.refused (who_asks c.args.by.now.task c.args.by.now.uic) c.args.by.now.lun
+pub returns-in_err-pour-clause-fails : goal.returns-in_err-pour-clause-fails
+returns-in_err-pour-clause-fails g c =
+    let p = err_from_is_err_and c.from_residual.result c.from_residual.ensures.1 in rw (p.1, p.2)
+    (text-fails g.S.Asked.service g.T.Takes.took g.T.Takes.refused (who_asks c.args.by.now.task c.args.by.now.uic) c.args.by.now.lun
     c.args.name.now c.args.text
     c.loop-k.text c.loop-k.k c.read.new.block (out_of c.loop-k.out) c.args.service.now c.loop-k.service c.read.new.service c.args.target.now
     c.loop-k.target
-    c.loop-k.invariant c.in-Ok.ensures.granted c.read.ensures.size c.args.count c.in-Err-pour.refusal c.pour.new.target c.loop-k-test.true
-    c.in-Err-pour.ensures.fails
+    c.loop-k.invariant c.in-Ok.ensures.granted c.read.ensures.size c.args.count _ c.pour.new.target c.loop-k-test.true
+    c.in_err-pour.ensures.fails)
 
 pub loop-k-preserved : goal.loop-k-preserved
 loop-k-preserved g c =
@@ -36,7 +37,7 @@ loop-k-preserved g c =
     c.loop-k.text c.loop-k.k c.read.new.block (out_of c.loop-k.out) c.args.service.now c.loop-k.service c.read.new.service c.args.target.now
     c.loop-k.target
     c.loop-k.invariant c.in-Ok.ensures.granted c.read.ensures.size c.pour.new.text (out_of c.pour.new.out) c.pour.new.target
-    c.in-Ok-pour.ensures.pours c.in-Ok-pour.ensures.room
+    c.in_ok-pour.ensures.pours c.in_ok-pour.ensures.room
 
 pub returns-clause-copied : goal.returns-clause-copied
 returns-clause-copied g c =

@@ -1,4 +1,5 @@
 use Rattle.std.proofs.Common.{arith}
+use Rattle.std.proofs.lemmas.Result.{err_from_is_err_and}
 use Rattle.f11_making.specs.Asking.{Who, who_asks}
 use Rattle.f11_flx.specs.Filling.{out_of}
 use Rattle.f11_flx.proofs.FromRt.PassLemmas.{lines-fail, lines-few, lines-more, lines-none, lines-unread}
@@ -30,14 +31,15 @@ write_lines-requires-clause-few g c =
     c.args.service.now l.service c.requires.begins c.requires.to c.requires.place l.invariant.held c.loop-place-test.true
     (omega (arith, c.ranges.many.fits)) c.in-Ok.ensures.read.size
 
-pub returns-in-Err-write_lines-clause-fails : goal.returns-in-Err-write_lines-clause-fails
-returns-in-Err-write_lines-clause-fails g c =
+pub returns-in_err-write_lines-clause-fails : goal.returns-in_err-write_lines-clause-fails
+returns-in_err-write_lines-clause-fails g c =
     let l = c.loop-place in
     let who : Who = who_asks c.args.by.now.task c.args.by.now.uic in
-    lines-fail g.S.Asked.service g.E.Device.disk who c.args.by.now.lun c.args.name.now _ l.place c.args.many c.read.new.into
+    let p = err_from_is_err_and c.from_residual.result c.from_residual.ensures.1 in rw (p.1, p.2)
+    (lines-fail g.S.Asked.service g.E.Device.disk who c.args.by.now.lun c.args.name.now _ l.place c.args.many c.read.new.into
     c.args.lines.now l.lines (out_of c.args.out.now) (out_of l.out) c.args.rt.now l.rt c.read.new.rt
-    c.args.service.now l.service c.write_lines.new.service l.invariant.held c.in-Ok.ensures.read c.in-Err-write_lines.ensures.fails
-    c.loop-place-test.true
+    c.args.service.now l.service c.write_lines.new.service l.invariant.held c.in-Ok.ensures.read c.in_err-write_lines.ensures.fails
+    c.loop-place-test.true)
 
 pub loop-place-preserved : goal.loop-place-preserved
 loop-place-preserved g c =
@@ -48,6 +50,6 @@ loop-place-preserved g c =
           lines-more g.S.Asked.service g.E.Device.disk who c.args.by.now.lun c.args.name.now l.place c.read.new.into c.args.lines.now
           l.lines c.write_lines.new.lines (out_of c.args.out.now) (out_of l.out) (out_of c.write_lines.new.out)
           c.args.rt.now l.rt c.read.new.rt c.args.service.now l.service c.write_lines.new.service l.invariant.held c.in-Ok.ensures.read
-          c.in-Ok-write_lines.ensures.writes;
-      room = c.in-Ok-write_lines.ensures.room;
+          c.in_ok-write_lines.ensures.writes;
+      room = c.in_ok-write_lines.ensures.room;
     }

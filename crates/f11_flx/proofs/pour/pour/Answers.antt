@@ -1,5 +1,6 @@
 use Rattle.std.proofs.Common.{◌≡◌, length, arith, refl}
 use Rattle.std.proofs.lemmas.List.{take_rest}
+use Rattle.std.proofs.lemmas.Result.{err_from_is_err_and}
 use Rattle.f11_flx.specs.Filling.{Out, out_of}
 use Rattle.f11_flx.proofs.Texts.PourLemmas.{pouring-ends-at, pouring-few, pouring-gave, pouring-read, pouring-refused}
 use Rattle.f11_flx.proofs.pour.pour.Goals as goal
@@ -38,12 +39,12 @@ loop-read-preserved g c =
     (out_of c.args.out.now) (out_of l.out) o c.args.target.now l.target l.invariant.held e.converts e.puts refl refl in
     record {
       held = pouring-gave g.T.Takes.took c.args.name.now c.args.text.now c.convert.new.self c.args.source.now _ (out_of c.args.out.now) o
-          (out_of c.give.new.out) c.args.target.now l.target c.give.new.target now c.in-Ok-give.ensures.taken full size;
-      room = omega (arith, c.in-Ok-give.ensures.taken.empty);
+          (out_of c.give.new.out) c.args.target.now l.target c.give.new.target now c.in_ok-give.ensures.taken full size;
+      room = omega (arith, c.in_ok-give.ensures.taken.empty);
     }
 
-pub returns-in-Err-give-clause-fails : goal.returns-in-Err-give-clause-fails
-returns-in-Err-give-clause-fails g c =
+pub returns-in_err-give-clause-fails : goal.returns-in_err-give-clause-fails
+returns-in_err-give-clause-fails g c =
     let l = c.loop-read in
     let o : Out = record { block = c.convert.new.target; to = c.in-Ok.to; place = l.out.place } in
     let e = rw (take_rest c.args.source.now l.used) at c.in-Ok.ensures in
@@ -51,6 +52,7 @@ returns-in-Err-give-clause-fails g c =
     let size : length c.convert.new.target ≡ 512 = c.give.ensures.size in
     let now = pouring-read g.T.Takes.took c.args.name.now c.args.text.now l.text c.convert.new.self c.args.source.now l.used c.in-Ok.read _
     (out_of c.args.out.now) (out_of l.out) o c.args.target.now l.target l.invariant.held e.converts e.puts refl refl in
-    pouring-refused g.T.Takes.took c.args.name.now g.T.Takes.refused c.args.text.now c.convert.new.self c.args.source.now _
-    (out_of c.args.out.now) o c.in-Err-give.refusal c.args.target.now l.target c.give.new.target now full size
-    c.in-Err-give.ensures.refused
+    let p = err_from_is_err_and c.from_residual.result c.from_residual.ensures.1 in rw (p.1, p.2)
+    (pouring-refused g.T.Takes.took c.args.name.now g.T.Takes.refused c.args.text.now c.convert.new.self c.args.source.now _
+    (out_of c.args.out.now) o _ c.args.target.now l.target c.give.new.target now full size
+    c.in_err-give.ensures.refused)

@@ -1,12 +1,15 @@
 use Rattle.std.proofs.Common.{inr}
+use Rattle.std.proofs.lemmas.Result.{IfErr-weaker, IfOk-weaker}
 use Rattle.f11_host.proofs.finishing.finish.Goals as goal
 
-pub returns-in-Ok-enter-clause-granted : goal.returns-in-Ok-enter-clause-granted
-returns-in-Ok-enter-clause-granted g c = λ first blocks.
-    let k = c.in-Ok.ensures.granted in
-    (c.ask.new.service, (k.0, c.in-Ok.field-0, k.1, k.2), c.in-Ok-enter.ensures.granted first blocks)
+pub returns-clause-granted : goal.returns-clause-granted
+returns-clause-granted g c = λ first blocks.
+    let k = c.in_ok-ask.ensures.granted in
+    IfOk-weaker c.enter.result _ _ (λ _ granted. (c.ask.new.service, (k.0, _, k.1, k.2), granted))
+    (c.enter.ensures.granted first blocks)
 
-pub returns-in-Err-enter-clause-denied : goal.returns-in-Err-enter-clause-denied
-returns-in-Err-enter-clause-denied g c = λ first blocks.
-    let k = c.in-Ok.ensures.granted in
-    inr (c.ask.new.service, (k.0, c.in-Ok.field-0, k.1, k.2), c.in-Err-enter.ensures.denied first blocks)
+pub returns-clause-denied : goal.returns-clause-denied
+returns-clause-denied g c = λ first blocks.
+    let k = c.in_ok-ask.ensures.granted in
+    IfErr-weaker c.enter.result _ _ (λ _ denied. inr (c.ask.new.service, (k.0, _, k.1, k.2), denied))
+    (c.enter.ensures.denied first blocks)

@@ -1,4 +1,5 @@
 use Rattle.std.proofs.Common.{◌≡◌, ◌∙◌, [], arith, refl, take}
+use Rattle.std.proofs.lemmas.Result.{err_from_is_err_and}
 use Rattle.f11_making.specs.Asking.{Who, who_asks}
 use Rattle.f11_flx.specs.Filling.{out_of}
 use Rattle.f11_host.proofs.TextLemmas.{reading-all, reading-fails, reading-few, reading-lacks, reading-more, reading-none}
@@ -31,18 +32,19 @@ write_lines-requires-clause-few g c =
     l.lines (out_of l.out) _ l.service l.invariant c.min-count.result c.read_piece.new.block c.deref.result.now _ c.in-Ok.ensures.read
     c.min-count.ensures is c.requires.few c.requires.begins c.requires.to c.requires.place
 
-pub returns-in-Err-write_lines-clause-fails : goal.returns-in-Err-write_lines-clause-fails
-returns-in-Err-write_lines-clause-fails g c =
+pub returns-in_err-write_lines-clause-fails : goal.returns-in_err-write_lines-clause-fails
+returns-in_err-write_lines-clause-fails g c =
     let l = c.loop-left in
     let is : c.deref.result.now ≡ crs_behind l.cr (take c.min-count.result c.read_piece.new.block) =
     c.deref.ensures.0 ∙ c.expand-cr.ensures.bytes in
-    let who : Who = who_asks c.args.by.now.task c.args.by.now.uic in (
+    let who : Who = who_asks c.args.by.now.task c.args.by.now.uic in
+    let p = err_from_is_err_and c.from_residual.result c.from_residual.ensures.1 in rw (p.1, p.2) (
       _,
       reading-fails g.S.Asked.service who c.args.by.now.lun c.args.bytes c.args.lines.now (out_of c.args.out.now) _ c.args.service.now
           l.left
           l.cr l.lines (out_of l.out) _ l.service l.invariant c.min-count.result c.read_piece.new.block c.deref.result.now _
-          c.in-Ok.ensures.read c.min-count.ensures is c.in-Err-write_lines.refusal
-          c.write_lines.new.service c.in-Err-write_lines.ensures.fails,
+          c.in-Ok.ensures.read c.min-count.ensures is _
+          c.write_lines.new.service c.in_err-write_lines.ensures.fails,
     )
 
 pub loop-left-preserved : goal.loop-left-preserved
@@ -54,8 +56,8 @@ loop-left-preserved g c =
     reading-more g.S.Asked.service who c.args.by.now.lun c.args.bytes c.args.lines.now (out_of c.args.out.now) _ c.args.service.now l.left
     l.cr l.lines (out_of l.out) _ l.service l.invariant c.min-count.result c.read_piece.new.block c.deref.result.now _ c.in-Ok.ensures.read
     c.min-count.ensures is c.expand-cr.result c.write_lines.new.lines
-    (out_of c.write_lines.new.out) c.write_lines.new.service c.expand-cr.ensures.behind c.in-Ok-write_lines.ensures.writes
-    c.in-Ok-write_lines.ensures.room
+    (out_of c.write_lines.new.out) c.write_lines.new.service c.expand-cr.ensures.behind c.in_ok-write_lines.ensures.writes
+    c.in_ok-write_lines.ensures.room
 
 pub returns-clause-reads : goal.returns-clause-reads
 returns-clause-reads g c =

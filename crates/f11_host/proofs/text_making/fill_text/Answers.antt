@@ -1,4 +1,5 @@
 use Rattle.std.proofs.Common.{[], inl, refl}
+use Rattle.std.proofs.lemmas.Result.{err_from_is_err_and}
 use Rattle.f11_store.specs.declared.requests.Request.TheVariants as request
 use Rattle.f11_making.specs.Asking.{Who, who_asks}
 use Rattle.f11_making.proofs.AskingLemmas.{granted-told}
@@ -13,19 +14,20 @@ returns-in-Err-clause-fails g c =
           c.extend.new.service c.in-Err.ensures.denied,
     )
 
-pub returns-in-Err-copy_again-clause-fails : goal.returns-in-Err-copy_again-clause-fails
-returns-in-Err-copy_again-clause-fails g c =
+pub returns-in_err-copy_again-clause-fails : goal.returns-in_err-copy_again-clause-fails
+returns-in_err-copy_again-clause-fails g c =
     let who : Who = who_asks c.args.by.now.task c.args.by.now.uic in
-    let k = c.in-Err-copy_again.ensures.fails in (
+    let k = c.in_err-copy_again.ensures.fails in
+    let p = err_from_is_err_and c.from_residual.result c.from_residual.ensures.1 in rw (p.1, p.2) (
       k.0,
       text-not-written g.S.Asked.service who c.args.by.now.lun c.args.bytes c.args.plan.now _ c.args.service.now c.extend.new.service
-          c.in-Ok.ensures.granted c.in-Err-copy_again.refusal _ k.0 c.copy_again.new.service k.1,
+          c.in-Ok.ensures.granted _ _ k.0 c.copy_again.new.service k.1,
     )
 
 pub returns-in-Err-ask-clause-fails : goal.returns-in-Err-ask-clause-fails
 returns-in-Err-ask-clause-fails g c =
     let who : Who = who_asks c.args.by.now.task c.args.by.now.uic in
-    let k = c.in-Ok-copy_again.ensures.copied in (
+    let k = c.in_ok-copy_again.ensures.copied in (
       k.0,
       text-not-given g.S.Asked.service who c.args.by.now.lun c.args.bytes c.args.plan.now _ c.args.service.now c.extend.new.service
           c.in-Ok.ensures.granted c.in-Err-ask.refusal _ k.0 c.copy_again.new.service c.ask.new.service k.1
@@ -35,7 +37,7 @@ returns-in-Err-ask-clause-fails g c =
 pub returns-in-Ok-ask-clause-fills : goal.returns-in-Ok-ask-clause-fills
 returns-in-Ok-ask-clause-fills g c =
     let who : Who = who_asks c.args.by.now.task c.args.by.now.uic in
-    let k = c.in-Ok-copy_again.ensures.copied in (
+    let k = c.in_ok-copy_again.ensures.copied in (
       k.0,
       text-filled g.S.Asked.service who c.args.by.now.lun c.args.bytes c.args.plan.now _ c.args.service.now c.extend.new.service
           c.in-Ok.ensures.granted _ k.0 c.copy_again.new.service c.ask.new.service k.1 (

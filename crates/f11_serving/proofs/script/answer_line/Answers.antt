@@ -1,29 +1,31 @@
+use Rattle.std.proofs.lemmas.Result.{err_from_is_err_and}
 use Rattle.f11_runs.specs.Each.{answer_with, call_with}
 use Rattle.f11_serving.proofs.ServedLemmas.{one-request}
 use Rattle.f11_serving.proofs.script.answer_line.Goals as goal
 
-pub returns-in-Ok-reply : goal.returns-in-Ok-reply
-returns-in-Ok-reply g c =
+pub returns-in_ok-reply-in-Asks : goal.returns-in_ok-reply-in-Asks
+returns-in_ok-reply-in-Asks g c =
     let asked = rw c.in-Asks.is at c.parse.ensures.exact in
     record {
       answers = (
         _,
         one-request g.S.Asked.service.serves _ _ (call_with c.in-Asks.task c.in-Asks.caller c.in-Asks.request c.parse.new.block)
             (answer_with c.serve-answer.result c.serve-answer.new.block) _ _ asked c.serve-answer.ensures.serves,
-        c.in-Ok-reply.ensures.done,
+        c.in_ok-reply-in-Asks.ensures.done,
       );
     }
 
-pub returns-in-Err-reply : goal.returns-in-Err-reply
-returns-in-Err-reply g c =
+pub returns-in_err-reply-in-Asks : goal.returns-in_err-reply-in-Asks
+returns-in_err-reply-in-Asks g c =
     let asked = rw c.in-Asks.is at c.parse.ensures.exact in
+    let p = err_from_is_err_and c.from_residual.result c.from_residual.ensures.1 in
     record {
-      answers = (
+      answers = rw (p.1, p.2) (
         _,
         1,
         one-request g.S.Asked.service.serves _ _ (call_with c.in-Asks.task c.in-Asks.caller c.in-Asks.request c.parse.new.block)
             (answer_with c.serve-answer.result c.serve-answer.new.block) _ _ asked c.serve-answer.ensures.serves,
-        c.in-Err-reply.ensures.failed,
-        c.in-Err-reply.ensures.error,
+        c.in_err-reply-in-Asks.ensures.failed,
+        c.in_err-reply-in-Asks.ensures.error,
       );
     }

@@ -1,7 +1,9 @@
+use Rattle.std.proofs.lemmas.Result.{IfErr-weaker}
 use Rattle.f11_commands.specs.GetCommand.{untold}
 use Rattle.f11_commands.proofs.get.write.write_image.Goals as goal
 
-pub returns-in-Err-tell_zeros-clause-failed : goal.returns-in-Err-tell_zeros-clause-failed
-returns-in-Err-tell_zeros-clause-failed g c =
-    untold c.in-Ok.count _ (rw c.end_before-cut.ensures at c.in-Ok.ensures.writes)
-    (rw c.end_before-cut.ensures at c.in-Err-tell_zeros.ensures.failed)
+pub returns-clause-failed : goal.returns-clause-failed
+returns-clause-failed g c =
+    IfErr-weaker c.tell_zeros.result _ _
+    (λ _ failed. untold c.in_ok-count.count _ (rw c.end_before-cut.ensures at c.in_ok-count.ensures.writes) failed)
+    (rw c.end_before-cut.ensures at c.tell_zeros.ensures.failed)

@@ -13,6 +13,7 @@ use Rattle.f11_fcp.proofs.LengthLemmas.{measured-open}
 use Rattle.f11_fcp.proofs.WindowLemmas.{empty-kept, windows-read, windows-with}
 use Rattle.f11_fcp.proofs.AccessLemmas.{access-bad, access-in-use, access-system, access-unread, access-marked, access-unprivileged}
 use Rattle.f11_fcp.proofs.AccessLemmas.{access-barred, access-taken, access-kept}
+use Rattle.f11_fcp.proofs.HandedLemmas.{handles-handed, test-handed}
 use Rattle.f11_fcp.proofs.table.Accesses.access.Goals as goal
 
 pub returns-then-is_bad-clause-handles : goal.returns-then-is_bad-clause-handles
@@ -30,67 +31,73 @@ returns-then-file-lt4-clause-handles g c =
     access-system c.args.task c.args.lun c.args.caller c.args.file c.args.mode (state_of (access_table_of c.args.self.now) c.args.files.now)
     (sym c.is_bad.ensures ∙ c.if-is_bad.false) (sym c.in-None.ensures.value) c.if-file-lt4.true
 
-pub returns-in-Err-clause-handles : goal.returns-in-Err-clause-handles
-returns-in-Err-clause-handles g c =
-    access-unread c.args.task c.args.lun c.args.caller c.args.file c.args.mode (state_of (access_table_of c.args.self.now) c.args.files.now)
-    (sym c.is_bad.ensures ∙ c.if-is_bad.false) (sym c.in-None.ensures.value) c.if-file-lt4.false c.in-Err.refusal
-    (state_of (access_table_of c.args.self.now) c.read_attr.new.self) c.requires.open.alive c.in-Err.ensures.refused
-    c.in-Err.ensures.answers.home refl c.in-Err.ensures.told.counts
+pub returns-in_err-attr-clause-handles : goal.returns-in_err-attr-clause-handles
+returns-in_err-attr-clause-handles g c =
+    handles-handed c.from_residual.result _ c.from_residual.ensures.1
+    (access-unread c.args.task c.args.lun c.args.caller c.args.file c.args.mode
+    (state_of (access_table_of c.args.self.now) c.args.files.now)
+    (sym c.is_bad.ensures ∙ c.if-is_bad.false) (sym c.in-None.ensures.value) c.if-file-lt4.false c.in_err-attr.field-0.0
+    (state_of (access_table_of c.args.self.now) c.read_attr.new.self) c.requires.open.alive c.in_err-attr.ensures.refused
+    c.in_err-attr.ensures.answers.home refl c.in_err-attr.ensures.told.counts)
 
 pub returns-then-is_marked-clause-handles : goal.returns-then-is_marked-clause-handles
 returns-then-is_marked-clause-handles g c =
     access-marked c.args.task c.args.lun c.args.caller c.args.file c.args.mode (state_of (access_table_of c.args.self.now) c.args.files.now)
-    (sym c.is_bad.ensures ∙ c.if-is_bad.false) (sym c.in-None.ensures.value) c.if-file-lt4.false c.in-Ok.attr
-    (state_of (access_table_of c.args.self.now) c.read_attr.new.self) c.in-Ok.ensures.read.reads c.in-Ok.ensures.read.no_cause
-    c.in-Ok.ensures.read.attr_is c.in-Ok.ensures.answers.home c.in-Ok.ensures.told.counts refl
+    (sym c.is_bad.ensures ∙ c.if-is_bad.false) (sym c.in-None.ensures.value) c.if-file-lt4.false c.in_ok-attr.attr
+    (state_of (access_table_of c.args.self.now) c.read_attr.new.self) c.in_ok-attr.ensures.read.reads c.in_ok-attr.ensures.read.no_cause
+    c.in_ok-attr.ensures.read.attr_is c.in_ok-attr.ensures.answers.home c.in_ok-attr.ensures.told.counts refl
     (sym c.is_marked.ensures ∙ c.if-is_marked.true)
 
 pub returns-then-lacks_for-clause-handles : goal.returns-then-lacks_for-clause-handles
 returns-then-lacks_for-clause-handles g c =
     access-unprivileged c.args.task c.args.lun c.args.caller c.args.file c.args.mode
     (state_of (access_table_of c.args.self.now) c.args.files.now) (sym c.is_bad.ensures ∙ c.if-is_bad.false)
-    (sym c.in-None.ensures.value) c.if-file-lt4.false c.in-Ok.attr (state_of (access_table_of c.args.self.now) c.read_attr.new.self)
-    c.in-Ok.ensures.read.reads c.in-Ok.ensures.read.no_cause c.in-Ok.ensures.read.attr_is c.in-Ok.ensures.answers.home
-    c.in-Ok.ensures.told.counts (sym c.is_marked.ensures ∙ c.if-is_marked.false) refl (sym c.lacks_for.ensures ∙ c.if-lacks_for.true)
+    (sym c.in-None.ensures.value) c.if-file-lt4.false c.in_ok-attr.attr (state_of (access_table_of c.args.self.now) c.read_attr.new.self)
+    c.in_ok-attr.ensures.read.reads c.in_ok-attr.ensures.read.no_cause c.in_ok-attr.ensures.read.attr_is c.in_ok-attr.ensures.answers.home
+    c.in_ok-attr.ensures.told.counts (sym c.is_marked.ensures ∙ c.if-is_marked.false) refl (sym c.lacks_for.ensures ∙ c.if-lacks_for.true)
 
 pub returns-then-is_barred-clause-handles : goal.returns-then-is_barred-clause-handles
 returns-then-is_barred-clause-handles g c =
     access-barred c.args.task c.args.lun c.args.caller c.args.file c.args.mode (state_of (access_table_of c.args.self.now) c.args.files.now)
-    (sym c.is_bad.ensures ∙ c.if-is_bad.false) (sym c.in-None.ensures.value) c.if-file-lt4.false c.in-Ok.attr
-    (state_of (access_table_of c.args.self.now) c.read_attr.new.self) c.in-Ok.ensures.read.reads c.in-Ok.ensures.read.no_cause
-    c.in-Ok.ensures.read.attr_is c.in-Ok.ensures.answers.home c.in-Ok.ensures.told.counts (sym c.is_marked.ensures ∙ c.if-is_marked.false)
+    (sym c.is_bad.ensures ∙ c.if-is_bad.false) (sym c.in-None.ensures.value) c.if-file-lt4.false c.in_ok-attr.attr
+    (state_of (access_table_of c.args.self.now) c.read_attr.new.self) c.in_ok-attr.ensures.read.reads c.in_ok-attr.ensures.read.no_cause
+    c.in_ok-attr.ensures.read.attr_is c.in_ok-attr.ensures.answers.home c.in_ok-attr.ensures.told.counts
+    (sym c.is_marked.ensures ∙ c.if-is_marked.false)
     (sym c.lacks_for.ensures ∙ c.if-lacks_for.false) refl (sym c.if-is_barred.true ∙ c.is_barred.ensures)
 
-pub returns-in-Err-clause-open : goal.returns-in-Err-clause-open
-returns-in-Err-clause-open g c = λ clean.
-    measured-open (access_table_of c.args.self.now) c.args.files.now c.read_attr.new.self c.requires.open c.in-Err.ensures.refused.reads
-    c.in-Err.ensures.answers.home
-    (c.in-Err.ensures.answers.next ∙ ap (λ b. b || is_fatal c.in-Err.refusal) c.requires.open.alive ∙ clean)
+pub returns-in_err-attr-clause-open : goal.returns-in_err-attr-clause-open
+returns-in_err-attr-clause-open g c = λ clean.
+    measured-open (access_table_of c.args.self.now) c.args.files.now c.read_attr.new.self c.requires.open
+    c.in_err-attr.ensures.refused.reads
+    c.in_err-attr.ensures.answers.home
+    (c.in_err-attr.ensures.answers.next ∙ ap (λ b. b || is_fatal c.in_err-attr.field-0.0) c.requires.open.alive
+    ∙ test-handed is_fatal c.from_residual.result _ c.from_residual.ensures.1 clean)
 
 pub returns-then-is_marked-clause-open : goal.returns-then-is_marked-clause-open
 returns-then-is_marked-clause-open g c = λ _.
-    measured-open (access_table_of c.args.self.now) c.args.files.now c.read_attr.new.self c.requires.open c.in-Ok.ensures.read.reads
-    c.in-Ok.ensures.answers.home
-    (c.in-Ok.ensures.answers.next ∙ ap (λ b. b || false) c.requires.open.alive)
+    measured-open (access_table_of c.args.self.now) c.args.files.now c.read_attr.new.self c.requires.open c.in_ok-attr.ensures.read.reads
+    c.in_ok-attr.ensures.answers.home
+    (c.in_ok-attr.ensures.answers.next ∙ ap (λ b. b || false) c.requires.open.alive)
 
 pub returns-then-lacks_for-clause-open : goal.returns-then-lacks_for-clause-open
 returns-then-lacks_for-clause-open g c = λ _.
-    measured-open (access_table_of c.args.self.now) c.args.files.now c.read_attr.new.self c.requires.open c.in-Ok.ensures.read.reads
-    c.in-Ok.ensures.answers.home
-    (c.in-Ok.ensures.answers.next ∙ ap (λ b. b || false) c.requires.open.alive)
+    measured-open (access_table_of c.args.self.now) c.args.files.now c.read_attr.new.self c.requires.open c.in_ok-attr.ensures.read.reads
+    c.in_ok-attr.ensures.answers.home
+    (c.in_ok-attr.ensures.answers.next ∙ ap (λ b. b || false) c.requires.open.alive)
 
 pub returns-then-is_barred-clause-open : goal.returns-then-is_barred-clause-open
 returns-then-is_barred-clause-open g c = λ _.
-    measured-open (access_table_of c.args.self.now) c.args.files.now c.read_attr.new.self c.requires.open c.in-Ok.ensures.read.reads
-    c.in-Ok.ensures.answers.home
-    (c.in-Ok.ensures.answers.next ∙ ap (λ b. b || false) c.requires.open.alive)
+    measured-open (access_table_of c.args.self.now) c.args.files.now c.read_attr.new.self c.requires.open c.in_ok-attr.ensures.read.reads
+    c.in_ok-attr.ensures.answers.home
+    (c.in_ok-attr.ensures.answers.next ∙ ap (λ b. b || false) c.requires.open.alive)
 
 pub returns-clause-handles : goal.returns-clause-handles
 returns-clause-handles g c =
     access-taken c.args.task c.args.lun c.args.caller c.args.file c.args.mode (state_of (access_table_of c.args.self.now) c.args.files.now)
-    (sym c.is_bad.ensures ∙ c.if-is_bad.false) (sym c.in-None.ensures.value) c.if-file-lt4.false c.in-Ok.attr
-    (state_of (access_table_of c.set.new.self) c.read_attr.new.self) c.in-Ok.ensures.read.reads c.in-Ok.ensures.read.no_cause
-    c.in-Ok.ensures.read.attr_is c.in-Ok.ensures.answers.home c.in-Ok.ensures.told.counts (sym c.is_marked.ensures ∙ c.if-is_marked.false)
+    (sym c.is_bad.ensures ∙ c.if-is_bad.false) (sym c.in-None.ensures.value) c.if-file-lt4.false c.in_ok-attr.attr
+    (state_of (access_table_of c.set.new.self) c.read_attr.new.self) c.in_ok-attr.ensures.read.reads c.in_ok-attr.ensures.read.no_cause
+    c.in_ok-attr.ensures.read.attr_is c.in_ok-attr.ensures.answers.home c.in_ok-attr.ensures.told.counts
+    (sym c.is_marked.ensures ∙ c.if-is_marked.false)
     (sym c.lacks_for.ensures ∙ c.if-lacks_for.false) _ c.set.ensures.value (sym c.if-is_barred.false ∙ c.is_barred.ensures)
 
 pub returns-clause-open : goal.returns-clause-open
@@ -99,18 +106,20 @@ returns-clause-open g c = λ _. record {
       let t = access_table_of c.args.self.now in
       windows-with t (access_table_of c.set.new.self) c.read_attr.new.self c.args.task c.args.lun _ c.set.ensures.value
       (λ e is. empty-kept e c.read_attr.new.self (ap (λ (x : Entry). x.window) (sym (same_Some _ _ is)) ∙ c.empty.ensures.value))
-      (windows-read t c.args.files.now c.read_attr.new.self c.requires.open c.in-Ok.ensures.read.reads c.in-Ok.ensures.answers.home);
-  alive = c.in-Ok.ensures.answers.next ∙ ap (λ b. b || false) c.requires.open.alive;
+      (windows-read t c.args.files.now c.read_attr.new.self c.requires.open c.in_ok-attr.ensures.read.reads
+      c.in_ok-attr.ensures.answers.home);
+  alive = c.in_ok-attr.ensures.answers.next ∙ ap (λ b. b || false) c.requires.open.alive;
   kept = λ honest.
-      let looked = c.in-Ok.ensures.read.reads.looked in
+      let looked = c.in_ok-attr.ensures.read.reads.looked in
       let was = sym looked.honest ∙ honest in
       access-kept c.args.task c.args.lun c.args.caller c.args.file c.args.mode (state_of (access_table_of c.args.self.now) c.args.files.now)
-      (sym c.is_bad.ensures ∙ c.if-is_bad.false) (sym c.in-None.ensures.value) c.if-file-lt4.false c.in-Ok.attr
-      (state_of (access_table_of c.set.new.self) c.read_attr.new.self) c.in-Ok.ensures.read.reads c.in-Ok.ensures.read.no_cause
-      c.in-Ok.ensures.read.attr_is c.in-Ok.ensures.answers.home c.in-Ok.ensures.told.counts (sym c.is_marked.ensures ∙ c.if-is_marked.false)
+      (sym c.is_bad.ensures ∙ c.if-is_bad.false) (sym c.in-None.ensures.value) c.if-file-lt4.false c.in_ok-attr.attr
+      (state_of (access_table_of c.set.new.self) c.read_attr.new.self) c.in_ok-attr.ensures.read.reads c.in_ok-attr.ensures.read.no_cause
+      c.in_ok-attr.ensures.read.attr_is c.in_ok-attr.ensures.answers.home c.in_ok-attr.ensures.told.counts
+      (sym c.is_marked.ensures ∙ c.if-is_marked.false)
       (sym c.lacks_for.ensures ∙ c.if-lacks_for.false) (access_table_of c.set.new.self) (store_in c.read_attr.new.self)
       (ap (λ (i : Image). store_of i (home_in c.read_attr.new.self)) looked.image
-      ∙ ap (λ (h : HomeFields). store_of (disk_in c.args.files.now).image h) c.in-Ok.ensures.answers.home) _ c.set.ensures.value was
+      ∙ ap (λ (h : HomeFields). store_of (disk_in c.args.files.now).image h) c.in_ok-attr.ensures.answers.home) _ c.set.ensures.value was
       (c.requires.open.kept was);
 }
 

@@ -1,0 +1,19 @@
+-- What is done to files by their names, each as the plan of what it asks (profile).
+use Rattle.std.specs.Prelude.{ℕ, List, Result}
+use Rattle.f11_store.specs.declared.files.FileId.{FileId}
+use Rattle.f11_store.specs.declared.refusals.Refusal.{Refusal}
+use Rattle.f11_store.specs.declared.requests.Request.TheVariants as request
+use Rattle.f11_making.specs.FilesPlan.{FilesPlan, if_granted, names, one}
+use Rattle.f11_making.specs.Plans.{deletes, protects, renames}
+use Rattle.f11_making.specs.declared.action.Action.{Action}
+use Rattle.f11_making.specs.declared.action.Action.TheVariants as action
+
+-- the directory of this name is found in the master file directory, and then so
+abbrev pub within : FileId → List ℕ → (FileId → FilesPlan (Result (Unit {0}) Refusal)) → FilesPlan (Result (Unit {0}) Refusal)
+within master directory on = if_granted (one (names (request.Find master directory))) on
+
+abbrev pub plan_of : FileId → Action → FilesPlan (Result (Unit {0}) Refusal)
+plan_of master (action.Delete directory name) = within master directory (λ dir. deletes dir name)
+plan_of master (action.Rename directory name to new) =
+    within master directory (λ dir. within master to (λ into. renames dir name into new))
+plan_of master (action.Protect directory name protection) = within master directory (λ dir. protects dir name protection)

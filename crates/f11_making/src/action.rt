@@ -1,0 +1,26 @@
+//! What a user has done to a file by its name.
+
+use f11_rad50::Name;
+
+/// What is done to a file of a Files-11 volume by its name. A directory is told by the name that the master file directory has for it.
+#[derive(Clone, Copy, Debug)]
+pub enum Action {
+    /// Its name is removed, and it is deleted.
+    Delete {
+        directory: Name,
+        name: Name,
+    },
+    /// It gets a name in this directory or another, and the old one is removed.
+    Rename {
+        directory: Name,
+        name: Name,
+        to: Name,
+        new: Name,
+    },
+    /// It gets this protection (Files-11 On-Disk Structure Level 1, "File Protection").
+    Protect {
+        directory: Name,
+        name: Name,
+        protection: u16,
+    },
+}
