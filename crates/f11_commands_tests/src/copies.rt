@@ -7,4 +7,4 @@ pub mod round;
 #[cfg(test)]
 mod to_rt;
 #[cfg(test)]
-mod volumes;
+pub mod volumes;

@@ -4,6 +4,8 @@
 //! commands, and inputs as long as the limits. What the program can show is a case under `cases/`.
 
 #[cfg(test)]
+mod actions;
+#[cfg(test)]
 mod counting;
 #[cfg(test)]
 mod failing;

@@ -151,7 +151,7 @@ module _ (P : Question → Type 0) where
       by (Ok x) calm = then-so x
       by (Err e) calm = calm
 
-  worse-calm : (r : Request) (e : Refusal) {T : Type 0} → P (done r) → is_fatal e ≡ false → IsTidy P (undoing_if {T = T} false r e)
+  pub worse-calm : (r : Request) (e : Refusal) {T : Type 0} → P (done r) → is_fatal e ≡ false → IsTidy P (undoing_if {T = T} false r e)
   worse-calm r e {T} is calm = (is, (λ f fatal. ap (λ b. gives (Err (if b then f else e))) fatal), by)
     where
       by : (a : Result (Unit {0}) Refusal) → is_whole a ≡ true → not (is_fatal (worse e a)) ≡ true

@@ -12,15 +12,16 @@ use Rattle.f11_store.specs.declared.callers.Uic.{Uic}
 use Rattle.f11_store.specs.declared.files.Change.TheVariants as change
 use Rattle.f11_store.specs.declared.files.FileId.{FileId}
 use Rattle.f11_store.specs.declared.refusals.Refusal.{Refusal}
+use Rattle.f11_store.specs.declared.refusals.Refusal.TheVariants as refusal
 use Rattle.f11_store.specs.declared.requests.Reply.{Reply}
 use Rattle.f11_store.specs.declared.requests.Reply.TheVariants as reply
 use Rattle.f11_store.specs.declared.requests.Request.{Request}
 use Rattle.f11_store.specs.declared.requests.Request.TheVariants as request
 use Rattle.f11_making.specs.Actions.{within}
 use Rattle.f11_making.specs.Asking.{Grants, Who, plain, told}
-use Rattle.f11_making.specs.FilesPlan.{AnswerOf, Asks, Carried, FilesPlan, Question, done, file_in, if_granted, names, one}
+use Rattle.f11_making.specs.FilesPlan.{AnswerOf, Asks, Carried, FilesPlan, Question, done, file_in, if_granted, names, on_ok, one}
 use Rattle.f11_making.specs.FilesPlan.{reads, writes}
-use Rattle.f11_making.specs.Plans.{deletes, moves, protects, removes, renames, sets}
+use Rattle.f11_making.specs.Plans.{deletes, finds_other, is_own, judged_by, moves, not_own, protects, removes, renames, sets}
 use Rattle.f11_making.specs.Sparing.{ActionsSpareOthers, Finds, Spares, may_change}
 use Rattle.f11_making.specs.Telling.{AddsUp, IsTidy, bare}
 use Rattle.f11_making.specs.declared.action.Action.TheVariants as action
@@ -106,21 +107,44 @@ module _ (n : ℕ) (late : (n == 1) ≡ false) where
     found-spares dir name on r s t behind (Err e, u, asked, ended) =
         ap (λ (x : Store). x.file n) ended.1 ∙ single-spares (names (request.Find dir name)) (Err e) s u refl asked
 
+    -- so where it isn't the volume's own
+    other-spares : (dir : FileId) (name : List ℕ) (on : FileId → FilesPlan (Result (Unit {0}) Refusal)) (r : Result (Unit {0}) Refusal)
+        (s t : Store) → ((id : FileId) → Finds who dir name s id → Carried plain who (on id) r s t → t.file n ≡ s.file n)
+        → Carried plain who (if_granted (finds_other dir name) on) r s t → t.file n ≡ s.file n
+    other-spares dir name on r s t behind (a, u, asked, rest) =
+        found-spares dir name (λ id. on_ok on (not_own (Ok id))) r s t own (a, u, asked, same a rest)
+      where
+        own : (id : FileId) → Finds who dir name s id → Carried plain who (on_ok on (not_own (Ok id))) r s t → t.file n ≡ s.file n
+        own id finds h = by (is_own id) h
+          where
+            volume : (b : Bool) → Carried plain who (on_ok on (if b then Ok id else Err refusal.BadArgument)) r s t → t.file n ≡ s.file n
+            volume true more = behind id finds more
+            volume false ended = ap (λ (x : Store). x.file n) ended.1
+
+            by : (b : Bool) → Carried plain who (on_ok on (judged_by b id)) r s t → t.file n ≡ s.file n
+            by true ended = ap (λ (x : Store). x.file n) ended.1
+            by false more = volume (id.volume == 0) more
+
+        same : (a : Result FileId Refusal) → Carried plain who (on_ok on (not_own a)) r u t
+            → Carried plain who (on_ok (λ id. on_ok on (not_own (Ok id))) a) r u t
+        same (Ok id) h = h
+        same (Err e) h = h
+
 -- what an action asks once its directories and its file are found
 pub actions-spare-others : ActionsSpareOthers
 actions-spare-others who master (action.Delete directory name) r s t n h late off =
     found-spares n late who master directory (λ dir. deletes dir name) r s t (λ dir at within.
-    found-spares n late who dir name (λ id. removes dir name id) r s t (λ id found more.
+    other-spares n late who dir name (λ id. removes dir name id) r s t (λ id found more.
     plan-spares n late who (removes dir name id) r s t
     (tidy-removal (Spares n) dir name id (off.0 dir at) (off.0 dir at) (off.1 dir at id found)) more) within) h
 actions-spare-others who master (action.Rename directory name to new) r s t n h late off =
     found-spares n late who master directory (λ dir. within master to (λ into. renames dir name into new)) r s t (λ dir at rest.
     found-spares n late who master to (λ into. renames dir name into new) r s t (λ into there within.
-    found-spares n late who dir name (λ id. moves dir name into new id) r s t (λ id found more.
+    other-spares n late who dir name (λ id. moves dir name into new id) r s t (λ id found more.
     plan-spares n late who (moves dir name into new id) r s t
     (tidy-renaming (Spares n) dir name into new id (off.1 into there) (off.1 into there) (off.0 dir at)) more) within) rest) h
 actions-spare-others who master (action.Protect directory name protection) r s t n h late off =
     found-spares n late who master directory (λ dir. protects dir name protection) r s t (λ dir at within.
-    found-spares n late who dir name (λ id. sets id protection) r s t (λ id found more.
+    other-spares n late who dir name (λ id. sets id protection) r s t (λ id found more.
     plan-spares n late who (sets id protection) r s t (clean-one (Spares n) (done (request.WriteAttr id (change.Protect protection)))
     (off dir at id found)) more) within) h

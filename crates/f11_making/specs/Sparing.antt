@@ -12,7 +12,7 @@ use Rattle.f11_making.specs.FilesPlan.{Carried, Question, done, names, reads, wr
 use Rattle.f11_making.specs.declared.action.Action.{Action}
 use Rattle.f11_making.specs.declared.action.Action.TheVariants as action
 
--- A request that needs no access may change this file, but for the index file, from which any may take slots: a look changes none, what is
+-- A request that needs no access may change this file, but for the index file, from which any may take slots: Find changes none, what is
 -- done to a directory changes that, and what is done to a file that.
 abbrev pub may_change : Request → ℕ → Bool
 may_change (request.Find dir name) n = false

@@ -5,7 +5,7 @@ use f11_rad50::Name;
 /// What is done to a file of a Files-11 volume by its name. A directory is told by the name that the master file directory has for it.
 #[derive(Clone, Copy, Debug)]
 pub enum Action {
-    /// Its name is removed, and it is deleted.
+    /// Its name is removed, and it is deleted, if it is there.
     Delete {
         directory: Name,
         name: Name,

@@ -14,8 +14,10 @@ use f11_store::{FileId, Refusal};
 
 /// Does to a file what is to be done, where `master` is the directory that has the others.
 ///
-/// A deletion removes the name first, and enters it again where the file can't be deleted. A file that is renamed gets its new name first,
-/// which is removed again where the old one can't be; its own header keeps the name that it was created with, since no request changes that.
+/// A deletion removes the name first, and enters it again where the file can't be deleted; where there is no such file the name was all. A
+/// file that is renamed gets its new name first, which is removed again where the old one can't be; its own header keeps the name that it was
+/// created with, which isn't asked to change. To files 1 to 5, the volume's own, nothing is done: `SystemFile`; nor to one of another volume of
+/// a set: `BadArgument`.
 ///
 /// # Errors
 ///
@@ -33,7 +35,8 @@ pub fn carry_out<D: Device>(
     act(vol, by, master, action)
 }
 
-/// Makes a file without blocks: created, entered and protected; it is deleted where its name can't be entered.
+/// Makes a file without blocks: created, entered and protected; it is deleted where its name can't be entered, or the protection
+/// isn't granted, and then the name stays.
 ///
 /// # Errors
 ///

@@ -1,7 +1,8 @@
 //! What is done to a file by its name, on whatever answers for the volume.
+ghost use Rattle.std.specs.Prelude.{◌≡◌};
 ghost use Rattle.f11_making.specs.Asking.{who_asks};
 ghost use Rattle.f11_making.specs.Actions.{plan_of, within};
-ghost use Rattle.f11_making.specs.Plans.{deletes, enters, makes_empty, protects, renames};
+ghost use Rattle.f11_making.specs.Plans.{deletes, enters, finds_other, is_gone, is_own, judged_by, makes_empty, protects, renames};
 ghost use Rattle.f11_making.specs.FilesPlan.{Carried};
 
 use crate::action::Action;
@@ -10,7 +11,48 @@ use crate::steps::{ask_done, ask_file, undo};
 use f11_rad50::Name;
 use f11_store::{Change, FileId, Refusal, Request, ident_with};
 
-/// Deletes the file that a directory has under a name.
+/// Whether it says that there is no such file.
+fn is_gone(refusal: Refusal) -> bool
+    ensures { result ≡ is_gone refusal }
+{
+    matches!(refusal, Refusal::NoSuchFile)
+}
+
+/// Whether it is one of the volume's own files, 1 to 5 (Files-11 On-Disk Structure Level 1, "Known Files").
+fn is_own(id: FileId) -> bool
+    ensures { result ≡ is_own id }
+{
+    id.number < 6
+}
+
+/// Whether something may be done to a file that was found.
+fn judged(id: FileId) -> Result<FileId, Refusal>
+    ensures { result ≡ judged_by (is_own id) id }
+{
+    if is_own(id) {
+        Err(Refusal::SystemFile)
+    } else if id.volume == 0 {
+        Ok(id)
+    } else {
+        Err(Refusal::BadArgument)
+    }
+}
+
+/// Finds the file that a directory has under a name, unless it is one of the volume's own, 1 to 5, or of another volume of a set.
+fn find_other<S: Asked>(
+    service: &mut S,
+    by: &Asker,
+    dir: FileId,
+    name: &Name,
+) -> Result<FileId, Refusal>
+    ensures goes { Carried S.service (who_asks by.now.task by.now.uic) (finds_other dir name.now) result
+        service.old service.new }
+{
+    let id = ask_file(service, by, Request::Find(dir, *name))?;
+    judged(id)
+}
+
+/// Deletes the file that a directory has under a name, or the name alone where it leads to no file.
 fn delete_file<S: Asked>(
     service: &mut S,
     by: &Asker,
@@ -20,11 +62,16 @@ fn delete_file<S: Asked>(
     ensures goes { Carried S.service (who_asks by.now.task by.now.uic) (deletes dir name.now) result
         service.old service.new }
 {
-    let id = ask_file(service, by, Request::Find(dir, *name))?;
+    let id = find_other(service, by, dir, name)?;
     ask_done(service, by, Request::Remove(dir, *name))?;
     match ask_done(service, by, Request::Delete(id)) {
         Ok(()) => Ok(()),
-        Err(refusal) => Err(undo(service, by, Request::Enter(dir, *name, id), refusal)),
+        Err(refusal) => {
+            if is_gone(refusal) {
+                return Ok(());
+            }
+            Err(undo(service, by, Request::Enter(dir, *name, id), refusal))
+        }
     }
 }
 
@@ -40,7 +87,7 @@ fn rename_file<S: Asked>(
     ensures goes { Carried S.service (who_asks by.now.task by.now.uic) (renames dir old.now to new.now) result
         service.old service.new }
 {
-    let id = ask_file(service, by, Request::Find(dir, *old))?;
+    let id = find_other(service, by, dir, old)?;
     ask_done(service, by, Request::Enter(to, *new, id))?;
     match ask_done(service, by, Request::Remove(dir, *old)) {
         Ok(()) => Ok(()),
@@ -76,7 +123,7 @@ fn protect_file<S: Asked>(
     ensures goes { Carried S.service (who_asks by.now.task by.now.uic) (protects dir name.now protection) result
         service.old service.new }
 {
-    let id = ask_file(service, by, Request::Find(dir, *name))?;
+    let id = find_other(service, by, dir, name)?;
     ask_done(
         service,
         by,

@@ -6,7 +6,7 @@ use crate::host_files::{self, Named, Taking};
 use crate::outcome::Failure;
 use crate::remarks::{self, Remark};
 use crate::script::serve;
-use crate::{rt_files, rt_folder, rt_volumes, volumes};
+use crate::{files, rt_files, rt_folder, rt_volumes, volumes};
 use f11_commands::f11_vfy::InitParams;
 use f11_commands::{Answer, Direction, print_name, print_rights};
 use f11_store::Uic;
@@ -27,6 +27,18 @@ pub fn run<'a, W: Write>(
     remark: &mut Option<Remark<'a>>,
 ) -> Result<Answer, Failure> {
     match *words {
+        Words::Del {
+            image,
+            directory,
+            name,
+        } => {
+            let file = Named {
+                image,
+                directory: name_of(directory),
+                name,
+            };
+            files::delete(rt, &file, writer, remark)
+        }
         Words::Dump { image, number } => volumes::dump(rt, image, number, writer, remark),
         Words::FlxFromRt {
             mode,
@@ -111,6 +123,19 @@ pub fn run<'a, W: Write>(
             }
             Ok(answer)
         }
+        Words::Prot {
+            image,
+            directory,
+            name,
+            protection,
+        } => {
+            let file = Named {
+                image,
+                directory: name_of(directory),
+                name,
+            };
+            files::protect(rt, &file, protection, writer, remark)
+        }
         Words::Put {
             mode,
             image,
@@ -124,6 +149,20 @@ pub fn run<'a, W: Write>(
                 name,
             };
             host_files::put(rt, &file, mode, host, writer, remark)
+        }
+        Words::Ren {
+            image,
+            directory,
+            name,
+            to,
+            new,
+        } => {
+            let file = Named {
+                image,
+                directory: name_of(directory),
+                name,
+            };
+            files::rename(rt, &file, to.map(name_of), new, writer, remark)
         }
         Words::Rights {
             caller,

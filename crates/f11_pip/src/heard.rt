@@ -4,7 +4,7 @@ use std::cell::Cell;
 use std::io::{self, Write};
 
 /// How many bytes of a line are kept: more than the longest line that refuses something has.
-const KEPT: usize = 32;
+const KEPT: usize = 96;
 
 /// The beginning of a line.
 #[derive(Clone, Copy)]
@@ -26,6 +26,14 @@ impl Beginning {
             *place = byte;
             self.length += 1;
         }
+    }
+
+    /// Why an action is refused, where the line says so: its last word, behind `NAME not ..`.
+    fn refused_action(&self) -> Option<&str> {
+        let line = str::from_utf8(self.bytes.get(..self.length)?).ok()?;
+        let (_, behind) = line.split_once(" not ")?;
+        let (_, refusal) = behind.rsplit_once(' ')?;
+        Some(refusal)
     }
 
     /// The line, where it refuses something: `bad line`, or `no` and why.
@@ -65,9 +73,10 @@ pub struct Heard<'w, 't, W> {
     writer: &'w mut W,
     /// The script that the lines answer, where each refusal is told at once.
     told: Option<Told<'t>>,
-    /// The line that isn't ended yet, and the one before it.
+    /// The line that isn't ended yet, the one before it, and the last one that says that an action is refused.
     line: Beginning,
     last: Beginning,
+    refused: Beginning,
 }
 
 impl<'w, 't, W: Write> Heard<'w, 't, W> {
@@ -77,6 +86,7 @@ impl<'w, 't, W: Write> Heard<'w, 't, W> {
             told,
             line: Beginning::NONE,
             last: Beginning::NONE,
+            refused: Beginning::NONE,
         }
     }
 
@@ -85,9 +95,17 @@ impl<'w, 't, W: Write> Heard<'w, 't, W> {
         self.last.refusal()
     }
 
+    /// Why the last action that is refused is so.
+    pub fn refused_action(&self) -> Option<&str> {
+        self.refused.refused_action()
+    }
+
     /// Ends the line.
     fn end(&mut self) {
         self.last = self.line;
+        if self.line.refused_action().is_some() {
+            self.refused = self.line;
+        }
         self.line = Beginning::NONE;
         if let (Some(told), Some(line)) = (&self.told, self.last.refusal()) {
             told.tell(line);

@@ -59,6 +59,39 @@ const GROUPS: [Group; 4] = [
                 example: "f11_pip put --mode text pack.dsk 200,1 'LOGIN.CMD;1' login.cmd",
             },
             Synopsis {
+                name: "del",
+                words: "f11_pip del IMAGE DIR NAME",
+                does: "deletes a file",
+                about: &[
+                    "of a volume that is accepted; NAME with its version; no directory, and none of the volume's own files",
+                    "DIR: a UIC, octal, as 200,1, or a name, as [USERFILES]; 0,0 is the master file directory",
+                ],
+                example: "f11_pip del pack.dsk 200,1 'LOGIN.CMD;1'",
+            },
+            Synopsis {
+                name: "ren",
+                words: "f11_pip ren IMAGE DIR NAME NEW",
+                does: "gives a file another name",
+                about: &[
+                    "of a volume that is accepted; NAME with its version; none of the volume's own files",
+                    "NEW: a name with a version that isn't there yet, in the same directory, or DIR/NAME, in that one",
+                    "its header keeps the name that it was made with, which dump shows",
+                    "DIR: a UIC, octal, as 200,1, or a name, as [USERFILES]; 0,0 is the master file directory",
+                ],
+                example: "f11_pip ren pack.dsk 200,1 'LOGIN.CMD;1' 'LOGIN.OLD;1'",
+            },
+            Synopsis {
+                name: "prot",
+                words: "f11_pip prot IMAGE DIR NAME WORD",
+                does: "gives a file a protection word",
+                about: &[
+                    "of a volume that is accepted; NAME with its version; none of the volume's own files",
+                    "WORD: octal, as ls and rights have it: a bit that is set denies a right",
+                    "DIR: a UIC, octal, as 200,1, or a name, as [USERFILES]; 0,0 is the master file directory",
+                ],
+                example: "f11_pip prot pack.dsk 200,1 'LOGIN.CMD;1' 177400",
+            },
+            Synopsis {
                 name: "vfy",
                 words: "f11_pip vfy [--update] IMAGE",
                 does: "verifies a volume: a line a fault or note, and whether it is accepted",
@@ -74,7 +107,7 @@ const GROUPS: [Group; 4] = [
                 does: "serves the requests of a script on a volume that is accepted",
                 about: &[
                     "SCRIPT: a file, a request a line, as `0 [1,1] FIND 4,4 LOGIN.CMD;1`; docs/FORMATS.md tells its language",
-                    "docs/RECIPES.md has scripts that make a directory, delete, rename and protect",
+                    "docs/RECIPES.md has scripts that make a directory, and delete one",
                     "--quiet: standard error doesn't tell which lines are bad or refused; the status is 0 where some are, too",
                 ],
                 example: "f11_pip run pack.dsk requests",

@@ -7,6 +7,7 @@
 mod commands;
 mod copies;
 mod directory;
+mod files;
 mod folder;
 mod heard;
 mod help;

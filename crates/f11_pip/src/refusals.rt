@@ -74,6 +74,49 @@ pub fn of_making<'a>(
     Some(refused(word, why))
 }
 
+/// What there is to say of a refusal to do something to a file of this name on the volume of this image, which was to get a new name.
+pub fn of_action<'a>(
+    refusal: &str,
+    image: &'a str,
+    name: &'a str,
+    new: &'a str,
+) -> Option<Remark<'a>> {
+    let (word, why) = match refusal {
+        "NoSuchEntry" => (
+            name,
+            "no such file in that directory, or no such directory; ls lists them",
+        ),
+        "NoSuchFile" => (
+            name,
+            "the record of that name, or its directory's, leads to no file; del removes such a name",
+        ),
+        "NotDirectory" => (
+            image,
+            "what the master file directory has under the directory's name is no directory",
+        ),
+        "SystemFile" => (name, "files 1 to 5 are the volume's own"),
+        "BadArgument" => (name, "its record names a file of another volume of a set"),
+        "Marked" => (
+            name,
+            "it, or its directory, is marked for delete; del deletes it",
+        ),
+        "NoPrivilege" => (
+            name,
+            "its protection word, or its directory's, denies it to [1,1]; prot IMAGE DIR NAME WORD gives a file another, and a directory one as a file of 0,0",
+        ),
+        "DuplicateName" => (
+            new,
+            "the directory has a record of that name and version; give another version, as ;2",
+        ),
+        "TooManySegments" | "DeviceFull" | "NoHeader" => (
+            image,
+            "the directory needs one block more, and it, or the file header for it, can't be had",
+        ),
+        _ => return None,
+    };
+    Some(refused(word, why))
+}
+
 /// What there is to say of a refusal of the RT-11 volume of this image, where a file of this name was looked for, or to be made.
 pub fn of_rt<'a>(line: &str, image: &'a str, name: &'a str) -> Option<Remark<'a>> {
     let (word, why) = match line {

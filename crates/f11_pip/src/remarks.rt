@@ -185,6 +185,14 @@ impl Why {
     pub const TWICE: Why = Why::Said(
         "named twice: a copy goes from one image to another; get and put go by a file",
     );
+    /// It is the name of a directory.
+    pub const DIRECTORY: Why = Why::Said(
+        "a directory isn't deleted, since its files would be in none then",
+    );
+    /// It is the name of a directory, or the name before is, and the other isn't.
+    pub const OTHER_TYPE: Why = Why::Said(
+        "a directory keeps the type DIR, and no other file gets it",
+    );
     /// The bit of the slot of the file in it that is taken out is lost.
     pub const UNUSED: Why = Why::Said(
         "the file's slot is out of use: if the volume was written since, its blocks may be another file's",
@@ -510,6 +518,16 @@ fn of_length(bytes: u64) -> Option<Why> {
 /// That a word names no file on a Files-11 volume.
 pub fn of_name(word: &str) -> Remark<'_> {
     Remark::of(word, Why::NO_NAME)
+}
+
+/// That a word names a directory, which isn't deleted.
+pub fn of_directory(word: &str) -> Remark<'_> {
+    Remark::of(word, Why::DIRECTORY)
+}
+
+/// That a word is no new name, since it would make a directory of a file, or a file of a directory.
+pub fn of_type(word: &str) -> Remark<'_> {
+    Remark::of(word, Why::OTHER_TYPE)
 }
 
 /// That a word names no file on an RT-11 volume.

@@ -10,6 +10,7 @@ use Rattle.f11_words.specs.Lines.{
   CommandLine,
   command_in,
   given_in,
+  del_line,
   dump_line,
   from_rt_line,
   get_all_line,
@@ -19,8 +20,10 @@ use Rattle.f11_words.specs.Lines.{
   init_line,
   ls_line,
   name_line,
+  prot_line,
   put_line,
   quiet_run_line,
+  ren_line,
   rights_line,
   rt_del_line,
   rt_get_all_line,
@@ -41,6 +44,7 @@ use Rattle.f11_words.specs.Told.{command_app}
 use Rattle.f11_words.specs.Usage.{texts_in, words_of, written}
 use Rattle.f11_words.specs.declared.usage.Subcommand.{Subcommand}
 use Rattle.f11_words.specs.declared.usage.Subcommand.TheVariants.{
+  Del,
   Dump,
   FlxFromRt,
   FlxToRt,
@@ -49,7 +53,9 @@ use Rattle.f11_words.specs.declared.usage.Subcommand.TheVariants.{
   Init,
   Ls,
   Name,
+  Prot,
   Put,
+  Ren,
   Rights,
   RtDel,
   RtGet,
@@ -70,6 +76,7 @@ leaf command = built_leaf (command_app command).top
 -- how it takes its words
 takes-words : (command : Subcommand) → TakesWords (leaf command) 1 (words_of command)
 unfolding clap_on_literals
+takes-words Del = (λ h word. refl, (λ h word. refl, (λ h word. refl, tt)))
 takes-words Dump = (λ h word. refl, (λ h word. refl, tt))
 takes-words FlxFromRt =
     (λ h word rest. (refl, refl, refl), (λ h word. refl, (λ h word. refl, (λ h word. refl, (λ h word. refl, (λ h word. refl, tt))))))
@@ -89,7 +96,9 @@ takes-words Init = (
 )
 takes-words Ls = (λ h word. refl, (λ h word. refl, tt))
 takes-words Name = (λ h word. refl, tt)
+takes-words Prot = (λ h word. refl, (λ h word. refl, (λ h word. refl, (λ h word. refl, tt))))
 takes-words Put = (λ h word rest. (refl, refl, refl), (λ h word. refl, (λ h word. refl, (λ h word. refl, (λ h word. refl, tt)))))
+takes-words Ren = (λ h word. refl, (λ h word. refl, (λ h word. refl, (λ h word. refl, tt))))
 takes-words Rights = (λ h word. refl, (λ h word. refl, (λ h word. refl, tt)))
 takes-words RtDel = (λ h word. refl, (λ h word. refl, tt))
 takes-words RtGet = (λ h rest. (refl, refl), (λ h word. refl, (λ h word. refl, (λ h word. refl, tt))))
@@ -123,6 +132,7 @@ is_found line = map (λ word. found word (finished (leaf (command_in line)).rule
 line-met : (line : CommandLine) → AreInOrder (words_of (command_in line)) (given_in line)
     × (passes_at (leaf (command_in line)) (is_taken line) (end_of line) ≡ true) × (is_found line ≡ map as_found (given_in line))
 unfolding clap_on_literals
+line-met (del_line image dir name) = (tt, refl, refl)
 line-met (dump_line image number) = (tt, refl, refl)
 line-met (from_rt_line mode rt rt_name image uic name) = (tt, refl, refl)
 line-met (to_rt_line mode image uic name rt rt_name) = (tt, refl, refl)
@@ -136,8 +146,10 @@ line-met (init_line blocks slots label (Some max) image) = (tt, refl, refl)
 line-met (ls_line image) = (refl, refl, refl)
 line-met (ls_in_line image dir) = (tt, refl, refl)
 line-met (name_line word) = (tt, refl, refl)
+line-met (prot_line image dir name word) = (tt, refl, refl)
 line-met (put_line None image dir name host) = (tt, refl, refl)
 line-met (put_line (Some mode) image dir name host) = (tt, refl, refl)
+line-met (ren_line image dir name new) = (tt, refl, refl)
 line-met (rights_line caller owner word) = (tt, refl, refl)
 line-met (rt_del_line rt name) = (tt, refl, refl)
 line-met (rt_get_line rt name host) = (tt, refl, refl)

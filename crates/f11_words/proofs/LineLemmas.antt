@@ -17,6 +17,7 @@ use Rattle.f11_words.specs.Told.{program_app}
 use Rattle.f11_words.specs.Usage.{name_of, texts_in, words_of}
 use Rattle.f11_words.specs.declared.usage.Subcommand.{Subcommand}
 use Rattle.f11_words.specs.declared.usage.Subcommand.TheVariants.{
+  Del,
   Dump,
   FlxFromRt,
   FlxToRt,
@@ -25,7 +26,9 @@ use Rattle.f11_words.specs.declared.usage.Subcommand.TheVariants.{
   Init,
   Ls,
   Name,
+  Prot,
   Put,
+  Ren,
   Rights,
   RtDel,
   RtGet,
@@ -93,6 +96,7 @@ command-met : (command : Subcommand) → (subcommand_met (names_of (built progra
     × (bytes_eq (name_of command) (codes "help") ≡ false)
     × (find (λ s. answers_to (name_of command) (label_of s)) (built program_app).subs ≡ Some (leaf command))
     × ((leaf command).name ≡ name_of command)
+command-met Del = (refl, refl, refl, refl)
 command-met Dump = (refl, refl, refl, refl)
 command-met FlxFromRt = (refl, refl, refl, refl)
 command-met FlxToRt = (refl, refl, refl, refl)
@@ -101,7 +105,9 @@ command-met Home = (refl, refl, refl, refl)
 command-met Init = (refl, refl, refl, refl)
 command-met Ls = (refl, refl, refl, refl)
 command-met Name = (refl, refl, refl, refl)
+command-met Prot = (refl, refl, refl, refl)
 command-met Put = (refl, refl, refl, refl)
+command-met Ren = (refl, refl, refl, refl)
 command-met Rights = (refl, refl, refl, refl)
 command-met RtDel = (refl, refl, refl, refl)
 command-met RtGet = (refl, refl, refl, refl)

@@ -12,6 +12,7 @@ use Rattle.f11_words.specs.Lines.{
   CommandLine,
   command_in,
   given_in,
+  del_line,
   dump_line,
   from_rt_line,
   get_all_line,
@@ -21,8 +22,10 @@ use Rattle.f11_words.specs.Lines.{
   init_line,
   ls_line,
   name_line,
+  prot_line,
   put_line,
   quiet_run_line,
+  ren_line,
   rights_line,
   rt_del_line,
   rt_get_all_line,
@@ -42,6 +45,7 @@ use Rattle.f11_words.specs.Reading.{Has, HasAll, Meets, Reads, ReadsWords, as_fo
 use Rattle.f11_words.specs.Usage.{Given, Word, all_commands, flag, name_of, option, place, words_of}
 use Rattle.f11_words.specs.declared.usage.Subcommand.{Subcommand}
 use Rattle.f11_words.specs.declared.usage.Subcommand.TheVariants.{
+  Del,
   Dump,
   FlxFromRt,
   FlxToRt,
@@ -50,7 +54,9 @@ use Rattle.f11_words.specs.declared.usage.Subcommand.TheVariants.{
   Init,
   Ls,
   Name,
+  Prot,
   Put,
+  Ren,
   Rights,
   RtDel,
   RtGet,
@@ -70,6 +76,7 @@ named name = find (λ command. bytes_eq (name_of command) name) all_commands
 
 named-is : (command : Subcommand) → named (name_of command) ≡ Some command
 unfolding named
+named-is Del = refl
 named-is Dump = refl
 named-is FlxFromRt = refl
 named-is FlxToRt = refl
@@ -78,7 +85,9 @@ named-is Home = refl
 named-is Init = refl
 named-is Ls = refl
 named-is Name = refl
+named-is Prot = refl
 named-is Put = refl
+named-is Ren = refl
 named-is Rights = refl
 named-is RtDel = refl
 named-is RtGet = refl
@@ -126,6 +135,7 @@ has-all matches (word ∷ words) (value ∷ given) is = (
 -- what is read of each command line's words
 reads-line : (matches : ArgMatches) (result : Option Words) (line : CommandLine) → ReadsWords (command_in line) matches result
     → Reads line matches result
+reads-line matches result (del_line image dir name) reads = reads image dir name
 reads-line matches result (dump_line image number) reads = reads image number
 reads-line matches result (from_rt_line mode rt rt_name image uic name) reads = reads mode rt rt_name image uic name
 reads-line matches result (to_rt_line mode image uic name rt rt_name) reads = reads mode image uic name rt rt_name
@@ -137,7 +147,9 @@ reads-line matches result (init_line blocks slots label max image) reads = reads
 reads-line matches result (ls_line image) reads = reads.all image
 reads-line matches result (ls_in_line image dir) reads = reads.one image dir
 reads-line matches result (name_line word) reads = reads word
+reads-line matches result (prot_line image dir name word) reads = reads image dir name word
 reads-line matches result (put_line mode image dir name host) reads = reads mode image dir name host
+reads-line matches result (ren_line image dir name new) reads = reads image dir name new
 reads-line matches result (rights_line caller owner word) reads = reads caller owner word
 reads-line matches result (rt_del_line rt name) reads = reads rt name
 reads-line matches result (rt_get_line rt name host) reads = reads.file rt name host

@@ -2,9 +2,10 @@
 use Rattle.std.specs.Prelude.{◌≡◌, ◌⊎◌, ℕ, Bool, true, false, List, Option, Some, None, codes}
 use Rattle.f11_numbers.specs.Decimal.{IsCount, IsNumber, SpellsNumber, SpellsCount}
 use Rattle.f11_numbers.specs.Octal.{IsProtection, SpellsProtection, SpellsUic}
-use Rattle.f11_words.specs.Directory.{IsNoDirectory, IsNoUic, SpellsDirectory}
+use Rattle.f11_words.specs.Directory.{IsNoDirectory, IsNoTarget, IsNoUic, SpellsDirectory, SpellsTarget}
 use Rattle.f11_words.specs.Lines.{
   CommandLine,
+  del_line,
   dump_line,
   from_rt_line,
   get_all_line,
@@ -14,8 +15,10 @@ use Rattle.f11_words.specs.Lines.{
   init_line,
   ls_line,
   name_line,
+  prot_line,
   put_line,
   quiet_run_line,
+  ren_line,
   rights_line,
   rt_del_line,
   rt_get_all_line,
@@ -38,6 +41,7 @@ use Rattle.f11_words.specs.declared.reading.Failure.{Failure}
 use Rattle.f11_words.specs.declared.reading.Failure.TheVariants.{NoMemory, Usage}
 use Rattle.f11_words.specs.declared.words.Words.{Words}
 use Rattle.f11_words.specs.declared.words.Words.TheVariants.{
+  Del,
   Dump,
   FlxFromRt,
   FlxToRt,
@@ -48,7 +52,9 @@ use Rattle.f11_words.specs.declared.words.Words.TheVariants.{
   Ls,
   LsIn,
   Name,
+  Prot,
   Put,
+  Ren,
   Rights,
   RtDel,
   RtGet,
@@ -61,6 +67,23 @@ use Rattle.f11_words.specs.declared.words.Words.TheVariants.{
   Run,
   Vfy,
 }
+
+-- the words ask that the file of this name in this directory of this image be deleted
+abbrev pub AsksDel : List ℕ → List ℕ → List ℕ → Words → Type 0
+AsksDel image dir name (Del from directory file) = (from.now ≡ image) × SpellsDirectory dir directory × (file.now ≡ name)
+AsksDel image dir name _ = ⊥
+
+-- that it get this protection
+abbrev pub AsksProt : List ℕ → List ℕ → List ℕ → List ℕ → Words → Type 0
+AsksProt image dir name word (Prot from directory file protection) =
+    (from.now ≡ image) × SpellsDirectory dir directory × (file.now ≡ name) × SpellsProtection word protection
+AsksProt image dir name word _ = ⊥
+
+-- and that it get the name, in this directory or the other, that this text spells
+abbrev pub AsksRen : List ℕ → List ℕ → List ℕ → List ℕ → Words → Type 0
+AsksRen image dir name new (Ren from directory file to named) =
+    (from.now ≡ image) × SpellsDirectory dir directory × (file.now ≡ name) × SpellsTarget new to named.now
+AsksRen image dir name new _ = ⊥
 
 -- the words ask for the header of this number of this image
 abbrev pub AsksDump : List ℕ → List ℕ → Words → Type 0
@@ -203,6 +226,7 @@ AsksRights caller owner word _ = ⊥
 
 -- the words ask what the command line says
 abbrev pub Asks : CommandLine → Words → Type 0
+Asks (del_line image dir name) words = AsksDel image dir name words
 Asks (dump_line image number) words = AsksDump image number words
 Asks (from_rt_line mode rt rt_name image uic name) words = AsksFromRt mode rt rt_name image uic name words
 Asks (to_rt_line mode image uic name rt rt_name) words = AsksToRt mode image uic name rt rt_name words
@@ -214,7 +238,9 @@ Asks (init_line blocks slots label max image) words = AsksInit blocks slots labe
 Asks (ls_line image) words = AsksLs image None words
 Asks (ls_in_line image dir) words = AsksLs image (Some dir) words
 Asks (name_line text) words = AsksName text words
+Asks (prot_line image dir name word) words = AsksProt image dir name word words
 Asks (put_line mode image dir name host) words = AsksPut mode image dir name host words
+Asks (ren_line image dir name new) words = AsksRen image dir name new words
 Asks (rights_line caller owner word) words = AsksRights caller owner word words
 Asks (rt_del_line rt name) words = AsksRtDel rt name words
 Asks (rt_get_line rt name host) words = AsksRtGet rt name host words
@@ -253,6 +279,7 @@ IsNoCopy mode uic = ¬ IsMode mode ⊎ IsNoUic uic
 
 -- one of its texts isn't as it has to be
 abbrev pub IsUnreadable : CommandLine → Type 0
+IsUnreadable (del_line image dir name) = IsNoDirectory dir
 IsUnreadable (dump_line image number) = ¬ IsNumber number
 IsUnreadable (from_rt_line mode rt rt_name image uic name) = IsNoCopy mode uic
 IsUnreadable (to_rt_line mode image uic name rt rt_name) = IsNoCopy mode uic
@@ -264,7 +291,9 @@ IsUnreadable (init_line blocks slots label max image) = IsNoInit blocks slots ma
 IsUnreadable (ls_line image) = ⊥
 IsUnreadable (ls_in_line image dir) = IsNoDirectory dir
 IsUnreadable (name_line text) = ⊥
+IsUnreadable (prot_line image dir name word) = IsNoDirectory dir ⊎ ¬ IsProtection word
 IsUnreadable (put_line mode image dir name host) = IsNoMove mode dir
+IsUnreadable (ren_line image dir name new) = IsNoDirectory dir ⊎ IsNoTarget new
 IsUnreadable (rights_line caller owner word) = IsNoUic caller ⊎ (IsNoUic owner ⊎ ¬ IsProtection word)
 IsUnreadable (rt_del_line rt name) = ⊥
 IsUnreadable (rt_get_line rt name host) = ⊥

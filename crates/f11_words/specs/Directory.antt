@@ -1,7 +1,7 @@
 -- How a command line names a directory (profile): by the code of its user or by its name, in brackets or without.
-use Rattle.std.specs.Prelude.{◌≡◌, ◌≢◌, ◌==◌, Bool, ℕ, List, [], ◌∷◌, ◌++◌, codes, map, if◌then◌else◌}
+use Rattle.std.specs.Prelude.{◌≡◌, ◌≢◌, ◌==◌, ◌<◌, Bool, ℕ, List, [], ◌∷◌, ◌++◌, codes, length, map, Option, Some, None, if◌then◌else◌}
 use Rattle.std.specs.Char.{to_ascii_uppercase}
-use Rattle.std.specs.List.{list_any}
+use Rattle.std.specs.List.{after_first, before_first, list_any, position_or_len}
 use Rattle.f11_rad50.specs.Name.{Spells}
 use Rattle.f11_numbers.specs.Octal.{SpellsUic}
 use Rattle.f11_store.specs.declared.callers.Uic.{Uic}
@@ -39,3 +39,19 @@ pub record SpellsDirectory (text : List ℕ) (directory : Directory) : Type 0 wh
 -- a text spells none
 abbrev pub IsNoDirectory : List ℕ → Type 0
 IsNoDirectory text = (directory : Directory) → ¬ SpellsDirectory text directory
+
+-- a slash, 47
+abbrev pub is_slash : ℕ → Bool
+is_slash c = c == 47
+
+-- in which other directory a file gets a new name, and which: without a slash the text is the name, and there is none; else the name stands
+-- behind the first slash, and the directory before it
+pub data SpellsTarget (text : List ℕ) (to : Option Directory) (name : List ℕ) : Type 0 where
+  within : position_or_len is_slash text ≡ length text → to ≡ None → name ≡ text → SpellsTarget text to name
+  elsewhere : (directory : Directory) → position_or_len is_slash text < length text
+      → SpellsDirectory (before_first is_slash text) directory → to ≡ Some directory → name ≡ after_first is_slash text
+      → SpellsTarget text to name
+
+-- a text spells none: there is a slash, and before it no directory
+abbrev pub IsNoTarget : List ℕ → Type 0
+IsNoTarget text = (position_or_len is_slash text < length text) × IsNoDirectory (before_first is_slash text)

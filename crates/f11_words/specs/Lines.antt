@@ -3,6 +3,7 @@ use Rattle.std.specs.Prelude.{◌≡◌, ℕ, ◌==◌, All, Bool, true, false, 
 use Rattle.f11_words.specs.Usage.{Given, is_there, name_of, says, text, texts_in, words_of, written}
 use Rattle.f11_words.specs.declared.usage.Subcommand.{Subcommand}
 use Rattle.f11_words.specs.declared.usage.Subcommand.TheVariants.{
+  Del,
   Dump,
   FlxFromRt,
   FlxToRt,
@@ -11,7 +12,9 @@ use Rattle.f11_words.specs.declared.usage.Subcommand.TheVariants.{
   Init,
   Ls,
   Name,
+  Prot,
   Put,
+  Ren,
   Rights,
   RtDel,
   RtGet,
@@ -26,6 +29,7 @@ use Rattle.f11_words.specs.declared.usage.Subcommand.TheVariants.{
 
 -- A command, with its words.
 pub data CommandLine : Type 0 where
+  del_line : (image dir name : List ℕ) → CommandLine
   dump_line : (image number : List ℕ) → CommandLine
   from_rt_line : (mode rt rt_name image uic name : List ℕ) → CommandLine
   to_rt_line : (mode image uic name rt rt_name : List ℕ) → CommandLine
@@ -37,7 +41,9 @@ pub data CommandLine : Type 0 where
   ls_line : (image : List ℕ) → CommandLine
   ls_in_line : (image dir : List ℕ) → CommandLine
   name_line : (word : List ℕ) → CommandLine
+  prot_line : (image dir name word : List ℕ) → CommandLine
   put_line : (mode : Option (List ℕ)) → (image dir name host : List ℕ) → CommandLine
+  ren_line : (image dir name new : List ℕ) → CommandLine
   rights_line : (caller owner word : List ℕ) → CommandLine
   rt_del_line : (rt name : List ℕ) → CommandLine
   rt_get_line : (rt name host : List ℕ) → CommandLine
@@ -54,6 +60,7 @@ pub data CommandLine : Type 0 where
 
 -- which command it is,
 abbrev pub command_in : CommandLine → Subcommand
+command_in (del_line image dir name) = Del
 command_in (dump_line image number) = Dump
 command_in (from_rt_line mode rt rt_name image uic name) = FlxFromRt
 command_in (to_rt_line mode image uic name rt rt_name) = FlxToRt
@@ -65,7 +72,9 @@ command_in (init_line blocks slots label max image) = Init
 command_in (ls_line image) = Ls
 command_in (ls_in_line image dir) = Ls
 command_in (name_line word) = Name
+command_in (prot_line image dir name word) = Prot
 command_in (put_line mode image dir name host) = Put
+command_in (ren_line image dir name new) = Ren
 command_in (rights_line caller owner word) = Rights
 command_in (rt_del_line rt name) = RtDel
 command_in (rt_get_line rt name host) = RtGet
@@ -82,6 +91,7 @@ command_in (update_line image) = Vfy
 
 -- and what it gives for each of the words that the command takes
 abbrev pub given_in : CommandLine → List Given
+given_in (del_line image dir name) = text image ∷ text dir ∷ text name ∷ []
 given_in (dump_line image number) = text image ∷ text number ∷ []
 given_in (from_rt_line mode rt rt_name image uic name) = text mode ∷ text rt ∷ text rt_name ∷ text image ∷ text uic ∷ text name ∷ []
 given_in (to_rt_line mode image uic name rt rt_name) = text mode ∷ text image ∷ text uic ∷ text name ∷ text rt ∷ text rt_name ∷ []
@@ -96,7 +106,9 @@ given_in (init_line blocks slots label max image) = text blocks ∷ text slots �
 given_in (ls_line image) = text image ∷ says None ∷ []
 given_in (ls_in_line image dir) = text image ∷ text dir ∷ []
 given_in (name_line word) = text word ∷ []
+given_in (prot_line image dir name word) = text image ∷ text dir ∷ text name ∷ text word ∷ []
 given_in (put_line mode image dir name host) = says mode ∷ text image ∷ text dir ∷ text name ∷ text host ∷ []
+given_in (ren_line image dir name new) = text image ∷ text dir ∷ text name ∷ text new ∷ []
 given_in (rights_line caller owner word) = text caller ∷ text owner ∷ text word ∷ []
 given_in (rt_del_line rt name) = text rt ∷ text name ∷ []
 given_in (rt_get_line rt name host) = is_there false ∷ text rt ∷ text name ∷ text host ∷ []

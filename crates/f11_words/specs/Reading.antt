@@ -6,6 +6,7 @@ use Rattle.f11_words.specs.Asking.{Asks, IsUnreadable}
 use Rattle.f11_words.specs.Lines.{
   CommandLine,
   command_in,
+  del_line,
   dump_line,
   from_rt_line,
   get_all_line,
@@ -16,8 +17,10 @@ use Rattle.f11_words.specs.Lines.{
   init_line,
   ls_line,
   name_line,
+  prot_line,
   put_line,
   quiet_run_line,
+  ren_line,
   rights_line,
   rt_del_line,
   rt_get_all_line,
@@ -36,6 +39,7 @@ use Rattle.f11_words.specs.Lines.{
 use Rattle.f11_words.specs.Usage.{Given, Word, flag, is_there, name_of, option, place, says, words_of}
 use Rattle.f11_words.specs.declared.usage.Subcommand.{Subcommand}
 use Rattle.f11_words.specs.declared.usage.Subcommand.TheVariants.{
+  Del,
   Dump,
   FlxFromRt,
   FlxToRt,
@@ -44,7 +48,9 @@ use Rattle.f11_words.specs.declared.usage.Subcommand.TheVariants.{
   Init,
   Ls,
   Name,
+  Prot,
   Put,
+  Ren,
   Rights,
   RtDel,
   RtGet,
@@ -126,6 +132,7 @@ pub record ReadsVfy (matches : ArgMatches) (result : Option Words) : Type 0 wher
 
 -- What a command's words are read as.
 abbrev pub ReadsWords : Subcommand → ArgMatches → Option Words → Type 0
+ReadsWords Del matches result = (image dir name : Text) → Reads (del_line image dir name) matches result
 ReadsWords Dump matches result = (image number : Text) → Reads (dump_line image number) matches result
 ReadsWords FlxFromRt matches result =
     (mode rt rt_name image uic name : Text) → Reads (from_rt_line mode rt rt_name image uic name) matches result
@@ -137,8 +144,10 @@ ReadsWords Init matches result =
     (blocks slots label : Text) → (max : Option Text) → (image : Text) → Reads (init_line blocks slots label max image) matches result
 ReadsWords Ls matches result = ReadsLs matches result
 ReadsWords Name matches result = (word : Text) → Reads (name_line word) matches result
+ReadsWords Prot matches result = (image dir name word : Text) → Reads (prot_line image dir name word) matches result
 ReadsWords Put matches result =
     (mode : Option Text) → (image dir name host : Text) → Reads (put_line mode image dir name host) matches result
+ReadsWords Ren matches result = (image dir name new : Text) → Reads (ren_line image dir name new) matches result
 ReadsWords Rights matches result = (caller owner word : Text) → Reads (rights_line caller owner word) matches result
 ReadsWords RtDel matches result = (rt name : Text) → Reads (rt_del_line rt name) matches result
 ReadsWords RtGet matches result = ReadsRtGet matches result

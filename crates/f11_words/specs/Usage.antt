@@ -2,6 +2,7 @@
 use Rattle.std.specs.Prelude.{Bool, true, false, ℕ, List, [], ◌∷◌, ◌++◌, Option, Some, codes}
 use Rattle.f11_words.specs.declared.usage.Subcommand.{Subcommand}
 use Rattle.f11_words.specs.declared.usage.Subcommand.TheVariants.{
+  Del,
   Dump,
   FlxFromRt,
   FlxToRt,
@@ -10,7 +11,9 @@ use Rattle.f11_words.specs.declared.usage.Subcommand.TheVariants.{
   Init,
   Ls,
   Name,
+  Prot,
   Put,
+  Ren,
   Rights,
   RtDel,
   RtGet,
@@ -35,11 +38,14 @@ needed name = place name true
 
 -- the commands
 abbrev pub all_commands : List Subcommand
-all_commands = Dump ∷ FlxFromRt ∷ FlxToRt ∷ Get ∷ Home ∷ Init ∷ Ls ∷ Name ∷ Put ∷ Rights ∷ RtDel ∷ RtGet ∷ RtInit ∷ RtList ∷ RtLs ∷ RtPut
+all_commands =
+    Del ∷ Dump ∷ FlxFromRt ∷ FlxToRt ∷ Get ∷ Home ∷ Init ∷ Ls ∷ Name ∷ Prot ∷ Put ∷ Ren ∷ Rights ∷ RtDel ∷ RtGet ∷ RtInit ∷ RtList ∷ RtLs ∷
+    RtPut
     ∷ RtVfy ∷ Run ∷ Vfy ∷ []
 
 -- a command's name
 abbrev pub name_of : Subcommand → List ℕ
+name_of Del = codes "del"
 name_of Dump = codes "dump"
 name_of FlxFromRt = codes "flx-from-rt"
 name_of FlxToRt = codes "flx-to-rt"
@@ -48,7 +54,9 @@ name_of Home = codes "home"
 name_of Init = codes "init"
 name_of Ls = codes "ls"
 name_of Name = codes "name"
+name_of Prot = codes "prot"
 name_of Put = codes "put"
+name_of Ren = codes "ren"
 name_of Rights = codes "rights"
 name_of RtDel = codes "rt-del"
 name_of RtGet = codes "rt-get"
@@ -69,6 +77,7 @@ rt_file_words = needed (codes "rt") ∷ needed (codes "rt-name") ∷ []
 
 -- The words of a command. The folder of `get --all` stands in the directory's place, and that of `rt-get --all` in the name's.
 abbrev pub words_of : Subcommand → List Word
+words_of Del = file_words (codes "dir")
 words_of Dump = needed (codes "image") ∷ needed (codes "number") ∷ []
 words_of FlxFromRt = option (codes "mode") true ∷ (rt_file_words ++ file_words (codes "uic"))
 words_of FlxToRt = option (codes "mode") true ∷ (file_words (codes "uic") ++ rt_file_words)
@@ -79,7 +88,9 @@ words_of Init = option (codes "blocks") true ∷ option (codes "slots") true ∷
     ∷ needed (codes "image") ∷ []
 words_of Ls = needed (codes "image") ∷ place (codes "dir") false ∷ []
 words_of Name = needed (codes "text") ∷ []
+words_of Prot = file_words (codes "dir") ++ needed (codes "word") ∷ []
 words_of Put = option (codes "mode") false ∷ (file_words (codes "dir") ++ needed (codes "host") ∷ [])
+words_of Ren = file_words (codes "dir") ++ needed (codes "new") ∷ []
 words_of Rights = needed (codes "uic") ∷ needed (codes "owner") ∷ needed (codes "word") ∷ []
 words_of RtDel = needed (codes "rt") ∷ needed (codes "name") ∷ []
 words_of RtGet = flag (codes "all") ∷ needed (codes "rt") ∷ needed (codes "name") ∷ place (codes "host") false ∷ []

@@ -3,10 +3,10 @@ ghost use Rattle.std.specs.Prelude.{◌≡◌, ℕ, List, Option, MatchOption, c
 ghost use Rattle.clap.specs.Words.{first_value, found_of};
 ghost use Rattle.f11_numbers.specs.Octal.{SpellsUic};
 ghost use Rattle.f11_words.specs.Asking.{IsMode, IsNoModeOrNone, SpellsMode, SpellsModeOrNone};
-ghost use Rattle.f11_words.specs.Directory.{IsNoDirectory, IsNoUic, SpellsDirectory};
+ghost use Rattle.f11_words.specs.Directory.{IsNoDirectory, IsNoTarget, IsNoUic, SpellsDirectory, SpellsTarget};
 ghost use Rattle.f11_words.specs.Reading.{HasText};
 
-use crate::directory::{Directory, read_directory};
+use crate::directory::{Directory, read_directory, read_target};
 use clap::ArgMatches;
 use f11_flx::CopyMode;
 use f11_numbers::read_uic;
@@ -63,4 +63,12 @@ pub fn directory_of(given: &ArgMatches<'_>) -> Option<Directory>
         → MatchOption result (IsNoDirectory text) (SpellsDirectory text) }
 {
     read_directory(given.get_str("dir")?)
+}
+
+/// In which other directory a file gets its new name, and which, as a word spells them.
+pub fn target_of<'a>(given: &ArgMatches<'a>) -> Option<(Option<Directory>, &'a str)>
+    ensures { (text : List ℕ) → HasText (codes "new") text given.now
+        → MatchOption result (IsNoTarget text) (λ t. SpellsTarget text t.0 t.1.now) }
+{
+    read_target(given.get_str("new")?)
 }

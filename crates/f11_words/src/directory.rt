@@ -1,8 +1,8 @@
 //! How a command line names a directory.
-ghost use Rattle.std.specs.Prelude.{◌≡◌, ◌≤◌, ℕ, List, Some, IfSome, codes, length, map, take};
+ghost use Rattle.std.specs.Prelude.{◌≡◌, ◌≤◌, ℕ, List, MatchOption, Some, IfSome, codes, length, map, take};
 ghost use Rattle.std.specs.Char.{to_ascii_uppercase};
 ghost use Rattle.f11_rad50.specs.Name.{Spells};
-ghost use Rattle.f11_words.specs.Directory.{IsWithin, SpellsBare, SpellsDirectory, full_name};
+ghost use Rattle.f11_words.specs.Directory.{IsNoTarget, IsWithin, SpellsBare, SpellsDirectory, SpellsTarget, full_name};
 ghost use Rattle.f11_words.specs.declared.directory.Directory.{Directory as DirectoryOf};
 
 use f11_numbers::read_uic;
@@ -30,6 +30,20 @@ pub fn read_directory(text: &str) -> Option<Directory>
     ensures every { (directory : DirectoryOf) → SpellsDirectory text.now directory → result ≡ Some directory }
 {
     read_bare(unbracketed(text))
+}
+
+/// In which other directory a file gets a new name, and which: a text spells them as `DIR/NAME`, the directory as [`read_directory`] reads it,
+/// or as `NAME` alone, in the directory in which the file is (profile). `None` where what stands before the first slash spells no directory.
+pub fn read_target<'a>(text: &'a str) -> Option<(Option<Directory>, &'a str)>
+    ensures { MatchOption result (IsNoTarget text.now) (λ t. SpellsTarget text.now t.0 t.1.now) }
+{
+    match text.split_once('/') {
+        Some((directory, name)) => match read_directory(directory) {
+            Some(to) => Some((Some(to), name)),
+            None => None,
+        },
+        None => Some((None, text)),
+    }
 }
 
 /// What stands in brackets, or the text itself where it doesn't stand in brackets.

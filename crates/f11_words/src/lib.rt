@@ -8,6 +8,7 @@
 mod args;
 mod copies;
 mod directory;
+mod files;
 mod host_files;
 mod program;
 mod reading;

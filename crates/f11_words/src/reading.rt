@@ -7,6 +7,7 @@ ghost use Rattle.f11_words.specs.Reading.{Meets, ReadsWords};
 ghost use Rattle.f11_words.specs.Told.{program_app};
 
 use crate::copies::{from_rt_of, to_rt_of};
+use crate::files::{del_of, prot_of, ren_of};
 use crate::host_files::{get_of, put_of};
 use crate::program::program;
 use crate::rt11::{rt_del_of, rt_get_of, rt_init_of, rt_list_of, rt_ls_of, rt_put_of, rt_vfy_of};
@@ -94,6 +95,7 @@ fn words_of<'a>(command: Subcommand, given: &ArgMatches<'a>) -> Option<Words<'a>
     ensures { ReadsWords command given.now result }
 {
     match command {
+        Subcommand::Del => del_of(given),
         Subcommand::Dump => dump_of(given),
         Subcommand::FlxFromRt => from_rt_of(given),
         Subcommand::FlxToRt => to_rt_of(given),
@@ -102,7 +104,9 @@ fn words_of<'a>(command: Subcommand, given: &ArgMatches<'a>) -> Option<Words<'a>
         Subcommand::Init => init_of(given),
         Subcommand::Ls => ls_of(given),
         Subcommand::Name => name_of(given),
+        Subcommand::Prot => prot_of(given),
         Subcommand::Put => put_of(given),
+        Subcommand::Ren => ren_of(given),
         Subcommand::Rights => rights_of(given),
         Subcommand::RtDel => rt_del_of(given),
         Subcommand::RtGet => rt_get_of(given),

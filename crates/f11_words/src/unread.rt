@@ -63,9 +63,12 @@ pub fn refusal(alloc: Global, words: &[String]) -> Option<String> {
 /// The first of a command's words that can't be read, if there is one.
 fn first_unread<'a>(command: Subcommand, given: &ArgMatches<'a>) -> Option<Unread<'a>> {
     match command {
+        Subcommand::Del => directory(given),
+        Subcommand::Ren => directory(given).or(target(given)),
         Subcommand::Dump => number(given, "number", "NUMBER", 65_535),
         Subcommand::FlxFromRt | Subcommand::FlxToRt => mode(given).or(user(given, "uic")),
         Subcommand::Get => get(given),
+        Subcommand::Prot => directory(given).or(protection(given)),
         Subcommand::Put => mode(given).or(directory(given)),
         Subcommand::Init => blocks(given)
             .or(number(given, "slots", "--slots", 16_000))
@@ -151,6 +154,12 @@ fn user<'a>(given: &ArgMatches<'a>, id: &str) -> Option<Unread<'a>> {
 
 fn directory<'a>(given: &ArgMatches<'a>) -> Option<Unread<'a>> {
     let text = given.get_str("dir")?;
+    unless(read_directory(text).is_some(), text, Why::NoDirectory)
+}
+
+/// The directory before the slash in a file's new name.
+fn target<'a>(given: &ArgMatches<'a>) -> Option<Unread<'a>> {
+    let (text, _) = given.get_str("new")?.split_once('/')?;
     unless(read_directory(text).is_some(), text, Why::NoDirectory)
 }
 

@@ -6,6 +6,7 @@ ghost use Rattle.f11_words.specs.Told.{as_word};
 /// A command, which the first word behind the program's name names.
 #[derive(Clone, Copy, Debug, PartialEq, Eq)]
 pub enum Subcommand {
+    Del,
     Dump,
     FlxFromRt,
     FlxToRt,
@@ -14,7 +15,9 @@ pub enum Subcommand {
     Init,
     Ls,
     Name,
+    Prot,
     Put,
+    Ren,
     Rights,
     RtDel,
     RtGet,
@@ -40,10 +43,11 @@ pub(crate) enum Word {
 
 impl Subcommand {
     /// All commands.
-    pub(crate) fn all() -> [Subcommand; 19]
+    pub(crate) fn all() -> [Subcommand; 22]
         ensures { result ≡ all_commands }
     {
         [
+            Subcommand::Del,
             Subcommand::Dump,
             Subcommand::FlxFromRt,
             Subcommand::FlxToRt,
@@ -52,7 +56,9 @@ impl Subcommand {
             Subcommand::Init,
             Subcommand::Ls,
             Subcommand::Name,
+            Subcommand::Prot,
             Subcommand::Put,
+            Subcommand::Ren,
             Subcommand::Rights,
             Subcommand::RtDel,
             Subcommand::RtGet,
@@ -72,6 +78,7 @@ impl Subcommand {
         ensures none { IfNone result ((command : Subcommand) → name.now ≢ name_of command) }
     {
         match name {
+            "del" => Some(Subcommand::Del),
             "dump" => Some(Subcommand::Dump),
             "flx-from-rt" => Some(Subcommand::FlxFromRt),
             "flx-to-rt" => Some(Subcommand::FlxToRt),
@@ -80,7 +87,9 @@ impl Subcommand {
             "init" => Some(Subcommand::Init),
             "ls" => Some(Subcommand::Ls),
             "name" => Some(Subcommand::Name),
+            "prot" => Some(Subcommand::Prot),
             "put" => Some(Subcommand::Put),
+            "ren" => Some(Subcommand::Ren),
             "rights" => Some(Subcommand::Rights),
             "rt-del" => Some(Subcommand::RtDel),
             "rt-get" => Some(Subcommand::RtGet),
@@ -100,6 +109,7 @@ impl Subcommand {
         ensures { result.now ≡ name_of self }
     {
         match self {
+            Subcommand::Del => "del",
             Subcommand::Dump => "dump",
             Subcommand::FlxFromRt => "flx-from-rt",
             Subcommand::FlxToRt => "flx-to-rt",
@@ -108,7 +118,9 @@ impl Subcommand {
             Subcommand::Init => "init",
             Subcommand::Ls => "ls",
             Subcommand::Name => "name",
+            Subcommand::Prot => "prot",
             Subcommand::Put => "put",
+            Subcommand::Ren => "ren",
             Subcommand::Rights => "rights",
             Subcommand::RtDel => "rt-del",
             Subcommand::RtGet => "rt-get",
@@ -127,6 +139,13 @@ impl Subcommand {
         ensures { map as_word result.now ≡ words_of self }
     {
         match self {
+            Subcommand::Del => {
+                &[
+                    Word::Place("image", true),
+                    Word::Place("dir", true),
+                    Word::Place("name", true),
+                ]
+            }
             Subcommand::Dump => &[Word::Place("image", true), Word::Place("number", true)],
             Subcommand::FlxFromRt => {
                 &[
@@ -170,6 +189,14 @@ impl Subcommand {
             }
             Subcommand::Ls => &[Word::Place("image", true), Word::Place("dir", false)],
             Subcommand::Name => &[Word::Place("text", true)],
+            Subcommand::Prot => {
+                &[
+                    Word::Place("image", true),
+                    Word::Place("dir", true),
+                    Word::Place("name", true),
+                    Word::Place("word", true),
+                ]
+            }
             Subcommand::Put => {
                 &[
                     Word::Option("mode", false),
@@ -177,6 +204,14 @@ impl Subcommand {
                     Word::Place("dir", true),
                     Word::Place("name", true),
                     Word::Place("host", true),
+                ]
+            }
+            Subcommand::Ren => {
+                &[
+                    Word::Place("image", true),
+                    Word::Place("dir", true),
+                    Word::Place("name", true),
+                    Word::Place("new", true),
                 ]
             }
             Subcommand::Rights => {

@@ -7,6 +7,12 @@ use f11_store::Uic;
 /// What the words of the command line ask for.
 #[derive(Clone, Copy, Debug, PartialEq, Eq)]
 pub enum Words<'a> {
+    /// `del IMAGE DIR NAME`: a file in a directory
+    Del {
+        image: &'a str,
+        directory: Directory,
+        name: &'a str,
+    },
     /// `dump IMAGE NUMBER`: the number of a file header, 0 to 65,535
     Dump {
         image: &'a str,
@@ -71,6 +77,13 @@ pub enum Words<'a> {
     Name {
         text: &'a str,
     },
+    /// `prot IMAGE DIR NAME WORD`: a file in a directory, and the protection word that it gets
+    Prot {
+        image: &'a str,
+        directory: Directory,
+        name: &'a str,
+        protection: u16,
+    },
     /// `put [--mode M] IMAGE DIR NAME HOST`: how the file in which directory is made, and one of the host
     Put {
         mode: CopyMode,
@@ -78,6 +91,14 @@ pub enum Words<'a> {
         directory: Directory,
         name: &'a str,
         host: &'a str,
+    },
+    /// `ren IMAGE DIR NAME NEW`: a file in a directory, its new name, and in which other directory it gets that
+    Ren {
+        image: &'a str,
+        directory: Directory,
+        name: &'a str,
+        to: Option<Directory>,
+        new: &'a str,
     },
     /// `rights UIC OWNER WORD`: the caller's code, the owner's, and the file's protection word
     Rights {

@@ -1,21 +1,26 @@
-use Rattle.std.proofs.Common.{Ok, Err}
+use Rattle.std.proofs.Common.{Ok, Err, if◌then◌else◌, ◌∙◌, subst, sym}
 use Rattle.f11_store.specs.declared.requests.Request.TheVariants as request
 use Rattle.f11_making.specs.Asking.{who_asks}
-use Rattle.f11_making.specs.FilesPlan.{done, if_granted, names, on_err, on_ok, one, or_undone}
+use Rattle.f11_making.specs.FilesPlan.{Carried, done, on_ok, one, undoing}
+use Rattle.f11_making.specs.Plan.{and_then, gives}
+use Rattle.f11_making.specs.Plans.{finds_other, removes, unless_gone}
 use Rattle.f11_making.proofs.PlanLemmas.{goes-then}
 use Rattle.f11_making.proofs.plans.delete_file.Goals as goal
 
-pub returns-in-Err : goal.returns-in-Err
-returns-in-Err g c = record {
-  goes = goes-then g.S.Asked.service (who_asks c.args.by.now.task c.args.by.now.uic) (one (names (request.Find c.args.dir c.args.name.now)))
-      (on_ok (λ id. if_granted (one (done (request.Remove c.args.dir c.args.name.now)))
-      (λ x. or_undone (request.Enter c.args.dir c.args.name.now id) (one (done (request.Delete id)))))) (Ok c.in_ok-id.id) _
-      c.args.service.now c.ask_file.new.service _ c.in_ok-id.ensures.goes
-      (goes-then g.S.Asked.service (who_asks c.args.by.now.task c.args.by.now.uic) (one (done (request.Remove c.args.dir c.args.name.now)))
-      (on_ok (λ x. or_undone (request.Enter c.args.dir c.args.name.now c.in_ok-id.id) (one (done (request.Delete c.in_ok-id.id))))) (Ok tt)
-      _
-      c.ask_file.new.service c.ask_done.new.service _ c.in_ok-ask_done.ensures.goes
-      (goes-then g.S.Asked.service (who_asks c.args.by.now.task c.args.by.now.uic) (one (done (request.Delete c.in_ok-id.id)))
-      (on_err (request.Enter c.args.dir c.args.name.now c.in_ok-id.id)) (Err c.in-Err.refusal) _ c.ask_done.new.service
-      c.ask_done-2.new.service _ c.in-Err.ensures.goes c.undo.ensures.goes));
-}
+pub returns-else-is_gone : goal.returns-else-is_gone
+returns-else-is_gone g c =
+    let who = who_asks c.args.by.now.task c.args.by.now.uic in
+    let id = c.in_ok-id.id in
+    let e = c.in-Err.refusal in
+    let back = request.Enter c.args.dir c.args.name.now id in
+    record {
+      goes = goes-then g.S.Asked.service who (finds_other c.args.dir c.args.name.now) (on_ok (λ id. removes c.args.dir c.args.name.now id))
+          (Ok id) _ c.args.service.now c.find_other.new.service _ c.in_ok-id.ensures.goes
+          (goes-then g.S.Asked.service who (one (done (request.Remove c.args.dir c.args.name.now)))
+          (on_ok (λ x. and_then (one (done (request.Delete id))) (unless_gone back))) (Ok tt) _ c.find_other.new.service
+          c.ask_done.new.service _ c.in_ok-ask_done.ensures.goes
+          (goes-then g.S.Asked.service who (one (done (request.Delete id))) (unless_gone back) (Err e) _ c.ask_done.new.service
+          c.ask_done-2.new.service _ c.in-Err.ensures.goes
+          (subst (λ b. Carried g.S.Asked.service who (if b then gives (Ok (tt {0})) else undoing {T = Unit {0}} back e) (Err c.undo.result)
+          c.ask_done-2.new.service c.undo.new.service) (sym (sym c.is_gone.ensures ∙ c.if-is_gone.false)) c.undo.ensures.goes)));
+    }

@@ -1,0 +1,320 @@
+-- Actions on the volume of an image.
+use Rattle.std.proofs.Common.{◌≡◌, ◌≢◌, ◌⊎◌, inl, inr, ℕ, ◌+◌, ◌-◌, ◌≤◌, ◌||◌, Bool, true, false, IsTrue, List, [], ◌∷◌, ◌++◌, Option, Some}
+use Rattle.std.proofs.Common.{None}
+use Rattle.std.proofs.Common.{Result, Ok, Err, ◌<◌, suc, length, get_or, take, drop, refl, sym, ap, subst, ◌∙◌, arith, if◌then◌else◌}
+use Rattle.std.specs.Io.KnownBytes.{Appends}
+use Rattle.std.proofs.lemmas.List.{append-nil, length-append, length-take-le, take-append-drop, take_all}
+use Rattle.std.proofs.Math.Seq.{drop-cons, take-length, take-suc}
+use Rattle.f11_dev.specs.Disk.{Disk, with_transfer}
+use Rattle.f11_dev.specs.Image.{IsImage}
+use Rattle.f11_dev.specs.declared.device.Device.{Ghosts}
+use Rattle.f11_catalog.proofs.ListingLemmas.{appends-then}
+use Rattle.f11_catalog.specs.image_store.StoreOf.{store_of}
+use Rattle.f11_fcp.specs.Accesses.{held_in}
+use Rattle.f11_fcp.specs.Lists.{failures_of, store_of_volume}
+use Rattle.f11_fcp.specs.Mounting.{Mounts}
+use Rattle.f11_fcp.specs.Serving.{is_spent, state_in}
+use Rattle.f11_fcp.specs.declared.volume.Volume.{Volume}
+use Rattle.f11_fcp.specs.files.Answers.{is_fatal, is_fault, is_refused}
+use Rattle.f11_making.specs.Actions.{plan_of}
+use Rattle.f11_making.specs.Asking.{Asking, Denies, FilesService, Grants, Tried, Who, asks, plain, who_asks}
+use Rattle.f11_making.specs.Asking.{reads as reads_block, told as told_reply, writes as writes_block}
+use Rattle.f11_making.specs.Carrying.{Carries}
+use Rattle.f11_making.specs.FilesPlan.{AnswerOf, Asks, Carried, FilesPlan, Question, done, names, reads, writes}
+use Rattle.f11_making.specs.Plan.{asking, gives}
+use Rattle.f11_making.specs.Volume.{of_volume}
+use Rattle.f11_making.specs.declared.action.Action.{Action}
+use Rattle.f11_making.proofs.TellLemmas.{carried}
+use Rattle.f11_store.specs.Store.{Store}
+use Rattle.f11_store.specs.declared.refusals.Refusal.{Refusal}
+use Rattle.f11_store.specs.declared.refusals.Refusal.TheVariants as refusal
+use Rattle.f11_volume.specs.Verdict.{IsAccepted}
+use Rattle.f11_commands.proofs.AskedLemmas.{never, tried-breaks, tried-home}
+use Rattle.f11_commands.proofs.CopyLemmas.{first-is, last-is, sound-first, stands-accepted}
+use Rattle.f11_commands.specs.CopyCommand.{VerifiesFiles}
+use Rattle.f11_commands.specs.Copying.{master_directory, operator}
+use Rattle.f11_commands.specs.Output.{WriterTakes}
+use Rattle.f11_commands.specs.declared.outcome.Failure.{Failure}
+use Rattle.f11_commands.specs.declared.outcome.Failure.TheVariants.{CannotWrite}
+use Rattle.f11_commands.specs.declared.outcome.FileAnswer.{FileAnswer}
+use Rattle.f11_actions.specs.Command.{ActsOnImage, BreaksOff, BreaksOne, DoesAll, DoesOne, EndsAccepted, Kept, EndsActions, TellsActions}
+use Rattle.f11_actions.specs.Command.{TellsAll}
+use Rattle.f11_actions.specs.Command.{all_done, ended, ending, unkept, unwritten}
+use Rattle.f11_actions.specs.Lines.{action_line, all_line, lines_of, refused_in, refused_one}
+use Rattle.f11_actions.specs.Plans.{Acted, all_of, goes_on, is_last}
+use Rattle.f11_actions.proofs.AllLemmas.{acted, acted-as-many, lines-more, one-ends, one-more, refused-more, tidy-all}
+
+-- what a plan asked, one thing after another, was granted or refused
+module _ {V : Type 0} (S : FilesService V) (who : Who) where
+  abbrev One : Asking → V → V → Type 0
+  One x v w = (Grants S who x v w) ⊎ ((e : Refusal) × Denies S who x e v w)
+
+  one-tried : (q : Question) (a : Result (AnswerOf q) Refusal) (v w : V) → Asks S who q a v w → (x : Asking) × (One x v w)
+  one-tried (done r) (Ok x) v w h = (asks r, inl h)
+  one-tried (done r) (Err e) v w h = (asks r, inr (e, h))
+  one-tried (names r) (Ok id) v w h = (told_reply r h.0, inl h.2)
+  one-tried (names r) (Err e) v w (inl h) = (asks r, inr (e, h))
+  one-tried (names r) (Err e) v w (inr h) = (told_reply r h.0, inl h.3)
+  one-tried (reads lun vbn) (Ok block) v w h = (reads_block lun vbn block, inl h)
+  one-tried (reads lun vbn) (Err e) v w h = (reads_block lun vbn h.0, inr (e, h.1))
+  one-tried (writes lun vbn block) (Ok x) v w h = (writes_block lun vbn block, inl h)
+  one-tried (writes lun vbn block) (Err e) v w h = (writes_block lun vbn block, inr (e, h))
+
+  pub goes-tried : {T : Type 0} (p : FilesPlan T) (x : T) (v w : V) → Carried S who p x v w → (xs : List Asking) × Tried S who xs v w
+  goes-tried (gives y) x v w h = ([], h.1)
+  goes-tried (asking q on) x v w h =
+      let first = one-tried q h.0 v h.1 h.2 in
+      let rest = goes-tried (on h.0) x h.1 w h.3 in
+      (first.0 ∷ rest.0, (h.1, first.1, rest.1))
+
+-- a refusal that ends them, and one that doesn't
+record IsEnding (r : Result (Unit {0}) Refusal) (f : Failure) : Type 0 where
+  pub refusal : Refusal
+  pub is : r ≡ Err refusal
+  pub told : ending (Err refusal) ≡ Some f
+
+ends-by : (r : Result (Unit {0}) Refusal) (f : Failure) → ending r ≡ Some f → IsEnding r f
+ends-by (Ok x) f is = absurd (cc)
+ends-by (Err e) f is = record { refusal = e; is = refl; told = is }
+
+last-by : (e : Refusal) (f : Failure) → ending (Err e) ≡ Some f → is_last e ≡ true
+last-by refusal.DeviceFault f is = refl
+last-by refusal.Damaged f is = refl
+last-by refusal.NoMemory f is = refl
+last-by _ f is = absurd (cc)
+
+goes-on-by : (r : Result (Unit {0}) Refusal) → ending r ≡ None → goes_on r ≡ true
+goes-on-by (Ok x) is = refl
+goes-on-by (Err refusal.DeviceFault) is = absurd (cc)
+goes-on-by (Err refusal.Damaged) is = absurd (cc)
+goes-on-by (Err refusal.NoMemory) is = absurd (cc)
+goes-on-by (Err _) is = refl
+
+-- one action, asked for by the operator
+module _ {D : Type 0} {met : Ghosts D} (a : Action) (r : Result (Unit {0}) Refusal) (task : ℕ) (v w : Volume D met) (first : task ≡ 0)
+    (carries : Carries (who_asks task operator.caller) (plan_of master_directory a) r v w) where
+  by-operator : Carried of_volume operator (plan_of master_directory a) r v w
+  by-operator =
+      subst (λ t. Carried of_volume (who_asks t operator.caller) (plan_of master_directory a) r v w) first carries.carried
+
+  pub one-ended : {W : Type 0} (f : Failure) (before : W) → ending r ≡ Some f → BreaksOne a f v w before before
+  one-ended f before is =
+      let e = ends-by r f is in
+      inl (record {
+        refusal = e.refusal;
+        told_is = e.told;
+        carried = subst (λ x. Carried of_volume operator (plan_of master_directory a) x v w) e.is by-operator;
+        unwritten = refl;
+      })
+
+  pub one-unwritten : {W : Type 0} (before after : W) → ending r ≡ None → BreaksOne a CannotWrite v w before after
+  one-unwritten before after none = inr (record { told_is = refl; result = r; on = goes-on-by r none; carried = by-operator })
+
+  pub one-done : {W : Type 0} (refused : ℕ) (contents : W → Option (List ℕ)) (before after : W) → ending r ≡ None
+      → refused ≡ refused_one r → WriterTakes contents before after (action_line a r)
+      → DoesOne a refused v w contents before after
+  one-done refused contents before after none count line =
+      record { result = r; on = goes-on-by r none; refused_is = count; carried = by-operator; line = line }
+
+-- nothing was written yet
+pub takes-none : (o : Option (List ℕ)) → Appends o o []
+takes-none None = tt
+takes-none (Some xs) = sym (append-nil xs)
+
+-- So many actions were done, and so many of them refused.
+pub record Began {D W : Type 0} {met : Ghosts D} (actions : List Action) (i refused : ℕ) (v w : Volume D met)
+    (contents : W → Option (List ℕ)) (before after : W) : Type 0 where
+  pub does : DoesAll (take i actions) refused v w contents before after
+  pub few : refused ≤ i
+
+module _ {D W : Type 0} {met : Ghosts D} (actions : List Action) (contents : W → Option (List ℕ)) (v : Volume D met) (before : W) where
+  pub begins : WriterTakes contents before before [] → Began actions 0 0 v v contents before before
+  begins takes = record {
+    does = record { acted = []; refused_is = refl; few = omega arith; carried = (refl, refl); lines = takes };
+    few = omega arith;
+  }
+
+  pub one-refused : (a : Action) (n : ℕ) (u w : Volume D met) (now after : W) → DoesOne a n u w contents now after → n ≤ 1
+  one-refused a n u w now after one = by one.result one.refused_is
+    where
+      by : (r : Result (Unit {0}) Refusal) → n ≡ refused_one r → n ≤ 1
+      by (Ok x) is = omega (arith, is)
+      by (Err e) is = omega (arith, is)
+
+  pub goes-further : (i refused n : ℕ) (d : Action) (u w : Volume D met) (now after : W) → i < length actions
+      → Began actions i refused v u contents before now → DoesOne (get_or actions i d) n u w contents now after
+      → Began actions (i + 1) (refused + n) v w contents before after
+  goes-further i refused n d u w now after some began one =
+      let a : Action = get_or actions i d in
+      let more : take (suc i) actions ≡ take i actions ++ a ∷ [] = take-suc actions i d some in
+      let next : i + 1 ≡ suc i = omega arith in
+      let few = began.few in
+      let at-most = one-refused a n u w now after one in
+      let shown : List Acted = began.does.acted ++ acted a one.result ∷ [] in
+      subst (λ k. Began actions k (refused + n) v w contents before after) (sym next) (record {
+        does = subst (λ xs. DoesAll xs (refused + n) v w contents before after) (sym more) (record {
+          acted = shown;
+          refused_is =
+              let was = began.does.refused_is in
+              let is = one.refused_is in
+              let sum = refused-more began.does.acted a one.result in omega (arith, was, is, sum);
+          few =
+              let size = length-append (take i actions) (a ∷ []) in
+              let begun = length-take-le i actions (omega (arith, some)) in omega (arith, few, at-most, size, begun);
+          carried =
+              one-more of_volume operator master_directory (take i actions) a began.does.acted one.result v u w began.does.carried
+              one.carried one.on;
+          lines =
+              subst (λ t. WriterTakes contents before after t) (sym (lines-more began.does.acted a one.result))
+              (appends-then (contents before) (contents now) (contents after) (lines_of began.does.acted) (action_line a one.result)
+              began.does.lines one.line);
+        });
+        few = omega (arith, few, at-most);
+      })
+
+  pub breaks-off : (i refused : ℕ) (d : Action) (failure : Failure) (u w : Volume D met) (now after : W) → i < length actions
+      → Began actions i refused v u contents before now → BreaksOne (get_or actions i d) failure u w now after
+      → BreaksOff actions failure v w contents before after
+  breaks-off i refused d failure u w now after some began (inl e) =
+      let a : Action = get_or actions i d in
+      let whole : take i actions ++ a ∷ drop (suc i) actions ≡ actions =
+      ap (λ xs. take i actions ++ xs) (sym (drop-cons actions i d some)) ∙ take-append-drop i actions in
+      inl (record {
+        refusal = e.refusal;
+        told_is = e.told_is;
+        carried = subst (λ xs. Carried of_volume operator (all_of master_directory xs) (Err e.refusal) v w) whole
+            (one-ends of_volume operator master_directory (take i actions) a (drop (suc i) actions) began.does.acted e.refusal v u w
+            began.does.carried e.carried (last-by e.refusal failure e.told_is));
+        among = record {
+          first = take i actions;
+          one = a;
+          left = drop (suc i) actions;
+          parts = sym whole;
+          acted = began.does.acted;
+          as_many = acted-as-many of_volume operator master_directory (take i actions) began.does.acted v u began.does.carried;
+          lines = subst (λ (x : W). WriterTakes contents before x (lines_of began.does.acted)) (sym e.unwritten) began.does.lines;
+        };
+      })
+  breaks-off i refused d failure u w now after some began (inr l) =
+      let a : Action = get_or actions i d in
+      inr (record {
+        told_is = l.told_is;
+        n = suc i;
+        few = omega (arith, some);
+        acted = began.does.acted ++ acted a l.result ∷ [];
+        carried = subst (λ xs. Carried of_volume operator (all_of master_directory xs) (Ok (began.does.acted ++ acted a l.result ∷ [])) v w)
+            (sym (take-suc actions i d some))
+            (one-more of_volume operator master_directory (take i actions) a began.does.acted l.result v u w began.does.carried l.carried
+            l.on);
+      })
+
+  pub did-all : (i refused : ℕ) (u : Volume D met) (now : W) → length actions ≤ i → Began actions i refused v u contents before now
+      → DoesAll actions refused v u contents before now
+  did-all i refused u now all began =
+      subst (λ xs. DoesAll xs refused v u contents before now) (take_all i actions all) began.does
+
+-- the image of a volume that was mounted, and on which actions were done
+module _ {D : Type 0} {met : Ghosts D} (old : Disk) (first last : Volume D met) (mounts : Mounts old first) (image : IsImage old.image)
+    (files-accepted : IsTrue old.honest → IsAccepted old.image) where
+  pub acts-on-image : (actions : List Action) (result : Result (List Acted) Refusal)
+      → Carried of_volume operator (all_of master_directory actions) result first last
+      → ActsOnImage actions result old (state_in last).disk
+  acts-on-image actions result goes = record {
+    home = (state_in first).home;
+    held = (state_in last).table;
+    home_is = mounts.home;
+    outcome = λ is whole.
+        subst (λ (s : Store). Carried plain operator plan result s
+        (held_in (state_in last).table (store_of (state_in last).disk.image (state_in first).home)))
+        (first-is old first last mounts home-stays)
+        (subst (λ (s : Store). Carried plain operator plan result (store_of_volume first) s) (last-is old first last mounts home-stays)
+        (carries.goes (sound-first old first last mounts home-stays is) whole));
+    failures = let none = mounts.looked.failures in let some = carries.fares.failures in omega (arith, none, some);
+    quiet = carries.fares.quiet;
+    undamaged = undamaged;
+    accepted = λ is. carries.fares.accepted (carries.fares.honest ∙ mounts.looked.honest ∙ is);
+    meanwhile = stands-accepted old first last mounts image files-accepted alive carries.fares.lost;
+  }
+    where
+      plan : FilesPlan (Result (List Acted) Refusal)
+      plan = all_of master_directory actions
+
+      carries : Carries operator plan result first last
+      carries = carried operator plan result first last (tidy-all master_directory actions) goes
+
+      asked : (xs : List Asking) × Tried of_volume operator xs first last
+      asked = goes-tried of_volume operator plan result first last goes
+
+      home-stays : (state_in last).home ≡ (state_in first).home
+      home-stays = tried-home operator asked.0 first last asked.1
+
+      alive : IsTrue old.honest → (state_in last).disk.failures ≡ old.failures → is_spent last ≡ false
+      alive honest same = by (is_spent last) refl
+        where
+          by : (b : Bool) → is_spent last ≡ b → is_spent last ≡ false
+          by false is = is
+          by true is =
+              let more = tried-breaks operator asked.0 first last asked.1 (mounts.looked.honest ∙ honest) mounts.fresh is in
+              let none = mounts.looked.failures in absurd (omega (arith, more, same, none))
+
+      undamaged : IsTrue old.honest → result ≢ Err refusal.Damaged
+      undamaged honest is =
+          let dead = carries.fares.next (mounts.looked.honest ∙ honest)
+          ∙ ap (λ (r : Result (List Acted) Refusal). is_spent first || is_refused is_fatal r) is
+          ∙ ap (λ b. b || true) mounts.fresh in
+          let none = mounts.looked.failures in
+          let some = carries.fares.failures
+          ∙ ap (λ (r : Result (List Acted) Refusal). failures_of first + (if is_refused is_fault r then 1 else 0)) is in
+          never dead (alive honest (omega (arith, none, some)))
+
+  -- how all of them are told
+  pub told-all : {W : Type 0} (actions : List Action) (refused : ℕ) (told : Result FileAnswer Failure) (kept new : Disk)
+      (contents : W → Option (List ℕ)) (before between after : W) → kept ≡ (state_in last).disk
+      → DoesAll actions refused first last contents before between → TellsAll (length actions) refused told kept new contents between after
+      → TellsActions actions told old new contents before after
+  told-all {W} actions refused told kept new contents before between after at does tells =
+      by (subst (λ k. TellsAll (length actions) k told kept new contents between after) does.refused_is tells)
+    where
+      n : ℕ
+      n = refused_in does.acted
+
+      Told : Disk → Type 0
+      Told d = TellsActions actions told old d contents before after
+
+      acts : ActsOnImage actions (Ok does.acted) old (state_in last).disk
+      acts = acts-on-image actions (Ok does.acted) does.carried
+
+      by : TellsAll (length actions) n told kept new contents between after → Told new
+      by (inl (same, inl (is, takes))) =
+          subst Told (sym (same ∙ at))
+          (all_done does.acted acts is
+          (appends-then (contents before) (contents between) (contents after) (lines_of does.acted) (all_line (length actions - n) n)
+          does.lines takes))
+      by (inl (same, inr is)) =
+          unwritten (length actions) does.acted (state_in last).disk (omega arith)
+          (subst (λ xs. ActsOnImage xs (Ok does.acted) old (state_in last).disk) (sym (take-length actions)) acts) (inl (is, same ∙ at))
+      by (inr (failed, is, same)) =
+          unkept does.acted (state_in last).disk acts (failed ∙ ap (λ d. with_transfer false d) at) is
+          (subst (λ (x : W). WriterTakes contents before x (lines_of does.acted)) (sym same) does.lines)
+
+  -- and how it is told where they broke off
+  pub told-broken : {W : Type 0} (actions : List Action) (failure : Failure) (told : Result FileAnswer Failure) (kept new : Disk)
+      (contents : W → Option (List ℕ)) (before after : W) → kept ≡ (state_in last).disk → Kept failure told kept new
+      → BreaksOff actions failure first last contents before after → TellsActions actions told old new contents before after
+  told-broken actions failure told kept new contents before after at keeps (inl e) =
+      ended e.refusal failure (state_in last).disk (acts-on-image actions (Err e.refusal) e.carried) e.told_is
+      (subst (λ (d : Disk). Kept failure told d new) at keeps) e.among
+  told-broken actions failure told kept new contents before after at keeps (inr l) =
+      unwritten l.n l.acted (state_in last).disk l.few (acts-on-image (take l.n actions) (Ok l.acted) l.carried)
+      (subst (λ (d : Disk). Kept CannotWrite told d new) at (subst (λ (f : Failure). Kept f told kept new) l.told_is keeps))
+
+-- behind a verified image
+pub ends-actions : {W : Type 0} (actions : List Action) (told : Result FileAnswer Failure) (contents : W → Option (List ℕ))
+    (before now after : W) (image read new : Disk) → VerifiesFiles image read × (now ≡ before)
+    → EndsAccepted actions told read new contents now after → EndsActions actions told image new contents before after
+ends-actions {W} actions told contents before now after image read new verified ends =
+    inr (record {
+      read = read;
+      verified = verified.0;
+      ends = subst (λ (x : W). EndsAccepted actions told read new contents x after) verified.1 ends;
+    })

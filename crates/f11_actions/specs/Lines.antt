@@ -1,0 +1,45 @@
+-- What is written of actions (profile).
+use Rattle.std.specs.Prelude.{ℕ, ◌+◌, List, [], ◌∷◌, ◌++◌, Result, Ok, Err, codes}
+use Rattle.std.specs.Fmt.{decimal}
+use Rattle.std.specs.List.{concat}
+use Rattle.f11_rad50.specs.Name.{name_text}
+use Rattle.f11_store.specs.Refusal.{refusal_name}
+use Rattle.f11_store.specs.declared.refusals.Refusal.{Refusal}
+use Rattle.f11_making.specs.declared.action.Action.{Action}
+use Rattle.f11_making.specs.declared.action.Action.TheVariants as action
+use Rattle.f11_actions.specs.Plans.{Acted}
+
+-- the name of the file
+abbrev pub name_in : Action → List ℕ
+name_in (action.Delete directory name) = name
+name_in (action.Rename directory name to new) = name
+name_in (action.Protect directory name protection) = name
+
+-- what is done to it
+abbrev pub done_text : Action → List ℕ
+done_text (action.Delete directory name) = codes "deleted"
+done_text (action.Rename directory name to new) = codes "renamed " ++ name_text new
+done_text (action.Protect directory name protection) = codes "protected"
+
+-- the line of an action that was done, and of one that was refused
+abbrev pub action_line : Action → Result (Unit {0}) Refusal → List ℕ
+action_line a (Ok x) = concat (name_text (name_in a) ∷ codes " " ∷ done_text a ∷ (10 ∷ []) ∷ [])
+action_line a (Err e) = concat (name_text (name_in a) ∷ codes " not " ∷ done_text a ∷ codes " " ∷ refusal_name e ∷ (10 ∷ []) ∷ [])
+
+-- the lines of all
+abbrev pub lines_of : List Acted → List ℕ
+lines_of [] = []
+lines_of (a ∷ more) = action_line a.action a.result ++ lines_of more
+
+-- how many were refused
+abbrev pub refused_one : Result (Unit {0}) Refusal → ℕ
+refused_one (Ok x) = 0
+refused_one (Err e) = 1
+
+abbrev pub refused_in : List Acted → ℕ
+refused_in [] = 0
+refused_in (a ∷ more) = refused_one a.result + refused_in more
+
+-- the last line: how many were done, and how many weren't
+abbrev pub all_line : ℕ → ℕ → List ℕ
+all_line done refused = concat (codes "all " ∷ decimal done ∷ codes " done, " ∷ decimal refused ∷ codes " not done" ∷ (10 ∷ []) ∷ [])

@@ -1,0 +1,8 @@
+use Rattle.std.proofs.Common.{inl}
+use Rattle.f11_words.proofs.ReadingLemmas.{at-none}
+use Rattle.f11_words.proofs.files.prot_of.Goals as goal
+
+pub returns-in_err-directory_of : goal.returns-in_err-directory_of
+returns-in_err-directory_of c image dir name word has =
+    at-none _ c.from_residual-in_err-directory_of.result c.from_residual-in_err-directory_of.ensures
+    (inl (c.in_err-directory_of.ensures dir has.1.0))

@@ -1,0 +1,47 @@
+//! The words of the commands on files of a volume.
+ghost use Rattle.f11_words.specs.Reading.{ReadsWords};
+ghost use Rattle.f11_words.specs.declared.usage.Subcommand.TheVariants as subcommand;
+
+use crate::args::{directory_of, target_of};
+use crate::words::Words;
+use clap::ArgMatches;
+use f11_numbers::read_protection;
+
+pub fn del_of<'a>(given: &ArgMatches<'a>) -> Option<Words<'a>>
+    ensures { ReadsWords subcommand.Del given.now result }
+{
+    Some(Words::Del {
+        image: given.get_str("image")?,
+        directory: directory_of(given)?,
+        name: given.get_str("name")?,
+    })
+}
+
+pub fn prot_of<'a>(given: &ArgMatches<'a>) -> Option<Words<'a>>
+    ensures { ReadsWords subcommand.Prot given.now result }
+{
+    Some(Words::Prot {
+        image: given.get_str("image")?,
+        directory: directory_of(given)?,
+        name: given.get_str("name")?,
+        protection: read_protection(given.get_str("word")?)?,
+    })
+}
+
+pub fn ren_of<'a>(given: &ArgMatches<'a>) -> Option<Words<'a>>
+    ensures { ReadsWords subcommand.Ren given.now result }
+{
+    let image = given.get_str("image")?;
+    let directory = directory_of(given)?;
+    let name = given.get_str("name")?;
+    match target_of(given) {
+        Some((to, new)) => Some(Words::Ren {
+            image,
+            directory,
+            name,
+            to,
+            new,
+        }),
+        None => None,
+    }
+}
