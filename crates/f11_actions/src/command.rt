@@ -14,14 +14,13 @@ use f11_vfy::Accepted;
 use std::alloc::Global;
 use std::io::Write;
 
-/// Verifies the Files-11 volume on a device, and does to its files what is to be done, one action after another; then the device is synced,
-/// unless a transfer failed.
-/// The operator, [1,1], asks; the directories are those that file 4,4 has under their names.
+/// Verifies the Files-11 volume on a device, and does to its files what is to be done, one action after another; then the device is
+/// synced, unless a transfer failed. The operator, [1,1], asks; the directories are those that file 4,4 has under their names.
 ///
-/// It writes a line for each action but one that ends them, `NAME.TYP;V deleted`, `NAME.TYP;V renamed NEW.TYP;V` or `NAME.TYP;V protected`, or, where it is
-/// refused, the same with `not` before the word and the refusal's name behind it; and a last line, `all N done, K not done`. It answers
-/// [`FileAnswer::Refused`] where one was refused. Where the volume has faults it writes the lines of `vfy`, and nothing is done. The device
-/// comes back.
+/// It writes a line for each action but one that ends them, `NAME.TYP;V deleted`, `NAME.TYP;V renamed NEW.TYP;V` or
+/// `NAME.TYP;V protected`, or, where it is refused, the same with `not` before the word and the refusal's name behind it; and a last
+/// line, `all N done, K not done`. It answers [`FileAnswer::Refused`] where one was refused. Where the volume has faults it writes the
+/// lines of `vfy`, and nothing is done. The device comes back.
 ///
 /// # Errors
 ///
