@@ -19,6 +19,7 @@ use Rattle.f11_words.specs.Lines.{
   home_line,
   init_line,
   ls_line,
+  mkdir_line,
   name_line,
   prot_line,
   put_line,
@@ -35,6 +36,7 @@ use Rattle.f11_words.specs.Lines.{
   rt_vfy_line,
   run_line,
   to_rt_line,
+  trunc_line,
   update_line,
   ls_in_line,
   vfy_line,
@@ -52,6 +54,7 @@ use Rattle.f11_words.specs.declared.usage.Subcommand.TheVariants.{
   Home,
   Init,
   Ls,
+  Mkdir,
   Name,
   Prot,
   Put,
@@ -65,6 +68,7 @@ use Rattle.f11_words.specs.declared.usage.Subcommand.TheVariants.{
   RtPut,
   RtVfy,
   Run,
+  Trunc,
   Vfy,
 }
 use Rattle.f11_words.proofs.WalkLemmas.{AreInOrder, ArePlain, TakesWords, are_taken, held_behind, passes-words, walk-words}
@@ -95,6 +99,7 @@ takes-words Init = (
   (λ h word rest. (refl, refl, refl), (λ h word rest. (refl, refl, refl), (λ h word rest. (refl, refl, refl), (λ h word. refl, tt)))),
 )
 takes-words Ls = (λ h word. refl, (λ h word. refl, tt))
+takes-words Mkdir = (λ h word. refl, (λ h word. refl, tt))
 takes-words Name = (λ h word. refl, tt)
 takes-words Prot = (λ h word. refl, (λ h word. refl, (λ h word. refl, (λ h word. refl, tt))))
 takes-words Put = (λ h word rest. (refl, refl, refl), (λ h word. refl, (λ h word. refl, (λ h word. refl, (λ h word. refl, tt)))))
@@ -108,6 +113,7 @@ takes-words RtLs = (λ h word. refl, tt)
 takes-words RtPut = (λ h word. refl, (λ h word. refl, (λ h word. refl, tt)))
 takes-words RtVfy = (λ h word. refl, tt)
 takes-words Run = (λ h rest. (refl, refl), (λ h word. refl, (λ h word. refl, tt)))
+takes-words Trunc = (λ h word. refl, (λ h word. refl, (λ h word. refl, tt)))
 takes-words Vfy = (λ h rest. (refl, refl), (λ h word. refl, tt))
 
 -- the words behind a command's name, and what is held behind them
@@ -145,6 +151,7 @@ line-met (init_line blocks slots label None image) = (tt, refl, refl)
 line-met (init_line blocks slots label (Some max) image) = (tt, refl, refl)
 line-met (ls_line image) = (refl, refl, refl)
 line-met (ls_in_line image dir) = (tt, refl, refl)
+line-met (mkdir_line image dir) = (tt, refl, refl)
 line-met (name_line word) = (tt, refl, refl)
 line-met (prot_line image dir name word) = (tt, refl, refl)
 line-met (put_line None image dir name host) = (tt, refl, refl)
@@ -161,6 +168,7 @@ line-met (rt_put_line rt name host) = (tt, refl, refl)
 line-met (rt_vfy_line image) = (tt, refl, refl)
 line-met (run_line image script) = (tt, refl, refl)
 line-met (quiet_run_line image script) = (tt, refl, refl)
+line-met (trunc_line image dir name) = (tt, refl, refl)
 line-met (vfy_line image) = (tt, refl, refl)
 line-met (update_line image) = (tt, refl, refl)
 

@@ -25,6 +25,7 @@ use Rattle.f11_words.specs.declared.usage.Subcommand.TheVariants.{
   Home,
   Init,
   Ls,
+  Mkdir,
   Name,
   Prot,
   Put,
@@ -38,6 +39,7 @@ use Rattle.f11_words.specs.declared.usage.Subcommand.TheVariants.{
   RtPut,
   RtVfy,
   Run,
+  Trunc,
   Vfy,
 }
 use Rattle.f11_words.proofs.BehindLemmas.{behind, found-behind, leaf, takes-behind}
@@ -104,6 +106,7 @@ command-met Get = (refl, refl, refl, refl)
 command-met Home = (refl, refl, refl, refl)
 command-met Init = (refl, refl, refl, refl)
 command-met Ls = (refl, refl, refl, refl)
+command-met Mkdir = (refl, refl, refl, refl)
 command-met Name = (refl, refl, refl, refl)
 command-met Prot = (refl, refl, refl, refl)
 command-met Put = (refl, refl, refl, refl)
@@ -117,6 +120,7 @@ command-met RtLs = (refl, refl, refl, refl)
 command-met RtPut = (refl, refl, refl, refl)
 command-met RtVfy = (refl, refl, refl, refl)
 command-met Run = (refl, refl, refl, refl)
+command-met Trunc = (refl, refl, refl, refl)
 command-met Vfy = (refl, refl, refl, refl)
 
 -- clap takes a command line's words,

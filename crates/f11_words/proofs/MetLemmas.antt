@@ -21,6 +21,7 @@ use Rattle.f11_words.specs.Lines.{
   home_line,
   init_line,
   ls_line,
+  mkdir_line,
   name_line,
   prot_line,
   put_line,
@@ -37,6 +38,7 @@ use Rattle.f11_words.specs.Lines.{
   rt_vfy_line,
   run_line,
   to_rt_line,
+  trunc_line,
   update_line,
   ls_in_line,
   vfy_line,
@@ -53,6 +55,7 @@ use Rattle.f11_words.specs.declared.usage.Subcommand.TheVariants.{
   Home,
   Init,
   Ls,
+  Mkdir,
   Name,
   Prot,
   Put,
@@ -66,6 +69,7 @@ use Rattle.f11_words.specs.declared.usage.Subcommand.TheVariants.{
   RtPut,
   RtVfy,
   Run,
+  Trunc,
   Vfy,
 }
 use Rattle.f11_words.specs.declared.words.Words.{Words}
@@ -84,6 +88,7 @@ named-is Get = refl
 named-is Home = refl
 named-is Init = refl
 named-is Ls = refl
+named-is Mkdir = refl
 named-is Name = refl
 named-is Prot = refl
 named-is Put = refl
@@ -97,6 +102,7 @@ named-is RtLs = refl
 named-is RtPut = refl
 named-is RtVfy = refl
 named-is Run = refl
+named-is Trunc = refl
 named-is Vfy = refl
 
 pub same-command : (a b : Subcommand) → name_of a ≡ name_of b → a ≡ b
@@ -146,6 +152,7 @@ reads-line matches result (home_line image) reads = reads image
 reads-line matches result (init_line blocks slots label max image) reads = reads blocks slots label max image
 reads-line matches result (ls_line image) reads = reads.all image
 reads-line matches result (ls_in_line image dir) reads = reads.one image dir
+reads-line matches result (mkdir_line image dir) reads = reads image dir
 reads-line matches result (name_line word) reads = reads word
 reads-line matches result (prot_line image dir name word) reads = reads image dir name word
 reads-line matches result (put_line mode image dir name host) reads = reads mode image dir name host
@@ -161,6 +168,7 @@ reads-line matches result (rt_put_line rt name host) reads = reads rt name host
 reads-line matches result (rt_vfy_line image) reads = reads image
 reads-line matches result (run_line image script) reads = reads.told image script
 reads-line matches result (quiet_run_line image script) reads = reads.quiet image script
+reads-line matches result (trunc_line image dir name) reads = reads image dir name
 reads-line matches result (vfy_line image) reads = reads.alone image
 reads-line matches result (update_line image) reads = reads.update image
 

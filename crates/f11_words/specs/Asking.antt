@@ -14,6 +14,7 @@ use Rattle.f11_words.specs.Lines.{
   home_line,
   init_line,
   ls_line,
+  mkdir_line,
   name_line,
   prot_line,
   put_line,
@@ -30,6 +31,7 @@ use Rattle.f11_words.specs.Lines.{
   rt_vfy_line,
   run_line,
   to_rt_line,
+  trunc_line,
   update_line,
   ls_in_line,
   vfy_line,
@@ -51,6 +53,7 @@ use Rattle.f11_words.specs.declared.words.Words.TheVariants.{
   Init,
   Ls,
   LsIn,
+  Mkdir,
   Name,
   Prot,
   Put,
@@ -65,6 +68,7 @@ use Rattle.f11_words.specs.declared.words.Words.TheVariants.{
   RtPut,
   RtVfy,
   Run,
+  Trunc,
   Vfy,
 }
 
@@ -72,6 +76,11 @@ use Rattle.f11_words.specs.declared.words.Words.TheVariants.{
 abbrev pub AsksDel : List ℕ → List ℕ → List ℕ → Words → Type 0
 AsksDel image dir name (Del from directory file) = (from.now ≡ image) × SpellsDirectory dir directory × (file.now ≡ name)
 AsksDel image dir name _ = ⊥
+
+-- that its blocks behind the end that it states be given back
+abbrev pub AsksTrunc : List ℕ → List ℕ → List ℕ → Words → Type 0
+AsksTrunc image dir name (Trunc from directory file) = (from.now ≡ image) × SpellsDirectory dir directory × (file.now ≡ name)
+AsksTrunc image dir name _ = ⊥
 
 -- that it get this protection
 abbrev pub AsksProt : List ℕ → List ℕ → List ℕ → List ℕ → Words → Type 0
@@ -84,6 +93,11 @@ abbrev pub AsksRen : List ℕ → List ℕ → List ℕ → List ℕ → Words �
 AsksRen image dir name new (Ren from directory file to named) =
     (from.now ≡ image) × SpellsDirectory dir directory × (file.now ≡ name) × SpellsTarget new to named.now
 AsksRen image dir name new _ = ⊥
+
+-- the words ask that this directory be made on this image
+abbrev pub AsksMkdir : List ℕ → List ℕ → Words → Type 0
+AsksMkdir name dir (Mkdir image directory) = (image.now ≡ name) × SpellsDirectory dir directory
+AsksMkdir name dir _ = ⊥
 
 -- the words ask for the header of this number of this image
 abbrev pub AsksDump : List ℕ → List ℕ → Words → Type 0
@@ -237,6 +251,7 @@ Asks (home_line image) words = AsksHome image words
 Asks (init_line blocks slots label max image) words = AsksInit blocks slots label max image words
 Asks (ls_line image) words = AsksLs image None words
 Asks (ls_in_line image dir) words = AsksLs image (Some dir) words
+Asks (mkdir_line image dir) words = AsksMkdir image dir words
 Asks (name_line text) words = AsksName text words
 Asks (prot_line image dir name word) words = AsksProt image dir name word words
 Asks (put_line mode image dir name host) words = AsksPut mode image dir name host words
@@ -252,6 +267,7 @@ Asks (rt_put_line rt name host) words = AsksRtPut rt name host words
 Asks (rt_vfy_line image) words = AsksRtVfy image words
 Asks (run_line image script) words = AsksRun false image script words
 Asks (quiet_run_line image script) words = AsksRun true image script words
+Asks (trunc_line image dir name) words = AsksTrunc image dir name words
 Asks (vfy_line image) words = AsksVfy false image words
 Asks (update_line image) words = AsksVfy true image words
 
@@ -290,6 +306,7 @@ IsUnreadable (home_line image) = ⊥
 IsUnreadable (init_line blocks slots label max image) = IsNoInit blocks slots max
 IsUnreadable (ls_line image) = ⊥
 IsUnreadable (ls_in_line image dir) = IsNoDirectory dir
+IsUnreadable (mkdir_line image dir) = IsNoDirectory dir
 IsUnreadable (name_line text) = ⊥
 IsUnreadable (prot_line image dir name word) = IsNoDirectory dir ⊎ ¬ IsProtection word
 IsUnreadable (put_line mode image dir name host) = IsNoMove mode dir
@@ -305,6 +322,7 @@ IsUnreadable (rt_put_line rt name host) = ⊥
 IsUnreadable (rt_vfy_line image) = ⊥
 IsUnreadable (run_line image script) = ⊥
 IsUnreadable (quiet_run_line image script) = ⊥
+IsUnreadable (trunc_line image dir name) = IsNoDirectory dir
 IsUnreadable (vfy_line image) = ⊥
 IsUnreadable (update_line image) = ⊥
 

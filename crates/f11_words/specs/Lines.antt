@@ -11,6 +11,7 @@ use Rattle.f11_words.specs.declared.usage.Subcommand.TheVariants.{
   Home,
   Init,
   Ls,
+  Mkdir,
   Name,
   Prot,
   Put,
@@ -24,6 +25,7 @@ use Rattle.f11_words.specs.declared.usage.Subcommand.TheVariants.{
   RtPut,
   RtVfy,
   Run,
+  Trunc,
   Vfy,
 }
 
@@ -40,6 +42,7 @@ pub data CommandLine : Type 0 where
   init_line : (blocks slots label : List ℕ) → (max : Option (List ℕ)) → (image : List ℕ) → CommandLine
   ls_line : (image : List ℕ) → CommandLine
   ls_in_line : (image dir : List ℕ) → CommandLine
+  mkdir_line : (image dir : List ℕ) → CommandLine
   name_line : (word : List ℕ) → CommandLine
   prot_line : (image dir name word : List ℕ) → CommandLine
   put_line : (mode : Option (List ℕ)) → (image dir name host : List ℕ) → CommandLine
@@ -55,6 +58,7 @@ pub data CommandLine : Type 0 where
   rt_vfy_line : (image : List ℕ) → CommandLine
   run_line : (image script : List ℕ) → CommandLine
   quiet_run_line : (image script : List ℕ) → CommandLine
+  trunc_line : (image dir name : List ℕ) → CommandLine
   vfy_line : (image : List ℕ) → CommandLine
   update_line : (image : List ℕ) → CommandLine
 
@@ -71,6 +75,7 @@ command_in (home_line image) = Home
 command_in (init_line blocks slots label max image) = Init
 command_in (ls_line image) = Ls
 command_in (ls_in_line image dir) = Ls
+command_in (mkdir_line image dir) = Mkdir
 command_in (name_line word) = Name
 command_in (prot_line image dir name word) = Prot
 command_in (put_line mode image dir name host) = Put
@@ -86,6 +91,7 @@ command_in (rt_put_line rt name host) = RtPut
 command_in (rt_vfy_line image) = RtVfy
 command_in (run_line image script) = Run
 command_in (quiet_run_line image script) = Run
+command_in (trunc_line image dir name) = Trunc
 command_in (vfy_line image) = Vfy
 command_in (update_line image) = Vfy
 
@@ -105,6 +111,7 @@ given_in (home_line image) = text image ∷ []
 given_in (init_line blocks slots label max image) = text blocks ∷ text slots ∷ text label ∷ says max ∷ text image ∷ []
 given_in (ls_line image) = text image ∷ says None ∷ []
 given_in (ls_in_line image dir) = text image ∷ text dir ∷ []
+given_in (mkdir_line image dir) = text image ∷ text dir ∷ []
 given_in (name_line word) = text word ∷ []
 given_in (prot_line image dir name word) = text image ∷ text dir ∷ text name ∷ text word ∷ []
 given_in (put_line mode image dir name host) = says mode ∷ text image ∷ text dir ∷ text name ∷ text host ∷ []
@@ -120,6 +127,7 @@ given_in (rt_put_line rt name host) = text rt ∷ text name ∷ text host ∷ []
 given_in (rt_vfy_line image) = text image ∷ []
 given_in (run_line image script) = is_there false ∷ text image ∷ text script ∷ []
 given_in (quiet_run_line image script) = is_there true ∷ text image ∷ text script ∷ []
+given_in (trunc_line image dir name) = text image ∷ text dir ∷ text name ∷ []
 given_in (vfy_line image) = is_there false ∷ text image ∷ []
 given_in (update_line image) = is_there true ∷ text image ∷ []
 

@@ -16,6 +16,7 @@ use Rattle.f11_words.specs.Lines.{
   home_line,
   init_line,
   ls_line,
+  mkdir_line,
   name_line,
   prot_line,
   put_line,
@@ -32,6 +33,7 @@ use Rattle.f11_words.specs.Lines.{
   rt_vfy_line,
   run_line,
   to_rt_line,
+  trunc_line,
   update_line,
   ls_in_line,
   vfy_line,
@@ -47,6 +49,7 @@ use Rattle.f11_words.specs.declared.usage.Subcommand.TheVariants.{
   Home,
   Init,
   Ls,
+  Mkdir,
   Name,
   Prot,
   Put,
@@ -60,6 +63,7 @@ use Rattle.f11_words.specs.declared.usage.Subcommand.TheVariants.{
   RtPut,
   RtVfy,
   Run,
+  Trunc,
   Vfy,
 }
 use Rattle.f11_words.specs.declared.words.Words.{Words}
@@ -143,6 +147,7 @@ ReadsWords Home matches result = (image : Text) → Reads (home_line image) matc
 ReadsWords Init matches result =
     (blocks slots label : Text) → (max : Option Text) → (image : Text) → Reads (init_line blocks slots label max image) matches result
 ReadsWords Ls matches result = ReadsLs matches result
+ReadsWords Mkdir matches result = (image dir : Text) → Reads (mkdir_line image dir) matches result
 ReadsWords Name matches result = (word : Text) → Reads (name_line word) matches result
 ReadsWords Prot matches result = (image dir name word : Text) → Reads (prot_line image dir name word) matches result
 ReadsWords Put matches result =
@@ -157,4 +162,5 @@ ReadsWords RtLs matches result = (rt : Text) → Reads (rt_ls_line rt) matches r
 ReadsWords RtPut matches result = (rt name host : Text) → Reads (rt_put_line rt name host) matches result
 ReadsWords RtVfy matches result = (image : Text) → Reads (rt_vfy_line image) matches result
 ReadsWords Run matches result = ReadsRun matches result
+ReadsWords Trunc matches result = (image dir name : Text) → Reads (trunc_line image dir name) matches result
 ReadsWords Vfy matches result = ReadsVfy matches result

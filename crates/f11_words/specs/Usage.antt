@@ -10,6 +10,7 @@ use Rattle.f11_words.specs.declared.usage.Subcommand.TheVariants.{
   Home,
   Init,
   Ls,
+  Mkdir,
   Name,
   Prot,
   Put,
@@ -23,6 +24,7 @@ use Rattle.f11_words.specs.declared.usage.Subcommand.TheVariants.{
   RtPut,
   RtVfy,
   Run,
+  Trunc,
   Vfy,
 }
 
@@ -39,9 +41,8 @@ needed name = place name true
 -- the commands
 abbrev pub all_commands : List Subcommand
 all_commands =
-    Del ∷ Dump ∷ FlxFromRt ∷ FlxToRt ∷ Get ∷ Home ∷ Init ∷ Ls ∷ Name ∷ Prot ∷ Put ∷ Ren ∷ Rights ∷ RtDel ∷ RtGet ∷ RtInit ∷ RtList ∷ RtLs ∷
-    RtPut
-    ∷ RtVfy ∷ Run ∷ Vfy ∷ []
+    Del ∷ Dump ∷ FlxFromRt ∷ FlxToRt ∷ Get ∷ Home ∷ Init ∷ Ls ∷ Mkdir ∷ Name ∷ Prot ∷ Put ∷ Ren ∷ Rights ∷ RtDel ∷ RtGet ∷ RtInit
+    ∷ RtList ∷ RtLs ∷ RtPut ∷ RtVfy ∷ Run ∷ Trunc ∷ Vfy ∷ []
 
 -- a command's name
 abbrev pub name_of : Subcommand → List ℕ
@@ -53,6 +54,7 @@ name_of Get = codes "get"
 name_of Home = codes "home"
 name_of Init = codes "init"
 name_of Ls = codes "ls"
+name_of Mkdir = codes "mkdir"
 name_of Name = codes "name"
 name_of Prot = codes "prot"
 name_of Put = codes "put"
@@ -66,6 +68,7 @@ name_of RtLs = codes "rt-ls"
 name_of RtPut = codes "rt-put"
 name_of RtVfy = codes "rt-vfy"
 name_of Run = codes "run"
+name_of Trunc = codes "trunc"
 name_of Vfy = codes "vfy"
 
 -- the words of a file on a Files-11 volume, whose directory has a word of this name, and of one on an RT-11 volume
@@ -87,6 +90,7 @@ words_of Home = needed (codes "image") ∷ []
 words_of Init = option (codes "blocks") true ∷ option (codes "slots") true ∷ option (codes "label") true ∷ option (codes "max") false
     ∷ needed (codes "image") ∷ []
 words_of Ls = needed (codes "image") ∷ place (codes "dir") false ∷ []
+words_of Mkdir = needed (codes "image") ∷ needed (codes "dir") ∷ []
 words_of Name = needed (codes "text") ∷ []
 words_of Prot = file_words (codes "dir") ++ needed (codes "word") ∷ []
 words_of Put = option (codes "mode") false ∷ (file_words (codes "dir") ++ needed (codes "host") ∷ [])
@@ -100,6 +104,7 @@ words_of RtLs = needed (codes "rt") ∷ []
 words_of RtPut = needed (codes "rt") ∷ needed (codes "name") ∷ needed (codes "host") ∷ []
 words_of RtVfy = needed (codes "image") ∷ []
 words_of Run = flag (codes "quiet") ∷ needed (codes "image") ∷ needed (codes "script") ∷ []
+words_of Trunc = file_words (codes "dir")
 words_of Vfy = flag (codes "update") ∷ needed (codes "image") ∷ []
 
 -- what a user gives for a word: this text, or none; or, of a flag, whether it is there

@@ -17,6 +17,15 @@ pub fn del_of<'a>(given: &ArgMatches<'a>) -> Option<Words<'a>>
     })
 }
 
+pub fn mkdir_of<'a>(given: &ArgMatches<'a>) -> Option<Words<'a>>
+    ensures { ReadsWords subcommand.Mkdir given.now result }
+{
+    Some(Words::Mkdir {
+        image: given.get_str("image")?,
+        directory: directory_of(given)?,
+    })
+}
+
 pub fn prot_of<'a>(given: &ArgMatches<'a>) -> Option<Words<'a>>
     ensures { ReadsWords subcommand.Prot given.now result }
 {
@@ -44,4 +53,14 @@ pub fn ren_of<'a>(given: &ArgMatches<'a>) -> Option<Words<'a>>
         }),
         None => None,
     }
+}
+
+pub fn trunc_of<'a>(given: &ArgMatches<'a>) -> Option<Words<'a>>
+    ensures { ReadsWords subcommand.Trunc given.now result }
+{
+    Some(Words::Trunc {
+        image: given.get_str("image")?,
+        directory: directory_of(given)?,
+        name: given.get_str("name")?,
+    })
 }

@@ -63,7 +63,9 @@ pub fn refusal(alloc: Global, words: &[String]) -> Option<String> {
 /// The first of a command's words that can't be read, if there is one.
 fn first_unread<'a>(command: Subcommand, given: &ArgMatches<'a>) -> Option<Unread<'a>> {
     match command {
-        Subcommand::Del => directory(given),
+        Subcommand::Del | Subcommand::Ls | Subcommand::Mkdir | Subcommand::Trunc => {
+            directory(given)
+        }
         Subcommand::Ren => directory(given).or(target(given)),
         Subcommand::Dump => number(given, "number", "NUMBER", 65_535),
         Subcommand::FlxFromRt | Subcommand::FlxToRt => mode(given).or(user(given, "uic")),
@@ -73,7 +75,6 @@ fn first_unread<'a>(command: Subcommand, given: &ArgMatches<'a>) -> Option<Unrea
         Subcommand::Init => blocks(given)
             .or(number(given, "slots", "--slots", 16_000))
             .or(number(given, "max", "--max", 65_500)),
-        Subcommand::Ls => directory(given),
         Subcommand::Rights => user(given, "uic")
             .or(user(given, "owner"))
             .or(protection(given)),

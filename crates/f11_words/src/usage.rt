@@ -14,6 +14,7 @@ pub enum Subcommand {
     Home,
     Init,
     Ls,
+    Mkdir,
     Name,
     Prot,
     Put,
@@ -27,6 +28,7 @@ pub enum Subcommand {
     RtPut,
     RtVfy,
     Run,
+    Trunc,
     Vfy,
 }
 
@@ -43,7 +45,7 @@ pub(crate) enum Word {
 
 impl Subcommand {
     /// All commands.
-    pub(crate) fn all() -> [Subcommand; 22]
+    pub(crate) fn all() -> [Subcommand; 24]
         ensures { result ≡ all_commands }
     {
         [
@@ -55,6 +57,7 @@ impl Subcommand {
             Subcommand::Home,
             Subcommand::Init,
             Subcommand::Ls,
+            Subcommand::Mkdir,
             Subcommand::Name,
             Subcommand::Prot,
             Subcommand::Put,
@@ -68,6 +71,7 @@ impl Subcommand {
             Subcommand::RtPut,
             Subcommand::RtVfy,
             Subcommand::Run,
+            Subcommand::Trunc,
             Subcommand::Vfy,
         ]
     }
@@ -86,6 +90,7 @@ impl Subcommand {
             "home" => Some(Subcommand::Home),
             "init" => Some(Subcommand::Init),
             "ls" => Some(Subcommand::Ls),
+            "mkdir" => Some(Subcommand::Mkdir),
             "name" => Some(Subcommand::Name),
             "prot" => Some(Subcommand::Prot),
             "put" => Some(Subcommand::Put),
@@ -99,6 +104,7 @@ impl Subcommand {
             "rt-put" => Some(Subcommand::RtPut),
             "rt-vfy" => Some(Subcommand::RtVfy),
             "run" => Some(Subcommand::Run),
+            "trunc" => Some(Subcommand::Trunc),
             "vfy" => Some(Subcommand::Vfy),
             _ => None,
         }
@@ -117,6 +123,7 @@ impl Subcommand {
             Subcommand::Home => "home",
             Subcommand::Init => "init",
             Subcommand::Ls => "ls",
+            Subcommand::Mkdir => "mkdir",
             Subcommand::Name => "name",
             Subcommand::Prot => "prot",
             Subcommand::Put => "put",
@@ -130,6 +137,7 @@ impl Subcommand {
             Subcommand::RtPut => "rt-put",
             Subcommand::RtVfy => "rt-vfy",
             Subcommand::Run => "run",
+            Subcommand::Trunc => "trunc",
             Subcommand::Vfy => "vfy",
         }
     }
@@ -139,7 +147,7 @@ impl Subcommand {
         ensures { map as_word result.now ≡ words_of self }
     {
         match self {
-            Subcommand::Del => {
+            Subcommand::Del | Subcommand::Trunc => {
                 &[
                     Word::Place("image", true),
                     Word::Place("dir", true),
@@ -188,6 +196,7 @@ impl Subcommand {
                 ]
             }
             Subcommand::Ls => &[Word::Place("image", true), Word::Place("dir", false)],
+            Subcommand::Mkdir => &[Word::Place("image", true), Word::Place("dir", true)],
             Subcommand::Name => &[Word::Place("text", true)],
             Subcommand::Prot => {
                 &[

@@ -73,6 +73,11 @@ pub enum Words<'a> {
         image: &'a str,
         directory: Directory,
     },
+    /// `mkdir IMAGE DIR`: a directory that is made
+    Mkdir {
+        image: &'a str,
+        directory: Directory,
+    },
     /// `name TEXT`
     Name {
         text: &'a str,
@@ -151,6 +156,12 @@ pub enum Words<'a> {
         image: &'a str,
         script: &'a str,
         is_quiet: bool,
+    },
+    /// `trunc IMAGE DIR NAME`: a file in a directory, whose blocks behind the end that it states are given back
+    Trunc {
+        image: &'a str,
+        directory: Directory,
+        name: &'a str,
     },
     /// `vfy [--update] IMAGE`
     Vfy {
