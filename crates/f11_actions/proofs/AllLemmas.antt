@@ -1,5 +1,5 @@
 -- Actions that are done one after another.
-use Rattle.std.proofs.Common.{◌≡◌, ℕ, ◌+◌, suc, length, Bool, true, false, not, if◌then◌else◌, List, [], ◌∷◌, ◌++◌, Result, Ok, Err, refl}
+use Rattle.std.proofs.Common.{◌≡◌, ℕ, ◌+◌, Bool, true, false, not, if◌then◌else◌, List, [], ◌∷◌, ◌++◌, Result, Ok, Err, refl}
 use Rattle.std.proofs.Common.{sym}
 use Rattle.std.proofs.Common.{ap, subst, ◌∙◌, arith}
 use Rattle.std.proofs.lemmas.List.{append-nil, append_assoc}
@@ -17,7 +17,7 @@ use Rattle.f11_making.specs.declared.action.Action.{Action}
 use Rattle.f11_making.proofs.PlanLemmas.{clean-then, goes-parts, goes-then}
 use Rattle.f11_making.proofs.PlansLemmas.{clean-action}
 use Rattle.f11_actions.specs.Lines.{action_line, lines_of, refused_in, refused_one}
-use Rattle.f11_actions.specs.Plans.{Acted, all_of, before, behind, goes_on, is_last, then_others}
+use Rattle.f11_actions.specs.Plans.{Acted, actions_in, all_of, before, behind, goes_on, is_last, then_others}
 
 -- what came of an action
 abbrev pub acted : Action → Result (Unit {0}) Refusal → Acted
@@ -54,14 +54,14 @@ tidy-behind a rest tidy (Err e) calm = by (is_last e)
     by true = calm
     by false = tidy-others (acted a (Err e)) rest tidy
 
-pub tidy-all : (master : FileId) (actions : List Action) → IsTidy IsFitting (all_of master actions)
-tidy-all master [] = refl
-tidy-all master (a ∷ more) =
-    clean-then IsFitting (plan_of master a) (behind a (all_of master more)) (clean-action master a)
-    (λ e fatal. ap (λ b. if b then gives (Err e) else then_others (acted a (Err e)) (all_of master more)) (fatal-last e fatal))
-    (tidy-behind a (all_of master more) (tidy-all master more))
+pub tidy-all : (lun : ℕ) (master : FileId) (actions : List Action) → IsTidy IsFitting (all_of lun master actions)
+tidy-all lun master [] = refl
+tidy-all lun master (a ∷ more) =
+    clean-then IsFitting (plan_of lun master a) (behind a (all_of lun master more)) (clean-action lun master a)
+    (λ e fatal. ap (λ b. if b then gives (Err e) else then_others (acted a (Err e)) (all_of lun master more)) (fatal-last e fatal))
+    (tidy-behind a (all_of lun master more) (tidy-all lun master more))
 
-module _ {V : Type 0} (S : FilesService V) (who : Who) (master : FileId) where
+module _ {V : Type 0} (S : FilesService V) (who : Who) (lun : ℕ) (master : FileId) where
   -- the others are done behind one that was done, or refused without ending them
   behind-others : (a : Action) (rest : FilesPlan (Result (List Acted) Refusal)) (r : Result (Unit {0}) Refusal)
       (x : Result (List Acted) Refusal) (v w : V) → goes_on r ≡ true → Carried S who (then_others (acted a r) rest) x v w
@@ -71,12 +71,12 @@ module _ {V : Type 0} (S : FilesService V) (who : Who) (master : FileId) where
       subst (λ b. Carried S who (if b then gives (Err e) else then_others (acted a (Err e)) rest) x v w) (sym (not-last e on)) h
 
   cons-then : (a : Action) (more : List Action) (r : Result (Unit {0}) Refusal) (x : Result (List Acted) Refusal) (v u w : V)
-      → goes_on r ≡ true → Carried S who (plan_of master a) r v u → Carried S who (all_of master more) x u w
-      → Carried S who (all_of master (a ∷ more)) (before (acted a r) x) v w
+      → goes_on r ≡ true → Carried S who (plan_of lun master a) r v u → Carried S who (all_of lun master more) x u w
+      → Carried S who (all_of lun master (a ∷ more)) (before (acted a r) x) v w
   cons-then a more r x v u w on h k =
-      goes-then S who (plan_of master a) (behind a (all_of master more)) r (before (acted a r) x) v u w h
-      (behind-others a (all_of master more) r (before (acted a r) x) u w on
-      (goes-then S who (all_of master more) (λ y. gives (before (acted a r) y)) x (before (acted a r) x) u w w k (refl, refl)))
+      goes-then S who (plan_of lun master a) (behind a (all_of lun master more)) r (before (acted a r) x) v u w h
+      (behind-others a (all_of lun master more) r (before (acted a r) x) u w on
+      (goes-then S who (all_of lun master more) (λ y. gives (before (acted a r) y)) x (before (acted a r) x) u w w k (refl, refl)))
 
   -- what came of the first, and of the others
   record IsFirst (a : Action) (more : List Action) (done : List Acted) (v w : V) : Type 0 where
@@ -85,16 +85,17 @@ module _ {V : Type 0} (S : FilesService V) (who : Who) (master : FileId) where
     pub rest : List Acted
     pub is : done ≡ acted a result ∷ rest
     pub between : V
-    pub first : Carried S who (plan_of master a) result v between
-    pub others : Carried S who (all_of master more) (Ok rest) between w
+    pub first : Carried S who (plan_of lun master a) result v between
+    pub others : Carried S who (all_of lun master more) (Ok rest) between w
 
-  cons-parts : (a : Action) (more : List Action) (done : List Acted) (v w : V) → Carried S who (all_of master (a ∷ more)) (Ok done) v w
+  cons-parts : (a : Action) (more : List Action) (done : List Acted) (v w : V) → Carried S who (all_of lun master (a ∷ more)) (Ok done) v w
       → IsFirst a more done v w
   cons-parts a more done v w h =
-      let p = goes-parts S who (plan_of master a) (behind a (all_of master more)) (Ok done) v w h in by p.0 p.1 p.2 p.3
+      let p = goes-parts S who (plan_of lun master a) (behind a (all_of lun master more)) (Ok done) v w h in by p.0 p.1 p.2 p.3
     where
-      rest-of : (r : Result (Unit {0}) Refusal) (u : V) → goes_on r ≡ true → Carried S who (plan_of master a) r v u
-          → (x : Result (List Acted) Refusal) (t : V) → Carried S who (all_of master more) x u t → Ok done ≡ before (acted a r) x → w ≡ t
+      rest-of : (r : Result (Unit {0}) Refusal) (u : V) → goes_on r ≡ true → Carried S who (plan_of lun master a) r v u
+          → (x : Result (List Acted) Refusal) (t : V) → Carried S who (all_of lun master more) x u t → Ok done ≡ before (acted a r) x
+          → w ≡ t
           → IsFirst a more done v w
       rest-of r u on h (Ok rest) t k is same = record {
         result = r;
@@ -103,56 +104,58 @@ module _ {V : Type 0} (S : FilesService V) (who : Who) (master : FileId) where
         is = cc;
         between = u;
         first = h;
-        others = subst (λ (t : V). Carried S who (all_of master more) (Ok rest) u t) (sym same) k;
+        others = subst (λ (t : V). Carried S who (all_of lun master more) (Ok rest) u t) (sym same) k;
       }
       rest-of r u on h (Err e) t k is same = absurd (cc)
 
-      others : (r : Result (Unit {0}) Refusal) (u : V) → goes_on r ≡ true → Carried S who (plan_of master a) r v u
-          → Carried S who (then_others (acted a r) (all_of master more)) (Ok done) u w → IsFirst a more done v w
+      others : (r : Result (Unit {0}) Refusal) (u : V) → goes_on r ≡ true → Carried S who (plan_of lun master a) r v u
+          → Carried S who (then_others (acted a r) (all_of lun master more)) (Ok done) u w → IsFirst a more done v w
       others r u on h k =
-          let p = goes-parts S who (all_of master more) (λ x. gives (before (acted a r) x)) (Ok done) u w k in
+          let p = goes-parts S who (all_of lun master more) (λ x. gives (before (acted a r) x)) (Ok done) u w k in
           rest-of r u on h p.0 p.1 p.2 p.3.0 p.3.1
 
-      by : (r : Result (Unit {0}) Refusal) (u : V) → Carried S who (plan_of master a) r v u
-          → Carried S who (behind a (all_of master more) r) (Ok done) u w → IsFirst a more done v w
+      by : (r : Result (Unit {0}) Refusal) (u : V) → Carried S who (plan_of lun master a) r v u
+          → Carried S who (behind a (all_of lun master more) r) (Ok done) u w → IsFirst a more done v w
       by (Ok x) u h k = others (Ok x) u refl h k
       by (Err e) u h k = last (is_last e) refl k
         where
           last : (b : Bool) → is_last e ≡ b
-              → Carried S who (if b then gives (Err e) else then_others (acted a (Err e)) (all_of master more)) (Ok done) u w
+              → Carried S who (if b then gives (Err e) else then_others (acted a (Err e)) (all_of lun master more)) (Ok done) u w
               → IsFirst a more done v w
           last true is k = absurd (let never : Ok done ≡ Err e = k.0 in cc)
           last false is k = others (Err e) u (ap not is) h k
 
   -- one more is done
   pub one-more : (actions : List Action) (a : Action) (done : List Acted) (r : Result (Unit {0}) Refusal) (v u w : V)
-      → Carried S who (all_of master actions) (Ok done) v u → Carried S who (plan_of master a) r u w → goes_on r ≡ true
-      → Carried S who (all_of master (actions ++ a ∷ [])) (Ok (done ++ acted a r ∷ [])) v w
+      → Carried S who (all_of lun master actions) (Ok done) v u → Carried S who (plan_of lun master a) r u w → goes_on r ≡ true
+      → Carried S who (all_of lun master (actions ++ a ∷ [])) (Ok (done ++ acted a r ∷ [])) v w
   one-more [] a done r v u w h k on =
       let none : done ≡ [] = (let is : Ok done ≡ Ok [] = h.0 in cc) in
-      subst (λ (ds : List Acted). Carried S who (all_of master (a ∷ [])) (Ok (ds ++ acted a r ∷ [])) v w) (sym none)
-      (cons-then a [] r (Ok []) v w w on (subst (λ (t : V). Carried S who (plan_of master a) r t w) h.1 k) (refl, refl))
+      subst (λ (ds : List Acted). Carried S who (all_of lun master (a ∷ [])) (Ok (ds ++ acted a r ∷ [])) v w) (sym none)
+      (cons-then a [] r (Ok []) v w w on (subst (λ (t : V). Carried S who (plan_of lun master a) r t w) h.1 k) (refl, refl))
   one-more (b ∷ actions) a done r v u w h k on =
       let f = cons-parts b actions done v u h in
-      subst (λ (ds : List Acted). Carried S who (all_of master (b ∷ (actions ++ a ∷ []))) (Ok (ds ++ acted a r ∷ [])) v w) (sym f.is)
+      subst (λ (ds : List Acted). Carried S who (all_of lun master (b ∷ (actions ++ a ∷ []))) (Ok (ds ++ acted a r ∷ [])) v w) (sym f.is)
       (cons-then b (actions ++ a ∷ []) f.result (Ok (f.rest ++ acted a r ∷ [])) v f.between w f.on f.first
       (one-more actions a f.rest r f.between u w f.others k on))
 
   -- each has its result
-  pub acted-as-many : (actions : List Action) (done : List Acted) (v w : V) → Carried S who (all_of master actions) (Ok done) v w
-      → length done ≡ length actions
-  acted-as-many [] done v w h = let none : done ≡ [] = (let is : Ok done ≡ Ok [] = h.0 in cc) in ap length none
-  acted-as-many (a ∷ actions) done v w h =
-      let f = cons-parts a actions done v w h in ap length f.is ∙ ap suc (acted-as-many actions f.rest f.between w f.others)
+  pub acted-are : (actions : List Action) (done : List Acted) (v w : V) → Carried S who (all_of lun master actions) (Ok done) v w
+      → actions_in done ≡ actions
+  acted-are [] done v w h = let none : done ≡ [] = (let is : Ok done ≡ Ok [] = h.0 in cc) in ap actions_in none
+  acted-are (a ∷ actions) done v w h =
+      let f = cons-parts a actions done v w h in
+      ap actions_in f.is ∙ ap (λ (xs : List Action). a ∷ xs) (acted-are actions f.rest f.between w f.others)
 
   -- or one ends them
   pub one-ends : (actions : List Action) (a : Action) (more : List Action) (done : List Acted) (e : Refusal) (v u w : V)
-      → Carried S who (all_of master actions) (Ok done) v u → Carried S who (plan_of master a) (Err e) u w → is_last e ≡ true
-      → Carried S who (all_of master (actions ++ a ∷ more)) (Err e) v w
+      → Carried S who (all_of lun master actions) (Ok done) v u → Carried S who (plan_of lun master a) (Err e) u w → is_last e ≡ true
+      → Carried S who (all_of lun master (actions ++ a ∷ more)) (Err e) v w
   one-ends [] a more done e v u w h k last =
-      goes-then S who (plan_of master a) (behind a (all_of master more)) (Err e) (Err e) v w w
-      (subst (λ (t : V). Carried S who (plan_of master a) (Err e) t w) h.1 k)
-      (subst (λ b. Carried S who (if b then gives (Err e) else then_others (acted a (Err e)) (all_of master more)) (Err e) w w) (sym last)
+      goes-then S who (plan_of lun master a) (behind a (all_of lun master more)) (Err e) (Err e) v w w
+      (subst (λ (t : V). Carried S who (plan_of lun master a) (Err e) t w) h.1 k)
+      (subst (λ b. Carried S who (if b then gives (Err e) else then_others (acted a (Err e)) (all_of lun master more)) (Err e) w w)
+      (sym last)
       (refl, refl))
   one-ends (b ∷ actions) a more done e v u w h k last =
       let f = cons-parts b actions done v u h in

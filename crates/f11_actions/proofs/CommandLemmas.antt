@@ -1,5 +1,5 @@
 -- Actions on the volume of an image.
-use Rattle.std.proofs.Common.{◌≡◌, ◌≢◌, ◌⊎◌, inl, inr, ℕ, ◌+◌, ◌-◌, ◌≤◌, ◌||◌, Bool, true, false, IsTrue, List, [], ◌∷◌, ◌++◌, Option, Some}
+use Rattle.std.proofs.Common.{◌≡◌, ◌≢◌, inl, inr, not, ℕ, ◌+◌, ◌-◌, ◌≤◌, ◌||◌, Bool, true, false, IsTrue, List, [], ◌∷◌, ◌++◌, Option, Some}
 use Rattle.std.proofs.Common.{None}
 use Rattle.std.proofs.Common.{Result, Ok, Err, ◌<◌, suc, length, get_or, take, drop, refl, sym, ap, subst, ◌∙◌, arith, if◌then◌else◌}
 use Rattle.std.specs.Io.KnownBytes.{Appends}
@@ -17,11 +17,9 @@ use Rattle.f11_fcp.specs.Serving.{is_spent, state_in}
 use Rattle.f11_fcp.specs.declared.volume.Volume.{Volume}
 use Rattle.f11_fcp.specs.files.Answers.{is_fatal, is_fault, is_refused}
 use Rattle.f11_making.specs.Actions.{plan_of}
-use Rattle.f11_making.specs.Asking.{Asking, Denies, FilesService, Grants, Tried, Who, asks, plain, who_asks}
-use Rattle.f11_making.specs.Asking.{reads as reads_block, told as told_reply, writes as writes_block}
+use Rattle.f11_making.specs.Asking.{plain, who_asks}
 use Rattle.f11_making.specs.Carrying.{Carries}
-use Rattle.f11_making.specs.FilesPlan.{AnswerOf, Asks, Carried, FilesPlan, Question, done, names, reads, writes}
-use Rattle.f11_making.specs.Plan.{asking, gives}
+use Rattle.f11_making.specs.FilesPlan.{Carried, FilesPlan}
 use Rattle.f11_making.specs.Volume.{of_volume}
 use Rattle.f11_making.specs.declared.action.Action.{Action}
 use Rattle.f11_making.proofs.TellLemmas.{carried}
@@ -29,7 +27,6 @@ use Rattle.f11_store.specs.Store.{Store}
 use Rattle.f11_store.specs.declared.refusals.Refusal.{Refusal}
 use Rattle.f11_store.specs.declared.refusals.Refusal.TheVariants as refusal
 use Rattle.f11_volume.specs.Verdict.{IsAccepted}
-use Rattle.f11_commands.proofs.AskedLemmas.{never, tried-breaks, tried-home}
 use Rattle.f11_commands.proofs.CopyLemmas.{first-is, last-is, sound-first, stands-accepted}
 use Rattle.f11_commands.specs.CopyCommand.{VerifiesFiles}
 use Rattle.f11_commands.specs.Copying.{master_directory, operator}
@@ -37,35 +34,13 @@ use Rattle.f11_commands.specs.Output.{WriterTakes}
 use Rattle.f11_commands.specs.declared.outcome.Failure.{Failure}
 use Rattle.f11_commands.specs.declared.outcome.Failure.TheVariants.{CannotWrite}
 use Rattle.f11_commands.specs.declared.outcome.FileAnswer.{FileAnswer}
-use Rattle.f11_actions.specs.Command.{ActsOnImage, BreaksOff, BreaksOne, DoesAll, DoesOne, EndsAccepted, Kept, EndsActions, TellsActions}
+use Rattle.f11_actions.specs.Command.{ActsOnImage, BeginsOnImage, BreaksOff, BreaksOne, DoesAll, DoesOne, EndsAccepted, Kept, EndsActions}
+use Rattle.f11_actions.specs.Command.{TellsActions}
 use Rattle.f11_actions.specs.Command.{TellsAll}
-use Rattle.f11_actions.specs.Command.{all_done, ended, ending, unkept, unwritten}
+use Rattle.f11_actions.specs.Command.{all_done, ended, ending, failure_of, unkept, unwritten}
 use Rattle.f11_actions.specs.Lines.{action_line, all_line, lines_of, refused_in, refused_one}
-use Rattle.f11_actions.specs.Plans.{Acted, all_of, goes_on, is_last}
-use Rattle.f11_actions.proofs.AllLemmas.{acted, acted-as-many, lines-more, one-ends, one-more, refused-more, tidy-all}
-
--- what a plan asked, one thing after another, was granted or refused
-module _ {V : Type 0} (S : FilesService V) (who : Who) where
-  abbrev One : Asking → V → V → Type 0
-  One x v w = (Grants S who x v w) ⊎ ((e : Refusal) × Denies S who x e v w)
-
-  one-tried : (q : Question) (a : Result (AnswerOf q) Refusal) (v w : V) → Asks S who q a v w → (x : Asking) × (One x v w)
-  one-tried (done r) (Ok x) v w h = (asks r, inl h)
-  one-tried (done r) (Err e) v w h = (asks r, inr (e, h))
-  one-tried (names r) (Ok id) v w h = (told_reply r h.0, inl h.2)
-  one-tried (names r) (Err e) v w (inl h) = (asks r, inr (e, h))
-  one-tried (names r) (Err e) v w (inr h) = (told_reply r h.0, inl h.3)
-  one-tried (reads lun vbn) (Ok block) v w h = (reads_block lun vbn block, inl h)
-  one-tried (reads lun vbn) (Err e) v w h = (reads_block lun vbn h.0, inr (e, h.1))
-  one-tried (writes lun vbn block) (Ok x) v w h = (writes_block lun vbn block, inl h)
-  one-tried (writes lun vbn block) (Err e) v w h = (writes_block lun vbn block, inr (e, h))
-
-  pub goes-tried : {T : Type 0} (p : FilesPlan T) (x : T) (v w : V) → Carried S who p x v w → (xs : List Asking) × Tried S who xs v w
-  goes-tried (gives y) x v w h = ([], h.1)
-  goes-tried (asking q on) x v w h =
-      let first = one-tried q h.0 v h.1 h.2 in
-      let rest = goes-tried (on h.0) x h.1 w h.3 in
-      (first.0 ∷ rest.0, (h.1, first.1, rest.1))
+use Rattle.f11_actions.specs.Plans.{Acted, actions_in, all_of, goes_on, is_last}
+use Rattle.f11_actions.proofs.AllLemmas.{acted, acted-are, lines-more, one-ends, one-more, refused-more, tidy-all}
 
 -- a refusal that ends them, and one that doesn't
 record IsEnding (r : Result (Unit {0}) Refusal) (f : Failure) : Type 0 where
@@ -78,24 +53,27 @@ ends-by (Ok x) f is = absurd (cc)
 ends-by (Err e) f is = record { refusal = e; is = refl; told = is }
 
 last-by : (e : Refusal) (f : Failure) → ending (Err e) ≡ Some f → is_last e ≡ true
-last-by refusal.DeviceFault f is = refl
-last-by refusal.Damaged f is = refl
-last-by refusal.NoMemory f is = refl
-last-by _ f is = absurd (cc)
+last-by e f is = by (is_last e) is
+  where
+    by : (b : Bool) → (if b then Some (failure_of e) else None) ≡ Some f → b ≡ true
+    by true is = refl
+    by false is = absurd (cc)
 
 goes-on-by : (r : Result (Unit {0}) Refusal) → ending r ≡ None → goes_on r ≡ true
 goes-on-by (Ok x) is = refl
-goes-on-by (Err refusal.DeviceFault) is = absurd (cc)
-goes-on-by (Err refusal.Damaged) is = absurd (cc)
-goes-on-by (Err refusal.NoMemory) is = absurd (cc)
-goes-on-by (Err _) is = refl
+goes-on-by (Err e) is = by (is_last e) is
+  where
+    by : (b : Bool) → (if b then Some (failure_of e) else None) ≡ None → not b ≡ true
+    by true is = absurd (cc)
+    by false is = refl
 
 -- one action, asked for by the operator
-module _ {D : Type 0} {met : Ghosts D} (a : Action) (r : Result (Unit {0}) Refusal) (task : ℕ) (v w : Volume D met) (first : task ≡ 0)
-    (carries : Carries (who_asks task operator.caller) (plan_of master_directory a) r v w) where
-  by-operator : Carried of_volume operator (plan_of master_directory a) r v w
+module _ {D : Type 0} {met : Ghosts D} (a : Action) (r : Result (Unit {0}) Refusal) (task lun : ℕ) (v w : Volume D met) (first : task ≡ 0)
+    (first-lun : lun ≡ 0) (carries : Carries (who_asks task operator.caller) (plan_of lun master_directory a) r v w) where
+  by-operator : Carried of_volume operator (plan_of 0 master_directory a) r v w
   by-operator =
-      subst (λ t. Carried of_volume (who_asks t operator.caller) (plan_of master_directory a) r v w) first carries.carried
+      subst (λ l. Carried of_volume operator (plan_of l master_directory a) r v w) first-lun
+      (subst (λ t. Carried of_volume (who_asks t operator.caller) (plan_of lun master_directory a) r v w) first carries.carried)
 
   pub one-ended : {W : Type 0} (f : Failure) (before : W) → ending r ≡ Some f → BreaksOne a f v w before before
   one-ended f before is =
@@ -103,7 +81,7 @@ module _ {D : Type 0} {met : Ghosts D} (a : Action) (r : Result (Unit {0}) Refus
       inl (record {
         refusal = e.refusal;
         told_is = e.told;
-        carried = subst (λ x. Carried of_volume operator (plan_of master_directory a) x v w) e.is by-operator;
+        carried = subst (λ x. Carried of_volume operator (plan_of 0 master_directory a) x v w) e.is by-operator;
         unwritten = refl;
       })
 
@@ -162,7 +140,7 @@ module _ {D W : Type 0} {met : Ghosts D} (actions : List Action) (contents : W �
               let size = length-append (take i actions) (a ∷ []) in
               let begun = length-take-le i actions (omega (arith, some)) in omega (arith, few, at-most, size, begun);
           carried =
-              one-more of_volume operator master_directory (take i actions) a began.does.acted one.result v u w began.does.carried
+              one-more of_volume operator 0 master_directory (take i actions) a began.does.acted one.result v u w began.does.carried
               one.carried one.on;
           lines =
               subst (λ t. WriterTakes contents before after t) (sym (lines-more began.does.acted a one.result))
@@ -182,8 +160,8 @@ module _ {D W : Type 0} {met : Ghosts D} (actions : List Action) (contents : W �
       inl (record {
         refusal = e.refusal;
         told_is = e.told_is;
-        carried = subst (λ xs. Carried of_volume operator (all_of master_directory xs) (Err e.refusal) v w) whole
-            (one-ends of_volume operator master_directory (take i actions) a (drop (suc i) actions) began.does.acted e.refusal v u w
+        carried = subst (λ xs. Carried of_volume operator (all_of 0 master_directory xs) (Err e.refusal) v w) whole
+            (one-ends of_volume operator 0 master_directory (take i actions) a (drop (suc i) actions) began.does.acted e.refusal v u w
             began.does.carried e.carried (last-by e.refusal failure e.told_is));
         among = record {
           first = take i actions;
@@ -191,9 +169,11 @@ module _ {D W : Type 0} {met : Ghosts D} (actions : List Action) (contents : W �
           left = drop (suc i) actions;
           parts = sym whole;
           acted = began.does.acted;
-          as_many = acted-as-many of_volume operator master_directory (take i actions) began.does.acted v u began.does.carried;
+          are = acted-are of_volume operator 0 master_directory (take i actions) began.does.acted v u began.does.carried;
           lines = subst (λ (x : W). WriterTakes contents before x (lines_of began.does.acted)) (sym e.unwritten) began.does.lines;
         };
+        between = u;
+        begun = began.does.carried;
       })
   breaks-off i refused d failure u w now after some began (inr l) =
       let a : Action = get_or actions i d in
@@ -202,9 +182,10 @@ module _ {D W : Type 0} {met : Ghosts D} (actions : List Action) (contents : W �
         n = suc i;
         few = omega (arith, some);
         acted = began.does.acted ++ acted a l.result ∷ [];
-        carried = subst (λ xs. Carried of_volume operator (all_of master_directory xs) (Ok (began.does.acted ++ acted a l.result ∷ [])) v w)
+        carried =
+            subst (λ xs. Carried of_volume operator (all_of 0 master_directory xs) (Ok (began.does.acted ++ acted a l.result ∷ [])) v w)
             (sym (take-suc actions i d some))
-            (one-more of_volume operator master_directory (take i actions) a began.does.acted l.result v u w began.does.carried l.carried
+            (one-more of_volume operator 0 master_directory (take i actions) a began.does.acted l.result v u w began.does.carried l.carried
             l.on);
       })
 
@@ -213,11 +194,16 @@ module _ {D W : Type 0} {met : Ghosts D} (actions : List Action) (contents : W �
   did-all i refused u now all began =
       subst (λ xs. DoesAll xs refused v u contents before now) (take_all i actions all) began.does
 
+-- where no more transfers failed it was no device fault
+no-fault : (b : Bool) (m n : ℕ) → n ≡ m + (if b then 1 else 0) → n ≡ m → b ≡ false
+no-fault true m n more same = absurd (omega (arith, more, same))
+no-fault false m n more same = refl
+
 -- the image of a volume that was mounted, and on which actions were done
 module _ {D : Type 0} {met : Ghosts D} (old : Disk) (first last : Volume D met) (mounts : Mounts old first) (image : IsImage old.image)
     (files-accepted : IsTrue old.honest → IsAccepted old.image) where
   pub acts-on-image : (actions : List Action) (result : Result (List Acted) Refusal)
-      → Carried of_volume operator (all_of master_directory actions) result first last
+      → Carried of_volume operator (all_of 0 master_directory actions) result first last
       → ActsOnImage actions result old (state_in last).disk
   acts-on-image actions result goes = record {
     home = (state_in first).home;
@@ -237,35 +223,44 @@ module _ {D : Type 0} {met : Ghosts D} (old : Disk) (first last : Volume D met) 
   }
     where
       plan : FilesPlan (Result (List Acted) Refusal)
-      plan = all_of master_directory actions
+      plan = all_of 0 master_directory actions
 
       carries : Carries operator plan result first last
-      carries = carried operator plan result first last (tidy-all master_directory actions) goes
-
-      asked : (xs : List Asking) × Tried of_volume operator xs first last
-      asked = goes-tried of_volume operator plan result first last goes
+      carries = carried operator plan result first last (tidy-all 0 master_directory actions) goes
 
       home-stays : (state_in last).home ≡ (state_in first).home
-      home-stays = tried-home operator asked.0 first last asked.1
-
-      alive : IsTrue old.honest → (state_in last).disk.failures ≡ old.failures → is_spent last ≡ false
-      alive honest same = by (is_spent last) refl
-        where
-          by : (b : Bool) → is_spent last ≡ b → is_spent last ≡ false
-          by false is = is
-          by true is =
-              let more = tried-breaks operator asked.0 first last asked.1 (mounts.looked.honest ∙ honest) mounts.fresh is in
-              let none = mounts.looked.failures in absurd (omega (arith, more, same, none))
+      home-stays = carries.fares.home
 
       undamaged : IsTrue old.honest → result ≢ Err refusal.Damaged
-      undamaged honest is =
-          let dead = carries.fares.next (mounts.looked.honest ∙ honest)
-          ∙ ap (λ (r : Result (List Acted) Refusal). is_spent first || is_refused is_fatal r) is
-          ∙ ap (λ b. b || true) mounts.fresh in
-          let none = mounts.looked.failures in
-          let some = carries.fares.failures
-          ∙ ap (λ (r : Result (List Acted) Refusal). failures_of first + (if is_refused is_fault r then 1 else 0)) is in
-          never dead (alive honest (omega (arith, none, some)))
+      undamaged honest = carries.undamaged (mounts.looked.honest ∙ honest) mounts.fresh
+
+      by-result : (r : Result (List Acted) Refusal) → r ≢ Err refusal.Damaged → is_refused is_fatal r ≡ is_refused is_fault r
+      by-result (Ok xs) un = refl
+      by-result (Err refusal.Damaged) un = absurd (un refl)
+      by-result (Err refusal.DeviceFault) un = refl
+      by-result (Err _) un = refl
+
+      alive : IsTrue old.honest → (state_in last).disk.failures ≡ old.failures → is_spent last ≡ false
+      alive honest same =
+          carries.fares.next (mounts.looked.honest ∙ honest) ∙ ap (λ b. b || is_refused is_fatal result) mounts.fresh
+          ∙ by-result result (undamaged honest)
+          ∙ no-fault (is_refused is_fault result) (failures_of first) (failures_of last) carries.fares.failures
+          (let none = mounts.looked.failures in omega (arith, none, same))
+
+  -- and of which some were
+  begins-on-image : (actions : List Action) (acted : List Acted) (u : Volume D met) → (state_in last).home ≡ (state_in first).home
+      → Carried of_volume operator (all_of 0 master_directory actions) (Ok acted) first u → BeginsOnImage actions acted old
+  begins-on-image actions acted u stays goes = record {
+    home = (state_in first).home;
+    home_is = mounts.home;
+    outcome = λ is. (
+      store_of_volume u,
+      subst (λ (s : Store). Carried plain operator (all_of 0 master_directory actions) (Ok acted) s (store_of_volume u))
+          (first-is old first last mounts stays)
+          ((carried operator (all_of 0 master_directory actions) (Ok acted) first u (tidy-all 0 master_directory actions) goes).goes
+          (sound-first old first last mounts stays is) refl),
+    );
+  }
 
   -- how all of them are told
   pub told-all : {W : Type 0} (actions : List Action) (refused : ℕ) (told : Result FileAnswer Failure) (kept new : Disk)
@@ -281,20 +276,23 @@ module _ {D : Type 0} {met : Ghosts D} (old : Disk) (first last : Volume D met) 
       Told : Disk → Type 0
       Told d = TellsActions actions told old d contents before after
 
+      are : actions_in does.acted ≡ actions
+      are = acted-are of_volume operator 0 master_directory actions does.acted first last does.carried
+
       acts : ActsOnImage actions (Ok does.acted) old (state_in last).disk
       acts = acts-on-image actions (Ok does.acted) does.carried
 
       by : TellsAll (length actions) n told kept new contents between after → Told new
       by (inl (same, inl (is, takes))) =
           subst Told (sym (same ∙ at))
-          (all_done does.acted acts is
+          (all_done does.acted are acts is
           (appends-then (contents before) (contents between) (contents after) (lines_of does.acted) (all_line (length actions - n) n)
           does.lines takes))
       by (inl (same, inr is)) =
           unwritten (length actions) does.acted (state_in last).disk (omega arith)
           (subst (λ xs. ActsOnImage xs (Ok does.acted) old (state_in last).disk) (sym (take-length actions)) acts) (inl (is, same ∙ at))
       by (inr (failed, is, same)) =
-          unkept does.acted (state_in last).disk acts (failed ∙ ap (λ d. with_transfer false d) at) is
+          unkept does.acted (state_in last).disk are acts (failed ∙ ap (λ d. with_transfer false d) at) is
           (subst (λ (x : W). WriterTakes contents before x (lines_of does.acted)) (sym same) does.lines)
 
   -- and how it is told where they broke off
@@ -304,6 +302,10 @@ module _ {D : Type 0} {met : Ghosts D} (old : Disk) (first last : Volume D met) 
   told-broken actions failure told kept new contents before after at keeps (inl e) =
       ended e.refusal failure (state_in last).disk (acts-on-image actions (Err e.refusal) e.carried) e.told_is
       (subst (λ (d : Disk). Kept failure told d new) at keeps) e.among
+      (begins-on-image e.among.first e.among.acted e.between
+      (carried operator (all_of 0 master_directory actions) (Err e.refusal) first last (tidy-all 0 master_directory actions)
+      e.carried).fares.home
+      e.begun)
   told-broken actions failure told kept new contents before after at keeps (inr l) =
       unwritten l.n l.acted (state_in last).disk l.few (acts-on-image (take l.n actions) (Ok l.acted) l.carried)
       (subst (λ (d : Disk). Kept CannotWrite told d new) at (subst (λ (f : Failure). Kept f told kept new) l.told_is keeps))

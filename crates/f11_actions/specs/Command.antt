@@ -18,15 +18,16 @@ use Rattle.f11_fcp.specs.writes.Moments.{StandsAccepted}
 use Rattle.f11_home.specs.Home.{HomeFields, IsHomeOf}
 use Rattle.f11_making.specs.Asking.{plain}
 use Rattle.f11_making.specs.Actions.{plan_of}
-use Rattle.f11_making.specs.FilesPlan.{Carried, FilesPlan}
+use Rattle.f11_making.specs.FilesPlan.{Carried}
 use Rattle.f11_making.specs.Telling.{is_whole}
 use Rattle.f11_making.specs.Volume.{of_volume}
 use Rattle.f11_making.specs.declared.action.Action.{Action}
+use Rattle.f11_store.specs.Store.{Store}
 use Rattle.f11_store.specs.declared.refusals.Refusal.{Refusal}
 use Rattle.f11_store.specs.declared.refusals.Refusal.TheVariants as refusal
 use Rattle.f11_volume.specs.Verdict.{IsAccepted}
 use Rattle.f11_actions.specs.Lines.{action_line, all_line, lines_of, refused_in, refused_one}
-use Rattle.f11_actions.specs.Plans.{Acted, all_of, goes_on, is_last}
+use Rattle.f11_actions.specs.Plans.{Acted, actions_in, all_of, goes_on, is_last}
 
 -- Actions were done on the volume of an image that has no fault. Where the disk is honest, unless a transfer failed, they went over the
 -- plain store, from that of the image, in which nobody holds an access; the image has no fault then, nor has any that stood meanwhile, and
@@ -36,7 +37,7 @@ pub record ActsOnImage (actions : List Action) (result : Result (List Acted) Ref
   pub held : AccessTable
   pub home_is : IsTrue old.honest → IsHomeOf old.image home
   pub outcome : IsTrue old.honest → is_whole result ≡ true →
-      Carried plain operator (all_of master_directory actions) result (held_in no_entries (store_of old.image home))
+      Carried plain operator (all_of 0 master_directory actions) result (held_in no_entries (store_of old.image home))
       (held_in held (store_of new.image home))
   pub failures : new.failures ≡ old.failures + (if is_refused is_fault result then 1 else 0)
   pub quiet : is_refused is_fault result ≡ true → new.calm ≡ 0
@@ -51,22 +52,32 @@ answer_for refused = if refused == 0 then Done else Refused
 abbrev pub answer_of : List Acted → FileAnswer
 answer_of acted = answer_for (refused_in acted)
 
--- as which failure an action is told that came to this, where it ends them: a device fault, Damaged, which an honest disk never gives, and
--- want of memory; none where the others are done behind it
-abbrev pub ending : Result (Unit {0}) Refusal → Option Failure
-ending (Err refusal.DeviceFault) = Some DeviceFault
-ending (Err refusal.Damaged) = Some DeviceFault
-ending (Err refusal.NoMemory) = Some NoMemory
-ending _ = None
+-- as which failure a refusal is told that ends them: a device fault, Damaged, which an honest disk never gives, and want of memory
+abbrev pub failure_of : Refusal → Failure
+failure_of refusal.NoMemory = NoMemory
+failure_of _ = DeviceFault
 
--- The actions before one were done, each with its line, and that one is refused and ends them.
-pub record EndsAmong {W : Type 0} (actions : List Action) (e : Refusal) (contents : W → Option (List ℕ)) (before after : W) : Type 0 where
+-- as which an action is told that came to this, and none where the others are done behind it
+abbrev pub ending : Result (Unit {0}) Refusal → Option Failure
+ending (Ok x) = None
+ending (Err e) = if is_last e then Some (failure_of e) else None
+
+-- Actions were begun with on the volume of an image that has no fault: where the disk is honest, those so far went over the plain store,
+-- from that of the image, in which nobody holds an access, and this came of them.
+pub record BeginsOnImage (actions : List Action) (acted : List Acted) (old : Disk) : Type 0 where
+  pub home : HomeFields
+  pub home_is : IsTrue old.honest → IsHomeOf old.image home
+  pub outcome : IsTrue old.honest →
+      (s : Store) × Carried plain operator (all_of 0 master_directory actions) (Ok acted) (held_in no_entries (store_of old.image home)) s
+
+-- The actions before one were done, each with its line, and that one ends them.
+pub record EndsAmong {W : Type 0} (actions : List Action) (contents : W → Option (List ℕ)) (before after : W) : Type 0 where
   pub first : List Action
   pub one : Action
   pub left : List Action
   pub parts : actions ≡ first ++ one ∷ left
   pub acted : List Acted
-  pub as_many : length acted ≡ length first
+  pub are : actions_in acted ≡ first
   pub lines : WriterTakes contents before after (lines_of acted)
 
 -- what was written to the disk is kept, and so it is told; or the sync failed
@@ -78,14 +89,16 @@ Kept f told done new = ((told ≡ Err f) × (new ≡ done)) ⊎ ((told ≡ Err D
 pub data TellsActions {W : Type 0} (actions : List Action) (told : Result FileAnswer Failure) (old new : Disk)
     (contents : W → Option (List ℕ))
     (before after : W) : Type 0 where
-  all_done : (acted : List Acted) → ActsOnImage actions (Ok acted) old new → told ≡ Ok (answer_of acted)
+  all_done : (acted : List Acted) → actions_in acted ≡ actions → ActsOnImage actions (Ok acted) old new → told ≡ Ok (answer_of acted)
       → WriterTakes contents before after (lines_of acted ++ all_line (length actions - refused_in acted) (refused_in acted))
       → TellsActions actions told old new contents before after
-  unkept : (acted : List Acted) (done : Disk) → ActsOnImage actions (Ok acted) old done → new ≡ with_transfer false done
+  unkept : (acted : List Acted) (done : Disk) → actions_in acted ≡ actions → ActsOnImage actions (Ok acted) old done
+      → new ≡ with_transfer false done
       → told ≡ Err DeviceFault → WriterTakes contents before after (lines_of acted)
       → TellsActions actions told old new contents before after
   ended : (e : Refusal) (f : Failure) (done : Disk) → ActsOnImage actions (Err e) old done → ending (Err e) ≡ Some f
-      → Kept f told done new → EndsAmong actions e contents before after → TellsActions actions told old new contents before after
+      → Kept f told done new → (among : EndsAmong actions contents before after) → BeginsOnImage among.first among.acted old
+      → TellsActions actions told old new contents before after
   unwritten : (n : ℕ) (acted : List Acted) (done : Disk) → n ≤ length actions → ActsOnImage (take n actions) (Ok acted) old done
       → Kept CannotWrite told done new → TellsActions actions told old new contents before after
 
@@ -112,14 +125,14 @@ pub record DoesOne {D W : Type 0} {met : Ghosts D} (a : Action) (refused : ℕ) 
   pub result : Result (Unit {0}) Refusal
   pub on : goes_on result ≡ true
   pub refused_is : refused ≡ refused_one result
-  pub carried : Carried of_volume operator (plan_of master_directory a) result v w
+  pub carried : Carried of_volume operator (plan_of 0 master_directory a) result v w
   pub line : WriterTakes contents before after (action_line a result)
 
 -- It was refused, and ends them, and nothing was written.
 pub record EndsOne {D W : Type 0} {met : Ghosts D} (a : Action) (told : Failure) (v w : Volume D met) (before after : W) : Type 0 where
   pub refusal : Refusal
   pub told_is : ending (Err refusal) ≡ Some told
-  pub carried : Carried of_volume operator (plan_of master_directory a) (Err refusal) v w
+  pub carried : Carried of_volume operator (plan_of 0 master_directory a) (Err refusal) v w
   pub unwritten : after ≡ before
 
 -- It is told that the writer took no more of its line.
@@ -127,7 +140,7 @@ pub record LosesLine {D : Type 0} {met : Ghosts D} (a : Action) (told : Failure)
   pub told_is : told ≡ CannotWrite
   pub result : Result (Unit {0}) Refusal
   pub on : goes_on result ≡ true
-  pub carried : Carried of_volume operator (plan_of master_directory a) result v w
+  pub carried : Carried of_volume operator (plan_of 0 master_directory a) result v w
 
 abbrev pub BreaksOne : {D W : Type 0} {met : Ghosts D} → Action → Failure → Volume D met → Volume D met → W → W → Type 0
 BreaksOne a told v w before after = (EndsOne a told v w before after) ⊎ (LosesLine a told v w)
@@ -138,7 +151,7 @@ pub record DoesAll {D W : Type 0} {met : Ghosts D} (actions : List Action) (refu
   pub acted : List Acted
   pub refused_is : refused ≡ refused_in acted
   pub few : refused ≤ length actions
-  pub carried : Carried of_volume operator (all_of master_directory actions) (Ok acted) v w
+  pub carried : Carried of_volume operator (all_of 0 master_directory actions) (Ok acted) v w
   pub lines : WriterTakes contents before after (lines_of acted)
 
 -- One of them was refused, and ended them.
@@ -146,8 +159,10 @@ pub record EndsAll {D W : Type 0} {met : Ghosts D} (actions : List Action) (told
     (contents : W → Option (List ℕ)) (before after : W) : Type 0 where
   pub refusal : Refusal
   pub told_is : ending (Err refusal) ≡ Some told
-  pub carried : Carried of_volume operator (all_of master_directory actions) (Err refusal) v w
-  pub among : EndsAmong actions refusal contents before after
+  pub carried : Carried of_volume operator (all_of 0 master_directory actions) (Err refusal) v w
+  pub among : EndsAmong actions contents before after
+  pub between : Volume D met
+  pub begun : Carried of_volume operator (all_of 0 master_directory among.first) (Ok among.acted) v between
 
 -- It is told that the writer took no more, behind so many of them.
 pub record LosesLines {D : Type 0} {met : Ghosts D} (actions : List Action) (told : Failure) (v w : Volume D met) : Type 0 where
@@ -155,7 +170,7 @@ pub record LosesLines {D : Type 0} {met : Ghosts D} (actions : List Action) (tol
   pub n : ℕ
   pub few : n ≤ length actions
   pub acted : List Acted
-  pub carried : Carried of_volume operator (all_of master_directory (take n actions)) (Ok acted) v w
+  pub carried : Carried of_volume operator (all_of 0 master_directory (take n actions)) (Ok acted) v w
 
 abbrev pub BreaksOff : {D W : Type 0} {met : Ghosts D} → List Action → Failure → Volume D met → Volume D met → (W → Option (List ℕ)) →
     W → W → Type 0

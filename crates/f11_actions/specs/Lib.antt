@@ -1,5 +1,6 @@
 -- The definitions of what is done to files by their names.
 pub mod Command
-pub mod Directories
 pub mod Lines
+pub mod Making
 pub mod Plans
+pub mod Protection

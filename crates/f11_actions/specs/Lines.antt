@@ -14,12 +14,16 @@ abbrev pub name_in : Action → List ℕ
 name_in (action.Delete directory name) = name
 name_in (action.Rename directory name to new) = name
 name_in (action.Protect directory name protection) = name
+name_in (action.Truncate directory name) = name
+name_in (action.MakeDirectory name owner protection) = name
 
 -- what is done to it
 abbrev pub done_text : Action → List ℕ
 done_text (action.Delete directory name) = codes "deleted"
 done_text (action.Rename directory name to new) = codes "renamed " ++ name_text new
 done_text (action.Protect directory name protection) = codes "protected"
+done_text (action.Truncate directory name) = codes "truncated"
+done_text (action.MakeDirectory name owner protection) = codes "made"
 
 -- the line of an action that was done, and of one that was refused
 abbrev pub action_line : Action → Result (Unit {0}) Refusal → List ℕ

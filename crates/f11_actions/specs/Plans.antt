@@ -1,5 +1,5 @@
 -- Actions that are done one after another, as the plan of what they ask (profile).
-use Rattle.std.specs.Prelude.{Bool, true, false, not, if◌then◌else◌, List, [], ◌∷◌, Result, Ok, Err}
+use Rattle.std.specs.Prelude.{ℕ, Bool, true, false, not, if◌then◌else◌, List, [], ◌∷◌, Result, Ok, Err}
 use Rattle.f11_store.specs.declared.files.FileId.{FileId}
 use Rattle.f11_store.specs.declared.refusals.Refusal.{Refusal}
 use Rattle.f11_store.specs.declared.refusals.Refusal.TheVariants.{Damaged, DeviceFault, NoMemory}
@@ -12,6 +12,11 @@ use Rattle.f11_making.specs.declared.action.Action.{Action}
 pub record Acted : Type 0 where
   pub action : Action
   pub result : Result (Unit {0}) Refusal
+
+-- the actions of which something came
+abbrev pub actions_in : List Acted → List Action
+actions_in [] = []
+actions_in (a ∷ more) = a.action ∷ actions_in more
 
 -- behind these refusals none is done: a device fault, Damaged, and want of memory
 abbrev pub is_last : Refusal → Bool
@@ -38,6 +43,6 @@ abbrev pub behind : Action → FilesPlan (Result (List Acted) Refusal) → Resul
 behind a rest (Ok x) = then_others (record { action = a; result = Ok x }) rest
 behind a rest (Err e) = if is_last e then gives (Err e) else then_others (record { action = a; result = Err e }) rest
 
-abbrev pub all_of : FileId → List Action → FilesPlan (Result (List Acted) Refusal)
-all_of master [] = gives (Ok [])
-all_of master (a ∷ more) = and_then (plan_of master a) (behind a (all_of master more))
+abbrev pub all_of : ℕ → FileId → List Action → FilesPlan (Result (List Acted) Refusal)
+all_of lun master [] = gives (Ok [])
+all_of lun master (a ∷ more) = and_then (plan_of lun master a) (behind a (all_of lun master more))

@@ -19,12 +19,14 @@ impl fmt::Display for Done {
 
     ghost output = { λ done. Some (done_text done.0) };
 
-    /// Writes `deleted`, `protected`, or `renamed` and the new name.
+    /// Writes `deleted`, `made`, `protected`, `truncated`, or `renamed` and the new name.
     fn fmt<W: fmt::Write>(&self, f: &mut fmt::Formatter<W>) -> fmt::Result {
         match &self.0 {
             Action::Delete { .. } => write!(f, "deleted"),
             Action::Rename { new, .. } => write!(f, "renamed {new}"),
             Action::Protect { .. } => write!(f, "protected"),
+            Action::Truncate { .. } => write!(f, "truncated"),
+            Action::MakeDirectory { .. } => write!(f, "made"),
         }
     }
 }
@@ -37,6 +39,8 @@ fn name_of(action: &Action) -> Name
         Action::Delete { name, .. } => *name,
         Action::Rename { name, .. } => *name,
         Action::Protect { name, .. } => *name,
+        Action::Truncate { name, .. } => *name,
+        Action::MakeDirectory { name, .. } => *name,
     }
 }
 

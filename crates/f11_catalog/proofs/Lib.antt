@@ -3,6 +3,7 @@ pub mod FactsLemmas
 pub mod ComingLemmas
 pub mod OpenLemmas
 mod PlacesLemmas
+pub mod HandedLemmas
 pub mod ListingLemmas
 pub mod SearchLemmas
 pub mod LineLemmas

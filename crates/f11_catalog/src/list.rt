@@ -74,10 +74,7 @@ fn write_records<D: Device, W: Write>(
 {
     loop {
         match directory.next(device, by) {
-            Ok(Some(record)) => match write_record(device, index, wide, writer, &record) {
-                Ok(()) => {}
-                Err(fault) => return Err(fault),
-            },
+            Ok(Some(record)) => write_record(device, index, wide, writer, &record)?,
             Ok(None) => return Ok(()),
             Err(DeviceFault) => return Err(ListFault::DeviceFault),
         }
@@ -139,10 +136,7 @@ fn write_directories<D: Device, W: Write>(
 {
     loop {
         match directory.next(device, by) {
-            Ok(Some(record)) => match write_named(device, index, wide, writer, &record) {
-                Ok(()) => {}
-                Err(fault) => return Err(fault),
-            },
+            Ok(Some(record)) => write_named(device, index, wide, writer, &record)?,
             Ok(None) => return Ok(()),
             Err(DeviceFault) => return Err(ListFault::DeviceFault),
         }

@@ -26,7 +26,7 @@ use Rattle.f11_serving.specs.writes.Moments.{StandsAccepted}
 use Rattle.rt11_volume.specs.Calls.{has_failed, volume_device}
 use Rattle.rt11_volume.specs.Verifying.Verdict.{IsRtAccepted, IsSoundDisk}
 use Rattle.rt11_volume.specs.declared.volume.RtAccepted.{RtAccepted}
-use Rattle.f11_commands.proofs.AskedLemmas.{fault-of}
+use Rattle.f11_making.proofs.AskedLemmas.{fault-of}
 use Rattle.f11_commands.specs.CopyCommand.{CopiesImages, EndsBetween, TellsKeptCopy}
 use Rattle.f11_commands.specs.Copying.{OutcomeIs, StandsAsIs}
 use Rattle.f11_commands.specs.Finding.{FaresAsAnswered}

@@ -7,7 +7,6 @@ mod LsLemmas
 mod GetLemmas
 mod RunLemmas
 mod UpdateLemmas
-pub mod AskedLemmas
 mod BrokenLemmas
 pub mod CopyLemmas
 mod NamedLemmas

@@ -13,7 +13,7 @@ use Rattle.f11_making.proofs.AskingLemmas.{granted-parts}
 use Rattle.f11_flx.proofs.Made.SeenLemmas.{granted-seen}
 use Rattle.f11_flx.proofs.Made.StatingLemmas.{filling-fills}
 use Rattle.f11_flx.proofs.Made.TriedLemmas.{Tries, only-filling, open-tries, tries-granted, tries-then}
-use Rattle.f11_making.proofs.VolumeLemmas.{unused, volume-seen}
+use Rattle.f11_making.proofs.VolumeLemmas.{denied-fared, granted-fared, unused, volume-seen}
 use Rattle.f11_making.specs.Asking.{Asking, Denies, Granted, Grants, Tried, asks, counts, plain, reads, told, writes}
 use Rattle.f11_making.specs.Making.{Making, creation, filling, opening}
 use Rattle.f11_making.specs.AsksFor.{AsksForFile, creation as created-alone, making as made-one, nothing}
@@ -39,7 +39,7 @@ use Rattle.f11_store.specs.declared.requests.Reply.{Reply}
 use Rattle.f11_store.specs.declared.requests.Reply.TheVariants as reply
 use Rattle.f11_store.specs.declared.requests.Request.{Request}
 use Rattle.f11_store.specs.declared.requests.Request.TheVariants as request
-use Rattle.f11_commands.proofs.AskedLemmas.{denied-home, granted-home, tried-home}
+use Rattle.f11_making.proofs.AskedLemmas.{tried-home}
 use Rattle.f11_commands.proofs.OthersLemmas.{no-slot-0, others-stay}
 use Rattle.f11_commands.proofs.StoppingLemmas.{Stops, after-stopped, alive-of, dead-behind, honest-of, later, one-stopped}
 use Rattle.f11_commands.proofs.WholeLemmas.{creation-ends, filling-ends, finishing-ends}
@@ -145,8 +145,8 @@ module _ {D : Type 0} {met : Ghosts D} where
       (d.1.0.measures (alive-of (disk v).honest (is_spent v) sound)).outcome.reads.looked
 
   answered-home : (x : Asking) (v w : Volume D met) → IsAnswered x v w → (state_in w).home ≡ (state_in v).home
-  answered-home x v w (inl g) = granted-home operator x v w g
-  answered-home x v w (inr d) = denied-home operator x d.0 v w d.1
+  answered-home x v w (inl g) = (granted-fared operator x v w g).home
+  answered-home x v w (inr d) = (denied-fared operator x d.0 v w d.1).home
 
   -- of a list of what was asked one thing was stopped
   abbrev pub StopsIn : List Asking → Volume D met → Image → Type 0
@@ -218,7 +218,7 @@ module _ {D : Type 0} {met : Ghosts D} where
         (asked-stood x v m.created sound (inl m.granted)))
         (stood-weaker (StopsIn m.asked m.created) IsAt (disk m.created) (disk w)
         (λ image s. subst (λ (h : HomeFields). StopsAt dir to stated (store_of_volume v) (store_of image h))
-        (granted-home operator x v m.created m.granted)
+        (granted-fared operator x v m.created m.granted).home
         (after-stopped dir to stated v w m seen.0 (at m.created image) s))
         (tried-stood m.asked m.created w seen.1 m.tried))
 

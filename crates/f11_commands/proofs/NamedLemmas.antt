@@ -40,7 +40,7 @@ use Rattle.rt11_volume.specs.Store.{RtStore, rt_store_of}
 use Rattle.rt11_volume.specs.Verifying.Verdict.{IsRtAccepted, IsSoundDisk}
 use Rattle.rt11_volume.specs.declared.refusal.RtRefusal.TheVariants.{Failed}
 use Rattle.rt11_volume.specs.declared.volume.RtAccepted.{RtAccepted}
-use Rattle.f11_commands.proofs.AskedLemmas.{denied-home, denied-undamaged, granted-home, never, tried-breaks, tried-home}
+use Rattle.f11_making.proofs.AskedLemmas.{denied-undamaged, never, tried-breaks, tried-home}
 use Rattle.f11_commands.proofs.BrokenLemmas.{begun-left, held-stands, stands-behind, unread-stands}
 use Rattle.f11_commands.specs.Copying.{CopiesWithin, KeepsRt, LeavesBegun, OutcomeIs, ReadsSource, StandsAsIs, directory_name, is_undoing}
 use Rattle.f11_commands.specs.Copying.{master_directory, operator}
@@ -123,12 +123,12 @@ module _ {D : Type 0} {met : Ghosts D} where
       absurd (omega (arith, more, same))
 
   -- behind something that failed nothing
-  pub alone-onward : (result : Result ℕ FlxRefusal) (v u w : Volume D met) → Fares false false v u
-      → (state_in u).home ≡ (state_in v).home → FaresAlone result u w → FaresAlone result v w
-  alone-onward result v u w fared home a = record {
+  pub alone-onward : (result : Result ℕ FlxRefusal) (v u w : Volume D met) → Fares false false v u → FaresAlone result u w
+      → FaresAlone result v w
+  alone-onward result v u w fared a = record {
     fares = fares-behind result v u w fared a.fares;
     alive = λ alive. a.alive (fared.next ∙ ap (λ b. b || false) alive);
-    home = a.home ∙ home;
+    home = a.home ∙ fared.home;
     undamaged = λ alive honest. a.undamaged (fared.next ∙ ap (λ b. b || false) alive) (fared.honest ∙ honest);
   }
 
@@ -136,7 +136,7 @@ module _ {D : Type 0} {met : Ghosts D} where
   pub alone-behind : (result : Result ℕ FlxRefusal) (x : Asking) (v u w : Volume D met) → Grants of_volume operator x v u
       → FaresAlone result u w → FaresAlone result v w
   alone-behind result x v u w grants a =
-      alone-onward result v u w (granted-fared operator x v u grants) (granted-home operator x v u grants) a
+      alone-onward result v u w (granted-fared operator x v u grants) a
 
   -- something that was refused
   pub alone-denied : (x : Asking) (e : Refusal) (v w : Volume D met) → Denies of_volume operator x e v w → FaresAlone (Err (Files e)) v w
@@ -153,7 +153,7 @@ module _ {D : Type 0} {met : Ghosts D} where
           lost = fared.lost;
         };
         alive = λ alive is. (denied-live operator x e v w alive denies).other (same-refusal (Files e) (Files VolumeFailed) is);
-        home = denied-home operator x e v w denies;
+        home = fared.home;
         undamaged = λ alive honest is. denied-undamaged operator x e v w alive honest denies (let same = is in cc);
       }
 
@@ -175,7 +175,7 @@ module _ {D : Type 0} {met : Ghosts D} where
           lost = fared.lost;
         });
         alive = λ alive is. damaged-apart e wrong.2 (same-refusal (Files e) (Files VolumeFailed) is);
-        home = granted-home operator (told (request.Find dir name) wrong.0) v w wrong.3;
+        home = fared.home;
         undamaged = λ alive honest is. dishonest honest;
       }
     where

@@ -40,7 +40,7 @@ use Rattle.f11_store.specs.declared.requests.Reply.TheVariants as reply
 use Rattle.f11_store.specs.declared.requests.Request.{Request}
 use Rattle.f11_store.specs.declared.requests.Request.TheVariants as request
 use Rattle.f11_volume.specs.Verdict.{IsAccepted}
-use Rattle.f11_commands.proofs.AskedLemmas.{denied-home, granted-home, never, tried-home}
+use Rattle.f11_making.proofs.AskedLemmas.{never, tried-home}
 use Rattle.f11_commands.proofs.CopyLemmas.{first-is, last-is, sound-first, stands-accepted, still-alive}
 use Rattle.f11_commands.proofs.StoppingLemmas.{alive-of, failed-by, find-leaves, find-stopped, honest-of, request-stopped, stops-by, stored}
 use Rattle.f11_commands.proofs.MomentsLemmas.{asked-alone, asked-stood, at, disk, file-stood, stood-both, stood-looked, stood-none}
@@ -250,7 +250,7 @@ module _ {D : Type 0} {met : Ghosts D} (p : Putting) (bytes : ℕ) (u : Hosts) w
   -- behind something that was asked, and failed nothing
   module _ (x : Asking) (Seen : Type 0) (v m : Volume D met) (fared : Fares false false v m)
       (answered : (Grants of_volume operator x v m) ⊎ ((e : Refusal) × Denies of_volume operator x e v m))
-      (home : (state_in m).home ≡ (state_in v).home) (seen : is_sound v ≡ true → Seen × (is_sound m ≡ true))
+      (seen : is_sound v ≡ true → Seen × (is_sound m ≡ true))
       (free : Seen → IsUnheld (store_of_volume v) → IsUnheld (store_of_volume m))
     where
       put-behind : (result : Result ℕ HostRefusal) (u' : Hosts) (Holds Holds' Stops Stops' : Store → Store → Type 0) (w : Volume D met)
@@ -260,7 +260,7 @@ module _ {D : Type 0} {met : Ghosts D} (p : Putting) (bytes : ℕ) (u : Hosts) w
           → (Seen → (t : Store) → IsStopped x (store_of_volume v) t → Stops' (store_of_volume v) t)
           → PutsNamed p.mode bytes result u u' Holds' (WhereUnheld Stops') v w
       put-behind result u' Holds Holds' Stops Stops' w a hold on stop = record {
-        fares = alone-onward (copy_result result) v m w fared home a.fares;
+        fares = alone-onward (copy_result result) v m w fared a.fares;
         host = a.host;
         outcome = λ sound whole. let is = seen sound in hold is.0 (a.outcome is.1 whole);
         stops = λ sound fault unheld. let is = seen sound in on is.0 (stored w) (a.stops is.1 fault (free is.0 unheld));
@@ -272,7 +272,7 @@ module _ {D : Type 0} {met : Ghosts D} (p : Putting) (bytes : ℕ) (u : Hosts) w
             (λ image stopped. λ unheld. stop is.0 (at v image) stopped) (asked-stood x v m sound answered))
             (stood-weaker (λ image. WhereUnheld Stops (store_of_volume m) (at m image))
             (λ image. WhereUnheld Stops' (store_of_volume v) (at v image)) (disk m) (disk w)
-            (λ image stands. λ unheld. subst (λ (h : HomeFields). Stops' (store_of_volume v) (store_of image h)) home
+            (λ image stands. λ unheld. subst (λ (h : HomeFields). Stops' (store_of_volume v) (store_of image h)) fared.home
             (on is.0 (at m image) (stands (free is.0 unheld)))) (a.moments is.1 (free is.0 unheld)));
       }
 
@@ -324,7 +324,6 @@ module _ {D : Type 0} {met : Ghosts D} (p : Putting) (bytes : ℕ) (u : Hosts) w
         put-behind (asks (request.GrowIndex (suc n)))
         ((suc n ≡ slots_before p.blocks (store_of_volume v)) × AsksForSlots plain (suc n) (store_of_volume v) (store_of_volume m)) v m
         (granted-fared operator (asks (request.GrowIndex (suc n))) v m granted) (inl granted)
-        (granted-home operator (asks (request.GrowIndex (suc n))) v m granted)
         (λ sound. let is = volume-seen.granted operator (asks (request.GrowIndex (suc n))) v m granted sound in
         ((slots-are (suc n) are sound, inl is.0), is.1))
         (λ is unheld. growth-unheld n (store_of_volume v) (store_of_volume m) is.1 unheld)
@@ -340,7 +339,6 @@ module _ {D : Type 0} {met : Ghosts D} (p : Putting) (bytes : ℕ) (u : Hosts) w
         (subst (λ b. Fares (is_fault denied.0) b v m) denied.1
         (denied-fared operator (asks (request.GrowIndex (suc n))) denied.0 v m denied.2)))
         (inr (denied.0, denied.2))
-        (denied-home operator (asks (request.GrowIndex (suc n))) denied.0 v m denied.2)
         (λ sound. let is = volume-seen.denied operator (asks (request.GrowIndex (suc n))) denied.0 v m denied.2 sound denied.1 in
         ((slots-are (suc n) are sound, inr (denied.0, denied.1, is.0)), is.1))
         (λ is unheld. growth-unheld n (store_of_volume v) (store_of_volume m) is.1 unheld)
@@ -378,7 +376,7 @@ module _ {D : Type 0} {met : Ghosts D} (p : Putting) (bytes : ℕ) (u : Hosts) w
       (WhereUnheld (StopsPut p (HoldFor p.mode bytes u u'))) v w
   put-found dir result u' v m w grants a =
       put-behind x (Grants plain operator x (store_of_volume v) (store_of_volume m)) v m (granted-fared operator x v m grants) (inl grants)
-      (granted-home operator x v m grants) (λ sound. volume-seen.granted operator x v m grants sound)
+      (λ sound. volume-seen.granted operator x v m grants sound)
       (λ seen unheld. subst IsUnheld (sym seen.2.changes) unheld)
       result u' (PutsBehindSlots p bytes dir result u u') (PutsByName p bytes result u u')
       (StopsInto p (HoldFor p.mode bytes u u') dir) (StopsPut p (HoldFor p.mode bytes u u')) w a

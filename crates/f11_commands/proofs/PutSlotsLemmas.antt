@@ -8,7 +8,7 @@ use Rattle.f11_store.specs.Store.{Store}
 use Rattle.f11_store.specs.declared.refusals.Refusal.{Refusal}
 use Rattle.f11_store.specs.declared.refusals.Refusal.TheVariants.{DeviceFault}
 use Rattle.f11_store.specs.declared.requests.Request.TheVariants as request
-use Rattle.f11_commands.proofs.AskedLemmas.{never}
+use Rattle.f11_making.proofs.AskedLemmas.{never}
 use Rattle.f11_commands.proofs.OthersLemmas.{if-served}
 use Rattle.f11_commands.specs.Copying.{operator}
 use Rattle.f11_commands.specs.PutSlots.{AsksForSlots}

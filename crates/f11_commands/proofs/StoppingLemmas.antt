@@ -34,7 +34,7 @@ use Rattle.f11_store.specs.declared.refusals.Refusal.TheVariants.{DeviceFault}
 use Rattle.f11_store.specs.declared.requests.Reply.TheVariants as reply
 use Rattle.f11_store.specs.declared.requests.Request.{Request}
 use Rattle.f11_store.specs.declared.requests.Request.TheVariants as request
-use Rattle.f11_commands.proofs.AskedLemmas.{never}
+use Rattle.f11_making.proofs.AskedLemmas.{never}
 use Rattle.f11_commands.proofs.OthersLemmas.{all-behind, no-slot-0, others-stay}
 use Rattle.f11_commands.proofs.ReadOnlyLemmas.{reads-leave}
 use Rattle.f11_commands.specs.Copying.{operator}

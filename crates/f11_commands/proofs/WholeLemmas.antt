@@ -38,7 +38,7 @@ use Rattle.f11_store.specs.declared.refusals.Refusal.{Refusal}
 use Rattle.f11_store.specs.declared.requests.Reply.{Reply}
 use Rattle.f11_store.specs.declared.requests.Request.{Request}
 use Rattle.f11_store.specs.declared.requests.Request.TheVariants as request
-use Rattle.f11_commands.proofs.AskedLemmas.{never}
+use Rattle.f11_making.proofs.AskedLemmas.{never}
 use Rattle.f11_commands.proofs.LeavingLemmas.{AllLeave, Has, both-leave, extension-leaves, lag-leaves, slots-leave, work-leaves}
 use Rattle.f11_commands.proofs.OthersLemmas.{HoldsOnly, IsHeldOf, all-behind, no-slot-0, none-index, own-holds, taken-unused, write-holds}
 use Rattle.f11_commands.proofs.StoppingLemmas.{Stops, alive-of, one-stopped, stored, stops}

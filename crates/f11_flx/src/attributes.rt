@@ -7,7 +7,8 @@ ghost use Rattle.f11_flx.specs.Records.{layout_of, some_of};
 ghost use Rattle.f11_flx.specs.Spelled.{text_attributes as attributes_of_text, image_attributes as attributes_of_image, image_attributes_to as attributes_of_image_to, image_of};
 
 use crate::layout::Layout;
-use f11_bytes::{long_bytes, read_long, read_word, word_bytes};
+use f11_bytes::{long_bytes, read_word, word_bytes};
+use f11_making::blocks_to_end;
 
 /// The most blocks that a file has: those of the largest volume.
 pub const MOST_BLOCKS: u32 = 516_096;
@@ -20,12 +21,6 @@ const ATTRIBUTES: usize = 1;
 
 /// The record size, a word.
 const SIZE: usize = 2;
-
-/// F.EFBK, two words, the high one first: the block that the end is in, from 1.
-const END_BLOCK: usize = 8;
-
-/// F.FFBY, a word: the byte in it.
-const END_BYTE: usize = 12;
 
 /// How the records lie, and none where they can't be read.
 #[tactic(auto, unfolding(crate::specs::Records::layout_of))]
@@ -45,22 +40,6 @@ pub fn layout(attr: &[u8; 32]) -> Option<Layout>
     }
 }
 
-/// The end in bytes of a file of so many blocks.
-#[tactic(auto, unfolding(f11_store::specs::File::stated_end))]
-pub fn end(attr: &[u8; 32], allocation: u32) -> u32
-    requires { allocation ≤ most_blocks }
-    ensures { result ≡ min (stated_end attr.now) (512 * allocation) }
-{
-    let most = 512 * allocation;
-    let block = u64::from(read_long(attr, END_BLOCK));
-    if block == 0 {
-        0
-    } else {
-        let stated = (block - 1) * 512 + u64::from(read_word(attr, END_BYTE));
-        stated.min(u64::from(most)) as u32
-    }
-}
-
 /// How many blocks a copy of such a file as it is takes: those up to its end, rounded up.
 pub fn image_blocks(attr: &[u8; 32], allocation: u32) -> u32
     requires { allocation ≤ most_blocks }
@@ -68,7 +47,7 @@ pub fn image_blocks(attr: &[u8; 32], allocation: u32) -> u32
     ensures image { (file : File) → file.attr ≡ attr.now → length_of file ≡ allocation
         → result ≡ length (image_of file) }
 {
-    end(attr, allocation).div_ceil(512)
+    blocks_to_end(attr, allocation)
 }
 
 /// The attributes of a file of so many blocks copied as they are, of which it may have 516,096.

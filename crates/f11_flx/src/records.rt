@@ -2,8 +2,9 @@
 ghost use Rattle.std.specs.Prelude.{◌≡◌, ◌↔◌, ◌+◌, ◌*◌, ◌<◌, ◌≤◌, None, length, IsErr, IfOk, OnErr};
 ghost use Rattle.f11_flx.specs.Records.{layout_of, some_of};
 
-use crate::attributes::{end, layout};
+use crate::attributes::layout;
 use crate::layout::Layout;
+use f11_making::end;
 use std::error::Error;
 use std::fmt;
 

@@ -5,13 +5,14 @@ ghost use Rattle.f11_flx.specs.Place.{behind_line, has_place, is_ending, wanted_
 ghost use Rattle.f11_flx.specs.Puts.{PutsAt};
 ghost use Rattle.f11_flx.specs.Records.{layout_of, some_of, Which};
 
-use crate::attributes::{end, layout};
+use crate::attributes::layout;
 use crate::layout::Layout;
 use crate::line_end::LineEnd;
 use crate::place::Place;
 use crate::put::put;
 use crate::records::BadRecord;
 use f11_bytes::{BLOCK_SIZE, Block};
+use f11_making::end;
 
 /// The text of a file's records, each of them and then what ends a line (RSX-11M Utilities manual, FLX), made from the
 /// file's bytes in whatever pieces they come.

@@ -1,5 +1,7 @@
+pub mod AskedLemmas
 pub mod AskingLemmas
 pub mod CleanlyLemmas
+pub mod DoneLemmas
 pub mod GainedLemmas
 pub mod PlanLemmas
 pub mod PlansLemmas

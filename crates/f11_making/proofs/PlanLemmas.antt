@@ -2,15 +2,20 @@
 use Rattle.std.proofs.Common.{◌≡◌, inl, inr, not, Bool, true, false, if◌then◌else◌, Result, Ok, Err, refl, sym, ap, ◌∙◌, subst}
 use Rattle.std.specs.Prelude.{IsErrAnd}
 use Rattle.f11_store.specs.Store.{Store}
+use Rattle.f11_store.specs.declared.files.FileId.{FileId}
 use Rattle.f11_store.specs.declared.refusals.Refusal.{Refusal}
+use Rattle.f11_store.specs.declared.requests.Reply.{Reply}
 use Rattle.f11_store.specs.declared.requests.Request.{Request}
+use Rattle.f11_store.specs.declared.requests.Request.TheVariants as request
 use Rattle.f11_runs.proofs.AccessLemmas.{true-false}
 use Rattle.f11_fcp.specs.files.Answers.{is_fatal}
-use Rattle.f11_making.specs.Asking.{Denies, FilesService, Grants, Who, asks, plain, told}
-use Rattle.f11_making.specs.Asking.{reads as reads_block, writes as writes_block}
+use Rattle.f11_making.specs.Asking.{Denies, Fails, FilesService, Grants, Who, asks, plain, told}
+use Rattle.f11_making.specs.Asking.{counts as counts_blocks, reads as reads_block, writes as writes_block}
 use Rattle.f11_making.specs.Seen.{IsSeenPlain}
-use Rattle.f11_making.specs.FilesPlan.{AnswerOf, Asks, Carried, FilesPlan, Question, done, if_granted, names, on_err, on_ok, one}
-use Rattle.f11_making.specs.FilesPlan.{or_undone, reads, undoing, undoing_if, worse, writes}
+use Rattle.f11_making.specs.FilesPlan.{AnswerOf, Asks, AsksFile, Carried, FilesPlan, Question, counts, describes, done, for_user}
+use Rattle.f11_making.specs.FilesPlan.{if_granted}
+use Rattle.f11_making.specs.FilesPlan.{names, names_file, names_for, on_err, on_ok, one, or_undone, reads, tells_attributes, undoing}
+use Rattle.f11_making.specs.FilesPlan.{undoing_if, worse, writes}
 use Rattle.f11_making.specs.Plan.{and_then, asking, gives}
 use Rattle.f11_making.specs.Telling.{AddsUp, IsTidy, bare, is_whole}
 
@@ -69,16 +74,30 @@ calm-answer {V} {T} S who q on (Err e) r v w ends h calm = by (is_fatal e) refl
         absurd (true-false (sym calm ∙ ap (λ (x : Result T Refusal). is_whole x) k.0 ∙ ap not is))
 
 module _ {V : Type 0} (S : FilesService V) (view : V → Store) (is_sound : V → Bool) (seen : IsSeenPlain S view is_sound) (who : Who) where
+  fails-seen : (by : Who) (is_right : Reply → Bool) (r : Request) (e : Refusal) (v w : V) → Fails S by is_right r e v w → is_sound v ≡ true
+      → is_fatal e ≡ false → Fails plain by is_right r e (view v) (view w) × (is_sound w ≡ true)
+  fails-seen by is_right r e v w (inl h) sound calm = let d = seen.denied by (asks r) e v w h sound calm in (inl d.0, d.1)
+  fails-seen by is_right r e v w (inr h) sound calm =
+      let g = seen.granted by (told r h.0) v w h.3 sound in (inr (h.0, h.1, h.2, g.0), g.1)
+
+  file-seen : (by : Who) (r : Request) (a : Result FileId Refusal) (v w : V) → AsksFile S by r a v w → is_sound v ≡ true
+      → is_whole a ≡ true → AsksFile plain by r a (view v) (view w) × (is_sound w ≡ true)
+  file-seen by r (Ok id) v w h sound calm = let g = seen.granted by (told r h.0) v w h.2 sound in ((h.0, h.1, g.0), g.1)
+  file-seen by r (Err e) v w h sound calm = fails-seen by (names_file r) r e v w h sound (not-not (is_fatal e) calm)
+
   pub asks-seen : (q : Question) (a : Result (AnswerOf q) Refusal) (v w : V) → Asks S who q a v w → is_sound v ≡ true → is_whole a ≡ true
       → Asks plain who q a (view v) (view w) × (is_sound w ≡ true)
   asks-seen (done r) (Ok x) v w h sound calm = seen.granted who (asks r) v w h sound
   asks-seen (done r) (Err e) v w h sound calm = seen.denied who (asks r) e v w h sound (not-not (is_fatal e) calm)
-  asks-seen (names r) (Ok id) v w h sound calm =
-      let g = seen.granted who (told r h.0) v w h.2 sound in ((h.0, h.1, g.0), g.1)
-  asks-seen (names r) (Err e) v w (inl h) sound calm =
-      let d = seen.denied who (asks r) e v w h sound (not-not (is_fatal e) calm) in (inl d.0, d.1)
-  asks-seen (names r) (Err e) v w (inr h) sound calm =
-      let g = seen.granted who (told r h.0) v w h.3 sound in (inr (h.0, h.1, h.2, g.0), g.1)
+  asks-seen (names r) a v w h sound calm = file-seen who r a v w h sound calm
+  asks-seen (names_for user r) a v w h sound calm = file-seen (for_user user who) r a v w h sound calm
+  asks-seen (describes id) (Ok x) v w h sound calm =
+      let g = seen.granted who (told (request.ReadAttr id) h.0) v w h.2 sound in ((h.0, h.1, g.0), g.1)
+  asks-seen (describes id) (Err e) v w h sound calm =
+      fails-seen who tells_attributes (request.ReadAttr id) e v w h sound (not-not (is_fatal e) calm)
+  asks-seen (counts lun) (Ok blocks) v w h sound calm = seen.granted who (counts_blocks lun blocks) v w h sound
+  asks-seen (counts lun) (Err e) v w h sound calm =
+      seen.denied who (counts_blocks lun 0) e v w h sound (not-not (is_fatal e) calm)
   asks-seen (reads lun vbn) (Ok block) v w h sound calm = seen.granted who (reads_block lun vbn block) v w h sound
   asks-seen (reads lun vbn) (Err e) v w h sound calm =
       let d = seen.denied who (reads_block lun vbn h.0) e v w h.1 sound (not-not (is_fatal e) calm) in ((h.0, d.0), d.1)

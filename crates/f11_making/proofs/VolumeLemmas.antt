@@ -109,6 +109,7 @@ module _ {D : Type 0} {met : Ghosts D} where
             failures = ap (λ (x : State). x.disk.failures) same ∙ plus-none (failures_of v);
             quiet = λ fault. absurd (cc);
             honest = ap (λ (x : State). x.disk.honest) same;
+            home = ap (λ (x : State). x.home) same;
             next = h.serving.next ∙ ap (λ x. is_spent v || is_refused is_fatal x) r;
             accepted = h.accepted;
             lost = h.serving.lost;
@@ -120,6 +121,7 @@ module _ {D : Type 0} {met : Ghosts D} where
             quiet = λ fault. k.writes.went.quiet
                 (some-fault (is_refused is_fault a.result) (faults_in a.result) fault (faults-are a.result));
             honest = k.writes.went.honest;
+            home = k.home;
             next = h.serving.next;
             accepted = h.accepted;
             lost = h.serving.lost;
@@ -138,6 +140,7 @@ module _ {D : Type 0} {met : Ghosts D} where
         failures = k.outcome.reads.looked.failures;
         quiet = λ fault. absurd (cc);
         honest = k.outcome.reads.looked.honest;
+        home = k.home;
         next = next;
         accepted = accepted;
         lost = lost-looked _ _ _ _ _ _ (lasts _ next) k.outcome.reads.looked;
@@ -146,6 +149,7 @@ module _ {D : Type 0} {met : Ghosts D} where
         failures = k.outcome.reads.looked.failures;
         quiet = λ fault. k.outcome.reads.looked.quiet (some-fault (is_fault e) (if is_fault e then 1 else 0) fault refl);
         honest = k.outcome.reads.looked.honest;
+        home = k.home;
         next = next;
         accepted = accepted;
         lost = lost-looked _ _ _ _ _ _ (lasts _ next) k.outcome.reads.looked;
@@ -159,6 +163,7 @@ module _ {D : Type 0} {met : Ghosts D} where
             failures = ap (λ (x : State). x.disk.failures) same ∙ plus-none (failures_of v);
             quiet = λ fault. absurd (cc);
             honest = ap (λ (x : State). x.disk.honest) same;
+            home = ap (λ (x : State). x.home) same;
             next = h.next ∙ ap (λ x. is_spent v || is_refused is_fatal x) r;
             accepted = accepted;
             lost = idle-beside v w (lasts _ h.next) same;

@@ -4,6 +4,7 @@ pub mod AsksFor
 pub mod AsBefore
 pub mod Carrying
 pub mod Cleanly
+pub mod Done
 pub mod Fares
 pub mod FilesPlan
 pub mod Making

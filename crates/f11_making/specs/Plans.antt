@@ -1,13 +1,22 @@
 -- What is done to a file by its name, each as the plan of what it asks (profile).
-use Rattle.std.specs.Prelude.{◌==◌, ℕ, Bool, true, false, if◌then◌else◌, nat_lt, List, Result, Ok, Err}
+use Rattle.std.specs.Prelude.{◌==◌, ◌&&◌, not, ◌+◌, ◌*◌, ◌/◌, ◌∷◌, ℕ, take, Bool, true, false, if◌then◌else◌, nat_lt, min, replicate}
+use Rattle.std.specs.Prelude.{slice_index_or}
+use Rattle.std.specs.Prelude.{List, Result, Ok, Err}
+use Rattle.f11_bytes.specs.Part.{with_bytes}
+use Rattle.f11_bytes.specs.Words.{long, long_bytes, word}
+use Rattle.std.specs.Int.{bit_at}
+use Rattle.f11_store.specs.File.{stated_end}
 use Rattle.f11_store.specs.Ident.{ident_with}
+use Rattle.f11_store.specs.declared.callers.Uic.{Uic}
+use Rattle.f11_store.specs.declared.files.Attr.{Attr}
 use Rattle.f11_store.specs.declared.files.Change.TheVariants as change
 use Rattle.f11_store.specs.declared.files.FileId.{FileId}
+use Rattle.f11_store.specs.declared.files.Mode.TheVariants as mode
 use Rattle.f11_store.specs.declared.refusals.Refusal.{Refusal}
 use Rattle.f11_store.specs.declared.refusals.Refusal.TheVariants as refusal
 use Rattle.f11_store.specs.declared.requests.Request.{Request}
 use Rattle.f11_store.specs.declared.requests.Request.TheVariants as request
-use Rattle.f11_making.specs.FilesPlan.{FilesPlan, done, if_granted, names, one, or_undone, undoing}
+use Rattle.f11_making.specs.FilesPlan.{FilesPlan, counts, describes, done, if_granted, names, names_for, one, or_undone, undoing}
 use Rattle.f11_making.specs.Plan.{and_then, gives}
 
 -- files 1 to 5 are the volume's own, and nothing is done to them by their names
@@ -46,13 +55,44 @@ removes dir name id =
 abbrev pub deletes : FileId → List ℕ → FilesPlan (Result (Unit {0}) Refusal)
 deletes dir name = if_granted (finds_other dir name) (λ id. removes dir name id)
 
--- a name of a file becomes another: entered there, removed here, and what was entered is taken back where that is refused
-abbrev pub moves : FileId → List ℕ → FileId → List ℕ → FileId → FilesPlan (Result (Unit {0}) Refusal)
-moves dir old to new id =
-    if_granted (one (done (request.Enter to new id))) (λ x. or_undone (request.Remove to new) (one (done (request.Remove dir old))))
+-- an ident area with another name, the first five of its words (Files-11 On-Disk Structure Level 1, "Ident Area")
+abbrev pub with_name : List ℕ → List ℕ → List ℕ
+with_name name ident = with_bytes ident 0 (take 10 (ident_with name))
 
+-- the header of a file with this ident area gets another name, and then the old one is removed; the header has it again where that is
+-- refused
+abbrev pub retitles : FileId → List ℕ → List ℕ → FileId → List ℕ → FilesPlan (Result (Unit {0}) Refusal)
+retitles dir old new id ident =
+    if_granted (one (done (request.WriteAttr id (change.Ident (with_name new ident))))) (λ x.
+    or_undone (request.WriteAttr id (change.Ident ident)) (one (done (request.Remove dir old))))
+
+-- a name of a file becomes another: entered there, and then so; what was entered is taken back where that is refused
+abbrev pub moves : FileId → List ℕ → FileId → List ℕ → FileId → List ℕ → FilesPlan (Result (Unit {0}) Refusal)
+moves dir old to new id ident =
+    if_granted (one (done (request.Enter to new id))) (λ x. or_undone (request.Remove to new) (retitles dir old new id ident))
+
+-- a name is a directory's, and so is the name at the front of an ident area: its type, the fourth word, is `DIR` in Radix-50 (Files-11
+-- On-Disk Structure Level 1, "Directories")
+abbrev pub is_directory_name : List ℕ → Bool
+is_directory_name words = slice_index_or words 3 0 == 6778
+
+abbrev pub is_directory_ident : List ℕ → Bool
+is_directory_ident ident = word ident 6 == 6778
+
+-- a directory stays one, and no other file becomes one; and no directory is entered into itself
+abbrev pub may_move : FileId → List ℕ → FileId → List ℕ → Bool
+may_move to new id ident =
+    not (id.number == to.number) && (if is_directory_name new then is_directory_ident ident else not (is_directory_ident ident))
+
+abbrev pub moves_if : Bool → FileId → List ℕ → FileId → List ℕ → FileId → List ℕ → FilesPlan (Result (Unit {0}) Refusal)
+moves_if true dir old to new id ident = moves dir old to new id ident
+moves_if false dir old to new id ident = gives (Err refusal.BadArgument)
+
+-- a file is renamed
 abbrev pub renames : FileId → List ℕ → FileId → List ℕ → FilesPlan (Result (Unit {0}) Refusal)
-renames dir old to new = if_granted (finds_other dir old) (λ id. moves dir old to new id)
+renames dir old to new =
+    if_granted (finds_other dir old) (λ id.
+    if_granted (one (describes id)) (λ was. moves_if (may_move to new id was.ident) dir old to new id was.ident))
 
 -- a file gets this protection
 abbrev pub sets : FileId → ℕ → FilesPlan (Result (Unit {0}) Refusal)
@@ -61,12 +101,72 @@ sets id protection = one (done (request.WriteAttr id (change.Protect protection)
 abbrev pub protects : FileId → List ℕ → ℕ → FilesPlan (Result (Unit {0}) Refusal)
 protects dir name protection = if_granted (finds_other dir name) (λ id. sets id protection)
 
--- an empty file is made: created, entered and protected, and deleted where that is refused
+-- the blocks up to the end that attributes state, rounded up, but no more than there are
+abbrev pub blocks_to_end : List ℕ → ℕ → ℕ
+blocks_to_end attr blocks = (min (stated_end attr) (512 * blocks) + 511) / 512
+
+-- attributes that state so many blocks, F.HIBK (byte 4) (Files-11 On-Disk Structure Level 1, file attributes)
+abbrev pub with_blocks : List ℕ → ℕ → List ℕ
+with_blocks attr blocks = with_bytes attr 4 (long_bytes blocks)
+
+-- a file that is accessed keeps so many blocks, and its attributes state them
+abbrev pub keeps : ℕ → FileId → List ℕ → ℕ → FilesPlan (Result (Unit {0}) Refusal)
+keeps lun id attr blocks =
+    if_granted (one (done (request.Truncate lun blocks))) (λ x.
+    one (done (request.WriteAttr id (change.Attr (with_blocks attr blocks)))))
+
+-- those up to its end
+abbrev pub shortens : ℕ → FileId → List ℕ → FilesPlan (Result (Unit {0}) Refusal)
+shortens lun id attr = if_granted (one (counts lun)) (λ blocks. keeps lun id attr (blocks_to_end attr blocks))
+
+-- and is given up, whether or not that is refused
+abbrev pub cuts_held : ℕ → FileId → List ℕ → FilesPlan (Result (Unit {0}) Refusal)
+cuts_held lun id attr = if_granted (or_undone (request.Deaccess lun) (shortens lun id attr)) (λ x. one (done (request.Deaccess lun)))
+
+-- it is accessed, and then so
+abbrev pub cuts : ℕ → FileId → List ℕ → FilesPlan (Result (Unit {0}) Refusal)
+cuts lun id attr = if_granted (one (done (request.Access id mode.Write lun))) (λ x. cuts_held lun id attr)
+
+-- a file states an end: its attributes name a type of records, and the block that the end is in (F.EFBK, byte 8), and it was closed since
+-- it was written: UC.DLK, bit 6 of the characteristics, isn't set (Files-11 On-Disk Structure Level 1, file attributes, H.UCHA)
+abbrev pub states_end : Attr → Bool
+states_end of = nat_lt 0 (slice_index_or of.attr 0 0) && (nat_lt 0 (long of.attr 8) && (bit_at of.characteristics 6 == 0))
+
+abbrev pub cuts_if : Bool → ℕ → FileId → List ℕ → FilesPlan (Result (Unit {0}) Refusal)
+cuts_if true lun id attr = cuts lun id attr
+cuts_if false lun id attr = gives (Err refusal.BadArgument)
+
+-- a file loses the blocks behind its end, where it states one
+abbrev pub truncates : ℕ → FileId → List ℕ → FilesPlan (Result (Unit {0}) Refusal)
+truncates lun dir name =
+    if_granted (finds_other dir name) (λ id.
+    if_granted (one (describes id)) (λ of. cuts_if (states_end of) lun id of.attr))
+
+-- an empty file is made for its owner: created, entered and protected, and deleted where that is refused
 abbrev pub enters : FileId → List ℕ → ℕ → FileId → FilesPlan (Result (Unit {0}) Refusal)
 enters dir name protection id =
     if_granted (one (done (request.Enter dir name id))) (λ x. sets id protection)
 
-abbrev pub makes_empty : FileId → List ℕ → ℕ → List ℕ → FilesPlan (Result (Unit {0}) Refusal)
-makes_empty dir name protection attr =
-    if_granted (one (names (request.Create 0 (ident_with name) attr))) (λ id.
+abbrev pub makes_empty : Uic → FileId → List ℕ → ℕ → List ℕ → FilesPlan (Result (Unit {0}) Refusal)
+makes_empty owner dir name protection attr =
+    if_granted (one (names_for owner (request.Create 0 (ident_with name) attr))) (λ id.
     or_undone (request.Delete id) (enters dir name protection id))
+
+-- the attributes of a directory without records: those of 16 bytes (Files-11 On-Disk Structure Level 1, "Directories")
+abbrev pub directory_attributes : List ℕ
+directory_attributes = 1 ∷ 0 ∷ 16 ∷ replicate 29 0
+
+-- there is no such name
+abbrev pub is_absent : Refusal → Bool
+is_absent refusal.NoSuchEntry = true
+is_absent _ = false
+
+-- where a name was looked for and isn't there something is done, and else that is a duplicate
+abbrev pub on_absent : FilesPlan (Result (Unit {0}) Refusal) → Result FileId Refusal → FilesPlan (Result (Unit {0}) Refusal)
+on_absent p (Ok id) = gives (Err refusal.DuplicateName)
+on_absent p (Err e) = if is_absent e then p else gives (Err e)
+
+-- a directory without records is made, whose name the master file directory hasn't yet
+abbrev pub makes_directory : Uic → FileId → List ℕ → ℕ → FilesPlan (Result (Unit {0}) Refusal)
+makes_directory owner master name protection =
+    and_then (one (names (request.Find master name))) (on_absent (makes_empty owner master name protection directory_attributes))

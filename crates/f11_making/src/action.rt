@@ -1,6 +1,7 @@
 //! What a user has done to a file by its name.
 
 use f11_rad50::Name;
+use f11_store::Uic;
 
 /// What is done to a file of a Files-11 volume by its name. A directory is told by the name that the master file directory has for it.
 #[derive(Clone, Copy, Debug)]
@@ -21,6 +22,17 @@ pub enum Action {
     Protect {
         directory: Name,
         name: Name,
+        protection: u16,
+    },
+    /// It loses the blocks behind the end that its attributes state (Files-11 On-Disk Structure Level 1, file attributes).
+    Truncate {
+        directory: Name,
+        name: Name,
+    },
+    /// A directory without records is made, for its owner and with this protection, and gets this name in the master file directory.
+    MakeDirectory {
+        name: Name,
+        owner: Uic,
         protection: u16,
     },
 }

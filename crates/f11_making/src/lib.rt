@@ -9,6 +9,7 @@
 
 mod action;
 mod asked;
+mod attributes;
 pub mod laws;
 mod making;
 mod named;
@@ -18,6 +19,7 @@ mod volume;
 
 pub use action::Action;
 pub use asked::{Asked, Asker, ask, length, read, write};
+pub use attributes::{blocks_to_end, end, is_directory_name};
 pub use f11_fcp;
 pub use making::{Entry, create, enter, extend};
 pub use named::{carry_out, make};

@@ -10,14 +10,15 @@ use crate::plans::{act, make_empty};
 use f11_dev::Device;
 use f11_fcp::Volume;
 use f11_rad50::Name;
-use f11_store::{FileId, Refusal};
+use f11_store::{FileId, Refusal, Uic};
 
 /// Does to a file what is to be done, where `master` is the directory that has the others.
 ///
 /// A deletion removes the name first, and enters it again where the file can't be deleted; where there is no such file the name was all. A
-/// file that is renamed gets its new name first, which is removed again where the old one can't be; its own header keeps the name that it was
-/// created with, which isn't asked to change. To files 1 to 5, the volume's own, nothing is done: `SystemFile`; nor to one of another volume of
-/// a set: `BadArgument`.
+/// file that is renamed gets its new name first, in its own header and in the directory, and the old one there again where the rest is refused.
+/// A file that is truncated keeps the blocks up to its end, and states them; where its attributes name no type of records there is no end:
+/// `BadArgument`. A directory that is made is created for its owner, entered, and protected, and deleted where that is refused. To files 1 to
+/// 5, the volume's own, nothing is done: `SystemFile`; nor to one of another volume of a set: `BadArgument`.
 ///
 /// # Errors
 ///
@@ -29,13 +30,13 @@ pub fn carry_out<D: Device>(
     master: FileId,
     action: &Action,
 ) -> Result<(), Refusal>
-    ensures carries { Carries (who_asks by.now.task by.now.uic) (plan_of master action.now) result
+    ensures carries { Carries (who_asks by.now.task by.now.uic) (plan_of by.now.lun master action.now) result
         vol.old vol.new }
 {
     act(vol, by, master, action)
 }
 
-/// Makes a file without blocks: created, entered and protected; it is deleted where its name can't be entered, or the protection
+/// Makes a file without blocks for its owner: created, entered and protected; it is deleted where its name can't be entered, or the protection
 /// isn't granted, and then the name stays.
 ///
 /// # Errors
@@ -44,13 +45,14 @@ pub fn carry_out<D: Device>(
 pub fn make<D: Device>(
     vol: &mut Volume<D>,
     by: &Asker,
+    owner: Uic,
     dir: FileId,
     name: &Name,
     protection: u16,
     attr: [u8; 32],
 ) -> Result<(), Refusal>
-    ensures carries { Carries (who_asks by.now.task by.now.uic) (makes_empty dir name.now protection attr) result
+    ensures carries { Carries (who_asks by.now.task by.now.uic) (makes_empty owner dir name.now protection attr) result
         vol.old vol.new }
 {
-    make_empty(vol, by, dir, name, protection, attr)
+    make_empty(vol, by, owner, dir, name, protection, attr)
 }

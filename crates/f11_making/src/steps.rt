@@ -1,11 +1,12 @@
 //! What a plan asks, one thing at a time, and what undoes something.
-ghost use Rattle.std.specs.Prelude.{◌≡◌, Err};
+ghost use Rattle.std.specs.Prelude.{◌≡◌, ◌≤◌, Err, IfOk};
+ghost use Rattle.f11_store.specs.File.{most_blocks};
 ghost use Rattle.f11_fcp.specs.files.Answers.{is_fatal as is_fatal_refusal};
 ghost use Rattle.f11_making.specs.Asking.{who_asks};
-ghost use Rattle.f11_making.specs.FilesPlan.{Carried, done, file_in, names, one, undoing};
+ghost use Rattle.f11_making.specs.FilesPlan.{Carried, attributes_in, counts, describes, done, file_in, names, names_for, one, undoing};
 
-use crate::asked::{Asked, Asker, ask};
-use f11_store::{FileId, Refusal, Reply, Request};
+use crate::asked::{Asked, Asker, ask, length};
+use f11_store::{Attr, FileId, Refusal, Reply, Request, Uic};
 
 /// Asks that a request is done, whatever its reply is.
 ///
@@ -33,6 +34,67 @@ pub fn ask_file<S: Asked>(service: &mut S, by: &Asker, request: Request) -> Resu
     match file_in(&request, &reply) {
         Some(id) => Ok(id),
         None => Err(Refusal::Damaged),
+    }
+}
+
+/// Asks which file the reply to a request names, for another user.
+///
+/// # Errors
+///
+/// As of [`ask_file`].
+pub fn ask_file_for<S: Asked>(
+    service: &mut S,
+    by: &Asker,
+    user: Uic,
+    request: Request,
+) -> Result<FileId, Refusal>
+    ensures goes { Carried S.service (who_asks by.now.task by.now.uic) (one (names_for user request)) result
+        service.old service.new }
+{
+    let other = Asker {
+        task: by.task,
+        lun: by.lun,
+        uic: user,
+    };
+    ask_file(service, &other, request)
+}
+
+/// Asks what attributes a file has.
+///
+/// # Errors
+///
+/// The volume's refusal; `Damaged` also where it replies with anything but attributes.
+pub fn ask_attributes<S: Asked>(service: &mut S, by: &Asker, id: FileId) -> Result<Attr, Refusal>
+    ensures goes { Carried S.service (who_asks by.now.task by.now.uic) (one (describes id)) result
+        service.old service.new }
+{
+    let reply = ask(service, by, Request::ReadAttr(id))?;
+    match attributes_in(&reply) {
+        Some(attributes) => Ok(attributes),
+        None => Err(Refusal::Damaged),
+    }
+}
+
+/// Asks how many blocks the file has that is accessed.
+///
+/// # Errors
+///
+/// The volume's refusal.
+pub fn ask_length<S: Asked>(service: &mut S, by: &Asker) -> Result<u32, Refusal>
+    ensures few { IfOk result (λ blocks. blocks ≤ most_blocks) }
+    ensures goes { Carried S.service (who_asks by.now.task by.now.uic) (one (counts by.now.lun)) result
+        service.old service.new }
+{
+    length(service, by)
+}
+
+/// The attributes that a reply tells.
+fn attributes_in(reply: &Reply) -> Option<Attr>
+    ensures { result ≡ attributes_in reply.now }
+{
+    match reply {
+        Reply::Attr(attributes) => Some(*attributes),
+        _ => None,
     }
 }
 

@@ -1,5 +1,6 @@
 -- The definitions that the contracts of patterns cite.
 pub mod Like
+pub mod Meant
 pub mod Parts
 pub mod Lent
 pub mod Split

@@ -45,6 +45,10 @@ pub record Fits (parts : Parts) (words : List ℕ) : Type 0 where
   pub kind : IsLike parts.kind (type_of words)
   pub version : IsAmong (version_of words) parts.versions
 
+-- the same name and type, with these versions asked for
+abbrev pub with_versions : Versions → Parts → Parts
+with_versions versions parts = record parts { versions = versions }
+
 -- A character that is neither `*` (42) nor `%` (37).
 abbrev pub IsPlain : ℕ → Type 0
 IsPlain c = (c ≢ 42) × (c ≢ 37)

@@ -1,13 +1,14 @@
 //! Patterns of files' names, as users of RSX-11's PIP write them: `*.TXT;*`, `LOGIN.CMD`, `A%.*;1`.
 //!
-//! A [`Pattern`] is read from its text ([`Pattern::parse`]) and decided against a name ([`Pattern::fits`]). Which version
-//! is the highest is decided by who has the names ([`Versions`]). Nothing here takes memory. The crate stands on
+//! A [`Pattern`] is read from its text ([`Pattern::parse`]) and decided against a name ([`Pattern::fits`]), and against the names of a directory,
+//! where it may ask for the highest version alone ([`Pattern::means`], [`Versions`]). Nothing here takes memory. The crate stands on
 //! [`f11_rad50`], for names, and on [`f11_bytes`], for octal digits.
 #![tactic(auto)]
 
 mod errors;
 pub mod laws;
 mod like;
+mod meant;
 mod name_parts;
 mod pattern;
 mod split;
@@ -16,5 +17,6 @@ mod tests;
 mod versions;
 
 pub use errors::BadPattern;
+pub use meant::is_highest;
 pub use pattern::Pattern;
 pub use versions::Versions;

@@ -1,7 +1,7 @@
 //! The pattern of a file's name: read from its text, and decided against a name.
 ghost use Rattle.std.specs.Prelude.{◌≡◌, ◌↔◌, ℕ, ◌+◌, ◌<◌, ◌≤◌, List, ◌∷◌, length, All, IsTrue, IfOk, IsOkAnd, IfSome, IsSomeAnd};
 ghost use Rattle.f11_patterns.specs.Parts.{Parts, AreParts, AreVersions, AreVersions-prop};
-ghost use Rattle.f11_patterns.specs.Pattern.{IsPattern, Fits, IsPlain, IsOne};
+ghost use Rattle.f11_patterns.specs.Pattern.{IsPattern, Fits, IsPlain, IsOne, with_versions};
 
 use crate::errors::BadPattern;
 use crate::like::is_like;
@@ -102,8 +102,15 @@ impl<'a> Pattern<'a> {
     pub fn fits(&self, name: &Name) -> bool
         ensures fits { IsTrue result ↔ Fits (parts_of self.now) name.now }
     {
+        self.fits_with(self.versions, name)
+    }
+
+    /// The same where these versions were asked for.
+    pub(crate) fn fits_with(&self, versions: Versions, name: &Name) -> bool
+        ensures fits { IsTrue result ↔ Fits (with_versions versions (parts_of self.now)) name.now }
+    {
         let [.., version] = name.words();
-        if !is_among(version, self.versions) {
+        if !is_among(version, versions) {
             return false;
         }
         let mut buffer = [0; 19];

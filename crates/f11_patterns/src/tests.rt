@@ -305,3 +305,37 @@ fn long_patterns_are_decided_as_in_steps(rt: HostRuntime) {
         assert!(rt; agree(&pattern, &text, 9), "{number}");
     }
 }
+
+/// Which of these names a pattern means, and which of them a purge by it deletes.
+fn meant(text: &str, names: &[Name; 4]) -> Option<([bool; 4], [bool; 4])> {
+    let Ok(pattern) = Pattern::parse(text.as_bytes()) else {
+        return None;
+    };
+    let mut means = [false; 4];
+    let mut superseded = [false; 4];
+    for (at, name) in names.iter().enumerate() {
+        means[at] = pattern.means(names, name);
+        superseded[at] = pattern.supersedes(names, name);
+    }
+    Some((means, superseded))
+}
+
+#[test]
+fn the_highest_version_is_meant(rt: HostRuntime) -> Result<(), Fail> {
+    let names = [
+        Name::parse(b"A.TXT;1")?,
+        Name::parse(b"A.TXT;13")?,
+        Name::parse(b"B.TXT;2")?,
+        Name::parse(b"A.TXT;7")?,
+    ];
+    let all = [true; 4];
+    let none = [false; 4];
+    let highest = [false, true, true, false];
+    let others = [true, false, false, true];
+    assert!(rt; meant("*.TXT", &names) == Some((highest, others)));
+    assert!(rt; meant("*.*;*", &names) == Some((all, others)));
+    assert!(rt; meant("a.txt;1", &names) == Some(([true, false, false, false], others)));
+    assert!(rt; meant("B.*;0", &names) == Some(([false, false, true, false], none)));
+    assert!(rt; meant("C.TXT", &names) == Some((none, none)));
+    Ok(())
+}

@@ -1,6 +1,6 @@
 //! The commands, each with the files that the words name for it.
 use crate::copies::{Asked, copy};
-use crate::directory::name_of;
+use crate::directory::{OPERATOR, name_of};
 use crate::folder::get_all;
 use crate::host_files::{self, Named, Taking};
 use crate::outcome::Failure;
@@ -9,15 +9,8 @@ use crate::script::serve;
 use crate::{files, rt_files, rt_folder, rt_volumes, volumes};
 use f11_commands::f11_vfy::InitParams;
 use f11_commands::{Answer, Direction, print_name, print_rights};
-use f11_store::Uic;
-use f11_words::Words;
+use f11_words::{Directory, Words};
 use std::io::Write;
-
-/// The owner of the volumes that are made, [1,1].
-const OWNER: Uic = Uic {
-    group: 1,
-    member: 1,
-};
 
 /// Does what the words ask for, with the files that they name.
 pub fn run<'a, W: Write>(
@@ -31,14 +24,7 @@ pub fn run<'a, W: Write>(
             image,
             directory,
             name,
-        } => {
-            let file = Named {
-                image,
-                directory: name_of(directory),
-                name,
-            };
-            files::delete(rt, &file, writer, remark)
-        }
+        } => files::delete(rt, &named(image, directory, name), writer, remark),
         Words::Dump { image, number } => volumes::dump(rt, image, number, writer, remark),
         Words::FlxFromRt {
             mode,
@@ -86,13 +72,15 @@ pub fn run<'a, W: Write>(
             name,
             host,
         } => {
-            let file = Named {
-                image,
-                directory: name_of(directory),
-                name,
-            };
             let taking = Taking { mode, all_blocks };
-            host_files::get(rt, &file, taking, host, writer, remark)
+            host_files::get(
+                rt,
+                &named(image, directory, name),
+                taking,
+                host,
+                writer,
+                remark,
+            )
         }
         Words::GetAll { image, folder } => get_all(rt, image, folder, writer, remark),
         Words::Home { image } => volumes::home(rt, image, writer, remark),
@@ -107,7 +95,7 @@ pub fn run<'a, W: Write>(
                 label: label.as_bytes(),
                 slots,
                 max_files,
-                owner: OWNER,
+                owner: OPERATOR,
                 date: [0; 14],
             };
             volumes::init(rt, image, blocks, &params, writer, remark)
@@ -115,6 +103,9 @@ pub fn run<'a, W: Write>(
         Words::Ls { image } => volumes::ls(rt, image, None, writer, remark),
         Words::LsIn { image, directory } => {
             volumes::ls(rt, image, Some(name_of(directory)), writer, remark)
+        }
+        Words::Mkdir { image, directory } => {
+            files::make_directory(rt, image, directory, writer, remark)
         }
         Words::Name { text } => {
             let answer = print_name(text, writer)?;
@@ -129,11 +120,7 @@ pub fn run<'a, W: Write>(
             name,
             protection,
         } => {
-            let file = Named {
-                image,
-                directory: name_of(directory),
-                name,
-            };
+            let file = named(image, directory, name);
             files::protect(rt, &file, protection, writer, remark)
         }
         Words::Put {
@@ -143,11 +130,7 @@ pub fn run<'a, W: Write>(
             name,
             host,
         } => {
-            let file = Named {
-                image,
-                directory: name_of(directory),
-                name,
-            };
+            let file = named(image, directory, name);
             host_files::put(rt, &file, mode, host, writer, remark)
         }
         Words::Ren {
@@ -157,11 +140,7 @@ pub fn run<'a, W: Write>(
             to,
             new,
         } => {
-            let file = Named {
-                image,
-                directory: name_of(directory),
-                name,
-            };
+            let file = named(image, directory, name);
             files::rename(rt, &file, to.map(name_of), new, writer, remark)
         }
         Words::Rights {
@@ -175,9 +154,9 @@ pub fn run<'a, W: Write>(
             name,
             host,
         } => rt_files::get(rt, image, name, host, writer, remark),
-        Words::RtGetAll { rt: image, folder } => {
-            rt_folder::get_all(rt, image, folder, writer, remark)
-        }
+        Words::RtGetAll { rt: image, folder } => rt_folder::get_all(
+            rt, image, folder, writer, remark,
+        ),
         Words::RtInit {
             image,
             blocks,
@@ -196,6 +175,20 @@ pub fn run<'a, W: Write>(
             script,
             is_quiet,
         } => serve(rt, image, script, is_quiet, writer, remark),
+        Words::Trunc {
+            image,
+            directory,
+            name,
+        } => files::truncate(rt, &named(image, directory, name), writer, remark),
         Words::Vfy { image, update } => volumes::vfy(rt, image, update, writer, remark),
+    }
+}
+
+/// The file that a directory has under a name, on the volume in an image.
+fn named<'a>(image: &'a str, directory: Directory, name: &'a str) -> Named<'a> {
+    Named {
+        image,
+        directory: name_of(directory),
+        name,
     }
 }

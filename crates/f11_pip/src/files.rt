@@ -1,13 +1,17 @@
-//! The commands that delete, rename and protect files of a volume: which image they open, and what is said of a refusal.
+//! The commands that do something to files of a volume by their names: which image they open, and what is said of a refusal.
+use crate::directory::{name_of, owner_of};
 use crate::heard::Heard;
 use crate::host_files::{Named, ended};
 use crate::image::{opened_to_write, tell_fault};
 use crate::outcome::Failure;
-use crate::refusals::{self, of_action};
+use crate::refusals::{self, of_action, of_making_directory};
 use crate::remarks::{self, Remark};
-use f11_actions::{Action, deletion, print_actions, renaming};
+use f11_actions::{Action, deletion, is_directory_name, print_actions, print_making, renaming};
 use f11_commands::f11_rad50::Name;
 use f11_commands::{Answer, read_name, refuse_names};
+use f11_dev::FileImage;
+use f11_words::Directory;
+use std::fs::File;
 use std::io::Write;
 
 /// Deletes a file, whose name isn't that of a directory.
@@ -24,7 +28,8 @@ pub fn delete<'a, W: Write>(
         *remark = Some(remarks::of_directory(file.name));
         return Ok(Answer::Fault);
     };
-    act(rt, file, file.name, &action, writer, remark)
+    let device = opened_to_write(rt, file.image, remark)?;
+    act(rt, device, file, file.name, &action, writer, remark)
 }
 
 /// Gives a file another name, in its directory or in this one.
@@ -46,7 +51,8 @@ pub fn rename<'a, W: Write>(
         *remark = Some(remarks::of_type(new));
         return Ok(Answer::Fault);
     };
-    act(rt, file, new, &action, writer, remark)
+    let device = opened_to_write(rt, file.image, remark)?;
+    act(rt, device, file, new, &action, writer, remark)
 }
 
 /// Gives a file a protection word.
@@ -65,7 +71,50 @@ pub fn protect<'a, W: Write>(
         name,
         protection,
     };
-    act(rt, file, file.name, &action, writer, remark)
+    let device = opened_to_write(rt, file.image, remark)?;
+    act(rt, device, file, file.name, &action, writer, remark)
+}
+
+/// Leaves a file the blocks up to its end.
+pub fn truncate<'a, W: Write>(
+    rt: &HostRuntime,
+    file: &Named<'a>,
+    writer: &mut W,
+    remark: &mut Option<Remark<'a>>,
+) -> Result<Answer, Failure> {
+    let Some(name) = name_in(rt, file.name, writer, remark)? else {
+        return Ok(Answer::Fault);
+    };
+    let action = Action::Truncate {
+        directory: file.directory,
+        name,
+    };
+    let device = opened_to_write(rt, file.image, remark)?;
+    act(rt, device, file, file.name, &action, writer, remark)
+}
+
+/// Makes a directory, with the protection that the volume gives files for which none is given.
+pub fn make_directory<'a, W: Write>(
+    rt: &HostRuntime,
+    image: &'a str,
+    directory: Directory,
+    writer: &mut W,
+    remark: &mut Option<Remark<'a>>,
+) -> Result<Answer, Failure> {
+    let name = name_of(directory);
+    if !is_directory_name(&name) {
+        *remark = Some(remarks::of_directory_name());
+        refuse_names(writer)?;
+        return Ok(Answer::Fault);
+    }
+    let device = opened_to_write(rt, image, remark)?;
+    let mut heard = Heard::new(writer, None);
+    let (device, told) = print_making(rt.alloc(), device, name, owner_of(directory), &mut heard);
+    tell_fault(rt, image, device);
+    if let Some(refusal) = heard.refused_action() {
+        refusals::tell(rt, of_making_directory(refusal, image));
+    }
+    Ok(ended(rt, image, told?, remark))
 }
 
 /// The name that a word is; where it is none, that is written.
@@ -86,18 +135,18 @@ fn name_in<'a, W: Write>(
 /// Does something to a file, and says what a refusal means, `new` being the name that it gets.
 fn act<'a, W: Write>(
     rt: &HostRuntime,
+    device: FileImage<File>,
     file: &Named<'a>,
     new: &'a str,
     action: &Action,
     writer: &mut W,
     remark: &mut Option<Remark<'a>>,
 ) -> Result<Answer, Failure> {
-    let device = opened_to_write(rt, file.image, remark)?;
     let mut heard = Heard::new(writer, None);
     let (device, told) = print_actions(rt.alloc(), device, &[*action], &mut heard);
     tell_fault(rt, file.image, device);
     if let Some(refusal) = heard.refused_action() {
-        refusals::tell(rt, of_action(refusal, file.image, file.name, new));
+        refusals::tell(rt, of_action(refusal, action, file.image, file.name, new));
     }
     Ok(ended(rt, file.image, told?, remark))
 }

@@ -1,4 +1,5 @@
 //! What the program says of its words.
+use f11_words::Subcommand;
 use std::io::{self, Write};
 
 /// Commands that belong together, under a title.
@@ -7,9 +8,9 @@ struct Group {
     commands: &'static [Synopsis],
 }
 
-/// A command: its name, its words, what it does, what there is to say of its words, a line each, and an example.
+/// A command: which it is, its words, what it does, what there is to say of its words, a line each, and an example.
 struct Synopsis {
-    name: &'static str,
+    command: Subcommand,
     words: &'static str,
     does: &'static str,
     about: &'static [&'static str],
@@ -24,7 +25,7 @@ const GROUPS: [Group; 4] = [
         title: "Files-11 volumes",
         commands: &[
             Synopsis {
-                name: "ls",
+                command: Subcommand::Ls,
                 words: "f11_pip ls IMAGE [DIR]",
                 does: "lists all directories, or one",
                 about: &[
@@ -34,7 +35,7 @@ const GROUPS: [Group; 4] = [
                 example: "f11_pip ls pack.dsk 200,1",
             },
             Synopsis {
-                name: "get",
+                command: Subcommand::Get,
                 words: "f11_pip get [--mode M|--blocks] IMAGE DIR NAME HOST | get --all IMAGE FOLDER",
                 does: "takes out a file, or all files",
                 about: &[
@@ -47,7 +48,7 @@ const GROUPS: [Group; 4] = [
                 example: "f11_pip get --mode text pack.dsk 200,1 'LOGIN.CMD;1' login.cmd",
             },
             Synopsis {
-                name: "put",
+                command: Subcommand::Put,
                 words: "f11_pip put [--mode M] IMAGE DIR NAME HOST",
                 does: "makes a file of one of the host",
                 about: &[
@@ -59,7 +60,17 @@ const GROUPS: [Group; 4] = [
                 example: "f11_pip put --mode text pack.dsk 200,1 'LOGIN.CMD;1' login.cmd",
             },
             Synopsis {
-                name: "del",
+                command: Subcommand::Mkdir,
+                words: "f11_pip mkdir IMAGE DIR",
+                does: "makes a directory",
+                about: &[
+                    "on a volume that is accepted; its owner is the UIC, or [1,1] where it has a name; its protection word is that of the home block",
+                    "DIR: a UIC, octal, as 200,1, or a name, as [USERFILES]",
+                ],
+                example: "f11_pip mkdir pack.dsk 200,1",
+            },
+            Synopsis {
+                command: Subcommand::Del,
                 words: "f11_pip del IMAGE DIR NAME",
                 does: "deletes a file",
                 about: &[
@@ -69,19 +80,18 @@ const GROUPS: [Group; 4] = [
                 example: "f11_pip del pack.dsk 200,1 'LOGIN.CMD;1'",
             },
             Synopsis {
-                name: "ren",
+                command: Subcommand::Ren,
                 words: "f11_pip ren IMAGE DIR NAME NEW",
                 does: "gives a file another name",
                 about: &[
                     "of a volume that is accepted; NAME with its version; none of the volume's own files",
                     "NEW: a name with a version that isn't there yet, in the same directory, or DIR/NAME, in that one",
-                    "its header keeps the name that it was made with, which dump shows",
                     "DIR: a UIC, octal, as 200,1, or a name, as [USERFILES]; 0,0 is the master file directory",
                 ],
                 example: "f11_pip ren pack.dsk 200,1 'LOGIN.CMD;1' 'LOGIN.OLD;1'",
             },
             Synopsis {
-                name: "prot",
+                command: Subcommand::Prot,
                 words: "f11_pip prot IMAGE DIR NAME WORD",
                 does: "gives a file a protection word",
                 about: &[
@@ -92,7 +102,18 @@ const GROUPS: [Group; 4] = [
                 example: "f11_pip prot pack.dsk 200,1 'LOGIN.CMD;1' 177400",
             },
             Synopsis {
-                name: "vfy",
+                command: Subcommand::Trunc,
+                words: "f11_pip trunc IMAGE DIR NAME",
+                does: "gives back the blocks behind a file's end",
+                about: &[
+                    "of a volume that is accepted; NAME with its version; none of the volume's own files",
+                    "the end is that which ls shows in bytes; a file that states none, or that was open when the system stopped, isn't cut",
+                    "DIR: a UIC, octal, as 200,1, or a name, as [USERFILES]; 0,0 is the master file directory",
+                ],
+                example: "f11_pip trunc pack.dsk 200,1 'LOGIN.CMD;1'",
+            },
+            Synopsis {
+                command: Subcommand::Vfy,
                 words: "f11_pip vfy [--update] IMAGE",
                 does: "verifies a volume: a line a fault or note, and whether it is accepted",
                 about: &[
@@ -102,18 +123,18 @@ const GROUPS: [Group; 4] = [
                 example: "f11_pip vfy pack.dsk",
             },
             Synopsis {
-                name: "run",
+                command: Subcommand::Run,
                 words: "f11_pip run [--quiet] IMAGE SCRIPT",
                 does: "serves the requests of a script on a volume that is accepted",
                 about: &[
                     "SCRIPT: a file, a request a line, as `0 [1,1] FIND 4,4 LOGIN.CMD;1`; docs/FORMATS.md tells its language",
-                    "docs/RECIPES.md has scripts that make a directory, and delete one",
+                    "docs/RECIPES.md has a script that deletes a directory",
                     "--quiet: standard error doesn't tell which lines are bad or refused; the status is 0 where some are, too",
                 ],
                 example: "f11_pip run pack.dsk requests",
             },
             Synopsis {
-                name: "init",
+                command: Subcommand::Init,
                 words: "f11_pip init --blocks N --slots N --label L [--max N] IMAGE",
                 does: "makes an image with a fresh volume",
                 about: &[
@@ -125,14 +146,14 @@ const GROUPS: [Group; 4] = [
                 example: "f11_pip init --blocks 4800 --slots 160 --label MYPACK pack.dsk",
             },
             Synopsis {
-                name: "home",
+                command: Subcommand::Home,
                 words: "f11_pip home IMAGE",
                 does: "shows the home block",
                 about: &[],
                 example: "f11_pip home pack.dsk",
             },
             Synopsis {
-                name: "dump",
+                command: Subcommand::Dump,
                 words: "f11_pip dump IMAGE NUMBER",
                 does: "shows a file header and its retrieval pointers",
                 about: &["NUMBER: the file's, decimal"],
@@ -144,14 +165,14 @@ const GROUPS: [Group; 4] = [
         title: "RT-11 volumes",
         commands: &[
             Synopsis {
-                name: "rt-ls",
+                command: Subcommand::RtLs,
                 words: "f11_pip rt-ls RT",
                 does: "lists the files",
                 about: &["of a volume that has faults, too"],
                 example: "f11_pip rt-ls rt.dsk",
             },
             Synopsis {
-                name: "rt-get",
+                command: Subcommand::RtGet,
                 words: "f11_pip rt-get RT NAME HOST | rt-get --all RT FOLDER",
                 does: "takes out a file, or all files, as they are",
                 about: &[
@@ -160,7 +181,7 @@ const GROUPS: [Group; 4] = [
                 example: "f11_pip rt-get rt.dsk SWAP.SYS swap.sys",
             },
             Synopsis {
-                name: "rt-put",
+                command: Subcommand::RtPut,
                 words: "f11_pip rt-put RT NAME HOST",
                 does: "makes a file of one of the host, filled up with zeros to whole blocks",
                 about: &[
@@ -170,28 +191,28 @@ const GROUPS: [Group; 4] = [
                 example: "f11_pip rt-put rt.dsk LOGIN.COM login.com",
             },
             Synopsis {
-                name: "rt-del",
+                command: Subcommand::RtDel,
                 words: "f11_pip rt-del RT NAME",
                 does: "deletes a file",
                 about: &["of a volume that is accepted"],
                 example: "f11_pip rt-del rt.dsk OLD.BAK",
             },
             Synopsis {
-                name: "rt-vfy",
+                command: Subcommand::RtVfy,
                 words: "f11_pip rt-vfy IMAGE",
                 does: "verifies a volume: a line a fault or note, and whether it is accepted",
                 about: &[],
                 example: "f11_pip rt-vfy rt.dsk",
             },
             Synopsis {
-                name: "rt-list",
+                command: Subcommand::RtList,
                 words: "f11_pip rt-list IMAGE",
                 does: "lists the areas of a volume that is accepted",
                 about: &[],
                 example: "f11_pip rt-list rt.dsk",
             },
             Synopsis {
-                name: "rt-init",
+                command: Subcommand::RtInit,
                 words: "f11_pip rt-init --blocks N --segments N IMAGE",
                 does: "makes an image with a fresh volume",
                 about: &[
@@ -206,7 +227,7 @@ const GROUPS: [Group; 4] = [
         title: "Copies between the two",
         commands: &[
             Synopsis {
-                name: "flx-to-rt",
+                command: Subcommand::FlxToRt,
                 words: "f11_pip flx-to-rt --mode M IMAGE UIC NAME RT RTNAME",
                 does: "copies a file of a Files-11 volume to an RT-11 one",
                 about: &[
@@ -216,7 +237,7 @@ const GROUPS: [Group; 4] = [
                 example: "f11_pip flx-to-rt --mode text pack.dsk 200,1 'LOGIN.CMD;1' rt.dsk LOGIN.CMD",
             },
             Synopsis {
-                name: "flx-from-rt",
+                command: Subcommand::FlxFromRt,
                 words: "f11_pip flx-from-rt --mode M RT RTNAME IMAGE UIC NAME",
                 does: "copies a file of an RT-11 volume to a Files-11 one",
                 about: &[
@@ -231,14 +252,14 @@ const GROUPS: [Group; 4] = [
         title: "Words and rights",
         commands: &[
             Synopsis {
-                name: "name",
+                command: Subcommand::Name,
                 words: "f11_pip name TEXT",
                 does: "shows the five words of a file's name",
                 about: &[],
                 example: "f11_pip name 'LOGIN.CMD;1'",
             },
             Synopsis {
-                name: "rights",
+                command: Subcommand::Rights,
                 words: "f11_pip rights UIC OWNER WORD",
                 does: "shows a caller's rights to a file of an owner with a protection word",
                 about: &[
@@ -322,9 +343,10 @@ pub fn asked_for(words: &[String]) -> Option<&String> {
 
 /// The command of this name, if there is one.
 fn command_of(name: &String) -> Option<&'static Synopsis> {
+    let named = Subcommand::named(name.as_str())?;
     for group in &GROUPS {
         for command in group.commands {
-            if command.name == name.as_str() {
+            if command.command == named {
                 return Some(command);
             }
         }
@@ -344,7 +366,7 @@ fn write_all<W: Write>(writer: &mut W) -> io::Result<()> {
     for group in &GROUPS {
         writeln!(writer, "{}", group.title)?;
         for command in group.commands {
-            writeln!(writer, "  {}: {}", command.name, command.does)?;
+            writeln!(writer, "  {}: {}", command.command.name(), command.does)?;
         }
     }
     writeln!(

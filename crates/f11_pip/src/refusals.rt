@@ -1,5 +1,6 @@
 //! What a refusal means to whoever asked for it, and which word of the command it is about.
 use crate::remarks::{Remark, Why};
+use f11_actions::Action;
 
 /// The line that says that a directory has no record of a name.
 pub const NO_SUCH_ENTRY: &str = "no NoSuchEntry";
@@ -41,10 +42,7 @@ pub fn of_making<'a>(
     source: &'a str,
 ) -> Option<Remark<'a>> {
     let (word, why) = match line {
-        "no NoSuchEntry" => (
-            image,
-            "no such directory; docs/RECIPES.md tells how one is made",
-        ),
+        "no NoSuchEntry" => (image, "no such directory; mkdir makes one"),
         "no NoSuchFile" | "no Marked" | "no NotDirectory" | "no SystemFile" => (
             image,
             "what the master file directory has under the directory's name is no directory to write in",
@@ -77,6 +75,7 @@ pub fn of_making<'a>(
 /// What there is to say of a refusal to do something to a file of this name on the volume of this image, which was to get a new name.
 pub fn of_action<'a>(
     refusal: &str,
+    action: &Action,
     image: &'a str,
     name: &'a str,
     new: &'a str,
@@ -95,7 +94,17 @@ pub fn of_action<'a>(
             "what the master file directory has under the directory's name is no directory",
         ),
         "SystemFile" => (name, "files 1 to 5 are the volume's own"),
-        "BadArgument" => (name, "its record names a file of another volume of a set"),
+        "BadArgument" => match action {
+            Action::Truncate { .. } => (
+                name,
+                "it states no end, or it was open when the system stopped; get --blocks takes all its blocks; or its record names a file of another volume of a set",
+            ),
+            Action::Rename { .. } => (
+                name,
+                "its own header says that it is a directory, and NEW isn't one's name, or the other way round; or it is to go into itself; or its record names a file of another volume of a set",
+            ),
+            _ => (name, "its record names a file of another volume of a set"),
+        },
         "Marked" => (
             name,
             "it, or its directory, is marked for delete; del deletes it",
@@ -106,7 +115,7 @@ pub fn of_action<'a>(
         ),
         "DuplicateName" => (
             new,
-            "the directory has a record of that name and version; give another version, as ;2",
+            "the directory has a record of that name and version, which may be of the same file, where a ren was stopped; else give another version, as ;2",
         ),
         "TooManySegments" | "DeviceFull" | "NoHeader" => (
             image,
@@ -115,6 +124,25 @@ pub fn of_action<'a>(
         _ => return None,
     };
     Some(refused(word, why))
+}
+
+/// What there is to say of a refusal to make a directory on the volume of this image.
+pub fn of_making_directory<'a>(refusal: &str, image: &'a str) -> Option<Remark<'a>> {
+    let why = match refusal {
+        "DuplicateName" => {
+            "the master file directory has a record of that name; ls IMAGE 0,0 lists them, and prot gives it a protection word"
+        }
+        "NoPrivilege" => "the protection word of the master file directory denies it to [1,1]",
+        "NotDirectory" | "Marked" => "its master file directory is none that can be written",
+        "NoHeader" => {
+            "a directory needs a file header, and none is free or can be had: delete files, or read docs/RECIPES.md, How many slots"
+        }
+        "TooManySegments" | "DeviceFull" => {
+            "the master file directory needs one block more, and it, or the file header for it, can't be had"
+        }
+        _ => return None,
+    };
+    Some(refused(image, why))
 }
 
 /// What there is to say of a refusal of the RT-11 volume of this image, where a file of this name was looked for, or to be made.

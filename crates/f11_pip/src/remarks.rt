@@ -189,6 +189,8 @@ impl Why {
     pub const DIRECTORY: Why = Why::Said(
         "a directory isn't deleted, since its files would be in none then",
     );
+    /// It is none of a directory.
+    pub const NO_DIRECTORY_NAME: Why = Why::Said("a directory's name has the type DIR");
     /// It is the name of a directory, or the name before is, and the other isn't.
     pub const OTHER_TYPE: Why = Why::Said(
         "a directory keeps the type DIR, and no other file gets it",
@@ -523,6 +525,11 @@ pub fn of_name(word: &str) -> Remark<'_> {
 /// That a word names a directory, which isn't deleted.
 pub fn of_directory(word: &str) -> Remark<'_> {
     Remark::of(word, Why::DIRECTORY)
+}
+
+/// That a directory is to have a name that is none of a directory.
+pub fn of_directory_name() -> Remark<'static> {
+    Remark::of("DIR", Why::NO_DIRECTORY_NAME)
 }
 
 /// That a word is no new name, since it would make a directory of a file, or a file of a directory.

@@ -1,7 +1,7 @@
 //! What the words of a command line ask for.
 //!
 //! [`parse`] reads them, and gives [`Words`]: a command, and what each of its words spells. Which commands there are, and which words each
-//! takes, stands in one table, `Subcommand`; [`clap`] is told of it, and tells words, options and flags apart. [`misread`] and [`refusal`]
+//! takes, stands in one table, [`Subcommand`]; [`clap`] is told of it, and tells words, options and flags apart. [`misread`] and [`refusal`]
 //! tell why words aren't taken.
 #![tactic(auto)]
 
@@ -23,4 +23,5 @@ pub mod worked;
 pub use directory::{Directory, read_directory};
 pub use reading::{Failure, parse};
 pub use unread::{Unread, Why, misread, refusal};
+pub use usage::Subcommand;
 pub use words::Words;

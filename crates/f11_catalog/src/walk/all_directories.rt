@@ -35,22 +35,14 @@ impl Directories {
             (D.disk device.old) (D.disk device.new))) }
         ensures failed { OnErr result (Reads (D.disk device.old) (D.disk device.new) 1) }
     {
-        match self.next_named(device, index, wide) {
-            Ok(Some(hand)) => {
-                self.others.meet(hand.id.number, true);
-                Ok(Some(hand))
-            }
-            Ok(None) => match self.others.next_unnamed(device, index) {
-                Ok(Some(hand)) => Ok(Some(hand)),
-                Ok(None) => match self.led.next_led(device, index, wide, &self.others) {
-                    Ok(Some(hand)) => Ok(Some(hand)),
-                    Ok(None) => Ok(None),
-                    Err(DeviceFault) => Err(DeviceFault),
-                },
-                Err(DeviceFault) => Err(DeviceFault),
-            },
-            Err(DeviceFault) => Err(DeviceFault),
+        if let Some(hand) = self.next_named(device, index, wide)? {
+            self.others.meet(hand.id.number, true);
+            return Ok(Some(hand));
         }
+        if let Some(hand) = self.others.next_unnamed(device, index)? {
+            return Ok(Some(hand));
+        }
+        self.led.next_led(device, index, wide, &self.others)
     }
 
     /// The next directory that the master file directory names; `None` where it names no more, or can't be read.

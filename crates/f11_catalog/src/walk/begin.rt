@@ -32,10 +32,9 @@ fn open_master<D: Device>(
         (D.disk device.old) (D.disk device.new)) }
     ensures failed { OnErr result (Looked (D.disk device.old) (D.disk device.new) 2 1) }
 {
-    match FoundDirectory::open(device, index, wide, master) {
-        Ok(Ok(found)) => Ok(Some(found)),
-        Ok(Err(_)) => Ok(None),
-        Err(DeviceFault) => Err(DeviceFault),
+    match FoundDirectory::open(device, index, wide, master)? {
+        Ok(found) => Ok(Some(found)),
+        Err(_) => Ok(None),
     }
 }
 

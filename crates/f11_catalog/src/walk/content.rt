@@ -74,13 +74,9 @@ pub(crate) fn open_content<D: Device>(
         (D.disk device.old) (D.disk device.new)) }
     ensures failed { OnErr result (Reads (D.disk device.old) (D.disk device.new) 1) }
 {
-    match FileReader::open(device, index, id) {
-        Ok(Some(file)) => Ok(Content::File(file)),
-        Ok(None) => match open_out_of_use(device, index, wide, id) {
-            Ok(content) => Ok(content),
-            Err(DeviceFault) => Err(DeviceFault),
-        },
-        Err(DeviceFault) => Err(DeviceFault),
+    match FileReader::open(device, index, id)? {
+        Some(file) => Ok(Content::File(file)),
+        None => open_out_of_use(device, index, wide, id),
     }
 }
 
@@ -98,13 +94,9 @@ fn open_out_of_use<D: Device>(
         (D.disk device.old) (D.disk device.new)) }
     ensures failed { OnErr result (Reads (D.disk device.old) (D.disk device.new) 1) }
 {
-    match FileReader::open(device, wide, id) {
-        Ok(Some(file)) => Ok(Content::OutOfUse(file)),
-        Ok(None) => match why_missing(device, index, id) {
-            Ok(absence) => Ok(Content::Missing(absence)),
-            Err(DeviceFault) => Err(DeviceFault),
-        },
-        Err(DeviceFault) => Err(DeviceFault),
+    match FileReader::open(device, wide, id)? {
+        Some(file) => Ok(Content::OutOfUse(file)),
+        None => Ok(Content::Missing(why_missing(device, index, id)?)),
     }
 }
 

@@ -37,15 +37,11 @@ impl EnteredFiles {
         ensures failed { OnErr result (Reads (D.disk device.old) (D.disk device.new) 1) }
     {
         loop {
-            match self.next_in_hand(device, index, wide) {
-                Ok(Some(found)) => return Ok(Some(found)),
-                Ok(None) => {}
-                Err(DeviceFault) => return Err(DeviceFault),
+            if let Some(found) = self.next_in_hand(device, index, wide)? {
+                return Ok(Some(found));
             }
-            match self.take_directory(device, index, wide) {
-                Ok(true) => {}
-                Ok(false) => return Ok(None),
-                Err(DeviceFault) => return Err(DeviceFault),
+            if !self.take_directory(device, index, wide)? {
+                return Ok(None);
             }
         }
     }
@@ -125,13 +121,12 @@ impl EnteredFiles {
             self.old self.new (D.disk device.old) (D.disk device.new) }
         ensures failed { OnErr result (Reads (D.disk device.old) (D.disk device.new) 1) }
     {
-        match self.directories.next(device, index, wide) {
-            Ok(Some(hand)) => {
+        match self.directories.next(device, index, wide)? {
+            Some(hand) => {
                 self.hand = Some(hand);
                 Ok(true)
             }
-            Ok(None) => Ok(false),
-            Err(DeviceFault) => Err(DeviceFault),
+            None => Ok(false),
         }
     }
 }

@@ -50,13 +50,11 @@ fn open_record<D: Device>(
         return Ok(None);
     }
     let id = record.id;
-    match open_content(device, index, wide, id) {
-        Ok(content) => Ok(Some(FileAt {
-            place: Place::Entered(name.copy(), record.name(), id),
-            content,
-        })),
-        Err(DeviceFault) => Err(DeviceFault),
-    }
+    let content = open_content(device, index, wide, id)?;
+    Ok(Some(FileAt {
+        place: Place::Entered(name.copy(), record.name(), id),
+        content,
+    }))
 }
 
 /// What the next record names that isn't empty, of a directory that is read by an index file; `None` where none is left.
@@ -85,17 +83,12 @@ pub(crate) fn next_record<D: Device>(
         (D.disk device.old) (D.disk device.new))) }
     ensures failed { OnErr result (Reads (D.disk device.old) (D.disk device.new) 1) }
 {
-    loop {
-        match directory.next(device, by) {
-            Ok(Some(record)) => match open_record(device, index, wide, name, &record) {
-                Ok(Some(found)) => return Ok(Some(found)),
-                Ok(None) => {}
-                Err(DeviceFault) => return Err(DeviceFault),
-            },
-            Ok(None) => return Ok(None),
-            Err(DeviceFault) => return Err(DeviceFault),
+    while let Some(record) = directory.next(device, by)? {
+        if let Some(found) = open_record(device, index, wide, name, &record)? {
+            return Ok(Some(found));
         }
     }
+    Ok(None)
 }
 
 /// The directory that a record of the master file directory names; `None` where it names none. Two transfers at most.
@@ -125,11 +118,7 @@ fn open_named<D: Device>(
     let Some(name) = record.name() else {
         return Ok(None);
     };
-    match open_directory(device, index, wide, DirectoryName::of(&name), record.id) {
-        Ok(Some(hand)) => Ok(Some(hand)),
-        Ok(None) => Ok(None),
-        Err(DeviceFault) => Err(DeviceFault),
-    }
+    open_directory(device, index, wide, DirectoryName::of(&name), record.id)
 }
 
 /// The directory that has this identification, if it is one. Two transfers at most.
@@ -156,10 +145,9 @@ fn open_directory<D: Device>(
         (D.disk device.old) (D.disk device.new))) }
     ensures failed { OnErr result (Looked (D.disk device.old) (D.disk device.new) 2 1) }
 {
-    match FoundDirectory::open(device, index, wide, id) {
-        Ok(Ok(found)) => Ok(Some(OpenDirectory { name, id, found })),
-        Ok(Err(_)) => Ok(None),
-        Err(DeviceFault) => Err(DeviceFault),
+    match FoundDirectory::open(device, index, wide, id)? {
+        Ok(found) => Ok(Some(OpenDirectory { name, id, found })),
+        Err(_) => Ok(None),
     }
 }
 
@@ -190,15 +178,10 @@ pub(crate) fn next_directory<D: Device>(
         (D.disk device.old) (D.disk device.new))) }
     ensures failed { OnErr result (Reads (D.disk device.old) (D.disk device.new) 1) }
 {
-    loop {
-        match master.next(device, by) {
-            Ok(Some(record)) => match open_named(device, index, wide, &record) {
-                Ok(Some(hand)) => return Ok(Some(hand)),
-                Ok(None) => {}
-                Err(DeviceFault) => return Err(DeviceFault),
-            },
-            Ok(None) => return Ok(None),
-            Err(DeviceFault) => return Err(DeviceFault),
+    while let Some(record) = master.next(device, by)? {
+        if let Some(hand) = open_named(device, index, wide, &record)? {
+            return Ok(Some(hand));
         }
     }
+    Ok(None)
 }

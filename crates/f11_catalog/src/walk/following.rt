@@ -43,14 +43,10 @@ pub(crate) fn find_led<D: Device>(
         Err(DeviceFault) => return Ok((led, true)),
     }
     loop {
-        match follow_entered(alloc, device, index, wide, master, &led) {
-            Ok((seen, failed)) => {
-                let leads_on = led.meet_all(&seen);
-                if failed || !leads_on {
-                    return Ok((led, failed));
-                }
-            }
-            Err(NoMemory) => return Err(NoMemory),
+        let (seen, failed) = follow_entered(alloc, device, index, wide, master, &led)?;
+        let leads_on = led.meet_all(&seen);
+        if failed || !leads_on {
+            return Ok((led, failed));
         }
     }
 }
@@ -116,15 +112,10 @@ impl EnteredFiles {
         ensures failed { OnErr result (FollowsPart (index_kept index.now) (index_kept wide.now) self.old
             seen.old seen.new (D.disk device.old) (D.disk device.new)) }
     {
-        loop {
-            match self.next(device, index, wide) {
-                Ok(Some(found)) => {
-                    let id = found.place.id();
-                    seen.meet(id.number, found.content.is_unused_directory());
-                }
-                Ok(None) => return Ok(()),
-                Err(DeviceFault) => return Err(DeviceFault),
-            }
+        while let Some(found) = self.next(device, index, wide)? {
+            let id = found.place.id();
+            seen.meet(id.number, found.content.is_unused_directory());
         }
+        Ok(())
     }
 }

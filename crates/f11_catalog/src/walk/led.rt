@@ -34,17 +34,15 @@ fn open_unused<D: Device>(
         (D.disk device.old) (D.disk device.new))) }
     ensures failed { OnErr result (Reads (D.disk device.old) (D.disk device.new) 1) }
 {
-    match FileReader::open_slot(device, wide, number) {
-        Ok(Some(file)) => match under_its_name(&file, false) {
-            Some(hand) => match FileReader::open(device, index, file.id()) {
-                Ok(None) => Ok(Some(hand)),
-                Ok(Some(_)) => Ok(None),
-                Err(DeviceFault) => Err(DeviceFault),
+    match FileReader::open_slot(device, wide, number)? {
+        Some(file) => match under_its_name(&file, false) {
+            Some(hand) => match FileReader::open(device, index, file.id())? {
+                None => Ok(Some(hand)),
+                Some(_) => Ok(None),
             },
             None => Ok(None),
         },
-        Ok(None) => Ok(None),
-        Err(DeviceFault) => Err(DeviceFault),
+        None => Ok(None),
     }
 }
 
@@ -77,10 +75,8 @@ impl Numbers {
     {
         while self.next <= wide.slots() {
             let number = self.take_number();
-            match self.open_led(device, index, wide, known, number) {
-                Ok(Some(hand)) => return Ok(Some(hand)),
-                Ok(None) => {}
-                Err(DeviceFault) => return Err(DeviceFault),
+            if let Some(hand) = self.open_led(device, index, wide, known, number)? {
+                return Ok(Some(hand));
             }
         }
         Ok(None)

@@ -39,13 +39,12 @@ impl Numbers {
         if self.has_met(number) {
             return Ok(None);
         }
-        match FileReader::open_slot(device, index, number) {
-            Ok(Some(file)) => Ok(Some(FileAt {
+        match FileReader::open_slot(device, index, number)? {
+            Some(file) => Ok(Some(FileAt {
                 place: Place::Lost(own_name(file.header()), file.id()),
                 content: Content::File(file),
             })),
-            Ok(None) => Ok(None),
-            Err(DeviceFault) => Err(DeviceFault),
+            None => Ok(None),
         }
     }
 
@@ -71,10 +70,8 @@ impl Numbers {
     {
         while self.next <= index.slots() {
             let number = self.take_number();
-            match self.open_lost(device, index, number) {
-                Ok(Some(found)) => return Ok(Some(found)),
-                Ok(None) => {}
-                Err(DeviceFault) => return Err(DeviceFault),
+            if let Some(found) = self.open_lost(device, index, number)? {
+                return Ok(Some(found));
             }
         }
         Ok(None)

@@ -34,18 +34,11 @@ impl AllFiles {
             (D.disk device.old) (D.disk device.new))) }
         ensures failed { OnErr result (Reads (D.disk device.old) (D.disk device.new) 1) }
     {
-        match self.entered.next(device, index, wide) {
-            Ok(Some(found)) => {
-                let id = found.place.id();
-                self.others.meet(id.number, found.content.is_file());
-                Ok(Some(found))
-            }
-            Ok(None) => match self.others.next_lost(device, index) {
-                Ok(Some(found)) => Ok(Some(found)),
-                Ok(None) => Ok(None),
-                Err(DeviceFault) => Err(DeviceFault),
-            },
-            Err(DeviceFault) => Err(DeviceFault),
+        if let Some(found) = self.entered.next(device, index, wide)? {
+            let id = found.place.id();
+            self.others.meet(id.number, found.content.is_file());
+            return Ok(Some(found));
         }
+        self.others.next_lost(device, index)
     }
 }

@@ -68,13 +68,12 @@ impl Numbers {
         if self.has_met(number) {
             return Ok(None);
         }
-        match FileReader::open_slot(device, index, number) {
-            Ok(Some(file)) => match under_its_name(&file, true) {
+        match FileReader::open_slot(device, index, number)? {
+            Some(file) => match under_its_name(&file, true) {
                 Some(hand) => Ok(Some(hand)),
                 None => Ok(None),
             },
-            Ok(None) => Ok(None),
-            Err(DeviceFault) => Err(DeviceFault),
+            None => Ok(None),
         }
     }
 
@@ -100,10 +99,8 @@ impl Numbers {
     {
         while self.next <= index.slots() {
             let number = self.take_number();
-            match self.open_unnamed(device, index, number) {
-                Ok(Some(hand)) => return Ok(Some(hand)),
-                Ok(None) => {}
-                Err(DeviceFault) => return Err(DeviceFault),
+            if let Some(hand) = self.open_unnamed(device, index, number)? {
+                return Ok(Some(hand));
             }
         }
         Ok(None)

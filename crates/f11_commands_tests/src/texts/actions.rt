@@ -12,7 +12,12 @@ use std::test::Fail;
 
 /// What is written of them all.
 const ALL: &[u8] =
-    b"A.TXT;1 protected\nA.TXT;1 renamed B.TXT;1\nA.TXT;1 not deleted NoSuchEntry\nB.TXT;1 deleted\nall 3 done, 1 not done\n";
+    b"U.DIR;1 made\nA.TXT;1 truncated\nA.TXT;1 protected\nA.TXT;1 renamed B.TXT;1\nA.TXT;1 not deleted NoSuchEntry\nB.TXT;1 deleted\nall 5 done, 1 not done\n";
+
+/// Attributes that name records of a fixed size.
+const FIXED: [u8; 32] = [
+    1, 0, 0, 2, 0, 0, 0, 0, 0, 0, 0, 0, 0, 0, 0, 0, 0, 0, 0, 0, 0, 0, 0, 0, 0, 0, 0, 0, 0, 0, 0, 0,
+];
 
 /// A volume with a file A.TXT;1 in the master file directory.
 fn with_file(alloc: Global) -> Result<Memory, Fail> {
@@ -21,7 +26,7 @@ fn with_file(alloc: Global) -> Result<Memory, Fail> {
     let create = Request::Create {
         protection: 0,
         ident: ident_with(name),
-        attr: [0; 32],
+        attr: FIXED,
     };
     for request in [create, Request::Enter(file(4, 4), name, file(6, 1))] {
         if ask(&mut volume, request).is_err() {
@@ -34,15 +39,25 @@ fn with_file(alloc: Global) -> Result<Memory, Fail> {
     }
 }
 
-/// The file is protected, renamed, and deleted under its old name and its new one.
-fn actions() -> Result<[Action; 4], Fail> {
+/// A directory is made, and the file is truncated, protected, renamed into it, and deleted under its old name and its new one.
+fn actions() -> Result<[Action; 6], Fail> {
     let directory = directory_name(Uic {
         group: 0,
         member: 0,
     });
     let name = Name::parse(b"A.TXT;1")?;
     let new = Name::parse(b"B.TXT;1")?;
+    let to = Name::parse(b"U.DIR;1")?;
     Ok([
+        Action::MakeDirectory {
+            name: to,
+            owner: Uic {
+                group: 0o200,
+                member: 1,
+            },
+            protection: 0,
+        },
+        Action::Truncate { directory, name },
         Action::Protect {
             directory,
             name,
@@ -51,12 +66,12 @@ fn actions() -> Result<[Action; 4], Fail> {
         Action::Rename {
             directory,
             name,
-            to: directory,
+            to,
             new,
         },
         Action::Delete { directory, name },
         Action::Delete {
-            directory,
+            directory: to,
             name: new,
         },
     ])
@@ -82,7 +97,7 @@ fn acted(alloc: Global, at: u64) -> Result<(Result<FileAnswer, Failure>, Lines),
 
 #[test]
 fn a_fault_ends_them(rt: HostRuntime) -> Result<(), Fail> {
-    for at in 1..=200 {
+    for at in 1..=400 {
         let (told, text) = acted(rt.alloc(), at)?;
         match told {
             Err(failure) => {

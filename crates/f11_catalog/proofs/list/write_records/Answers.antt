@@ -1,14 +1,14 @@
 use Rattle.f11_index.specs.Kept.{index_kept}
 use Rattle.f11_reader.proofs.ReadLemmas.{holds-on}
 use Rattle.f11_catalog.specs.Lines.{record_line}
-use Rattle.f11_catalog.proofs.LineLemmas.{breaks-behind}
+use Rattle.f11_catalog.proofs.LineLemmas.{breaks-behind, breaks-handed}
 use Rattle.f11_catalog.proofs.ListingLemmas.{first-all, first-read, reads-then}
 use Rattle.f11_catalog.proofs.list.write_records.Goals as goal
 
 pub loop-record-preserved : goal.loop-record-preserved
 loop-record-preserved g c =
     let read = rw c.in-Ok-Some.field-0-is at c.in-Ok-Some.ensures.reads in
-    let one = c.in-Ok.ensures.writes read.bytes read.record_is in
+    let one = c.in_ok-write_record-in-Ok-Some.ensures.writes read.bytes read.record_is in
     record {
       written =
           first-read (record_line (index_kept c.args.wide.now)) _ _ _ read.bytes c.loop-record.invariant.written read.next read.reads _
@@ -16,10 +16,11 @@ loop-record-preserved g c =
       reading = holds-on one.reads.1 c.in-Ok-Some.ensures.reading;
     }
 
-pub returns-in-Err-write_record-clause-failed : goal.returns-in-Err-write_record-clause-failed
-returns-in-Err-write_record-clause-failed g c =
+pub returns-in_err-write_record-in-Ok-Some-clause-failed : goal.returns-in_err-write_record-in-Ok-Some-clause-failed
+returns-in_err-write_record-in-Ok-Some-clause-failed g c =
     let read = rw c.in-Ok-Some.field-0-is at c.in-Ok-Some.ensures.reads in
-    breaks-behind _ _ _ _ (reads-then c.loop-record.invariant.written.reads read.reads) c.in-Err-write_record.ensures.failed
+    breaks-handed c.from_residual.result _ _ _ c.from_residual.ensures.1
+    (breaks-behind _ _ _ _ (reads-then c.loop-record.invariant.written.reads read.reads) c.in_err-write_record-in-Ok-Some.ensures.failed)
 
 pub returns-in-Ok-None-clause-writes : goal.returns-in-Ok-None-clause-writes
 returns-in-Ok-None-clause-writes g c =

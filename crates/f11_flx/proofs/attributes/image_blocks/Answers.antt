@@ -6,4 +6,4 @@ use Rattle.f11_flx.proofs.attributes.image_blocks.Goals as goal
 pub returns-clause-image : goal.returns-clause-image
 returns-clause-image c = λ file attr allocation.
     let stated = ap stated_end attr in
-    omega (arith, c.end.ensures, c.div_ceil.ensures, stated, allocation, length-take {A = List ℕ} ((end_of file + 511) / 512) file.blocks)
+    omega (arith, c.blocks_to_end.ensures, stated, allocation, length-take {A = List ℕ} ((end_of file + 511) / 512) file.blocks)

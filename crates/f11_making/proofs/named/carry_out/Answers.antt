@@ -6,6 +6,7 @@ use Rattle.f11_making.proofs.named.carry_out.Goals as goal
 
 pub returns : goal.returns
 returns g c = record {
-  carries = carried (who_asks c.args.by.now.task c.args.by.now.uic) (plan_of c.args.master c.args.action.now) _ c.args.vol.now
-      c.act.new.service (clean-action c.args.master c.args.action.now) c.act.ensures.goes;
+  carries = carried (who_asks c.args.by.now.task c.args.by.now.uic) (plan_of c.args.by.now.lun c.args.master c.args.action.now) _
+      c.args.vol.now
+      c.act.new.service (clean-action c.args.by.now.lun c.args.master c.args.action.now) c.act.ensures.goes;
 }

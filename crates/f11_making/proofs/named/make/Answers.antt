@@ -7,7 +7,9 @@ use Rattle.f11_making.proofs.named.make.Goals as goal
 pub returns : goal.returns
 returns g c = record {
   carries =
-      carried (who_asks c.args.by.now.task c.args.by.now.uic) (makes_empty c.args.dir c.args.name.now c.args.protection c.args.attr) _
+      carried (who_asks c.args.by.now.task c.args.by.now.uic)
+      (makes_empty c.args.owner c.args.dir c.args.name.now c.args.protection c.args.attr) _
       c.args.vol.now
-      c.make_empty.new.service (clean-makes c.args.dir c.args.name.now c.args.protection c.args.attr) c.make_empty.ensures.goes;
+      c.make_empty.new.service (clean-makes c.args.owner c.args.dir c.args.name.now c.args.protection c.args.attr)
+      c.make_empty.ensures.goes;
 }

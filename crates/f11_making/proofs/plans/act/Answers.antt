@@ -12,7 +12,9 @@ pub returns-in_err-dir-in-Rename : goal.returns-in_err-dir-in-Rename
 returns-in_err-dir-in-Rename g c =
     let a = c.in-Rename in
     record {
-      goes = subst (λ (x : Action). Carried g.S.Asked.service (who_asks c.args.by.now.task c.args.by.now.uic) (plan_of c.args.master x)
+      goes =
+          subst (λ (x : Action). Carried g.S.Asked.service (who_asks c.args.by.now.task c.args.by.now.uic)
+          (plan_of c.args.by.now.lun c.args.master x)
           c.from_residual-in_err-dir-in-Rename.result c.args.service.now c.ask_file-in-Rename.new.service) (sym a.is)
           (refused-first g.S.Asked.service (who_asks c.args.by.now.task c.args.by.now.uic)
           (one (names (request.Find c.args.master a.directory)))
@@ -20,3 +22,10 @@ returns-in_err-dir-in-Rename g c =
           c.in_err-dir-in-Rename.field-0.0 c.args.service.now c.ask_file-in-Rename.new.service c.in_err-dir-in-Rename.ensures.goes
           c.from_residual-in_err-dir-in-Rename.ensures.1);
     }
+
+pub returns-in-MakeDirectory : goal.returns-in-MakeDirectory
+returns-in-MakeDirectory g c = record {
+  goes = subst (λ (x : Action). Carried g.S.Asked.service (who_asks c.args.by.now.task c.args.by.now.uic)
+      (plan_of c.args.by.now.lun c.args.master x) c.make_directory.result c.args.service.now c.make_directory.new.service)
+      (sym c.in-MakeDirectory.is) c.make_directory.ensures.goes;
+}

@@ -9,8 +9,8 @@ pub returns-then-is_empty-clause-none : goal.returns-then-is_empty-clause-none
 returns-then-is_empty-clause-none g c =
     λ bytes is. empty-entered bytes _ is _ _ (index_kept c.args.wide.now) _ _ c.is_empty.ensures c.if-is_empty.true
 
-pub returns-in-Ok-clause-enters : goal.returns-in-Ok-clause-enters
-returns-in-Ok-clause-enters g c = λ bytes is.
+pub returns-clause-enters : goal.returns-clause-enters
+returns-clause-enters g c = λ bytes is.
     record-entered bytes _ is _ _ _ _ _ _ c.is_empty.ensures c.if-is_empty.false c.name.ensures
     (ap (λ (d : DirectoryName). Entered d c.name.result c.args.record.now.id) c.copy.ensures) _ _
-    c.in-Ok.ensures.holds
+    c.in_ok-content.ensures.holds

@@ -4,9 +4,9 @@ use Rattle.f11_catalog.proofs.FollowingLemmas.{LeadsOn}
 use Rattle.f11_catalog.proofs.walk.following.find_led.Given as goal
 
 -- all that were found are led to
-abbrev pub invariant-loop-seen : goal.invariant-loop-seen
-invariant-loop-seen g l =
+abbrev pub invariant-loop-led : goal.invariant-loop-led
+invariant-loop-led g l =
     LeadsOn (index_kept l.index) (index_kept l.wide) l.master l.led (g.D.Device.disk l.fn.device) (g.D.Device.disk l.device)
 
-abbrev pub decreases-loop-seen : goal.decreases-loop-seen
-decreases-loop-seen g l = unmet l.led
+abbrev pub decreases-loop-led : goal.decreases-loop-led
+decreases-loop-led g l = unmet l.led

@@ -7,13 +7,13 @@ use Rattle.f11_catalog.specs.Steps.{is_met}
 use Rattle.f11_catalog.proofs.LostLemmas.{lost-none, lost-one}
 use Rattle.f11_catalog.proofs.walk.state.Numbers.open_lost.Goals as goal
 
-pub returns-in-Ok-Some-clause-one : goal.returns-in-Ok-Some-clause-one
-returns-in-Ok-Some-clause-one g c =
-    lost-one (is_met c.args.self.now) _ _ _ _ _ c.in-Ok-Some.file refl (sym c.has_met.ensures ∙ c.if-has_met.false)
-    (rw c.in-Ok-Some.field-0-is at c.in-Ok-Some.ensures.opens)
+pub returns-in-Some-clause-one : goal.returns-in-Some-clause-one
+returns-in-Some-clause-one g c =
+    lost-one (is_met c.args.self.now) _ _ _ _ _ c.in-Some.file refl (sym c.has_met.ensures ∙ c.if-has_met.false)
+    (rw c.in-Some.is at c.in_ok-file.ensures.opens)
     (ap (λ (name : Option (List ℕ)). Lost name c.id.result)
     (c.own_name.ensures ∙ ap (λ (h : List ℕ). name_in (ident_area h)) c.header.ensures.header)
-    ∙ ap (λ (id : FileId). Lost (name_in (ident_area c.in-Ok-Some.file.header)) id) c.id.ensures)
+    ∙ ap (λ (id : FileId). Lost (name_in (ident_area c.in-Some.file.header)) id) c.id.ensures)
 
-pub returns-in-Ok-None-clause-none : goal.returns-in-Ok-None-clause-none
-returns-in-Ok-None-clause-none g c = lost-none (is_met c.args.self.now) _ _ _ _ (rw c.in-Ok-None.field-0-is at c.in-Ok-None.ensures.none)
+pub returns-in-None-clause-none : goal.returns-in-None-clause-none
+returns-in-None-clause-none g c = lost-none (is_met c.args.self.now) _ _ _ _ (rw c.in-None.is at c.in_ok-file.ensures.none)

@@ -1,14 +1,13 @@
 -- A volume of which things are asked one after another: its home block stays, and where its disk is honest it fails by a failed transfer
 -- alone.
-use Rattle.std.proofs.Common.{◌≡◌, ◌≢◌, ◌⊎◌, inl, inr, ℕ, ◌<◌, ◌≤◌, ◌+◌, ◌||◌, if◌then◌else◌, Bool, true, false, IsTrue, List, [], ◌∷◌}
-use Rattle.std.proofs.Common.{Result, Ok, Err, refl, sym, ap, subst, ◌∙◌, arith}
+use Rattle.std.proofs.Common.{◌≡◌, ◌≢◌, ◌⊎◌, inl, inr, ◌<◌, ◌≤◌, ◌+◌, ◌||◌, if◌then◌else◌, Bool, true, false, IsTrue, List, [], ◌∷◌}
+use Rattle.std.proofs.Common.{Err, refl, sym, ap, subst, ◌∙◌, arith}
 use Rattle.f11_dev.specs.declared.device.Device.{Ghosts}
-use Rattle.f11_serving.specs.fcp.Handles.{State, is_damage}
-use Rattle.f11_serving.specs.fcp.Lengths.{AnswersLength}
-use Rattle.f11_serving.specs.fcp.Lists.{ServesCall, failures_of}
-use Rattle.f11_serving.specs.fcp.Serving.{is_spent, state_in}
-use Rattle.f11_serving.specs.fcp.declared.volume.Volume.{Volume}
-use Rattle.f11_serving.specs.files.Answers.{is_fatal, is_fault, is_refused}
+use Rattle.f11_fcp.specs.Handles.{is_damage}
+use Rattle.f11_fcp.specs.Lists.{ServesCall, failures_of}
+use Rattle.f11_fcp.specs.Serving.{is_spent, state_in}
+use Rattle.f11_fcp.specs.declared.volume.Volume.{Volume}
+use Rattle.f11_fcp.specs.files.Answers.{is_fatal, is_fault, is_refused}
 use Rattle.f11_making.specs.Fares.{Fares}
 use Rattle.f11_making.proofs.VolumeLemmas.{denied-fared, granted-fared}
 use Rattle.f11_making.specs.Asking.{Asking, Denies, Grants, Tried, Who, asks, counts, reads, told, writes}
@@ -36,37 +35,13 @@ never {b = true} h k = absurd (cc)
 never {b = false} h k = absurd (cc)
 
 module _ {D : Type 0} {met : Ghosts D} where
-  serves-home : (v w : Volume D met) (c : Call) (a : Answer) → ServesCall v c a w → (state_in w).home ≡ (state_in v).home
-  serves-home v w c a h =
-      by-bool (is_spent v) (λ is. ap (λ (x : State). x.home) (h.serving.untouched is).0) (λ is. (h.serving.handled is).home)
-
-  measures-home : (v w : Volume D met) (task lun : ℕ) (result : Result ℕ Refusal) → AnswersLength task lun result v w
-      → (state_in w).home ≡ (state_in v).home
-  measures-home v w task lun result h =
-      by-bool (is_spent v) (λ is. ap (λ (x : State). x.home) (h.untouched is)) (λ is. (h.measures is).home)
-
-  pub granted-home : (who : Who) (x : Asking) (v w : Volume D met) → Grants of_volume who x v w → (state_in w).home ≡ (state_in v).home
-  granted-home who (asks r) v w h = serves-home v w _ _ h.3
-  granted-home who (told r a) v w h = serves-home v w _ _ h.2
-  granted-home who (reads lun vbn block) v w h = serves-home v w _ _ h.2
-  granted-home who (writes lun vbn block) v w h = serves-home v w _ _ h.2
-  granted-home who (counts lun blocks) v w h = measures-home v w who.task lun (Ok blocks) h.0
-
-  pub denied-home : (who : Who) (x : Asking) (e : Refusal) (v w : Volume D met) → Denies of_volume who x e v w
-      → (state_in w).home ≡ (state_in v).home
-  denied-home who (asks r) e v w h = serves-home v w _ _ h.2
-  denied-home who (told r a) e v w h = serves-home v w _ _ h.2
-  denied-home who (reads lun vbn block) e v w h = serves-home v w _ _ h.2
-  denied-home who (writes lun vbn block) e v w h = serves-home v w _ _ h.1
-  denied-home who (counts lun blocks) e v w h = measures-home v w who.task lun (Err e) h.0
-
   pub tried-home : (who : Who) (xs : List Asking) (v w : Volume D met) → Tried of_volume who xs v w → (state_in w).home ≡ (state_in v).home
   tried-home who [] v w h = ap (λ (u : Volume D met). (state_in u).home) h
   tried-home who (x ∷ xs) v w h = tried-home who xs h.0 w h.2 ∙ one h.1
     where
       one : (Grants of_volume who x v h.0) ⊎ ((e : Refusal) × Denies of_volume who x e v h.0) → (state_in h.0).home ≡ (state_in v).home
-      one (inl g) = granted-home who x v h.0 g
-      one (inr d) = denied-home who x d.0 v h.0 d.1
+      one (inl g) = (granted-fared who x v h.0 g).home
+      one (inr d) = (denied-fared who x d.0 v h.0 d.1).home
 
   -- no honest disk is damaged
   serves-undamaged : (v w : Volume D met) (c : Call) (a : Answer) (e : Refusal) → a.result ≡ Err e → is_spent v ≡ false
