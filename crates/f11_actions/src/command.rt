@@ -17,15 +17,15 @@ use std::io::Write;
 /// Verifies the Files-11 volume on a device, and does to its files what is to be done, one action after another; then the device is
 /// synced, unless a transfer failed. The operator, [1,1], asks; the directories are those that file 4,4 has under their names.
 ///
-/// It writes a line for each action but one that ends them, `NAME.TYP;V deleted`, `NAME.TYP;V renamed NEW.TYP;V` or
-/// `NAME.TYP;V protected`, or, where it is refused, the same with `not` before the word and the refusal's name behind it; and a last
-/// line, `all N done, K not done`. It answers [`FileAnswer::Refused`] where one was refused. Where the volume has faults it writes the
+/// It writes a line for each action but one that ends them, `NAME.TYP;V deleted`, `NAME.TYP;V renamed NEW.TYP;V`, `NAME.TYP;V protected`,
+/// `NAME.TYP;V truncated` or `NAME.TYP;V made`, or, where it is refused, the same with `not` before the word and the refusal's name behind it;
+/// and a last line, `all N done, K not done`. It answers [`FileAnswer::Refused`] where one was refused. Where the volume has faults it writes the
 /// lines of `vfy`, and nothing is done. The device comes back.
 ///
 /// # Errors
 ///
-/// [`Failure::DeviceFault`] where a transfer failed: before any action; or then the actions before one are done, with their lines, that one may
-/// be in part, and none behind it is; or it is the sync, when all are. [`Failure::NoMemory`] where there was no memory: likewise.
+/// [`Failure::DeviceFault`] where a transfer failed: before any action; or then the actions before one are done, with their lines, that one
+/// may be in part, and none behind it is; or it is the sync, when all are. [`Failure::NoMemory`] where there was no memory: likewise.
 /// [`Failure::CannotWrite`] where the writer takes no more: then so many of the first are done, and which lines it has isn't known.
 pub fn print_actions<D: Device, W: Write>(
     alloc: Global,

@@ -93,6 +93,11 @@ pub fn truncate<'a, W: Write>(
     act(rt, device, file, file.name, &action, writer, remark)
 }
 
+/// Whether a name has a type alone, and no character before the dot.
+fn is_bare(name: &Name) -> bool {
+    name.words()[0] == 0
+}
+
 /// Makes a directory, with the protection that the volume gives files for which none is given.
 pub fn make_directory<'a, W: Write>(
     rt: &HostRuntime,
@@ -102,7 +107,7 @@ pub fn make_directory<'a, W: Write>(
     remark: &mut Option<Remark<'a>>,
 ) -> Result<Answer, Failure> {
     let name = name_of(directory);
-    if !is_directory_name(&name) {
+    if !is_directory_name(&name) || is_bare(&name) {
         *remark = Some(remarks::of_directory_name());
         refuse_names(writer)?;
         return Ok(Answer::Fault);

@@ -325,7 +325,7 @@ fn is_directory_missing(rt: &HostRuntime, file: &Named<'_>, line: &str) -> bool 
 /// Says that there is no directory of this name.
 pub fn tell_no_directory(rt: &HostRuntime, directory: Name) {
     let why =
-        "the master file directory has no such directory; vfy tells whether one is lost, docs/RECIPES.md how one is made";
+        "the master file directory has no such directory; vfy tells whether one is lost, and mkdir makes one";
     let _ = eprintln!(rt; "{directory}: {why}");
 }
 

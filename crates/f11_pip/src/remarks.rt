@@ -190,7 +190,9 @@ impl Why {
         "a directory isn't deleted, since its files would be in none then",
     );
     /// It is none of a directory.
-    pub const NO_DIRECTORY_NAME: Why = Why::Said("a directory's name has the type DIR");
+    pub const NO_DIRECTORY_NAME: Why = Why::Said(
+        "a directory's name has the type DIR, and a character before it at least",
+    );
     /// It is the name of a directory, or the name before is, and the other isn't.
     pub const OTHER_TYPE: Why = Why::Said(
         "a directory keeps the type DIR, and no other file gets it",

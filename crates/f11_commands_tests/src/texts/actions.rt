@@ -14,9 +14,9 @@ use std::test::Fail;
 const ALL: &[u8] =
     b"U.DIR;1 made\nA.TXT;1 truncated\nA.TXT;1 protected\nA.TXT;1 renamed B.TXT;1\nA.TXT;1 not deleted NoSuchEntry\nB.TXT;1 deleted\nall 5 done, 1 not done\n";
 
-/// Attributes that name records of a fixed size.
+/// Attributes that name records of a fixed size, and an end in block 1.
 const FIXED: [u8; 32] = [
-    1, 0, 0, 2, 0, 0, 0, 0, 0, 0, 0, 0, 0, 0, 0, 0, 0, 0, 0, 0, 0, 0, 0, 0, 0, 0, 0, 0, 0, 0, 0, 0,
+    1, 0, 0, 2, 0, 0, 0, 0, 0, 0, 1, 0, 0, 0, 0, 0, 0, 0, 0, 0, 0, 0, 0, 0, 0, 0, 0, 0, 0, 0, 0, 0,
 ];
 
 /// A volume with a file A.TXT;1 in the master file directory.
