@@ -6,5 +6,5 @@ pub mod Taking
 pub mod Flaws
 pub mod Repeats
 pub mod Records
-pub mod Later
+pub mod Gathered
 pub mod Judging

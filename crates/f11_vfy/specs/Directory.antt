@@ -2,5 +2,5 @@
 pub mod Blank
 pub mod Reading
 pub mod Flaws
-pub mod Later
+pub mod Gathered
 pub mod Notes

@@ -3,6 +3,6 @@
 pub(crate) mod blank;
 pub(crate) mod contents;
 pub(crate) mod flaws;
-pub(crate) mod later;
+pub(crate) mod gathered;
 pub(crate) mod notes;
 pub(crate) mod walk;

@@ -22,10 +22,10 @@ use Rattle.f11_volume.specs.Contents.{following, blocks_reached, block_or_zeros,
 use Rattle.f11_vfy.specs.Directory.Blank.{HoldNoRecord}
 use Rattle.f11_vfy.specs.Directory.Reading.{HasBlocks, HoldsDirectoryBlocks, HoldsHeaderBlocks, TakesBlocks, TakesHeader, TakesHeaders}
 use Rattle.f11_vfy.specs.Directory.Reading.{TakesDirectory, LooksAtHeader, LooksAtHeaders, LooksFor, ComesTo, until, wanted}
-use Rattle.f11_vfy.specs.Directory.Later.{Begins, TakesRecords}
+use Rattle.f11_vfy.specs.Directory.Gathered.{Begins, TakesRecords}
 use Rattle.f11_vfy.specs.Surveying.Headers.{ReadsSlot, reads_of}
 use Rattle.f11_vfy.specs.declared.directories.contents.Directory.{Directory}
-use Rattle.f11_vfy.specs.declared.directories.later.Later.{Later}
+use Rattle.f11_vfy.specs.declared.directories.gathered.Gathered.{Gathered}
 use Rattle.f11_vfy.specs.declared.survey.slot.Slot.{Slot}
 use Rattle.f11_vfy.specs.declared.survey.slot.State.{State}
 use Rattle.f11_vfy.specs.declared.survey.slot.State.TheVariants.{Live}
@@ -115,7 +115,7 @@ pub header-fails : (index : Index) (end at n : ℕ) (old new : Disk) (faults : �
 header-fails index end at n old new faults looked =
     record { count = 0; looked = looked_within (slot-looked index n looked) (omega arith); few = λ honest live. omega arith }
 
-module _ (index : Index) (slots : List Slot) (dir : Directory) (at n : ℕ) (s : State) (b : List ℕ) (before : Later) (old now : Disk)
+module _ (index : Index) (slots : List Slot) (dir : Directory) (at n : ℕ) (s : State) (b : List ℕ) (before : Gathered) (old now : Disk)
     (reads : ReadsSlot index n s b old now) where
   pub header-none : s ≢ Live → TakesHeader index slots dir at n 0 before before old now
   header-none dead = record {
@@ -142,7 +142,7 @@ module _ (index : Index) (slots : List Slot) (dir : Directory) (at n : ℕ) (s :
       few = λ honest _. omega (arith, named honest);
     }
 
-    pub header-taken : (count : ℕ) (after : Later) (new : Disk) → count ≡ length (blocks_named b) → count ≤ 32512
+    pub header-taken : (count : ℕ) (after : Gathered) (new : Disk) → count ≡ length (blocks_named b) → count ≤ 32512
         → TakesBlocks slots dir at (blocks_named b) before after now new
         → TakesHeader index slots dir at n count before after old new
     header-taken count after new is few takes = record {
@@ -160,14 +160,14 @@ module _ (index : Index) (slots : List Slot) (dir : Directory) (at n : ℕ) (s :
     }
 
 -- the headers so far from the second one on
-pub record Courses (index : Index) (slots : List Slot) (nexts : List ℕ) (dir : Directory) (at second : ℕ) (before : Later) (old : Disk)
-    (counter behind n : ℕ) (now : Later) (disk : Disk) : Type 0 where
+pub record Courses (index : Index) (slots : List Slot) (nexts : List ℕ) (dir : Directory) (at second : ℕ) (before : Gathered) (old : Disk)
+    (counter behind n : ℕ) (now : Gathered) (disk : Disk) : Type 0 where
   pub limit : limit_of now.entered ≡ limit_of before.entered
   pub order : at ≤ behind
   pub few : behind ≤ 32512 * counter
   pub comes : IsTrue old.honest → KnowsNexts (table_in old.image index) nexts → ComesTo (table_in old.image index) dir.d at second 255
       → ComesTo (table_in old.image index) dir.d behind n (256 - counter)
-  pub takes : (first : Later) → IsTrue old.honest → KnowsNexts (table_in old.image index) nexts
+  pub takes : (first : Gathered) → IsTrue old.honest → KnowsNexts (table_in old.image index) nexts
       → KeepsTable (table_in old.image index) slots → ComesTo (table_in old.image index) dir.d at second 255
       → TakesRecords old.image (table_in old.image index) dir.d (file_of old.image (table_in old.image index) dir.d).blocks
       (until dir.end at) first before
@@ -175,7 +175,7 @@ pub record Courses (index : Index) (slots : List Slot) (nexts : List ℕ) (dir :
       (until dir.end behind) first now
   pub looked : Looked old disk (counter - 1 + (wanted dir.end 0 behind - wanted dir.end 0 at)) 0
 
-module _ (index : Index) (slots : List Slot) (nexts : List ℕ) (dir : Directory) (at second : ℕ) (before : Later) (old : Disk) where
+module _ (index : Index) (slots : List Slot) (nexts : List ℕ) (dir : Directory) (at second : ℕ) (before : Gathered) (old : Disk) where
   abbrev pub t : Table
   t = table_in old.image index
 
@@ -192,9 +192,9 @@ module _ (index : Index) (slots : List Slot) (nexts : List ℕ) (dir : Directory
     looked = looked_within (looked_none old) (omega arith);
   }
 
-  module _ (counter behind n : ℕ) (now : Later) (disk : Disk)
+  module _ (counter behind n : ℕ) (now : Gathered) (disk : Disk)
       (is : Courses index slots nexts dir at second before old counter behind n now disk) (low : 1 ≤ counter) (high : counter ≤ 256) where
-    pub courses-more : (m count : ℕ) (after : Later) (new : Disk) → counter < 256 → 1 ≤ n → m ≡ get_or nexts (n - 1) 0
+    pub courses-more : (m count : ℕ) (after : Gathered) (new : Disk) → counter < 256 → 1 ≤ n → m ≡ get_or nexts (n - 1) 0
         → TakesHeader index slots dir behind n count now after disk new
         → Courses index slots nexts dir at second before old (counter + 1) (behind + count) m after new
     courses-more m count after new below some next takes = record {
@@ -288,7 +288,7 @@ ended : (image : Image) (t : Table) (d end : ℕ) → end ≡ stated_end (attrib
 unfolding file_of
 ended image t d end is = omega (arith, is)
 
-module _ (index : Index) (slots : List Slot) (nexts : List ℕ) (d : ℕ) (s : State) (b : List ℕ) (before : Later) (old now : Disk)
+module _ (index : Index) (slots : List Slot) (nexts : List ℕ) (d : ℕ) (s : State) (b : List ℕ) (before : Gathered) (old now : Disk)
     (reads : ReadsSlot index d s b old now) where
   pub dead-directory : s ≢ Live → TakesDirectory index slots nexts d before before old now
   dead-directory dead = record {
@@ -301,7 +301,8 @@ pub directory-fails : (index : Index) (nexts : List ℕ) (d : ℕ) (old new : Di
     → LooksFor index nexts d old new faults
 directory-fails index nexts d old new faults looked = record { reads = 1; looked = looked; few = λ honest knows live. omega arith }
 
-module _ (index : Index) (slots : List Slot) (nexts : List ℕ) (dir : Directory) (s : State) (b : List ℕ) (before : Later) (old now : Disk)
+module _ (index : Index) (slots : List Slot) (nexts : List ℕ) (dir : Directory) (s : State) (b : List ℕ) (before : Gathered)
+    (old now : Disk)
     (reads : ReadsSlot index dir.d s b old now) (live : s ≡ Live)
     (end_is : dir.end ≡ stated_end (attributes b) / 16) where
   abbrev pub of : Table
@@ -338,7 +339,7 @@ module _ (index : Index) (slots : List Slot) (nexts : List ℕ) (dir : Directory
     few = λ honest knows alive. few-is _ honest (omega (arith, first-within honest knows alive));
   }
 
-  module _ (begun mid : Later) (disk : Disk) (count second : ℕ) (begins : Begins before begun)
+  module _ (begun mid : Gathered) (disk : Disk) (count second : ℕ) (begins : Begins before begun)
       (takes : TakesBlocks slots dir 0 (blocks_named b) begun mid now disk) (counted : count ≡ length (blocks_named b))
       (next : second ≡ get_or nexts (dir.d - 1) 0) where
     image-is : disk.image ≡ old.image
@@ -382,7 +383,7 @@ module _ (index : Index) (slots : List Slot) (nexts : List ℕ) (dir : Directory
           few-is _ honest (omega (arith, less, counted));
     }
 
-    pub directory-taken : (after : Later) (new : Disk) → TakesHeaders index slots nexts dir count second 255 mid after disk new
+    pub directory-taken : (after : Gathered) (new : Disk) → TakesHeaders index slots nexts dir count second 255 mid after disk new
         → limit_of begun.entered ≡ limit_of before.entered
         → TakesDirectory index slots nexts dir.d before after old new
     directory-taken after new others limit = record {

@@ -14,20 +14,21 @@ use Rattle.f11_index.specs.Table.{Table, table_in}
 use Rattle.f11_vfy.specs.Surveying.Bits.{has}
 use Rattle.f11_vfy.specs.Chain.{KeepsTable, KnowsNexts}
 use Rattle.f11_vfy.specs.Directory.Reading.{LooksFor, TakesDirectory, most_reads}
-use Rattle.f11_vfy.specs.Directory.Notes.{IsLaterNote, has_directory, reads_at, JudgesSlot, JudgesUpTo, LooksAt, LooksUpTo, LooksThrough}
+use Rattle.f11_vfy.specs.Directory.Notes.{IsDirectoryNote, has_directory, reads_at, JudgesSlot, JudgesUpTo, LooksAt, LooksUpTo}
+use Rattle.f11_vfy.specs.Directory.Notes.{LooksThrough}
 use Rattle.f11_findings.specs.Found.{Finds, FoundAmong}
-use Rattle.f11_vfy.specs.Directory.Later.{FlawsUpTo, IsNewLater, ShowsLater}
+use Rattle.f11_vfy.specs.Directory.Gathered.{FlawsUpTo, IsNewGathered, ShowsGathered}
 use Rattle.f11_volume.specs.Notes.{IsDirectory, IsEntered, IsVolumeNote, blocks_lost, header_dead, orphan, marked, not_closed}
 use Rattle.f11_volume.specs.Notes.{in_no_directory, names_no_file, name_repeated, no_name, not_contiguous}
 use Rattle.f11_vfy.specs.Scanning.Reading.{ShowsVolume, volume_in}
 use Rattle.f11_vfy.specs.Scanning.Scans.{IsFileSlot}
 use Rattle.f11_vfy.specs.Surveying.Slot.{KeepsSlot, kept_slot}
 use Rattle.f11_volume.specs.Volume.{Volume}
-use Rattle.f11_vfy.specs.declared.directories.later.Later.{Later}
+use Rattle.f11_vfy.specs.declared.directories.gathered.Gathered.{Gathered}
 use Rattle.f11_vfy.specs.declared.findings.reading.Reading.{Reading}
 use Rattle.f11_vfy.specs.declared.survey.slot.Slot.{Slot}
 use Rattle.f11_vfy.specs.declared.survey.slot.State.TheVariants.{Live}
-use Rattle.f11_vfy.proofs.Directory.Later.{later-new, later-still, later-next}
+use Rattle.f11_vfy.proofs.Directory.Gathered.{gathered-new, gathered-still, gathered-next}
 use Rattle.f11_vfy.proofs.Scanning.Reading.{directory-said}
 use Rattle.f11_vfy.proofs.Surveying.Slots.{live-from, live-to}
 use Rattle.f11_vfy.proofs.Surveying.Sums.{sum_to-more, sum_to-le}
@@ -72,10 +73,10 @@ module _ (index : Index) (r : Reading) (k : ℕ) (s : Slot) (old new : Disk) (be
       subst (λ (x : Slot). KeepsSlot (table_in old.image index) (k + 1) x) (sym at)
       (is.surveys.slots.each k s (omega (arith, below, is.surveys.slots.count)))
 
-  pub judges-none : (later : Later) → ¬ (IsFileSlot s × (s.directory ≡ true)) → JudgesSlot index r k later later old old
-  judges-none later none = record {
-    shows = λ honest bitmap is shows. later-still old.image (volume_in old.image index bitmap) is.fit.low k
-        (λ dir. none (directory-there old.image (table_in old.image index) (k + 1) s (kept-here bitmap is) dir)) later shows;
+  pub judges-none : (gathered : Gathered) → ¬ (IsFileSlot s × (s.directory ≡ true)) → JudgesSlot index r k gathered gathered old old
+  judges-none gathered none = record {
+    shows = λ honest bitmap is shows. gathered-still old.image (volume_in old.image index bitmap) is.fit.low k
+        (λ dir. none (directory-there old.image (table_in old.image index) (k + 1) s (kept-here bitmap is) dir)) gathered shows;
     limit = refl;
     looked = record { reads = 0; looked = looked_none old; few = λ honest bitmap is. omega arith };
   }
@@ -97,24 +98,24 @@ module _ (index : Index) (r : Reading) (k : ℕ) (s : Slot) (old new : Disk) (be
           omega (arith, few, all);
     }
 
-    pub judges-directory : (before after : Later)
+    pub judges-directory : (before after : Gathered)
         → TakesDirectory index r.survey.slots.items r.chains.nexts.items (k + 1) before after old new
         → JudgesSlot index r k before after old new
     judges-directory before after takes = record {
       shows = λ honest bitmap is shows.
           let v = volume_in old.image index bitmap in
           let here = directory-at bitmap is in
-          later-next old.image v is.fit.low k here before after shows
+          gathered-next old.image v is.fit.low k here before after shows
           (takes.takes honest (knows-nexts v r is) (keeps-table v r is) here.file.live shows.blank);
       limit = takes.limit;
       looked = looks-at 0 takes.looked;
     }
 
 -- before the first slot
-pub judged-none : (index : Index) (r : Reading) (later : Later) (disk : Disk) → IsNewLater later
-    → later.entered.limit ≡ length r.survey.slots.items + 1 → JudgesUpTo index r 0 later disk disk
-judged-none index r later disk new limit = record {
-  shows = λ honest bitmap is. later-new disk.image (volume_in disk.image index bitmap) is.fit.low later new;
+pub judged-none : (index : Index) (r : Reading) (gathered : Gathered) (disk : Disk) → IsNewGathered gathered
+    → gathered.entered.limit ≡ length r.survey.slots.items + 1 → JudgesUpTo index r 0 gathered disk disk
+judged-none index r gathered disk new limit = record {
+  shows = λ honest bitmap is. gathered-new disk.image (volume_in disk.image index bitmap) is.fit.low gathered new;
   limit = limit;
   looked = record { reads = 0; looked = looked_none disk; few = λ honest bitmap is. omega arith };
 }
@@ -132,12 +133,13 @@ looked-on index r k old now new faults before here = record {
       omega (arith, first, at, sum_to-more (reads_at old.image (table_in old.image index)) k);
 }
 
-pub judged-more : (index : Index) (r : Reading) (k : ℕ) (later after : Later) (old now new : Disk) → JudgesUpTo index r k later old now
-    → JudgesSlot index r k later after now new → JudgesUpTo index r (k + 1) after old new
-judged-more index r k later after old now new before here = record {
+pub judged-more : (index : Index) (r : Reading) (k : ℕ) (gathered after : Gathered) (old now new : Disk)
+    → JudgesUpTo index r k gathered old now
+    → JudgesSlot index r k gathered after now new → JudgesUpTo index r (k + 1) after old new
+judged-more index r k gathered after old now new before here = record {
   shows = λ honest bitmap is.
-      subst (λ (i : Image). ShowsVolume (volume_in i index bitmap) r → ShowsLater i (volume_in i index bitmap) k later
-      → ShowsLater i (volume_in i index bitmap) (k + 1) after) before.looked.looked.image
+      subst (λ (i : Image). ShowsVolume (volume_in i index bitmap) r → ShowsGathered i (volume_in i index bitmap) k gathered
+      → ShowsGathered i (volume_in i index bitmap) (k + 1) after) before.looked.looked.image
       (here.shows (before.looked.looked.honest ∙ honest) bitmap) is (before.shows honest bitmap is);
   limit = here.limit ∙ before.limit;
   looked = looked-on index r k old now new 0 before.looked here.looked;
@@ -155,23 +157,23 @@ looked-all index r n old new faults below looks = record {
 }
 
 -- the notes of the directories, a list after another
-module _ (image : Image) (v : Volume) (r : Reading) (is : ShowsVolume v r) (later : Later)
-    (shows : ShowsLater image v (length r.survey.slots.items) later) where
+module _ (image : Image) (v : Volume) (r : Reading) (is : ShowsVolume v r) (gathered : Gathered)
+    (shows : ShowsGathered image v (length r.survey.slots.items) gathered) where
   abbrev pub Unentered : ℕ → ℕ → ℕ → Type 0
   Unentered =
-      FoundAmong (λ k. IsFileSlot (kept_slot r.survey.slots.items k) × (has later.entered (k + 1) ≡ false)) (λ k. finding 6 (k + 1) 0)
+      FoundAmong (λ k. IsFileSlot (kept_slot r.survey.slots.items k) × (has gathered.entered (k + 1) ≡ false)) (λ k. finding 6 (k + 1) 0)
       (length r.survey.slots.items)
 
   abbrev pub Of : List Finding → ℕ → ℕ → ℕ → Type 0
   Of list code a b = Contains list (finding code a b)
 
   abbrev pub Found : ℕ → ℕ → ℕ → Type 0
-  Found code a b = ((Unentered code a b ⊎ Of later.no_file code a b) ⊎ Of later.repeated code a b) ⊎ Of later.no_name code a b
+  Found code a b = ((Unentered code a b ⊎ Of gathered.no_file code a b) ⊎ Of gathered.repeated code a b) ⊎ Of gathered.no_name code a b
 
   kept : (k : ℕ) → k < length r.survey.slots.items → KeepsSlot v.table (k + 1) (kept_slot r.survey.slots.items k)
   kept k below = is.surveys.slots.each k _ (omega (arith, below, is.surveys.slots.count))
 
-  all-entered : (n : ℕ) → IsEntered image v.table n → has later.entered n ≡ true
+  all-entered : (n : ℕ) → IsEntered image v.table n → has gathered.entered n ≡ true
   all-entered n e =
       (shows.entered n).1 (record {
         entered = e;
@@ -180,9 +182,9 @@ module _ (image : Image) (v : Volume) (r : Reading) (is : ShowsVolume v r) (late
       })
 
   unentered-noted : (f : Finding) (k : ℕ) → k < length r.survey.slots.items → IsFileSlot (kept_slot r.survey.slots.items k)
-      → has later.entered (k + 1) ≡ false → f ≡ finding 6 (k + 1) 0 → IsLaterNote image v f.code f.a f.b
-  unentered-noted f k below file none same = subst (λ (g : Finding). IsLaterNote image v g.code g.a g.b) (sym same) (record {
-    later = omega arith;
+      → has gathered.entered (k + 1) ≡ false → f ≡ finding 6 (k + 1) 0 → IsDirectoryNote image v f.code f.a f.b
+  unentered-noted f k below file none same = subst (λ (g : Finding). IsDirectoryNote image v g.code g.a g.b) (sym same) (record {
+    late = omega arith;
     early = omega arith;
     note =
         in_no_directory (k + 1)
@@ -195,17 +197,17 @@ module _ (image : Image) (v : Volume) (r : Reading) (is : ShowsVolume v r) (late
   })
 
   flaw-found : (flaw : Flaw) (list : List Finding) → Finds (FlawsUpTo image v flaw (length r.survey.slots.items)) [] list → (code a b : ℕ)
-      → Of list code a b → IsLaterNote image v code a b
+      → Of list code a b → IsDirectoryNote image v code a b
   flaw-found flaw list finds code a b c = elim (finds.no_others (finding code a b) c) [
     | inl none ↦ absurd (omega (arith, none.1))
-    | inr f ↦ record { later = omega (arith, f.0, flaw-low flaw); early = omega (arith, f.0, flaw-high flaw); note = f.1.1 }
+    | inr f ↦ record { late = omega (arith, f.0, flaw-low flaw); early = omega (arith, f.0, flaw-high flaw); note = f.1.1 }
   ]
 
-  found-noted : (code a b : ℕ) → Found code a b → IsLaterNote image v code a b
+  found-noted : (code a b : ℕ) → Found code a b → IsDirectoryNote image v code a b
   found-noted code a b (inl (inl (inl f))) = unentered-noted (finding code a b) f.number f.below f.holds.0 f.holds.1 f.is
-  found-noted code a b (inl (inl (inr c))) = flaw-found NoFile later.no_file shows.no_file code a b c
-  found-noted code a b (inl (inr c)) = flaw-found Repeated later.repeated shows.repeated code a b c
-  found-noted code a b (inr c) = flaw-found NoName later.no_name shows.no_name code a b c
+  found-noted code a b (inl (inl (inr c))) = flaw-found NoFile gathered.no_file shows.no_file code a b c
+  found-noted code a b (inl (inr c)) = flaw-found Repeated gathered.repeated shows.repeated code a b c
+  found-noted code a b (inr c) = flaw-found NoName gathered.no_name shows.no_name code a b c
 
   within : (d : ℕ) → IsDirectory image v.table d → d ≤ length r.survey.slots.items
   within d dir = let high = is.fit.high d dir.file.live.in_use in omega (arith, high, is.surveys.slots.count)
@@ -213,7 +215,7 @@ module _ (image : Image) (v : Volume) (r : Reading) (is : ShowsVolume v r) (late
   noted-found : (code a b : ℕ) → IsVolumeNote image v code a b → 5 < code → code ≤ 9 → Found code a b
   noted-found code a b (blocks_lost low high run) past early = absurd (omega (arith, past))
   noted-found code a b (header_dead n dead) past early = absurd (omega (arith, past))
-  noted-found code a b (orphan n live later none) past early = absurd (omega (arith, past))
+  noted-found code a b (orphan n live gathered none) past early = absurd (omega (arith, past))
   noted-found code a b (marked n file mark) past early = absurd (omega (arith, past))
   noted-found code a b (not_closed n file was) past early = absurd (omega (arith, past))
   noted-found code a b (in_no_directory n file none) past early =
@@ -228,7 +230,7 @@ module _ (image : Image) (v : Volume) (r : Reading) (is : ShowsVolume v r) (late
         below = below;
         holds = (
           (alive, (here.header alive).segment ∙ file.first),
-          false_from_ne_true _ (λ e. none ((shows.entered n).0 (ap (has later.entered) (sym same) ∙ e)).entered),
+          false_from_ne_true _ (λ e. none ((shows.entered n).0 (ap (has gathered.entered) (sym same) ∙ e)).entered),
         );
         is = ap (λ (m : ℕ). finding 6 m 0) (sym same);
       })))
@@ -244,8 +246,8 @@ module _ (image : Image) (v : Volume) (r : Reading) (is : ShowsVolume v r) (late
   both R S a b c one other =
       finds-more R S (λ code x y. R code x y ⊎ S code x y) a b c one other (λ code x y h. inl h) (λ code x y h. inr h) (λ code x y h. h)
 
-  pub later-found : (a b c d e : List Finding) → Finds Unentered a b → Finds (Of later.no_file) b c → Finds (Of later.repeated) c d
-      → Finds (Of later.no_name) d e → Finds (IsLaterNote image v) a e
-  later-found a b c d e one two three four =
+  pub gathered-found : (a b c d e : List Finding) → Finds Unentered a b → Finds (Of gathered.no_file) b c → Finds (Of gathered.repeated) c d
+      → Finds (Of gathered.no_name) d e → Finds (IsDirectoryNote image v) a e
+  gathered-found a b c d e one two three four =
       finds-same Found _ a e (both _ _ a d e (both _ _ a c d (both _ _ a b c one two) three) four) found-noted
-      (λ code x y n. noted-found code x y n.note n.later n.early)
+      (λ code x y n. noted-found code x y n.note n.late n.early)

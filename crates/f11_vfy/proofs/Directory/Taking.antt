@@ -19,12 +19,12 @@ use Rattle.f11_vfy.specs.Chain.{KeepsTable}
 use Rattle.f11_vfy.specs.Directory.Blank.{HoldNoRecord}
 use Rattle.f11_vfy.specs.Directory.Reading.{until}
 use Rattle.f11_vfy.specs.Directory.Flaws.{NamesFileAt, HasFlaw, has_name}
-use Rattle.f11_vfy.specs.Directory.Later.{Begins, FindsFlaws, TakesOn, TakesRecords}
+use Rattle.f11_vfy.specs.Directory.Gathered.{Begins, FindsFlaws, TakesOn, TakesRecords}
 use Rattle.f11_volume.specs.Notes.{IsIdOf}
 use Rattle.f11_vfy.specs.declared.directories.contents.Directory.{Directory}
 use Rattle.f11_vfy.specs.declared.directories.flaws.Flaw.{Flaw}
 use Rattle.f11_vfy.specs.declared.directories.flaws.Flaw.TheVariants.{NoFile, Repeated, NoName}
-use Rattle.f11_vfy.specs.declared.directories.later.Later.{Later}
+use Rattle.f11_vfy.specs.declared.directories.gathered.Gathered.{Gathered}
 use Rattle.f11_vfy.specs.declared.survey.bits.Bits.{Bits}
 use Rattle.f11_vfy.specs.declared.survey.slot.Slot.{Slot}
 use Rattle.f11_vfy.proofs.Directory.Flaws.{enters-more}
@@ -32,11 +32,11 @@ use Rattle.f11_findings.proofs.FoundLemmas.{among-none, among-more, finds-same}
 use Rattle.f11_vfy.proofs.Directory.Repeats.{no-names, names-more, names-repeat}
 
 -- nothing more
-pub takes-none : (slots : List Slot) (d : ℕ) (P : Image → List (List ℕ) → Type 0) (n : ℕ) (old : Later) → TakesOn slots d P n n old old
+pub takes-none : (slots : List Slot) (d : ℕ) (P : Image → List (List ℕ) → Type 0) (n : ℕ) (old : Gathered) → TakesOn slots d P n n old old
 takes-none slots d P n old = record { limit = refl; takes = λ image t blocks first keeps is taken. taken }
 
 -- one part after another
-pub takes-more : (slots : List Slot) (d : ℕ) (P Q R : Image → List (List ℕ) → Type 0) (a b c : ℕ) (x y z : Later)
+pub takes-more : (slots : List Slot) (d : ℕ) (P Q R : Image → List (List ℕ) → Type 0) (a b c : ℕ) (x y z : Gathered)
     → TakesOn slots d P a b x y → TakesOn slots d Q b c y z
     → ((image : Image) → (blocks : List (List ℕ)) → R image blocks → P image blocks × Q image blocks) → TakesOn slots d R a c x z
 takes-more slots d P Q R a b c x y z one other both = record {
@@ -46,7 +46,8 @@ takes-more slots d P Q R a b c x y z one other both = record {
 }
 
 -- the same, said otherwise
-pub takes-same : (slots : List Slot) (d : ℕ) (P Q : Image → List (List ℕ) → Type 0) (a b m n : ℕ) (x y : Later) → TakesOn slots d P a b x y
+pub takes-same : (slots : List Slot) (d : ℕ) (P Q : Image → List (List ℕ) → Type 0) (a b m n : ℕ) (x y : Gathered)
+    → TakesOn slots d P a b x y
     → a ≡ m → b ≡ n → ((image : Image) → (blocks : List (List ℕ)) → Q image blocks → P image blocks)
     → TakesOn slots d Q m n x y
 takes-same slots d P Q a b m n x y one low high to = record {
@@ -58,7 +59,7 @@ takes-same slots d P Q a b m n x y one low high to = record {
 }
 
 -- no record of a directory in hand is taken yet
-pub takes-begin : (image : Image) (t : Table) (d : ℕ) (blocks : List (List ℕ)) (old new : Later) → Begins old new
+pub takes-begin : (image : Image) (t : Table) (d : ℕ) (blocks : List (List ℕ)) (old new : Gathered) → Begins old new
     → HoldNoRecord old.blank image → TakesRecords image t d blocks 0 old new
 takes-begin image t d blocks old new is known = record {
   entered = λ n. (
@@ -73,7 +74,7 @@ takes-begin image t d blocks old new is known = record {
 }
 
 -- records that are empty are as none
-module _ (image : Image) (t : Table) (d : ℕ) (blocks : List (List ℕ)) (i j : ℕ) (first now : Later) (order : i ≤ j)
+module _ (image : Image) (t : Table) (d : ℕ) (blocks : List (List ℕ)) (i j : ℕ) (first now : Gathered) (order : i ≤ j)
     (empty : (k : ℕ) → i ≤ k → k < j → is_empty (record_at blocks k) ≡ true) where
   earlier : (k : ℕ) → k < j → is_empty (record_at blocks k) ≡ false → k < i
   earlier k below some = elim (cases_lt k i) [ inl h ↦ h | inr h ↦ absurd (both_ways _ some (empty k h below)) ]
@@ -110,7 +111,7 @@ module _ (image : Image) (t : Table) (d : ℕ) (blocks : List (List ℕ)) (i j :
     blank = taken.blank;
   }
 
-pub takes-skip : (slots : List Slot) (d : ℕ) (P : Image → List (List ℕ) → Type 0) (i j : ℕ) (now : Later) → i ≤ j
+pub takes-skip : (slots : List Slot) (d : ℕ) (P : Image → List (List ℕ) → Type 0) (i j : ℕ) (now : Gathered) → i ≤ j
     → ((image : Image) → (blocks : List (List ℕ)) → P image blocks → (k : ℕ) → i ≤ k → k < j → is_empty (record_at blocks k) ≡ true)
     → TakesOn slots d P i j now now
 takes-skip slots d P i j now order empty =
@@ -121,7 +122,7 @@ takes-skip slots d P i j now order empty =
     }
 
 -- an empty record
-pub record-empty : (slots : List Slot) (d i : ℕ) (r : Record) (now : Later) → r.id.number ≡ 0
+pub record-empty : (slots : List Slot) (d i : ℕ) (r : Record) (now : Gathered) → r.id.number ≡ 0
     → TakesOn slots d (λ _ blocks. r ≡ record_of_bytes (record_at blocks i)) i (i + 1) now now
 record-empty slots d i r now none = takes-skip slots d _ i (i + 1) now (omega arith) (λ image blocks is k low high.
     let same : k ≡ i = omega (arith, low, high) in
@@ -129,7 +130,7 @@ record-empty slots d i r now none = takes-skip slots d _ i (i + 1) now (omega ar
     subst (λ (m : ℕ). is_empty (record_at blocks m) ≡ true) (sym same) (ap (λ m. m == 0) number))
 
 -- a record that isn't empty
-module _ (slots : List Slot) (d i : ℕ) (r : Record) (file added named : Bool) (old new : Later) (some : r.id.number ≢ 0)
+module _ (slots : List Slot) (d i : ℕ) (r : Record) (file added named : Bool) (old new : Gathered) (some : r.id.number ≢ 0)
     (limit : new.entered.limit ≡ old.entered.limit) (blank : new.blank ≡ old.blank)
     (update : Updates (slice_cmp nat_cmp) old.names new.names r.words true) (adds : added ≡ not (has_name old.names r.words))
     (told : (t : Table) → KeepsTable t slots → IsTrue file ↔ IsIdOf t r.id r.id.number)
@@ -169,7 +170,7 @@ module _ (slots : List Slot) (d i : ℕ) (r : Record) (file added named : Bool) 
       λ flaw. ap not (false_from_ne_true named (λ yes. flaw.1 (subst IsName words-are (names.0 yes)))),
     )
 
-    taken : (image : Image) (first : Later) → TakesRecords image t d blocks i first old → TakesRecords image t d blocks (i + 1) first new
+    taken : (image : Image) (first : Gathered) → TakesRecords image t d blocks i first old → TakesRecords image t d blocks (i + 1) first new
     taken image first before =
         let again = names-repeat blocks i old.names new.names r.words before.names not_empty words-are update added adds in
         record {
@@ -198,7 +199,7 @@ record-in blocks at k b small same =
     ∙ ap (record_in (get_or blocks ((32 * at + k) / 32) [])) place
 
 -- record k of a block
-pub block-more : (slots : List Slot) (dir : Directory) (at k : ℕ) (b : List ℕ) (r : Record) (before now after : Later)
+pub block-more : (slots : List Slot) (dir : Directory) (at k : ℕ) (b : List ℕ) (r : Record) (before now after : Gathered)
     → 32 * at + k < dir.end → k < 32
     → TakesOn slots dir.d (λ _ blocks. get_or blocks at [] ≡ b) (until dir.end at) (until dir.end at + k) before now
     → r ≡ record_of_bytes (record_in b k)

@@ -22,9 +22,9 @@ use Rattle.f11_volume.specs.Contents.{block_or_zeros}
 use Rattle.f11_vfy.specs.Surveying.Bits.{has}
 use Rattle.f11_vfy.specs.Directory.Blank.{AddsBlank, HasAll}
 use Rattle.f11_vfy.specs.Directory.Reading.{HasBlocks, HasImage, HoldsDirectoryBlock, HoldsDirectoryBlocks, TakesBlocks, until, wanted}
-use Rattle.f11_vfy.specs.Directory.Later.{TakesOn}
+use Rattle.f11_vfy.specs.Directory.Gathered.{TakesOn}
 use Rattle.f11_vfy.specs.declared.directories.contents.Directory.{Directory}
-use Rattle.f11_vfy.specs.declared.directories.later.Later.{Later}
+use Rattle.f11_vfy.specs.declared.directories.gathered.Gathered.{Gathered}
 use Rattle.f11_vfy.specs.declared.survey.bits.Bits.{Bits}
 use Rattle.f11_vfy.specs.declared.survey.slot.Slot.{Slot}
 use Rattle.f11_vfy.proofs.Directory.Blank.{blank-more, block-empty}
@@ -73,7 +73,8 @@ module _ (slots : List Slot) (dir : Directory) (at lbn : ℕ) (old : Disk) where
   Block = HoldsDirectoryBlock old lbn at
 
   -- that is known to hold no record
-  pub known-taken : (now : Later) → has now.blank lbn ≡ true → TakesOn slots dir.d Block (until dir.end at) (until dir.end (at + 1)) now now
+  pub known-taken : (now : Gathered) → has now.blank lbn ≡ true
+      → TakesOn slots dir.d Block (until dir.end at) (until dir.end (at + 1)) now now
   known-taken now known = record {
     limit = refl;
     takes = λ image t blocks first keeps holds taken.
@@ -82,7 +83,7 @@ module _ (slots : List Slot) (dir : Directory) (at lbn : ℕ) (old : Disk) where
   }
 
   -- that was read
-  pub read-taken : (b : List ℕ) (before after : Later) (blank : Bits) → (IsTrue old.honest → slice_get old.image lbn ≡ Some b)
+  pub read-taken : (b : List ℕ) (before after : Gathered) (blank : Bits) → (IsTrue old.honest → slice_get old.image lbn ≡ Some b)
       → TakesOn slots dir.d (λ _ blocks. get_or blocks at [] ≡ b) (until dir.end at) (until dir.end (at + 1)) before after
       → AddsBlank lbn b after.blank blank
       → TakesOn slots dir.d Block (until dir.end at) (until dir.end (at + 1)) before (record after { blank = blank })
@@ -103,7 +104,7 @@ module _ (slots : List Slot) (dir : Directory) (at lbn : ℕ) (old : Disk) where
   }
 
 -- a run of blocks
-module _ (slots : List Slot) (dir : Directory) (at lbn count : ℕ) (old : Disk) (before : Later) where
+module _ (slots : List Slot) (dir : Directory) (at lbn count : ℕ) (old : Disk) (before : Gathered) where
   abbrev pub Run : Image → List (List ℕ) → Type 0
   Run = HoldsDirectoryBlocks old (range_with_len lbn count) at
 
@@ -115,7 +116,7 @@ module _ (slots : List Slot) (dir : Directory) (at lbn count : ℕ) (old : Disk)
       ∙ ap (block_or_zeros image) (get_or-range_with_len lbn count k 0 below)
 
   -- one block more
-  pub run-more : (k : ℕ) (now after : Later) (disk : Disk) → k < count
+  pub run-more : (k : ℕ) (now after : Gathered) (disk : Disk) → k < count
       → TakesOn slots dir.d Run (until dir.end at) (until dir.end (at + k)) before now → Looked old disk k 0
       → TakesOn slots dir.d (HoldsDirectoryBlock disk (lbn + k) (at + k)) (until dir.end (at + k)) (until dir.end (at + k + 1)) now after
       → TakesOn slots dir.d Run (until dir.end at) (until dir.end (at + (k + 1))) before after
@@ -152,7 +153,7 @@ module _ (slots : List Slot) (dir : Directory) (at lbn count : ℕ) (old : Disk)
       empty-zeros blocks j (ap (λ (n : ℕ). get_or blocks n []) (sym place) ∙ run-block image blocks holds (j / 32 - at)
       (omega (arith, low, high, all)) ∙ get_or-eq_default image zero_block past)
 
-  run-all : (k : ℕ) (now : Later) → k ≡ min (wanted dir.end at count) (length old.image - lbn)
+  run-all : (k : ℕ) (now : Gathered) → k ≡ min (wanted dir.end at count) (length old.image - lbn)
       → TakesOn slots dir.d Run (until dir.end at) (until dir.end (at + k)) before now
       → TakesOn slots dir.d Run (until dir.end at) (until dir.end (at + length (range_with_len lbn count))) before now
   run-all k now all taken =
@@ -163,16 +164,16 @@ module _ (slots : List Slot) (dir : Directory) (at lbn count : ℕ) (old : Disk)
       (λ image blocks holds. (holds, holds)))
       refl (ap (until dir.end) long) (λ image blocks holds. holds)
 
-  pub run-taken : (k : ℕ) (now : Later) (disk : Disk) → k ≡ min (wanted dir.end at count) (length old.image - lbn)
+  pub run-taken : (k : ℕ) (now : Gathered) (disk : Disk) → k ≡ min (wanted dir.end at count) (length old.image - lbn)
       → TakesOn slots dir.d Run (until dir.end at) (until dir.end (at + k)) before now → Looked old disk k 0
       → TakesBlocks slots dir at (range_with_len lbn count) before now old disk
   run-taken k now disk all taken looked =
       record { takes = run-all k now all taken; looked = looked_within looked (omega (arith, all, length-range_with_len lbn count)) }
 
 -- a header's pointers
-module _ (slots : List Slot) (dir : Directory) (at : ℕ) (b : List ℕ) (old : Disk) (before : Later) where
+module _ (slots : List Slot) (dir : Directory) (at : ℕ) (b : List ℕ) (old : Disk) (before : Gathered) where
   -- the blocks of one pointer more
-  pub pointers-more : (i behind : ℕ) (run : ℕ × ℕ) (now after : Later) (disk new : Disk) → slice_get (runs_of (map_area b)) i ≡ Some run
+  pub pointers-more : (i behind : ℕ) (run : ℕ × ℕ) (now after : Gathered) (disk new : Disk) → slice_get (runs_of (map_area b)) i ≡ Some run
       → behind ≡ at + length (blocks_in (take i (runs_of (map_area b))))
       → TakesOn slots dir.d (HoldsDirectoryBlocks old (blocks_named b) at) (until dir.end at) (until dir.end behind) before now → {most : ℕ}
       → Looked old disk most 0
@@ -222,7 +223,7 @@ module _ (slots : List Slot) (dir : Directory) (at : ℕ) (b : List ℕ) (old : 
   pointers-looked i behind run disk new faults here is before after =
       looked_within (looked_more before after) (omega (arith, pointers-within i behind run here is, is))
 
-  pub pointers-taken : (behind : ℕ) (now : Later) (disk : Disk) → behind ≡ at + length (blocks_named b)
+  pub pointers-taken : (behind : ℕ) (now : Gathered) (disk : Disk) → behind ≡ at + length (blocks_named b)
       → TakesOn slots dir.d (HoldsDirectoryBlocks old (blocks_named b) at) (until dir.end at) (until dir.end behind) before now
       → Looked old disk (wanted dir.end at (behind - at)) 0
       → TakesBlocks slots dir at (blocks_named b) before now old disk

@@ -8,7 +8,7 @@ use Rattle.f11_findings.specs.declared.finding.Finding.{Finding}
 use Rattle.f11_findings.proofs.FoundLemmas.{exactly, finds-if}
 use Rattle.f11_home.specs.Home.{HomeFields}
 use Rattle.f11_home.proofs.HomeLemmas.{home-unique}
-use Rattle.f11_vfy.specs.Directory.Notes.{IsLaterNote}
+use Rattle.f11_vfy.specs.Directory.Notes.{IsDirectoryNote}
 use Rattle.f11_volume.specs.Faults.{IsFramed, IsFrameFault, IsVolumeFault}
 use Rattle.f11_findings.specs.Found.{Finds}
 use Rattle.f11_volume.specs.Notes.{IsVolumeNote}
@@ -48,11 +48,11 @@ no-note image code a fault = record {
 
 -- the notes of a volume are those of the first five codes, those of directories, and the last
 pub volume-notes : (image : Image) (v : Volume) (old now new : List Finding) → IsExactly (IsFirstNote image v) old
-    → Finds (IsLaterNote image v) old now → Finds (IsLastNote image v) now new
+    → Finds (IsDirectoryNote image v) old now → Finds (IsLastNote image v) now new
     → IsExactly (IsVolumeNote image v) new
-volume-notes image v old now new is later last = record {
+volume-notes image v old now new is gathered last = record {
   each = λ k d below. elim (last.no_others (get_or new k d) (Contains-get_or new k d below)) [
-    | inl before ↦ elim (later.no_others (get_or new k d) before) [
+    | inl before ↦ elim (gathered.no_others (get_or new k d) before) [
       | inl first ↦ (All-contains (λ f. IsFirstNote image v f.code f.a f.b) old (get_or new k d) is.each first).note
       | inr there ↦ there.note
     ]
@@ -61,11 +61,11 @@ volume-notes image v old now new is later last = record {
   all = λ code a b note. elim (cases_lt 5 code) [
     | inl past ↦ elim (cases_lt 9 code) [
       | inl end ↦ last.added code a b (record { last = end; note = note })
-      | inr early ↦ last.kept (finding code a b) (later.added code a b (record { later = past; early = early; note = note }))
+      | inr early ↦ last.kept (finding code a b) (gathered.added code a b (record { late = past; early = early; note = note }))
     ]
-    | inr first ↦ last.kept (finding code a b) (later.kept (finding code a b) (is.all code a b (record { first = first; note = note })))
+    | inr first ↦ last.kept (finding code a b) (gathered.kept (finding code a b) (is.all code a b (record { first = first; note = note })))
   ];
-  order = last.order (later.order is.order);
+  order = last.order (gathered.order is.order);
 }
 
 module _ (image : Image) (home : HomeFields) (framed : IsFramed image home) where

@@ -16,16 +16,16 @@ use Rattle.f11_volume.specs.Contents.{file_of}
 use Rattle.f11_vfy.specs.Surveying.Count.{sum_to}
 use Rattle.f11_vfy.specs.Directory.Reading.{most_reads}
 use Rattle.f11_findings.specs.Found.{Finds}
-use Rattle.f11_vfy.specs.Directory.Later.{ShowsLater}
+use Rattle.f11_vfy.specs.Directory.Gathered.{ShowsGathered}
 use Rattle.f11_volume.specs.Notes.{IsVolumeNote}
 use Rattle.f11_vfy.specs.Scanning.Reading.{ShowsVolume, volume_in}
 use Rattle.f11_volume.specs.Volume.{Volume}
-use Rattle.f11_vfy.specs.declared.directories.later.Later.{Later}
+use Rattle.f11_vfy.specs.declared.directories.gathered.Gathered.{Gathered}
 use Rattle.f11_vfy.specs.declared.findings.reading.Reading.{Reading}
 
 -- a note of directories, by its code, which is above the first five and below the last
-pub record IsLaterNote (image : Image) (v : Volume) (code a b : ℕ) : Type 0 where
-  pub later : 5 < code
+pub record IsDirectoryNote (image : Image) (v : Volume) (code a b : ℕ) : Type 0 where
+  pub late : 5 < code
   pub early : code ≤ 9
   pub note : IsVolumeNote image v code a b
 
@@ -60,18 +60,18 @@ pub record LooksAt (index : Index) (r : Reading) (k : ℕ) (old new : Disk) (fau
       reads ≤ reads_at old.image (table_in old.image index) k
 
 -- Slot k + 1 was judged.
-pub record JudgesSlot (index : Index) (r : Reading) (k : ℕ) (before after : Later) (old new : Disk) : Type 0 where
+pub record JudgesSlot (index : Index) (r : Reading) (k : ℕ) (before after : Gathered) (old new : Disk) : Type 0 where
   pub shows : IsTrue old.honest → (bitmap : Bitmap) → ShowsVolume (volume_in old.image index bitmap) r →
-      ShowsLater old.image (volume_in old.image index bitmap) k before
-      → ShowsLater old.image (volume_in old.image index bitmap) (k + 1) after
+      ShowsGathered old.image (volume_in old.image index bitmap) k before
+      → ShowsGathered old.image (volume_in old.image index bitmap) (k + 1) after
   pub limit : limit_of after.entered ≡ limit_of before.entered
   pub looked : LooksAt index r k old new 0
 
 -- The directories of the first slots were judged.
-pub record JudgesUpTo (index : Index) (r : Reading) (n : ℕ) (later : Later) (old new : Disk) : Type 0 where
+pub record JudgesUpTo (index : Index) (r : Reading) (n : ℕ) (gathered : Gathered) (old new : Disk) : Type 0 where
   pub shows : IsTrue old.honest → (bitmap : Bitmap) → ShowsVolume (volume_in old.image index bitmap) r →
-      ShowsLater old.image (volume_in old.image index bitmap) n later
-  pub limit : limit_of later.entered ≡ length r.survey.slots.items + 1
+      ShowsGathered old.image (volume_in old.image index bitmap) n gathered
+  pub limit : limit_of gathered.entered ≡ length r.survey.slots.items + 1
   pub looked : LooksUpTo index r n old new 0
 
 -- The directories were looked through; so many transfers failed.
@@ -90,5 +90,5 @@ pub record NotesVolume (index : Index) (r : Reading) (notes : List Finding) (old
 -- The notes of the directories were added.
 pub record AddsDirectoryNotes (index : Index) (r : Reading) (found_old found_new : List Finding) (old new : Disk) : Type 0 where
   pub finds : IsTrue old.honest → (bitmap : Bitmap) → ShowsVolume (volume_in old.image index bitmap) r
-      → Finds (IsLaterNote old.image (volume_in old.image index bitmap)) found_old found_new
+      → Finds (IsDirectoryNote old.image (volume_in old.image index bitmap)) found_old found_new
   pub looked : LooksThrough index r old new 0

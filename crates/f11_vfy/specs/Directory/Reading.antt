@@ -30,9 +30,9 @@ use Rattle.f11_vfy.specs.Surveying.Bits.{limit_of}
 use Rattle.f11_vfy.specs.Chain.{KeepsTable, KnowsNexts, numbered}
 use Rattle.f11_volume.specs.Contents.{following, blocks_reached, block_or_zeros, file_of}
 use Rattle.f11_vfy.specs.Directory.Blank.{HoldNoRecord}
-use Rattle.f11_vfy.specs.Directory.Later.{TakesOn, TakesRecords}
+use Rattle.f11_vfy.specs.Directory.Gathered.{TakesOn, TakesRecords}
 use Rattle.f11_vfy.specs.declared.directories.contents.Directory.{Directory}
-use Rattle.f11_vfy.specs.declared.directories.later.Later.{Later}
+use Rattle.f11_vfy.specs.declared.directories.gathered.Gathered.{Gathered}
 use Rattle.f11_vfy.specs.declared.survey.slot.Slot.{Slot}
 
 -- how many records before an end there are in the first so many blocks
@@ -60,9 +60,10 @@ abbrev pub HoldsDirectoryBlock : Disk → ℕ → ℕ → Image → List (List �
 HoldsDirectoryBlock disk lbn at image blocks = HasImage disk image × (slice_index_or blocks at [] ≡ block_or_zeros image lbn)
 
 -- The blocks at these LBNs, which are a directory's from block `at` on, were taken, and read where they may hold a record before its end.
-pub record TakesBlocks (slots : List Slot) (dir : Directory) (at : ℕ) (lbns : List ℕ) (before after : Later) (old new : Disk) : Type 0 where
-  pub takes : TakesOn slots dir.d (HoldsDirectoryBlocks old lbns at) (until dir.end at) (until dir.end (at + length lbns)) before after
-  pub looked : Looked old new (wanted dir.end at (length lbns)) 0
+pub record TakesBlocks (slots : List Slot) (dir : Directory) (at : ℕ) (lbns : List ℕ) (before after : Gathered) (old new : Disk) : Type 0
+  where
+    pub takes : TakesOn slots dir.d (HoldsDirectoryBlocks old lbns at) (until dir.end at) (until dir.end (at + length lbns)) before after
+    pub looked : Looked old new (wanted dir.end at (length lbns)) 0
 
 -- Header n of a directory was read, and blocks that it names; so many transfers failed.
 pub record LooksAtHeader (index : Index) (end at n : ℕ) (old new : Disk) (faults : ℕ) : Type 0 where
@@ -76,7 +77,7 @@ pub record HoldsHeaderBlocks (index : Index) (n at : ℕ) (disk : Disk) (image :
   pub holds : HoldsDirectoryBlocks disk (blocks_named ((table_in disk.image index).header n)) at image blocks
 
 -- Header n of a directory was read, and its blocks, so many, were taken.
-pub record TakesHeader (index : Index) (slots : List Slot) (dir : Directory) (at n count : ℕ) (before after : Later)
+pub record TakesHeader (index : Index) (slots : List Slot) (dir : Directory) (at n count : ℕ) (before after : Gathered)
     (old new : Disk) : Type 0 where
   pub takes : TakesOn slots dir.d (HoldsHeaderBlocks index n at old) (until dir.end at) (until dir.end (at + count)) before after
   pub count_is : IsTrue old.honest → IsLive (table_in old.image index) n →
@@ -100,9 +101,9 @@ pub record LooksAtHeaders (index : Index) (nexts : List ℕ) (dir : Directory) (
 
 -- They were taken.
 pub record TakesHeaders (index : Index) (slots : List Slot) (nexts : List ℕ) (dir : Directory) (at n most : ℕ)
-    (before after : Later) (old new : Disk) : Type 0 where
+    (before after : Gathered) (old new : Disk) : Type 0 where
   pub limit : limit_of after.entered ≡ limit_of before.entered
-  pub takes : (first : Later) → IsTrue old.honest → KnowsNexts (table_in old.image index) nexts →
+  pub takes : (first : Gathered) → IsTrue old.honest → KnowsNexts (table_in old.image index) nexts →
       KeepsTable (table_in old.image index) slots → ComesTo (table_in old.image index) dir.d at n most
       → TakesRecords old.image (table_in old.image index) dir.d (file_of old.image (table_in old.image index) dir.d).blocks
       (until dir.end at) first before
@@ -126,7 +127,7 @@ pub record LooksFor (index : Index) (nexts : List ℕ) (d : ℕ) (old new : Disk
       reads ≤ most_reads old.image (table_in old.image index) d
 
 -- A directory's records were taken.
-pub record TakesDirectory (index : Index) (slots : List Slot) (nexts : List ℕ) (d : ℕ) (before after : Later)
+pub record TakesDirectory (index : Index) (slots : List Slot) (nexts : List ℕ) (d : ℕ) (before after : Gathered)
     (old new : Disk) : Type 0 where
   pub limit : limit_of after.entered ≡ limit_of before.entered
   pub takes : IsTrue old.honest → KnowsNexts (table_in old.image index) nexts →

@@ -7,7 +7,7 @@ ghost use Rattle.f11_findings.specs.Found.{Finds, FoundAmong};
 ghost use Rattle.f11_vfy.specs.Scanning.Scans.{IsFileSlot};
 ghost use Rattle.f11_vfy.specs.Surveying.Slot.{kept_slot};
 
-use crate::directories::later::Later;
+use crate::directories::gathered::Gathered;
 use crate::fault::ReadFault;
 use crate::findings::reading::Reading;
 use crate::findings::scans::add_all;
@@ -74,13 +74,13 @@ impl Reading {
         device: &mut D,
         index: &IndexFile,
         k: usize,
-        later: &mut Later,
+        gathered: &mut Gathered,
     ) -> Result<(), ReadFault>
         requires within { IndexLiesWithin (index_kept index.now) (length (D.disk device.old).image) }
         requires slot { k < length self.now.survey.slots.items }
-        requires limit { limit_of later.old.entered ≡ length self.now.survey.slots.items + 1 }
-        ensures judges { OnOk result (JudgesSlot (index_kept index.now) self.now k later.old
-            later.new
+        requires limit { limit_of gathered.old.entered ≡ length self.now.survey.slots.items + 1 }
+        ensures judges { OnOk result (JudgesSlot (index_kept index.now) self.now k gathered.old
+            gathered.new
             (D.disk device.old) (D.disk device.new)) }
         ensures failed { IsErrOf result ReadFault.DeviceFault
             → LooksAt (index_kept index.now) self.now k (D.disk device.old) (D.disk device.new) 1 }
@@ -92,7 +92,7 @@ impl Reading {
             return Ok(());
         }
         let nexts = &self.chains.nexts;
-        later.take_directory(alloc, device, index, &self.survey.slots, nexts, d)?;
+        gathered.take_directory(alloc, device, index, &self.survey.slots, nexts, d)?;
         Ok(())
     }
 
@@ -102,10 +102,10 @@ impl Reading {
         alloc: Global,
         device: &mut D,
         index: &IndexFile,
-    ) -> Result<Later, ReadFault>
+    ) -> Result<Gathered, ReadFault>
         requires within { IndexLiesWithin (index_kept index.now) (length (D.disk device.old).image) }
-        ensures judges { IfOk result (λ later. JudgesUpTo (index_kept index.now) self.now
-            (length self.now.survey.slots.items) later (D.disk device.old) (D.disk device.new)) }
+        ensures judges { IfOk result (λ gathered. JudgesUpTo (index_kept index.now) self.now
+            (length self.now.survey.slots.items) gathered (D.disk device.old) (D.disk device.new)) }
         ensures failed { IsErrOf result ReadFault.DeviceFault
             → LooksThrough (index_kept index.now) self.now (D.disk device.old)
             (D.disk device.new) 1 }
@@ -113,11 +113,11 @@ impl Reading {
             → LooksThrough (index_kept index.now) self.now (D.disk device.old)
             (D.disk device.new) 0 }
     {
-        let mut later = Later::new(alloc, self.survey.slots.len() as u32, device.blocks())?;
+        let mut gathered = Gathered::new(alloc, self.survey.slots.len() as u32, device.blocks())?;
         for k in 0..self.survey.slots.len() {
-            self.judge_slot(alloc, device, index, k, &mut later)?;
+            self.judge_slot(alloc, device, index, k, &mut gathered)?;
         }
-        Ok(later)
+        Ok(gathered)
     }
 
     /// Adds the notes of directories, those of the codes 6 to 9, to those of the codes 1 to 5. For each directory it reads each of its
@@ -144,14 +144,14 @@ impl Reading {
             → LooksThrough (index_kept index.now) self.now (D.disk device.old)
             (D.disk device.new) 0 }
     {
-        let later = self.judge_directories(alloc, device, index)?;
-        add_unentered(found, &self.survey.slots, &later.entered)?;
-        let Later {
+        let gathered = self.judge_directories(alloc, device, index)?;
+        add_unentered(found, &self.survey.slots, &gathered.entered)?;
+        let Gathered {
             no_file,
             repeated,
             no_name,
             ..
-        } = later;
+        } = gathered;
         add_all(found, no_file)?;
         add_all(found, repeated)?;
         add_all(found, no_name)?;

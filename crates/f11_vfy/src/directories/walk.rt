@@ -9,7 +9,7 @@ ghost use Rattle.f11_index.specs.Kept.{index_kept, IndexLiesWithin};
 
 use crate::directories::blank::{add_blank, are_in, is_in};
 use crate::directories::contents::{Directory, is_live, record_end};
-use crate::directories::later::Later;
+use crate::directories::gathered::Gathered;
 use crate::fault::ReadFault;
 use crate::survey::headers::read_slot;
 use crate::survey::slot::Slot;
@@ -20,9 +20,9 @@ use f11_index::IndexFile;
 use f11_map::in_hand::map;
 use std::alloc::Global;
 
-impl Later {
+impl Gathered {
     ghost use Rattle.f11_vfy.specs.Surveying.Bits.{limit_of};
-    ghost use Rattle.f11_vfy.specs.Directory.Later.{TakesOn};
+    ghost use Rattle.f11_vfy.specs.Directory.Gathered.{TakesOn};
     ghost use Rattle.f11_vfy.specs.Directory.Reading.{until, wanted, HoldsDirectoryBlock, TakesBlocks, TakesHeader, TakesHeaders, TakesDirectory};
     ghost use Rattle.f11_vfy.specs.Directory.Reading.{LooksAtHeader, LooksAtHeaders, LooksFor};
 

@@ -7,8 +7,8 @@ use Rattle.f11_vfy.proofs.findings.reading.Reading.judge_directories.Goals as go
 
 pub loop-k-init : goal.loop-k-init
 loop-k-init g c =
-    judged-none (index_kept c.args.index.now) c.args.self.now _ _ c.in_ok-later.ensures.new
-    (omega (arith, c.in_ok-later.ensures.limit, c.len.ensures, c.args.self.now.survey.slots.ok.0))
+    judged-none (index_kept c.args.index.now) c.args.self.now _ _ c.in_ok-gathered.ensures.new
+    (omega (arith, c.in_ok-gathered.ensures.limit, c.len.ensures, c.args.self.now.survey.slots.ok.0))
 
 pub judge_slot-requires-clause-within : goal.judge_slot-requires-clause-within
 judge_slot-requires-clause-within g c =

@@ -4,4 +4,4 @@ use Rattle.f11_vfy.proofs.findings.reading.Reading.judge_directories.Given as go
 
 -- the slots so far are judged
 abbrev pub invariant-loop-k : goal.invariant-loop-k
-invariant-loop-k g l = JudgesUpTo (index_kept l.index) l.self l.k l.later (g.D.Device.disk l.fn.device) (g.D.Device.disk l.device)
+invariant-loop-k g l = JudgesUpTo (index_kept l.index) l.self l.k l.gathered (g.D.Device.disk l.fn.device) (g.D.Device.disk l.device)

@@ -8,7 +8,7 @@ pub returns-then-not-is_directory-clause-judges : goal.returns-then-not-is_direc
 returns-then-not-is_directory-clause-judges g c =
     let old = g.D.Device.disk c.args.device.now in
     judges-none (index_kept c.args.index.now) c.args.self.now c.args.k c.index.result.now old old c.requires.slot c.index.ensures
-    c.args.later.now (λ h. both_ways _ c.if-not-is_directory.true (c.is_directory.ensures.1 h))
+    c.args.gathered.now (λ h. both_ways _ c.if-not-is_directory.true (c.is_directory.ensures.1 h))
 
 pub returns-clause-judges : goal.returns-clause-judges
 returns-clause-judges g c =

@@ -4,8 +4,8 @@ use Rattle.f11_header.specs.Fields.{map_area}
 use Rattle.f11_map.specs.HeaderBlock.{blocks_named}
 use Rattle.f11_map.specs.MapArea.{runs_of, blocks_in}
 use Rattle.f11_vfy.specs.Directory.Reading.{HoldsDirectoryBlocks, until, wanted}
-use Rattle.f11_vfy.specs.Directory.Later.{TakesOn}
-use Rattle.f11_vfy.proofs.directories.later.Later.take_pointers.Given as goal
+use Rattle.f11_vfy.specs.Directory.Gathered.{TakesOn}
+use Rattle.f11_vfy.proofs.directories.gathered.Gathered.take_pointers.Given as goal
 
 -- the blocks of the pointers so far are taken
 abbrev pub invariant-loop-i : goal.invariant-loop-i

@@ -2,7 +2,7 @@ use Rattle.std.proofs.Common.{arith}
 use Rattle.f11_chain.proofs.AlongLemmas.{handed-on}
 use Rattle.f11_dev.proofs.LookedLemmas.{looked_more, looked_none, looked_within}
 use Rattle.f11_vfy.proofs.Directory.Walk.{run-known, run-more, run-taken}
-use Rattle.f11_vfy.proofs.directories.later.Later.take_pointer.Goals as goal
+use Rattle.f11_vfy.proofs.directories.gathered.Gathered.take_pointer.Goals as goal
 
 pub loop-k-preserved : goal.loop-k-preserved
 loop-k-preserved g c = record {

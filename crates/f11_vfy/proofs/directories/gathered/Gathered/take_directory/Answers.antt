@@ -5,7 +5,7 @@ use Rattle.f11_chain.proofs.AlongLemmas.{handed-on}
 use Rattle.f11_index.specs.Kept.{index_kept}
 use Rattle.f11_vfy.specs.Surveying.Bits.{limit_of}
 use Rattle.f11_vfy.proofs.Directory.Course.{dead-directory, directory-fails, slot-looked, first-looks, others-look, directory-taken}
-use Rattle.f11_vfy.proofs.directories.later.Later.take_directory.Goals as goal
+use Rattle.f11_vfy.proofs.directories.gathered.Gathered.take_directory.Goals as goal
 
 pub returns-in_err-state-clause-failed : goal.returns-in_err-state-clause-failed
 returns-in_err-state-clause-failed g c =

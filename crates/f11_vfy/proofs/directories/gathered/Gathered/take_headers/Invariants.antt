@@ -1,6 +1,6 @@
 use Rattle.f11_index.specs.Kept.{index_kept}
 use Rattle.f11_vfy.proofs.Directory.Course.{Courses}
-use Rattle.f11_vfy.proofs.directories.later.Later.take_headers.Given as goal
+use Rattle.f11_vfy.proofs.directories.gathered.Gathered.take_headers.Given as goal
 
 -- the headers so far are taken
 abbrev pub invariant-loop : goal.invariant-loop

@@ -2,7 +2,7 @@ use Rattle.std.proofs.lemmas.Bool.{both_ways}
 use Rattle.f11_chain.proofs.AlongLemmas.{handed-on}
 use Rattle.f11_index.specs.Kept.{index_kept}
 use Rattle.f11_vfy.proofs.Directory.Course.{header-fails, header-none, header-looks, header-taken}
-use Rattle.f11_vfy.proofs.directories.later.Later.take_header.Goals as goal
+use Rattle.f11_vfy.proofs.directories.gathered.Gathered.take_header.Goals as goal
 
 pub returns-in_err-state-clause-failed : goal.returns-in_err-state-clause-failed
 returns-in_err-state-clause-failed g c =

@@ -2,8 +2,8 @@ use Rattle.std.proofs.Common.{◌+◌}
 use Rattle.std.specs.List.{range_with_len}
 use Rattle.f11_dev.specs.Looked.{Looked}
 use Rattle.f11_vfy.specs.Directory.Reading.{HoldsDirectoryBlocks, until}
-use Rattle.f11_vfy.specs.Directory.Later.{TakesOn}
-use Rattle.f11_vfy.proofs.directories.later.Later.take_pointer.Given as goal
+use Rattle.f11_vfy.specs.Directory.Gathered.{TakesOn}
+use Rattle.f11_vfy.proofs.directories.gathered.Gathered.take_pointer.Given as goal
 
 -- the blocks so far are taken
 abbrev pub invariant-loop-k : goal.invariant-loop-k

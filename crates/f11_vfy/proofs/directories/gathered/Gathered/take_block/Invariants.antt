@@ -1,7 +1,7 @@
 use Rattle.std.proofs.Common.{◌≡◌, ◌+◌, [], get_or}
 use Rattle.f11_vfy.specs.Directory.Reading.{until}
-use Rattle.f11_vfy.specs.Directory.Later.{TakesOn}
-use Rattle.f11_vfy.proofs.directories.later.Later.take_block.Given as goal
+use Rattle.f11_vfy.specs.Directory.Gathered.{TakesOn}
+use Rattle.f11_vfy.proofs.directories.gathered.Gathered.take_block.Given as goal
 
 -- the records so far are taken
 abbrev pub invariant-loop-k : goal.invariant-loop-k

@@ -16,7 +16,7 @@ use std::collections::BTreeSet;
 
 /// What is found of the directories so far: a list a flaw, so that none is put before many others.
 #[derive(Drop)]
-pub(crate) struct Later {
+pub(crate) struct Gathered {
     /// The files that a record names.
     pub(crate) entered: Bits,
     /// The records that name no file.
@@ -31,23 +31,23 @@ pub(crate) struct Later {
     names: BTreeSet<[u16; 5]>,
 }
 
-impl Later {
+impl Gathered {
     ghost use Rattle.f11_vfy.specs.Surveying.Bits.{limit_of};
     ghost use Rattle.f11_vfy.specs.Directory.Reading.{until};
-    ghost use Rattle.f11_vfy.specs.Directory.Later.{Begins, IsNewLater, TakesOn};
+    ghost use Rattle.f11_vfy.specs.Directory.Gathered.{Begins, IsNewGathered, TakesOn};
 
     /// Nothing is found yet, of a volume of so many slots, on a device of so many blocks.
     ///
     /// # Errors
     ///
     /// `NoMemory` where there is no memory for a bit a slot and a bit a block.
-    pub(crate) fn new(alloc: Global, slots: u32, blocks: u32) -> Result<Later, NoMemory>
+    pub(crate) fn new(alloc: Global, slots: u32, blocks: u32) -> Result<Gathered, NoMemory>
         requires { slots < 65536 }
-        ensures new { IfOk result (λ later. IsNewLater later) }
-        ensures limit { IfOk result (λ later. limit_of later.entered ≡ slots + 1) }
-        ensures room { IfOk result (λ later. limit_of later.blank ≡ blocks) }
+        ensures new { IfOk result (λ gathered. IsNewGathered gathered) }
+        ensures limit { IfOk result (λ gathered. limit_of gathered.entered ≡ slots + 1) }
+        ensures room { IfOk result (λ gathered. limit_of gathered.blank ≡ blocks) }
     {
-        Ok(Later {
+        Ok(Gathered {
             entered: Bits::new(alloc, slots + 1)?,
             no_file: Findings::new(alloc),
             repeated: Findings::new(alloc),

@@ -1,5 +1,5 @@
 use Rattle.f11_vfy.proofs.Directory.Walk.{known-taken, read-taken}
-use Rattle.f11_vfy.proofs.directories.later.Later.take_at.Goals as goal
+use Rattle.f11_vfy.proofs.directories.gathered.Gathered.take_at.Goals as goal
 
 pub returns-then-is_in-clause-takes : goal.returns-then-is_in-clause-takes
 returns-then-is_in-clause-takes g c =

@@ -8,12 +8,12 @@ use Rattle.f11_store.specs.Directory.{entry_count}
 use Rattle.f11_volume.specs.Contents.{file_of}
 use Rattle.f11_vfy.specs.Directory.Flaws.{EntersIn, HasFlaw, flaw_code}
 use Rattle.f11_findings.specs.Found.{Finds, FoundAmong}
-use Rattle.f11_vfy.specs.Directory.Later.{FindsFlaws, FlawsUpTo, IsEnteredUpTo, IsNewLater, ShowsLater, TakesRecords}
+use Rattle.f11_vfy.specs.Directory.Gathered.{FindsFlaws, FlawsUpTo, IsEnteredUpTo, IsNewGathered, ShowsGathered, TakesRecords}
 use Rattle.f11_volume.specs.Notes.{IsDirectory, IsRecord}
 use Rattle.f11_volume.specs.Volume.{Volume}
 use Rattle.f11_vfy.specs.declared.directories.flaws.Flaw.{Flaw}
 use Rattle.f11_vfy.specs.declared.directories.flaws.Flaw.TheVariants.{NoFile, Repeated, NoName}
-use Rattle.f11_vfy.specs.declared.directories.later.Later.{Later}
+use Rattle.f11_vfy.specs.declared.directories.gathered.Gathered.{Gathered}
 use Rattle.f11_vfy.proofs.Directory.Blank.{blank-none}
 use Rattle.f11_findings.proofs.FoundLemmas.{finds-none, finds-more, finds-same}
 use Rattle.f11_vfy.proofs.Directory.Records.{flaw-low, flaw-high, flaw-noted, noted-flaw, noted-directory, enters-noted, enters-found}
@@ -28,8 +28,8 @@ module _ (image : Image) (v : Volume) (low : (n : ℕ) → v.table.in_use n ≡ 
   finds-none-yet : (flaw : Flaw) (l : List Finding) → l ≡ [] → Finds (FlawsUpTo image v flaw 0) [] l
   finds-none-yet flaw l is = subst (λ (m : List Finding). Finds (FlawsUpTo image v flaw 0) [] m) (sym is) (finds-none _ [] (none-yet flaw))
 
-  pub later-new : (l : Later) → IsNewLater l → ShowsLater image v 0 l
-  later-new l is = record {
+  pub gathered-new : (l : Gathered) → IsNewGathered l → ShowsGathered image v 0 l
+  gathered-new l is = record {
     entered = λ n. (
       λ has. absurd (both_ways _ (is.entered n) has),
       λ e.
@@ -64,8 +64,8 @@ module _ (image : Image) (v : Volume) (low : (n : ℕ) → v.table.in_use n ≡ 
       | inr within ↦ record { entered = e.entered; within = within }
     ]
 
-    pub later-still : (l : Later) → ShowsLater image v k l → ShowsLater image v (k + 1) l
-    later-still l shows = record {
+    pub gathered-still : (l : Gathered) → ShowsGathered image v k l → ShowsGathered image v (k + 1) l
+    gathered-still l shows = record {
       entered = λ n. (
         λ has. let e = (shows.entered n).0 has in record { entered = e.entered; within = omega (arith, e.within) },
         λ e.
@@ -133,9 +133,9 @@ module _ (image : Image) (v : Volume) (low : (n : ℕ) → v.table.in_use n ≡ 
     entered-back n A before (inl e) = inl (before.1 e)
     entered-back n A before (inr e) = inr e
 
-    pub later-next : (old new : Later) → ShowsLater image v k old → TakesRecords image v.table (k + 1) here count old new
-        → ShowsLater image v (k + 1) new
-    later-next old new shows takes = record {
+    pub gathered-next : (old new : Gathered) → ShowsGathered image v k old → TakesRecords image v.table (k + 1) here count old new
+        → ShowsGathered image v (k + 1) new
+    gathered-next old new shows takes = record {
       entered = λ n. (
         λ has. entered-more n _ (shows.entered n) ((takes.entered n).0 has),
         λ e.

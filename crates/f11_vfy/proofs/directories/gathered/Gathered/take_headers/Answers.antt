@@ -3,9 +3,9 @@ use Rattle.f11_chain.proofs.AlongLemmas.{handed-on}
 use Rattle.f11_index.specs.Kept.{index_kept}
 use Rattle.f11_vfy.proofs.Directory.Course.{courses-begin, courses-more, courses-fail, courses-none, courses-last, courses-past}
 use Rattle.f11_vfy.proofs.Directory.Course.{courses-done}
-use Rattle.f11_vfy.proofs.directories.later.Later.take_headers.Goals as goal
-use Rattle.f11_vfy.proofs.directories.later.Later.take_headers.Goals.{then-from-nexts-via-then-from-nexts}
-use Rattle.f11_vfy.proofs.directories.later.Later.take_headers.Goals.{then-from-nexts-via-else-from-nexts+then-wanted-eq0}
+use Rattle.f11_vfy.proofs.directories.gathered.Gathered.take_headers.Goals as goal
+use Rattle.f11_vfy.proofs.directories.gathered.Gathered.take_headers.Goals.{then-from-nexts-via-then-from-nexts}
+use Rattle.f11_vfy.proofs.directories.gathered.Gathered.take_headers.Goals.{then-from-nexts-via-else-from-nexts+then-wanted-eq0}
 
 pub loop-init : goal.loop-init
 loop-init g c =

@@ -6,7 +6,7 @@ use Rattle.f11_header.specs.Fields.{map_area}
 use Rattle.f11_map.specs.MapArea.{runs_of, blocks_in}
 use Rattle.f11_map.proofs.MapLemmas.{length-blocks_in-more}
 use Rattle.f11_vfy.proofs.Directory.Walk.{pointers-more, pointers-all, pointers-looked, pointers-taken}
-use Rattle.f11_vfy.proofs.directories.later.Later.take_pointers.Goals as goal
+use Rattle.f11_vfy.proofs.directories.gathered.Gathered.take_pointers.Goals as goal
 
 pub returns-in_err-take_pointer-clause-failed : goal.returns-in_err-take_pointer-clause-failed
 returns-in_err-take_pointer-clause-failed g c = λ is.

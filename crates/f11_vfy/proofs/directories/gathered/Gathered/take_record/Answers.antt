@@ -1,7 +1,7 @@
 use Rattle.std.proofs.Common.{refl}
 use Rattle.std.proofs.lemmas.Bool.{both_ways}
 use Rattle.f11_vfy.proofs.Directory.Taking.{record-empty, record-taken}
-use Rattle.f11_vfy.proofs.directories.later.Later.take_record.Goals as goal
+use Rattle.f11_vfy.proofs.directories.gathered.Gathered.take_record.Goals as goal
 
 pub returns-then-is_empty : goal.returns-then-is_empty
 returns-then-is_empty c =

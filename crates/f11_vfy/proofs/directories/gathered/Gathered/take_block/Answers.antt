@@ -1,6 +1,6 @@
 use Rattle.std.proofs.Common.{refl, arith}
 use Rattle.f11_vfy.proofs.Directory.Taking.{block-more, takes-same}
-use Rattle.f11_vfy.proofs.directories.later.Later.take_block.Goals as goal
+use Rattle.f11_vfy.proofs.directories.gathered.Gathered.take_block.Goals as goal
 
 pub loop-k-preserved : goal.loop-k-preserved
 loop-k-preserved c =

@@ -13,7 +13,7 @@ use Rattle.f11_volume.specs.Notes.{IsEntered, IsVolumeNote}
 use Rattle.f11_volume.specs.Volume.{Volume}
 use Rattle.f11_vfy.specs.declared.directories.flaws.Flaw.{Flaw}
 use Rattle.f11_vfy.specs.declared.directories.flaws.Flaw.TheVariants.{NoFile, Repeated, NoName}
-use Rattle.f11_vfy.specs.declared.directories.later.Later.{Later}
+use Rattle.f11_vfy.specs.declared.directories.gathered.Gathered.{Gathered}
 use Rattle.f11_vfy.specs.declared.survey.slot.Slot.{Slot}
 
 -- a directory up to k has a record that names file n
@@ -26,7 +26,7 @@ abbrev pub FlawsUpTo : Image → Volume → Flaw → ℕ → ℕ → ℕ → ℕ
 FlawsUpTo image v flaw k code a b = (code ≡ flaw_code flaw) × ((a ≤ k) × IsVolumeNote image v code a b)
 
 -- what is found of the directories up to k
-pub record ShowsLater (image : Image) (v : Volume) (k : ℕ) (l : Later) : Type 0 where
+pub record ShowsGathered (image : Image) (v : Volume) (k : ℕ) (l : Gathered) : Type 0 where
   pub entered : (n : ℕ) → has l.entered n ≡ true ↔ IsEnteredUpTo image v.table k n
   pub no_file : Finds (FlawsUpTo image v NoFile k) [] l.no_file
   pub repeated : Finds (FlawsUpTo image v Repeated k) [] l.repeated
@@ -38,7 +38,7 @@ abbrev pub FindsFlaws : Table → ℕ → List (List ℕ) → ℕ → Flaw → L
 FindsFlaws t d blocks n flaw old new = Finds (FoundAmong (λ i. HasFlaw flaw t blocks i) (λ i. finding (flaw_code flaw) d i) n) old new
 
 -- The first n records of directory d were taken, whose blocks these are, and no block that is kept as blank holds one.
-pub record TakesRecords (image : Image) (t : Table) (d : ℕ) (blocks : List (List ℕ)) (n : ℕ) (old new : Later) : Type 0 where
+pub record TakesRecords (image : Image) (t : Table) (d : ℕ) (blocks : List (List ℕ)) (n : ℕ) (old new : Gathered) : Type 0 where
   pub entered : (m : ℕ) → has new.entered m ≡ true ↔ ((has old.entered m ≡ true) ⊎ EntersIn t blocks n m)
   pub no_file : FindsFlaws t d blocks n NoFile old.no_file new.no_file
   pub repeated : FindsFlaws t d blocks n Repeated old.repeated new.repeated
@@ -47,13 +47,13 @@ pub record TakesRecords (image : Image) (t : Table) (d : ℕ) (blocks : List (Li
   pub blank : HoldNoRecord new.blank image
 
 -- Where its first records are taken, so many, those up to another were taken too, if the image and its blocks are as P says.
-pub record TakesOn (slots : List Slot) (d : ℕ) (P : Image → List (List ℕ) → Type 0) (from to : ℕ) (old new : Later) : Type 0 where
+pub record TakesOn (slots : List Slot) (d : ℕ) (P : Image → List (List ℕ) → Type 0) (from to : ℕ) (old new : Gathered) : Type 0 where
   pub limit : limit_of new.entered ≡ limit_of old.entered
-  pub takes : (image : Image) → (t : Table) → (blocks : List (List ℕ)) → (first : Later) → KeepsTable t slots → P image blocks →
+  pub takes : (image : Image) → (t : Table) → (blocks : List (List ℕ)) → (first : Gathered) → KeepsTable t slots → P image blocks →
       TakesRecords image t d blocks from first old → TakesRecords image t d blocks to first new
 
 -- nothing is found yet
-pub record IsNewLater (l : Later) : Type 0 where
+pub record IsNewGathered (l : Gathered) : Type 0 where
   pub entered : (n : ℕ) → has l.entered n ≡ false
   pub no_file : l.no_file ≡ []
   pub repeated : l.repeated ≡ []
@@ -61,7 +61,7 @@ pub record IsNewLater (l : Later) : Type 0 where
   pub blank : (lbn : ℕ) → has l.blank lbn ≡ false
 
 -- The next directory is in hand, and none of its records is taken.
-pub record Begins (old new : Later) : Type 0 where
+pub record Begins (old new : Gathered) : Type 0 where
   pub entered : new.entered ≡ old.entered
   pub no_file : new.no_file ≡ old.no_file
   pub repeated : new.repeated ≡ old.repeated
