@@ -21,6 +21,7 @@ mod LengthenLemmas
 mod LookLemmas
 mod MarkLemmas
 mod NamedLemmas
+mod NotedLemmas
 mod OpenLemmas
 mod ReachedLemmas
 mod ReleaseLemmas

@@ -172,4 +172,4 @@ handles-block task caller r result old new block is h = record {
 
 -- a volume that no request has failed is open
 pub volume-open : {D : Type 0} {met : Ghosts D} (v : Volume D met) → is_spent v ≡ false → IsOpen (access_table_of v.accesses) v.files
-volume-open v fresh = record { alive = v.alive fresh; kept = v.kept fresh; windows = v.windows fresh }
+volume-open v fresh = record { alive = fresh; kept = v.kept fresh; windows = v.windows fresh }

@@ -43,7 +43,7 @@ StaysAccepted v = IsTrue v.disk.honest → IsAccepted v.disk.image
 
 -- whether a request was answered DeviceFault or Damaged
 abbrev pub is_spent : {D : Type 0} {met : Ghosts D} → Volume D met → Bool
-is_spent v = v.failed
+is_spent v = files.has_failed v.files
 
 -- Requests spare the lost blocks of a volume: what was lost before them is as it was, and lost still unless one has failed the volume.
 -- Blocks are written in order.

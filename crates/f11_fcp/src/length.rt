@@ -6,7 +6,7 @@ ghost use Rattle.f11_fcp.specs.Lengths.{Measures};
 ghost use Rattle.f11_fcp.specs.Places.{access_table_of};
 ghost use Rattle.f11_files.specs.Open.{CallSparesLost};
 
-use crate::answer::{is_fatal, of_known};
+use crate::answer::of_known;
 use crate::table::Accesses;
 use crate::volume::Volume;
 use f11_dev::Device;
@@ -58,11 +58,11 @@ impl<D: Device> Volume<D> {
         ensures answers { AnswersLength task lun result self.old self.new }
         ensures accepted { StaysAccepted (state_in self.new) }
     {
-        if self.failed {
+        if self.files.failed() {
             return Err(Refusal::VolumeFailed);
         }
         let answer = self.accesses.length(&mut self.files, task, lun);
-        self.failed = is_fatal(&answer);
+        self.files.note(&answer);
         answer
     }
 }

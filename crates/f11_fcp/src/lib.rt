@@ -4,7 +4,6 @@
 //! of the plain store of `f11_store`: files, free blocks and slots, and what tasks hold. It stands on `f11_files`, which knows no tasks.
 #![tactic(auto)]
 
-mod access;
 mod accesses;
 mod answer;
 mod answers;
@@ -29,6 +28,7 @@ mod look;
 mod purpose;
 mod release;
 mod remove;
+mod request_access;
 mod rights;
 mod search;
 mod space;

@@ -5,7 +5,6 @@ ghost use Rattle.f11_fcp.specs.Accesses.{HasAccessed};
 ghost use Rattle.f11_fcp.specs.Places.{access_table_of};
 ghost use Rattle.f11_fcp.specs.Windows.{HasWindows};
 
-use crate::answer::is_fatal;
 use crate::table::Accesses;
 use f11_bytes::Block;
 use f11_dev::Device;
@@ -23,15 +22,11 @@ pub struct Failed<D: Device>(pub D);
 pub struct Volume<D: Device> {
     pub(crate) files: Files<D>,
     pub(crate) accesses: Accesses,
-    /// Whether a request was answered `DeviceFault` or `Damaged`.
-    pub(crate) failed: bool,
-    /// While none was, no call on the files was,
-    pub ghost alive: { failed ≡ false → has_failed files ≡ false },
-    /// each access is to a file that is there, marked as is kept,
-    pub ghost kept: { failed ≡ false → is_honest files
+    /// While no request was answered `DeviceFault` or `Damaged`, each access is to a file that is there, marked as is kept,
+    pub ghost kept: { has_failed files ≡ false → is_honest files
         → HasAccessed (access_table_of accesses) (store_in files) },
     /// and keeps a window, whose blocks are the file's.
-    pub ghost windows: { failed ≡ false → HasWindows (access_table_of accesses) files },
+    pub ghost windows: { has_failed files ≡ false → HasWindows (access_table_of accesses) files },
 }
 
 impl<D: Device> Volume<D> {
@@ -63,13 +58,13 @@ impl<D: Device> Volume<D> {
         ensures accepted { StaysAccepted (state_in self.new) }
         ensures windows { ServesWithWindows task request.now result self.old self.new }
     {
-        if self.failed {
+        if self.files.failed() {
             return Err(Refusal::VolumeFailed);
         }
         let answer = self
             .accesses
             .answer(&mut self.files, task, caller, request, block);
-        self.failed = is_fatal(&answer);
+        self.files.note(&answer);
         answer
     }
 
@@ -88,7 +83,6 @@ impl<D: Device> Volume<D> {
         Ok(Volume {
             files,
             accesses: Accesses::none(),
-            failed: false,
         })
     }
 
@@ -101,8 +95,8 @@ impl<D: Device> Volume<D> {
         ensures given { IfOk result (λ a. (is_spent self ≡ false) × (device_of a ≡ device_in self)) }
         ensures failed { IfErr result (λ f. (is_spent self ≡ true) × (f.0 ≡ device_in self)) }
     {
-        let Volume { files, failed, .. } = self;
-        if failed {
+        let Volume { files, .. } = self;
+        if files.failed() {
             Err(Failed(files.abandon()))
         } else {
             Ok(files.close())

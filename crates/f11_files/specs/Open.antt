@@ -18,7 +18,7 @@ use Rattle.f11_files.specs.declared.find.reach.Seen.{Seen}
 abbrev pub device_in : {D : Type 0} {met : Ghosts D} → Files D met → D
 device_in files = files.device
 
--- whether a call has answered DeviceFault or Damaged
+-- whether a call has answered DeviceFault or Damaged, or such an answer was noted
 abbrev pub has_failed : {D : Type 0} {met : Ghosts D} → Files D met → Bool
 has_failed files = files.failed
 
@@ -59,6 +59,14 @@ pub record AnswersCall {D T : Type 0} {met : Ghosts D} (result : Result T Refusa
   pub next : has_failed new ≡ (has_failed old || is_refused is_fatal result)
   pub home : home_in new ≡ home_in old
   pub counts : is_refused is_clean result ≡ true → counts_in new ≡ counts_in old
+
+-- An answer that was made of what calls gave was noted: where it is DeviceFault or Damaged it fails the volume, as a call's would. Nothing
+-- else is another.
+pub record NotesAnswer {D T : Type 0} {met : Ghosts D} (result : Result T Refusal) (old new : Files D met) : Type 0 where
+  pub next : has_failed new ≡ (has_failed old || is_refused is_fatal result)
+  pub device : device_in new ≡ device_in old
+  pub home : home_in new ≡ home_in old
+  pub counts : counts_in new ≡ counts_in old
 
 -- A call keeps the counts that are told, and which header a call on blocks reached last.
 pub record KeepsTold {D : Type 0} {met : Ghosts D} (old new : Files D met) : Type 0 where

@@ -5,19 +5,21 @@ ghost use Rattle.f11_files.specs.Finding.Reached.{LiesSeen};
 ghost use Rattle.f11_files.specs.Structure.{home_of, FitsOn, IsStructureOf, HasNoOtherHome};
 ghost use Rattle.f11_volume.specs.Verdict.{IsAccepted};
 
+use crate::answer::is_fatal;
 use crate::find::reach::Seen;
 use crate::structure::Structure;
 use f11_dev::Device;
+use f11_store::Refusal;
 
 /// The files of an accepted volume, without tasks, and the device that it is on.
 ///
-/// After a call has answered `DeviceFault` or `Damaged` each later one that may be refused answers `VolumeFailed`, until the device is
-/// verified again.
+/// After a call has answered `DeviceFault` or `Damaged`, or such an answer was noted, each later one that may be refused answers
+/// `VolumeFailed`, until the device is verified again.
 #[derive(Drop)]
 pub struct Files<D: Device> {
     pub(crate) device: D,
     pub(crate) structure: Structure,
-    /// Whether a call has answered `DeviceFault` or `Damaged`.
+    /// Whether a call has answered `DeviceFault` or `Damaged`, or such an answer was noted.
     pub(crate) failed: bool,
     /// The header that a call on blocks reached last, unless a call that may write one was made since.
     pub(crate) seen: Option<Seen>,
@@ -34,7 +36,7 @@ pub struct Files<D: Device> {
 }
 
 impl<D: Device> Files<D> {
-    ghost use Rattle.f11_files.specs.Open.{counts_in, device_in, has_failed, is_honest, store_in};
+    ghost use Rattle.f11_files.specs.Open.{counts_in, device_in, has_failed, is_honest, store_in, NotesAnswer};
     ghost use Rattle.f11_files.specs.Operations.{IsSpaceOf};
 
     /// Gives the device up, as it is. No transfer is made.
@@ -45,11 +47,21 @@ impl<D: Device> Files<D> {
         device
     }
 
-    /// Whether a call has answered `DeviceFault` or `Damaged`.
+    /// Whether a call has answered `DeviceFault` or `Damaged`, or such an answer was noted.
     pub fn failed(&self) -> bool
         ensures { result ≡ has_failed self.now }
     {
         self.failed
+    }
+
+    /// Notes an answer that was made of what calls gave: where it is `DeviceFault` or `Damaged` the volume has failed, as where a call
+    /// answers so. No transfer is made.
+    pub fn note<T>(&mut self, answer: &Result<T, Refusal>)
+        ensures { NotesAnswer answer.now self.old self.new }
+    {
+        if is_fatal(answer) {
+            self.failed = true;
+        }
     }
 
     /// The device as it is, to be looked at.

@@ -3,4 +3,4 @@ use Rattle.f11_fcp.proofs.volume.Volume.free.Goals as goal
 
 pub returns-clause-headers : goal.returns-clause-headers
 unfolding free_slots
-returns-clause-headers g c = λ honest alive. (c.space-blocks.ensures.space honest (c.args.self.now.alive alive)).headers_are
+returns-clause-headers g c = λ honest alive. (c.space-blocks.ensures.space honest alive).headers_are
