@@ -55,6 +55,7 @@ FailsToCopyFromRt (refusal.Rt e) m name who lun dir to protection disk s s' = Fa
 FailsToCopyFromRt refusal.BadRecord m name who lun dir to protection disk s s' = ⊥
 FailsToCopyFromRt refusal.LineTooLong m name who lun dir to protection disk s s' =
     HasTooLongLine m name (rt_store_of disk.image) × (s' ≡ s)
+FailsToCopyFromRt refusal.Unread m name who lun dir to protection disk s s' = ⊥
 
 -- How it is refused where a request had failed the Files-11 volume before: as the file isn't found or has no conversion, and else as
 -- VolumeFailed.
@@ -64,3 +65,4 @@ FailsToCopySpent (refusal.Files e) m name disk =
 FailsToCopySpent (refusal.Rt e) m name disk = IsSoundDisk disk → FailsToFindFile e name disk
 FailsToCopySpent refusal.BadRecord m name disk = ⊥
 FailsToCopySpent refusal.LineTooLong m name disk = IsSoundDisk disk → HasTooLongLine m name (rt_store_of disk.image)
+FailsToCopySpent refusal.Unread m name disk = ⊥

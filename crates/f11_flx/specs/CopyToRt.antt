@@ -123,6 +123,7 @@ FailsToCopyToRt (refusal.Rt e) m who lun source name s s' disk =
 FailsToCopyToRt refusal.BadRecord m who lun source name s s' disk =
     GivesUp who lun source s s' × (HasWholeBlocks (file_named s source) → copied_to_rt m (file_named s source) ≡ None)
 FailsToCopyToRt refusal.LineTooLong m who lun source name s s' disk = ⊥
+FailsToCopyToRt refusal.Unread m who lun source name s s' disk = ⊥
 
 -- It is refused so, and nothing is written to the RT-11 volume.
 pub record RefusesCopyToRt (e : FlxRefusal) (m : CopyMode) (who : Who) (lun : ℕ) (source : FileId) (name : List ℕ) (s s' : Store)

@@ -23,7 +23,7 @@ use Rattle.f11_making.specs.AsBefore.{IsAsBefore}
 use Rattle.f11_flx.specs.Refusal.{is_lethal}
 use Rattle.f11_flx.specs.RtOutcome.{HasSameFiles, KeepsDirectory}
 use Rattle.f11_flx.specs.declared.refusal.FlxRefusal.{FlxRefusal}
-use Rattle.f11_flx.specs.declared.refusal.FlxRefusal.TheVariants.{Files, Rt, BadRecord, LineTooLong}
+use Rattle.f11_flx.specs.declared.refusal.FlxRefusal.TheVariants.{Files, Rt, BadRecord, LineTooLong, Unread}
 use Rattle.f11_making.specs.Volume.{of_volume}
 use Rattle.f11_making.specs.AsksFor.{AsksOnly, is_reading, AsksForFile}
 
@@ -34,6 +34,7 @@ of_files test (Err (Files e)) = test e
 of_files test (Err (Rt e)) = false
 of_files test (Err BadRecord) = false
 of_files test (Err LineTooLong) = false
+of_files test (Err Unread) = false
 
 abbrev pub of_rt : {T : Type 0} → (RtRefusal → Bool) → Result T FlxRefusal → Bool
 of_rt test (Ok x) = false
@@ -41,6 +42,7 @@ of_rt test (Err (Files e)) = false
 of_rt test (Err (Rt e)) = test e
 of_rt test (Err BadRecord) = false
 of_rt test (Err LineTooLong) = false
+of_rt test (Err Unread) = false
 
 -- the answer is no device fault, and not Damaged
 abbrev pub is_whole : {T : Type 0} → Result T FlxRefusal → Bool
@@ -118,6 +120,7 @@ MayRefuseFailed (Err (Files e)) = ⊤
 MayRefuseFailed (Err (Rt e)) = e ≡ Failed
 MayRefuseFailed (Err BadRecord) = ⊤
 MayRefuseFailed (Err LineTooLong) = ⊥
+MayRefuseFailed (Err Unread) = ⊥
 
 -- A file was made on the RT-11 volume, or not, and then it has the files that it had unless a device fault or Damaged was met. On one that
 -- had failed nothing is done, and nothing is asked of it where the Files-11 volume had.

@@ -58,3 +58,4 @@ Ends S who (refusal.Files e) old new = EndsDenied S who e old new
 Ends S who (refusal.Rt e) old new = EndsUnread S who old new
 Ends S who refusal.BadRecord old new = ⊤
 Ends S who refusal.LineTooLong old new = ⊤
+Ends S who refusal.Unread old new = ⊥

@@ -92,3 +92,4 @@ EndsToRt m S disk who lun file name day (refusal.Files e) old new rt rt' = EndsO
 EndsToRt m S disk who lun file name day (refusal.Rt e) old new rt rt' = EndsHeld S who old new
 EndsToRt m S disk who lun file name day refusal.BadRecord old new rt rt' = ⊤
 EndsToRt m S disk who lun file name day refusal.LineTooLong old new rt rt' = ⊤
+EndsToRt m S disk who lun file name day refusal.Unread old new rt rt' = ⊥

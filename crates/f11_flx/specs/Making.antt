@@ -51,6 +51,8 @@ IsBrokenOff S who lun n refusal.BadRecord old new =
     (pieces : List (List ℕ)) × Granted S who (extension lun n ++ writes_of lun 0 pieces) old new
 IsBrokenOff S who lun n refusal.LineTooLong old new =
     (pieces : List (List ℕ)) × Granted S who (extension lun n ++ writes_of lun 0 pieces) old new
+IsBrokenOff S who lun n refusal.Unread old new =
+    (pieces : List (List ℕ)) × Granted S who (extension lun n ++ writes_of lun 0 pieces) old new
 
 -- What is asked of the volume where a file that is accessed is filled from a source with so many blocks, and where that fails, whatever the
 -- source is.
@@ -107,6 +109,7 @@ FailsToFillFromRt S disk m who lun name many n (refusal.Files e) rt rt' old new 
 FailsToFillFromRt S disk m who lun name many n (refusal.Rt e) rt rt' old new = LacksBlock S disk who lun name many n e rt rt' old new
 FailsToFillFromRt S disk m who lun name many n refusal.BadRecord rt rt' old new = ⊥
 FailsToFillFromRt S disk m who lun name many n refusal.LineTooLong rt rt' old new = LacksCopy S disk m who lun name many n rt rt' old new
+FailsToFillFromRt S disk m who lun name many n refusal.Unread rt rt' old new = ⊥
 
 -- The file was accessed to be written, and filled from a source of blocks.
 pub record FillsOpened {V H : Type 0} (S : FilesService V) (who : Who) (lun : ℕ) (Fills : H → H → V → V → Type 0) (id : FileId)

@@ -66,6 +66,7 @@ FailsToReadLines S disk who lun name many s o (refusal.Files e) rt rt' old new =
 FailsToReadLines S disk who lun name many s o (refusal.Rt e) rt rt' old new = StopsAtPlace S disk who lun name many e rt rt' old new
 FailsToReadLines S disk who lun name many s o refusal.BadRecord rt rt' old new = ⊥
 FailsToReadLines S disk who lun name many s o refusal.LineTooLong rt rt' old new = StopsAtLine S disk who lun name many s o rt rt' old new
+FailsToReadLines S disk who lun name many s o refusal.Unread rt rt' old new = ⊥
 
 -- The last block was written, zeros behind the bytes in it, if there are any.
 pub record Flushes {V : Type 0} (S : FilesService V) (who : Who) (lun : ℕ) (o o' : Out) (end : ℕ) (old new : V) : Type 0 where
@@ -120,6 +121,7 @@ FailsToEnd S who lun s o (refusal.Files e) old new = StopsAtEnd S who lun s o e 
 FailsToEnd S who lun s o (refusal.Rt e) old new = ⊥
 FailsToEnd S who lun s o refusal.BadRecord old new = ⊥
 FailsToEnd S who lun s o refusal.LineTooLong old new = HasLongEnd S who lun s o old new
+FailsToEnd S who lun s o refusal.Unread old new = ⊥
 
 -- These blocks are the copy of those, and these its attributes.
 pub record IsCopied (m : CopyMode) (blocks pieces : List (List ℕ)) (attr : List ℕ) : Type 0 where
@@ -173,6 +175,7 @@ FailsToCopyFile S disk m who lun name many (refusal.Files e) rt rt' old new = St
 FailsToCopyFile S disk m who lun name many (refusal.Rt e) rt rt' old new = StopsAtPlace S disk who lun name many e rt rt' old new
 FailsToCopyFile S disk m who lun name many refusal.BadRecord rt rt' old new = ⊥
 FailsToCopyFile S disk m who lun name many refusal.LineTooLong rt rt' old new = HasNoCopy S disk m who lun name many rt rt' old new
+FailsToCopyFile S disk m who lun name many refusal.Unread rt rt' old new = ⊥
 
 -- So many blocks were read, and each was written as it is.
 pub record CopiesImage {V E : Type 0} {met : Ghosts E} (S : FilesService V) (disk : E → Disk) (who : Who) (lun : ℕ) (name : List ℕ)

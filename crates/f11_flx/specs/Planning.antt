@@ -53,3 +53,4 @@ FailsToPlan disk m name (refusal.Files e) old new = ⊥
 FailsToPlan disk m name (refusal.Rt e) old new = IsNotRead disk name e old new
 FailsToPlan disk m name refusal.BadRecord old new = ⊥
 FailsToPlan disk m name refusal.LineTooLong old new = IsTooLong disk m name old new
+FailsToPlan disk m name refusal.Unread old new = ⊥

@@ -12,7 +12,7 @@ use Rattle.f11_flx.specs.CopyToRt.{HasEmptied, HasSameDirectory, LiesInFirstArea
 use Rattle.f11_flx.specs.Refusal.{is_lethal}
 use Rattle.f11_flx.specs.Target.{Fares, rt_disk, rt_store}
 use Rattle.f11_flx.specs.declared.refusal.FlxRefusal.{FlxRefusal}
-use Rattle.f11_flx.specs.declared.refusal.FlxRefusal.TheVariants.{Files, Rt, BadRecord, LineTooLong}
+use Rattle.f11_flx.specs.declared.refusal.FlxRefusal.TheVariants.{Files, Rt, BadRecord, LineTooLong, Unread}
 
 -- a transfer of the RT-11 volume failed
 abbrev pub is_rt_fault : FlxRefusal → Bool
@@ -20,6 +20,7 @@ is_rt_fault (Files e) = false
 is_rt_fault (Rt e) = is_fault e
 is_rt_fault BadRecord = false
 is_rt_fault LineTooLong = false
+is_rt_fault Unread = false
 
 -- An RT-11 volume has the files that it had.
 pub record HasSameFiles (name : List ℕ) (t t' : RtStore) : Type 0 where

@@ -56,6 +56,7 @@ FailsToWritePieces S who lun s source o (refusal.Files e) old new = StopsAtPiece
 FailsToWritePieces S who lun s source o (refusal.Rt e) old new = ⊥
 FailsToWritePieces S who lun s source o refusal.BadRecord old new = ⊥
 FailsToWritePieces S who lun s source o refusal.LineTooLong old new = MeetsLongLine S who lun s source o old new
+FailsToWritePieces S who lun s source o refusal.Unread old new = ⊥
 
 -- The block, which is full, was written, and another one is begun.
 pub record WritesNext {V : Type 0} (S : FilesService V) (who : Who) (lun : ℕ) (o o' : Out) (old new : V) : Type 0 where

@@ -16,6 +16,8 @@ pub enum FlxRefusal {
     BadRecord,
     /// A line of the source has more than 2,048 bytes.
     LineTooLong,
+    /// The source gave fewer bytes than it had, or others where it was read again.
+    Unread,
 }
 
 impl fmt::Display for FlxRefusal {
@@ -31,6 +33,7 @@ impl fmt::Display for FlxRefusal {
             FlxRefusal::Rt(refusal) => write!(f, "{refusal}"),
             FlxRefusal::BadRecord => write!(f, "BadRecord"),
             FlxRefusal::LineTooLong => write!(f, "LineTooLong"),
+            FlxRefusal::Unread => write!(f, "Unread"),
         }
     }
 }

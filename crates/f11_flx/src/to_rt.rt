@@ -1,7 +1,6 @@
 //! A copy to an RT-11 volume, of whatever answers for the Files-11 volume.
 ghost use Rattle.f11_store.specs.File.{most_blocks};
 ghost use Rattle.std.specs.Prelude.{◌≡◌, ◌≤◌, IfErr, IfOk, OnErr, OnOk};
-ghost use Rattle.f11_fcp.specs.files.Answers.{is_fatal};
 ghost use Rattle.f11_making.specs.Asking.{who_asks};
 ghost use Rattle.f11_flx.specs.Refusal.{is_lethal};
 ghost use Rattle.rt11_volume.specs.Files.{is_fault};
@@ -13,8 +12,8 @@ use crate::refusal::FlxRefusal;
 use crate::source::{Source, copy, copy_lines, look};
 use crate::target::{Nowhere, delete, make_file};
 use f11_dev::Device;
-use f11_making::{Asked, Asker, ask};
-use f11_store::{FileId, Mode, Refusal, Request};
+use f11_making::{Asked, Asker, ask, is_fatal};
+use f11_store::{FileId, Mode, Request};
 use rt11_volume::{RtAccepted, RtName, RtRefusal};
 
 /// Whether a refusal is a device fault or `Damaged`.
@@ -22,18 +21,12 @@ pub fn is_lethal(refusal: &FlxRefusal) -> bool
     ensures { result ≡ is_lethal refusal.now }
 {
     match refusal {
-        FlxRefusal::Files(refusal) => is_fatal(refusal),
+        FlxRefusal::Files(refusal) => is_fatal(*refusal),
         FlxRefusal::Rt(refusal) => is_fault(refusal),
         FlxRefusal::BadRecord => false,
         FlxRefusal::LineTooLong => false,
+        FlxRefusal::Unread => false,
     }
-}
-
-/// Whether a refusal of a Files-11 volume fails it.
-fn is_fatal(refusal: &Refusal) -> bool
-    ensures { result ≡ is_fatal refusal.now }
-{
-    matches!(refusal, Refusal::DeviceFault | Refusal::Damaged)
 }
 
 /// Whether a refusal is that of a transfer that failed.

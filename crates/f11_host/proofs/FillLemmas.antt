@@ -10,7 +10,7 @@ use Rattle.f11_making.specs.Making.{extension, filling_of}
 use Rattle.f11_flx.specs.Making.{AsksToFill, IsBrokenOff}
 use Rattle.f11_flx.specs.Spelled.{image_attributes_to}
 use Rattle.f11_flx.specs.declared.refusal.FlxRefusal.{FlxRefusal}
-use Rattle.f11_flx.specs.declared.refusal.FlxRefusal.TheVariants.{BadRecord, Files, LineTooLong, Rt}
+use Rattle.f11_flx.specs.declared.refusal.FlxRefusal.TheVariants.{BadRecord, Files, LineTooLong, Rt, Unread}
 use Rattle.f11_making.proofs.AskingLemmas.{breaks-before, granted-append, granted-one, writes-append}
 use Rattle.f11_flx.proofs.FromRt.MakingLemmas.{breaks-filling, breaks-giving, same-blocks}
 use Rattle.f11_host.specs.Filling.{BreaksFilling, FailsToFillFromHost, FailsToWriteBytes, FillsFromHost, HostFile, LacksBlock, StopsAtBlock}
@@ -117,12 +117,13 @@ module _ {V : Type 0} (S : FilesService V) (who : Who) (lun bytes : ℕ) (unread
           (breaks-filling S who lun (blocks_for bytes) h.pieces rest.0 h.last e old between h.between new extended h.granted h.denied);
     }
     not-written (Rt e) unread' taken new h = absurd h
-    not-written BadRecord unread' taken new h = record {
+    not-written BadRecord unread' taken new h = absurd h
+    not-written LineTooLong unread' taken new h = absurd h
+    not-written Unread unread' taken new h = record {
       pieces = h.pieces;
       few = h.few;
       granted = granted-append S who (extension lun (blocks_for bytes)) (writes_of lun 0 h.pieces) old between new extended h.granted;
     }
-    not-written LineTooLong unread' taken new h = absurd h
 
     -- all were, and the file wasn't given up,
     pub not-given : (e : Refusal) (unread' : Option (List ℕ)) (taken : List ℕ) (written new : V)
@@ -161,8 +162,9 @@ asks-to-fill {V} S who lun bytes = record { fills = λ a b v w h. (h.pieces, h.g
         → IsBrokenOff S who lun (blocks_for bytes) f v w
     broken (Files e) a b v w h = (h.pieces, h.breaks)
     broken (Rt e) a b v w h = absurd h
-    broken BadRecord a b v w h = (h.pieces, h.granted)
+    broken BadRecord a b v w h = absurd h
     broken LineTooLong a b v w h = absurd h
+    broken Unread a b v w h = (h.pieces, h.granted)
 
 -- attributes of the file, by how many blocks were counted
 pub attributes-are : (attr : List ℕ) (n bytes end : ℕ) → attr ≡ image_attributes_to n end → n ≡ blocks_for bytes

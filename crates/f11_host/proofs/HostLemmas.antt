@@ -25,13 +25,13 @@ use Rattle.f11_making.specs.Making.{filling_of}
 use Rattle.f11_flx.specs.Making.{FailsToFillOpened, IsCutShort, Undoing, UndoingIf}
 use Rattle.f11_flx.specs.Refusal.{is_lethal}
 use Rattle.f11_flx.specs.declared.refusal.FlxRefusal.{FlxRefusal}
-use Rattle.f11_flx.specs.declared.refusal.FlxRefusal.TheVariants.{BadRecord, Files, LineTooLong, Rt}
+use Rattle.f11_flx.specs.declared.refusal.FlxRefusal.TheVariants.{BadRecord, Files, LineTooLong, Rt, Unread}
 use Rattle.f11_flx.proofs.FromRt.EndedLemmas.{making-ends}
 use Rattle.f11_flx.proofs.FromRt.FaredLemmas.{calm-none, made-fares, of-calm, unmade-fares}
 use Rattle.f11_flx.proofs.FromRt.FromRtLemmas.{making-seen}
 use Rattle.f11_flx.proofs.FromRt.FromVolumeLemmas.{may-make, may-not-make}
 use Rattle.f11_flx.proofs.FromRt.KeptLemmas.{dead-made, dead-unmade, given, made-keeps, refused, same-refusal, unmade-keeps}
-use Rattle.f11_flx.proofs.FromRt.NotMadeLemmas.{IsRefusal, IsShort, bad-no-files, making-refused, making-undone}
+use Rattle.f11_flx.proofs.FromRt.NotMadeLemmas.{IsRefusal, IsShort, making-refused, making-undone, unread-no-files}
 use Rattle.f11_flx.proofs.SmallLemmas.{not-true}
 use Rattle.f11_flx.proofs.Made.StatingLemmas.{made-in-order, unmade-in-order}
 use Rattle.f11_flx.proofs.Made.TriedLemmas.{made-tries, none-for-one, unmade-tries}
@@ -68,8 +68,9 @@ module _ {V : Type 0} (S : FilesService V) (who : Who) (lun bytes : ℕ) where
   told-fill : (f : FlxRefusal) (a b : HostFile) (v w : V) → FailsToFillFromHost S who lun bytes f a b v w → IsTold f
   told-fill (Files e) a b v w h = refl
   told-fill (Rt e) a b v w h = absurd h
-  told-fill BadRecord a b v w h = refl
+  told-fill BadRecord a b v w h = absurd h
   told-fill LineTooLong a b v w h = absurd h
+  told-fill Unread a b v w h = refl
 
   told-opened : (f : FlxRefusal) (id : FileId) (a b : HostFile) (v w : V)
       → FailsToFillOpened S who lun (FailsToFillFromHost S who lun bytes) id f a b v w → IsTold f
@@ -88,8 +89,9 @@ module _ {V : Type 0} (S : FilesService V) (who : Who) (lun bytes : ℕ) where
   abbrev Fate : FlxRefusal → Option (List ℕ) → Option (List ℕ) → List ℕ → Type 0
   Fate (Files e) u u' taken = (length taken ≤ bytes) × Consumes u u' taken
   Fate (Rt e) u u' taken = ⊥
-  Fate BadRecord u u' taken = 0 < bytes
+  Fate BadRecord u u' taken = ⊥
   Fate LineTooLong u u' taken = ⊥
+  Fate Unread u u' taken = 0 < bytes
 
   -- nothing was read of it
   unread-fate : (f : FlxRefusal) (e : Refusal) (u u' : Option (List ℕ)) (taken : List ℕ) → f ≡ Files e
@@ -102,8 +104,9 @@ module _ {V : Type 0} (S : FilesService V) (who : Who) (lun bytes : ℕ) where
       → FailsToFillFromHost S who lun bytes f (host_file u []) (host_file u' taken) v w → Fate f u u' taken
   fill-fate (Files e) u u' taken v w h = (h.few, h.takes)
   fill-fate (Rt e) u u' taken v w h = absurd h
-  fill-fate BadRecord u u' taken v w h = omega (arith, h.few)
+  fill-fate BadRecord u u' taken v w h = absurd h
   fill-fate LineTooLong u u' taken v w h = absurd h
+  fill-fate Unread u u' taken v w h = omega (arith, h.few)
 
   opened-fate : (f : FlxRefusal) (id : FileId) (u u' : Option (List ℕ)) (taken : List ℕ) (v w : V) → is_lethal f ≡ false
       → FailsToFillOpened S who lun (FailsToFillFromHost S who lun bytes) id f (host_file u []) (host_file u' taken) v w
@@ -228,9 +231,11 @@ module _ {D : Type 0} {met : Ghosts D} (who : Who) (lun bytes : ℕ) (dir : File
       record { taken = taken; few = k.0; takes = k.1 }
   unmade-host (Rt e) h = absurd (no-rt e (told (Rt e) h))
   unmade-host BadRecord h =
-      made-fate of_volume who lun bytes BadRecord (as_image to dir protection bytes []) u u' taken v w refl (h [])
+      absurd (made-fate of_volume who lun bytes BadRecord (as_image to dir protection bytes []) u u' taken v w refl (h []))
   unmade-host LineTooLong h =
       absurd (made-fate of_volume who lun bytes LineTooLong (as_image to dir protection bytes []) u u' taken v w refl (h []))
+  unmade-host Unread h =
+      made-fate of_volume who lun bytes Unread (as_image to dir protection bytes []) u u' taken v w refl (h [])
 
   pub made-spent : is_spent v ≡ true → Made → ⊥
   made-spent dead h =
@@ -315,19 +320,19 @@ module _ {D : Type 0} {met : Ghosts D} (who : Who) (lun bytes : ℕ) (dir : File
           (store_of_volume w)) (same-refusal' r.e r.is) r.fails
       by blocks (inr k) = absurd (k.other e refl)
 
-  cut-short : is_sound v ≡ true → Unmade BadRecord → (blocks : List (List ℕ)) →
+  cut-short : is_sound v ≡ true → Unmade Unread → (blocks : List (List ℕ)) →
       IsCutShort (as_image to dir protection bytes blocks) who lun (blocks_for bytes) (new_id (store_of_volume v)) (store_of_volume v)
       (store_of_volume w)
   cut-short sound h blocks = by
-      (made-of BadRecord blocks refl sound (λ e is. absurd (bad-no-files e is)) (λ e is. absurd (bad-no-files e is)) h)
+      (made-of Unread blocks refl sound (λ e is. absurd (unread-no-files e is)) (λ e is. absurd (unread-no-files e is)) h)
     where
-      by : (IsRefusal (as_image to dir protection bytes blocks) who lun BadRecord (store_of_volume v) (store_of_volume w))
+      by : (IsRefusal (as_image to dir protection bytes blocks) who lun Unread (store_of_volume v) (store_of_volume w))
           ⊎ (IsShort (FailsToFillFromHost (of_volume {met = met}) who lun bytes) (as_image to dir protection bytes blocks) who lun
           (blocks_for bytes)
-          BadRecord (host_file u []) (host_file u' taken) (store_of_volume v) (store_of_volume w)) →
+          Unread (host_file u []) (host_file u' taken) (store_of_volume v) (store_of_volume w)) →
           IsCutShort (as_image to dir protection bytes blocks) who lun (blocks_for bytes) (new_id (store_of_volume v)) (store_of_volume v)
           (store_of_volume w)
-      by (inl r) = absurd (bad-no-files r.e r.is)
+      by (inl r) = absurd (unread-no-files r.e r.is)
       by (inr k) = k.cut
 
   pub unmade-refused : (f : FlxRefusal) → is_too_long bytes ≡ false → is_whole (copy_result (unmade (of_copy f))) ≡ true
@@ -337,9 +342,11 @@ module _ {D : Type 0} {met : Ghosts D} (who : Who) (lun bytes : ℕ) (dir : File
       subst (λ b. IsRefusedIf b bytes u u' who lun dir to protection e (store_of_volume v) (store_of_volume w)) (sym short)
       (not-copied e (not-true (is_lethal (Files e)) whole) sound h)
   unmade-refused (Rt e) short whole sound h = absurd (no-rt e (told (Rt e) h))
-  unmade-refused BadRecord short whole sound h = record { short = short; cut = cut-short sound h }
+  unmade-refused BadRecord short whole sound h =
+      absurd (made-fate of_volume who lun bytes BadRecord (as_image to dir protection bytes []) u u' taken v w refl (h []))
   unmade-refused LineTooLong short whole sound h =
       absurd (made-fate of_volume who lun bytes LineTooLong (as_image to dir protection bytes []) u u' taken v w refl (h []))
+  unmade-refused Unread short whole sound h = record { short = short; cut = cut-short sound h }
 
 -- a file that is too long
 module _ {D : Type 0} {met : Ghosts D} (who : Who) (lun : ℕ) (dir : FileId) (to : List ℕ) (protection : ℕ) (attr : List ℕ)

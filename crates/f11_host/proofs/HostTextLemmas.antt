@@ -24,13 +24,13 @@ use Rattle.f11_flx.specs.Making.{FailsToFillOpened, IsCutShort}
 use Rattle.f11_flx.specs.Refusal.{is_lethal}
 use Rattle.f11_flx.specs.declared.lines.Extent.{Extent}
 use Rattle.f11_flx.specs.declared.refusal.FlxRefusal.{FlxRefusal}
-use Rattle.f11_flx.specs.declared.refusal.FlxRefusal.TheVariants.{BadRecord, Files, LineTooLong, Rt}
+use Rattle.f11_flx.specs.declared.refusal.FlxRefusal.TheVariants.{BadRecord, Files, LineTooLong, Rt, Unread}
 use Rattle.f11_flx.proofs.FromRt.EndedLemmas.{making-ends}
 use Rattle.f11_flx.proofs.FromRt.FaredLemmas.{calm-none, made-fares, of-calm, unmade-fares}
 use Rattle.f11_flx.proofs.FromRt.FromRtLemmas.{making-seen}
 use Rattle.f11_flx.proofs.FromRt.FromVolumeLemmas.{may-make, may-not-make}
 use Rattle.f11_flx.proofs.FromRt.KeptLemmas.{dead-made, dead-unmade, given, made-keeps, refused, same-refusal, unmade-keeps}
-use Rattle.f11_flx.proofs.FromRt.NotMadeLemmas.{IsRefusal, IsShort, bad-no-files, making-refused, making-undone}
+use Rattle.f11_flx.proofs.FromRt.NotMadeLemmas.{IsRefusal, IsShort, making-refused, making-undone, unread-no-files}
 use Rattle.f11_flx.proofs.SmallLemmas.{not-true}
 use Rattle.f11_flx.proofs.Made.StatingLemmas.{made-in-order, unmade-in-order}
 use Rattle.f11_flx.proofs.Made.TriedLemmas.{made-tries, none-for-one, unmade-tries}
@@ -55,8 +55,9 @@ module _ {V : Type 0} (S : FilesService V) (who : Who) (lun bytes : ℕ) (plan :
   told-fill : (f : FlxRefusal) (a b : HostFile) (v w : V) → FailsToFillFromText S who lun bytes plan f a b v w → IsTold f
   told-fill (Files e) a b v w h = refl
   told-fill (Rt e) a b v w h = absurd h
-  told-fill BadRecord a b v w h = refl
+  told-fill BadRecord a b v w h = absurd h
   told-fill LineTooLong a b v w h = absurd h
+  told-fill Unread a b v w h = refl
 
   told-opened : (f : FlxRefusal) (id : FileId) (a b : HostFile) (v w : V)
       → FailsToFillOpened S who lun (FailsToFillFromText S who lun bytes plan) id f a b v w → IsTold f
@@ -75,8 +76,9 @@ module _ {V : Type 0} (S : FilesService V) (who : Who) (lun bytes : ℕ) (plan :
   abbrev Fate : FlxRefusal → Option (List ℕ) → Option (List ℕ) → List ℕ → Type 0
   Fate (Files e) u u' taken = (length taken ≤ bytes) × Consumes u u' taken
   Fate (Rt e) u u' taken = ⊥
-  Fate BadRecord u u' taken = IsNotText bytes plan taken u u'
+  Fate BadRecord u u' taken = ⊥
   Fate LineTooLong u u' taken = ⊥
+  Fate Unread u u' taken = IsNotText bytes plan taken u u'
 
   -- nothing was read of it
   unread-fate : (f : FlxRefusal) (e : Refusal) (u u' : Option (List ℕ)) (taken : List ℕ) → f ≡ Files e
@@ -89,8 +91,9 @@ module _ {V : Type 0} (S : FilesService V) (who : Who) (lun bytes : ℕ) (plan :
       → FailsToFillFromText S who lun bytes plan f (host_file u []) (host_file u' taken) v w → Fate f u u' taken
   fill-fate (Files e) u u' taken v w h = (h.few, h.takes)
   fill-fate (Rt e) u u' taken v w h = absurd h
-  fill-fate BadRecord u u' taken v w h = h.why
+  fill-fate BadRecord u u' taken v w h = absurd h
   fill-fate LineTooLong u u' taken v w h = absurd h
+  fill-fate Unread u u' taken v w h = h.why
 
   opened-fate : (f : FlxRefusal) (id : FileId) (u u' : Option (List ℕ)) (taken : List ℕ) (v w : V) → is_lethal f ≡ false
       → FailsToFillOpened S who lun (FailsToFillFromText S who lun bytes plan) id f (host_file u []) (host_file u' taken) v w
@@ -271,12 +274,14 @@ module _ {D : Type 0} {met : Ghosts D} (who : Who) (lun bytes : ℕ) (plan : Ext
         (record { plan = plan; judged = judged; some = record { taken = taken; few = k.0; takes = k.1 } })
     text-unmade-host (Rt e) short h = absurd (no-rt e (told (Rt e) h))
     text-unmade-host BadRecord short h =
-        elim (made-fate of_volume who lun bytes plan BadRecord (as_text to dir protection plan []) u u' taken v w refl (h [])) [
+        absurd (made-fate of_volume who lun bytes plan BadRecord (as_text to dir protection plan []) u u' taken v w refl (h []))
+    text-unmade-host LineTooLong short h =
+        absurd (made-fate of_volume who lun bytes plan LineTooLong (as_text to dir protection plan []) u u' taken v w refl (h []))
+    text-unmade-host Unread short h =
+        elim (made-fate of_volume who lun bytes plan Unread (as_text to dir protection plan []) u u' taken v w refl (h [])) [
           | inl some ↦ inl some
           | inr another ↦ inr (record { plan = plan; judged = judged; taken = taken; another = another })
         ]
-    text-unmade-host LineTooLong short h =
-        absurd (made-fate of_volume who lun bytes plan LineTooLong (as_text to dir protection plan []) u u' taken v w refl (h []))
 
     not-copied : (e : Refusal) → is_lethal (Files e) ≡ false → is_sound v ≡ true → Unmade (Files e)
         → IsTextNotCopied bytes first first' u u' who lun dir to protection e (store_of_volume v) (store_of_volume w)
@@ -314,19 +319,19 @@ module _ {D : Type 0} {met : Ghosts D} (who : Who) (lun bytes : ℕ) (plan : Ext
             (store_of_volume w)) (same-refusal' r.e r.is) r.fails
         by blocks (inr k) = absurd (k.other e refl)
 
-    cut-short : is_sound v ≡ true → Unmade BadRecord → (blocks : List (List ℕ)) →
+    cut-short : is_sound v ≡ true → Unmade Unread → (blocks : List (List ℕ)) →
         IsCutShort (as_text to dir protection plan blocks) who lun plan.blocks (new_id (store_of_volume v)) (store_of_volume v)
         (store_of_volume w)
     cut-short sound h blocks = by
-        (made-of BadRecord blocks refl sound (λ e is. absurd (bad-no-files e is)) (λ e is. absurd (bad-no-files e is)) h)
+        (made-of Unread blocks refl sound (λ e is. absurd (unread-no-files e is)) (λ e is. absurd (unread-no-files e is)) h)
       where
-        by : (IsRefusal (as_text to dir protection plan blocks) who lun BadRecord (store_of_volume v) (store_of_volume w))
+        by : (IsRefusal (as_text to dir protection plan blocks) who lun Unread (store_of_volume v) (store_of_volume w))
             ⊎ (IsShort (FailsToFillFromText (of_volume {met = met}) who lun bytes plan) (as_text to dir protection plan blocks) who lun
             plan.blocks
-            BadRecord (host_file u []) (host_file u' taken) (store_of_volume v) (store_of_volume w)) →
+            Unread (host_file u []) (host_file u' taken) (store_of_volume v) (store_of_volume w)) →
             IsCutShort (as_text to dir protection plan blocks) who lun plan.blocks (new_id (store_of_volume v)) (store_of_volume v)
             (store_of_volume w)
-        by (inl r) = absurd (bad-no-files r.e r.is)
+        by (inl r) = absurd (unread-no-files r.e r.is)
         by (inr k) = k.cut
 
     pub text-unmade-refused : (f : FlxRefusal) → is_text_too_long bytes ≡ false → is_whole (copy_result (unmade (of_copy f))) ≡ true
@@ -337,12 +342,14 @@ module _ {D : Type 0} {met : Ghosts D} (who : Who) (lun bytes : ℕ) (plan : Ext
         (sym short)
         (not-copied e (not-true (is_lethal (Files e)) whole) sound h)
     text-unmade-refused (Rt e) short whole sound h = absurd (no-rt e (told (Rt e) h))
-    text-unmade-refused BadRecord short whole sound h = record {
+    text-unmade-refused BadRecord short whole sound h =
+        absurd (made-fate of_volume who lun bytes plan BadRecord (as_text to dir protection plan []) u u' taken v w refl (h []))
+    text-unmade-refused LineTooLong short whole sound h =
+        absurd (made-fate of_volume who lun bytes plan LineTooLong (as_text to dir protection plan []) u u' taken v w refl (h []))
+    text-unmade-refused Unread short whole sound h = record {
       short = short;
       cut = inr (record { plan = plan; judged = judged; cut = cut-short sound h });
     }
-    text-unmade-refused LineTooLong short whole sound h =
-        absurd (made-fate of_volume who lun bytes plan LineTooLong (as_text to dir protection plan []) u u' taken v w refl (h []))
 
 -- a text that isn't judged, or is too long: nothing was asked
 module _ {D : Type 0} {met : Ghosts D} (who : Who) (lun : ℕ) (dir : FileId) (to : List ℕ) (protection : ℕ) (v : Volume D met) where
@@ -360,13 +367,7 @@ module _ {D : Type 0} {met : Ghosts D} (who : Who) (lun : ℕ) (dir : FileId) (t
       → MayMakeStated (copy_result (unmade (of_copy f))) who lun dir to protection v v
   unplanned-files (Files e) bytes u u' h = absurd h
   unplanned-files (Rt e) bytes u u' h = absurd h
-  unplanned-files BadRecord bytes u u' h = unasked-files BadRecord refl differ differ'
-    where
-      differ : refused BadRecord ≡ refused (Files VolumeFailed) → ⊥
-      differ is = cc
-
-      differ' : refused BadRecord ≡ refused (Rt Failed) → ⊥
-      differ' is = cc
+  unplanned-files BadRecord bytes u u' h = absurd h
   unplanned-files LineTooLong bytes u u' h = unasked-files LineTooLong refl differ differ'
     where
       differ : refused LineTooLong ≡ refused (Files VolumeFailed) → ⊥
@@ -374,13 +375,21 @@ module _ {D : Type 0} {met : Ghosts D} (who : Who) (lun : ℕ) (dir : FileId) (t
 
       differ' : refused LineTooLong ≡ refused (Rt Failed) → ⊥
       differ' is = cc
+  unplanned-files Unread bytes u u' h = unasked-files Unread refl differ differ'
+    where
+      differ : refused Unread ≡ refused (Files VolumeFailed) → ⊥
+      differ is = cc
+
+      differ' : refused Unread ≡ refused (Rt Failed) → ⊥
+      differ' is = cc
 
   pub unplanned-ends : (f : FlxRefusal) (bytes : ℕ) (u u' : Option (List ℕ)) → FailsToPlanText bytes f u u'
       → is_lethal (as_copy (of_copy f)) ≡ true → Ends of_volume who (as_copy (of_copy f)) v v
   unplanned-ends (Files e) bytes u u' h lethal = absurd h
   unplanned-ends (Rt e) bytes u u' h lethal = absurd h
-  unplanned-ends BadRecord bytes u u' h lethal = absurd (cc)
+  unplanned-ends BadRecord bytes u u' h lethal = absurd h
   unplanned-ends LineTooLong bytes u u' h lethal = absurd (cc)
+  unplanned-ends Unread bytes u u' h lethal = absurd (cc)
 
 module _ (bytes : ℕ) (u u' a : Option (List ℕ)) (f : FlxRefusal) (h : FailsToPlanText bytes f u u') where
   pub unplanned-host : ReadsTexts bytes (unmade (of_copy f)) u u' a a
@@ -389,8 +398,9 @@ module _ (bytes : ℕ) (u u' a : Option (List ℕ)) (f : FlxRefusal) (h : FailsT
       by : (f : FlxRefusal) → FailsToPlanText bytes f u u' → ReadsTexts bytes (unmade (of_copy f)) u u' a a
       by (Files e) h = absurd h
       by (Rt e) h = absurd h
-      by BadRecord h = inl h
+      by BadRecord h = absurd h
       by LineTooLong h = (h, refl)
+      by Unread h = inl h
 
   pub unplanned-spent : FailsTextSpent false (of_copy f)
   unplanned-spent = by f h
@@ -398,8 +408,9 @@ module _ (bytes : ℕ) (u u' a : Option (List ℕ)) (f : FlxRefusal) (h : FailsT
       by : (f : FlxRefusal) → FailsToPlanText bytes f u u' → FailsTextSpent false (of_copy f)
       by (Files e) h = absurd h
       by (Rt e) h = absurd h
-      by BadRecord h = tt
+      by BadRecord h = absurd h
       by LineTooLong h = tt
+      by Unread h = tt
 
   pub unplanned-refused : (who : Who) (lun : ℕ) (dir : FileId) (to : List ℕ) (protection : ℕ) (s : Store) → is_text_too_long bytes ≡ false
       → FailsToCopyTextFromHost (of_copy f) bytes u u' a a who lun dir to protection s s
@@ -409,8 +420,9 @@ module _ (bytes : ℕ) (u u' a : Option (List ℕ)) (f : FlxRefusal) (h : FailsT
           → FailsToCopyTextFromHost (of_copy f) bytes u u' a a who lun dir to protection s s
       by (Files e) h = absurd h
       by (Rt e) h = absurd h
-      by BadRecord h = record { short = short; cut = inl refl }
+      by BadRecord h = absurd h
       by LineTooLong h = (short, refl)
+      by Unread h = record { short = short; cut = inl refl }
 
 pub long-text-host : (bytes : ℕ) (u a : Option (List ℕ)) → is_text_too_long bytes ≡ true
     → ReadsTexts bytes (unmade (host.Files TooManySegments)) u u a a

@@ -10,7 +10,7 @@ use Rattle.f11_making.specs.Making.{extension, filling_of}
 use Rattle.f11_flx.specs.Making.{AsksToFill, IsBrokenOff}
 use Rattle.f11_flx.specs.declared.lines.Extent.{Extent}
 use Rattle.f11_flx.specs.declared.refusal.FlxRefusal.{FlxRefusal}
-use Rattle.f11_flx.specs.declared.refusal.FlxRefusal.TheVariants.{BadRecord, Files, LineTooLong, Rt}
+use Rattle.f11_flx.specs.declared.refusal.FlxRefusal.TheVariants.{BadRecord, Files, LineTooLong, Rt, Unread}
 use Rattle.f11_making.proofs.AskingLemmas.{breaks-before, granted-append}
 use Rattle.f11_flx.proofs.FromRt.MakingLemmas.{breaks-filling, breaks-giving}
 use Rattle.f11_host.specs.Filling.{HostFile, host_file}
@@ -37,9 +37,10 @@ module _ {V : Type 0} (S : FilesService V) (who : Who) (lun bytes : ℕ) (plan :
       → FailsToCopyAgain S who lun bytes plan (as_unread f) taken unread unread' old new
   again-fails (Files e) taken new h = h
   again-fails (Rt e) taken new h = h
-  again-fails BadRecord taken new h = record { why = inl h.some; pieces = h.pieces; granted = h.granted }
+  again-fails BadRecord taken new h = h
   again-fails LineTooLong taken new h =
       record { why = inl (has-copy bytes taken unread unread' h.has); pieces = h.pieces; granted = h.granted }
+  again-fails Unread taken new h = record { why = inl h.some; pieces = h.pieces; granted = h.granted }
 
 module _ {V : Type 0} (S : FilesService V) (who : Who) (lun bytes : ℕ) (plan : Extent) (unread : Option (List ℕ)) (old : V) where
   -- blocks weren't allocated
@@ -70,12 +71,13 @@ module _ {V : Type 0} (S : FilesService V) (who : Who) (lun bytes : ℕ) (plan :
           (breaks-filling S who lun plan.blocks h.pieces rest.0 h.last e old between h.between new extended h.granted h.denied);
     }
     text-not-written (Rt e) unread' taken new h = absurd h
-    text-not-written BadRecord unread' taken new h = record {
+    text-not-written BadRecord unread' taken new h = absurd h
+    text-not-written LineTooLong unread' taken new h = absurd h
+    text-not-written Unread unread' taken new h = record {
       why = h.why;
       pieces = h.pieces;
       granted = granted-append S who (extension lun plan.blocks) (writes_of lun 0 h.pieces) old between new extended h.granted;
     }
-    text-not-written LineTooLong unread' taken new h = absurd h
 
     -- all were, and the file wasn't given up,
     pub text-not-given : (e : Refusal) (unread' : Option (List ℕ)) (taken : List ℕ) (written new : V)
@@ -116,5 +118,6 @@ asks-to-fill-text {V} S who lun bytes plan = record { fills = λ a b v w h. (h.p
         → IsBrokenOff S who lun plan.blocks f v w
     broken (Files e) a b v w h = (h.pieces, h.breaks)
     broken (Rt e) a b v w h = absurd h
-    broken BadRecord a b v w h = (h.pieces, h.granted)
+    broken BadRecord a b v w h = absurd h
     broken LineTooLong a b v w h = absurd h
+    broken Unread a b v w h = (h.pieces, h.granted)

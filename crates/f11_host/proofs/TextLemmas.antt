@@ -21,7 +21,7 @@ use Rattle.f11_flx.specs.Spelled.{longest_of, text_attributes, variable_records}
 use Rattle.f11_flx.specs.ToRecords.{bytes_to_come, is_too_long, longest_with}
 use Rattle.f11_flx.specs.Writing.{FailsToWritePieces, MeetsLongLine, StopsAtPiece, WritesPieces, out_bytes}
 use Rattle.f11_flx.specs.declared.refusal.FlxRefusal.{FlxRefusal}
-use Rattle.f11_flx.specs.declared.refusal.FlxRefusal.TheVariants.{BadRecord, Files, LineTooLong, Rt}
+use Rattle.f11_flx.specs.declared.refusal.FlxRefusal.TheVariants.{BadRecord, Files, LineTooLong, Rt, Unread}
 use Rattle.f11_flx.specs.declared.to_records.ToRecords.{ToRecords}
 use Rattle.f11_flx.proofs.FromRt.MakingLemmas.{same-blocks}
 use Rattle.f11_flx.proofs.FromRt.PassedLemmas.{chop, some-of}
@@ -112,6 +112,7 @@ module _ {V : Type 0} (S : FilesService V) (who : Who) (lun bytes : ℕ) (s : To
       meets = subst (λ (l : List ℕ). MeetsLongLine S who lun s l o old new) (sym goes-on)
           (writes-then-long S who lun s t (with_crs h.taken) text o p old now new h.writes k);
     }
+    reading-fails Unread new k = absurd k
 
 -- from the beginning of the file
 at-start : {V : Type 0} (S : FilesService V) (who : Who) (lun : ℕ) (o : Out) (pieces : List (List ℕ)) (v w : V) → o.place ≡ 0
@@ -223,7 +224,7 @@ module _ {V : Type 0} (S : FilesService V) (who : Who) (lun bytes : ℕ) (taken 
             ∙ in-whole-behind (concat (k.pieces ++ k.last ∷ [])) rest.0 (length (k.pieces ++ k.last ∷ [])) whole);
       }
   text-fails (Rt e) v w h = absurd h
-  text-fails BadRecord v w h = h
+  text-fails BadRecord v w h = absurd h
   text-fails LineTooLong v w h = record {
     has = record {
       few = h.few;
@@ -237,6 +238,7 @@ module _ {V : Type 0} (S : FilesService V) (who : Who) (lun bytes : ℕ) (taken 
     pieces = h.meets.pieces;
     granted = at-start S who lun o h.meets.pieces v w first h.meets.granted;
   }
+  text-fails Unread v w h = h
 
   module _ (t : ToRecords) (p : Out) (v w : V) (h : ReadsText S who lun bytes taken s t o p u u' v w) where
     pub text-few : bytes ≤ 1073741312 → 512 * p.place + length (out_bytes p t []) < 4294966000
@@ -348,6 +350,7 @@ module _ {V : Type 0} (S : FilesService V) (who : Who) (lun bytes : ℕ) (taken 
       pieces = h.writes.pieces ++ k.pieces;
       granted = both k.pieces x k.granted;
     }
+    text-end-fails Unread x k = absurd k
 
 -- a pass that writes nothing judges the copy
 pub text-plan : {V : Type 0} (who : Who) (lun bytes : ℕ) (taken : List ℕ) (blocks end longest : ℕ) (u u' : Option (List ℕ)) (v w : V)
@@ -365,5 +368,6 @@ pub text-unplanned : {V : Type 0} (f : FlxRefusal) (who : Who) (lun bytes : ℕ)
     → FailsToCopyText dry who lun bytes taken f u u' v w → FailsToPlanText bytes f u u'
 text-unplanned (Files e) who lun bytes taken u u' v w h = dry-takes who lun (suc (length h.pieces)) h.last e h.between w h.denied
 text-unplanned (Rt e) who lun bytes taken u u' v w h = absurd h
-text-unplanned BadRecord who lun bytes taken u u' v w h = h.some
+text-unplanned BadRecord who lun bytes taken u u' v w h = absurd h
 text-unplanned LineTooLong who lun bytes taken u u' v w h = (taken, h.has)
+text-unplanned Unread who lun bytes taken u u' v w h = h.some

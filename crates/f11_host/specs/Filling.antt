@@ -55,8 +55,9 @@ abbrev pub FailsToWriteBytes : {V : Type 0} → FilesService V → Who → ℕ �
 FailsToWriteBytes S who lun bytes (refusal.Files e) unread unread' taken old new =
     StopsAtBlock S who lun bytes e unread unread' taken old new
 FailsToWriteBytes S who lun bytes (refusal.Rt e) unread unread' taken old new = ⊥
-FailsToWriteBytes S who lun bytes refusal.BadRecord unread unread' taken old new = LacksBlock S who lun bytes old new
+FailsToWriteBytes S who lun bytes refusal.BadRecord unread unread' taken old new = ⊥
 FailsToWriteBytes S who lun bytes refusal.LineTooLong unread unread' taken old new = ⊥
+FailsToWriteBytes S who lun bytes refusal.Unread unread unread' taken old new = LacksBlock S who lun bytes old new
 
 -- All were taken; the file that is accessed got its blocks, which were written, and was given up.
 pub record FillsFromHost {V : Type 0} (S : FilesService V) (who : Who) (lun bytes : ℕ) (host host' : HostFile) (old new : V)
@@ -86,8 +87,9 @@ pub record LacksBytes {V : Type 0} (S : FilesService V) (who : Who) (lun bytes :
 abbrev pub FailsToFillFromHost : {V : Type 0} → FilesService V → Who → ℕ → ℕ → FlxRefusal → HostFile → HostFile → V → V → Type 0
 FailsToFillFromHost S who lun bytes (refusal.Files e) host host' old new = BreaksFilling S who lun bytes e host host' old new
 FailsToFillFromHost S who lun bytes (refusal.Rt e) host host' old new = ⊥
-FailsToFillFromHost S who lun bytes refusal.BadRecord host host' old new = LacksBytes S who lun bytes old new
+FailsToFillFromHost S who lun bytes refusal.BadRecord host host' old new = ⊥
 FailsToFillFromHost S who lun bytes refusal.LineTooLong host host' old new = ⊥
+FailsToFillFromHost S who lun bytes refusal.Unread host host' old new = LacksBytes S who lun bytes old new
 
 -- the file was made,
 abbrev pub MakesFromHost : {V : Type 0} → FilesService V → Who → ℕ → ℕ → Making → HostFile → HostFile → V → V → Type 0

@@ -5,10 +5,10 @@ use Rattle.f11_flx.specs.declared.refusal.FlxRefusal.TheVariants as copy
 use Rattle.f11_host.specs.declared.refusal.HostRefusal.{HostRefusal}
 use Rattle.f11_host.specs.declared.refusal.HostRefusal.TheVariants.{Files, LineTooLong, Unread}
 
--- as a copy it is refused by the volume, or its source can't be read, or has a line that is too long
+-- as a copy it is refused by the volume, or its source is unread, or has a line that is too long
 abbrev pub as_copy : HostRefusal → FlxRefusal
 as_copy (Files e) = copy.Files e
-as_copy Unread = copy.BadRecord
+as_copy Unread = copy.Unread
 as_copy LineTooLong = copy.LineTooLong
 
 abbrev pub copy_result : {T : Type 0} → Result T HostRefusal → Result T FlxRefusal
@@ -21,3 +21,4 @@ of_copy (copy.Files e) = Files e
 of_copy (copy.Rt e) = Unread
 of_copy copy.BadRecord = Unread
 of_copy copy.LineTooLong = LineTooLong
+of_copy copy.Unread = Unread

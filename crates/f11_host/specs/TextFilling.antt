@@ -58,16 +58,18 @@ abbrev pub FailsToCopyAgain : {V : Type 0} → FilesService V → Who → ℕ �
 FailsToCopyAgain S who lun bytes plan (refusal.Files e) taken unread unread' old new =
     StopsCopyingText S who lun bytes taken e unread unread' old new
 FailsToCopyAgain S who lun bytes plan (refusal.Rt e) taken unread unread' old new = ⊥
-FailsToCopyAgain S who lun bytes plan refusal.BadRecord taken unread unread' old new =
-    MeetsNoText S who lun bytes plan taken unread unread' old new
+FailsToCopyAgain S who lun bytes plan refusal.BadRecord taken unread unread' old new = ⊥
 FailsToCopyAgain S who lun bytes plan refusal.LineTooLong taken unread unread' old new = ⊥
+FailsToCopyAgain S who lun bytes plan refusal.Unread taken unread unread' old new =
+    MeetsNoText S who lun bytes plan taken unread unread' old new
 
 -- a line that is too long is one of another text
 abbrev pub as_unread : FlxRefusal → FlxRefusal
 as_unread (refusal.Files e) = refusal.Files e
 as_unread (refusal.Rt e) = refusal.Rt e
 as_unread refusal.BadRecord = refusal.BadRecord
-as_unread refusal.LineTooLong = refusal.BadRecord
+as_unread refusal.LineTooLong = refusal.Unread
+as_unread refusal.Unread = refusal.Unread
 
 -- All of the text was taken; the file that is accessed got the blocks of its copy, which were written, and was given up.
 pub record FillsFromText {V : Type 0} (S : FilesService V) (who : Who) (lun bytes : ℕ) (plan : Extent) (host host' : HostFile)
@@ -101,9 +103,9 @@ abbrev pub FailsToFillFromText : {V : Type 0} → FilesService V → Who → ℕ
 FailsToFillFromText S who lun bytes plan (refusal.Files e) host host' old new =
     BreaksFillingText S who lun bytes plan e host host' old new
 FailsToFillFromText S who lun bytes plan (refusal.Rt e) host host' old new = ⊥
-FailsToFillFromText S who lun bytes plan refusal.BadRecord host host' old new =
-    LacksSameText S who lun bytes plan host host' old new
+FailsToFillFromText S who lun bytes plan refusal.BadRecord host host' old new = ⊥
 FailsToFillFromText S who lun bytes plan refusal.LineTooLong host host' old new = ⊥
+FailsToFillFromText S who lun bytes plan refusal.Unread host host' old new = LacksSameText S who lun bytes plan host host' old new
 
 -- the file was made,
 abbrev pub MakesFromText : {V : Type 0} → FilesService V → Who → ℕ → ℕ → Extent → Making → HostFile → HostFile → V → V → Type 0

@@ -44,9 +44,10 @@ abbrev pub FailsToReadText : {V : Type 0} → FilesService V → Who → ℕ →
 FailsToReadText S who lun bytes taken s o (refusal.Files e) unread unread' old new =
     StopsAtText S who lun bytes taken s o e unread unread' old new
 FailsToReadText S who lun bytes taken s o (refusal.Rt e) unread unread' old new = ⊥
-FailsToReadText S who lun bytes taken s o refusal.BadRecord unread unread' old new = LacksText S who lun bytes old new
+FailsToReadText S who lun bytes taken s o refusal.BadRecord unread unread' old new = ⊥
 FailsToReadText S who lun bytes taken s o refusal.LineTooLong unread unread' old new =
     MeetsLongText S who lun bytes taken s o unread unread' old new
+FailsToReadText S who lun bytes taken s o refusal.Unread unread unread' old new = LacksText S who lun bytes old new
 
 -- The text was read, and its copy was written, of so many blocks, with this end and this longest line.
 pub record CopiesText {V : Type 0} (S : FilesService V) (who : Who) (lun bytes : ℕ) (taken : List ℕ) (blocks end longest : ℕ)
@@ -89,9 +90,10 @@ abbrev pub FailsToCopyText : {V : Type 0} → FilesService V → Who → ℕ →
 FailsToCopyText S who lun bytes taken (refusal.Files e) unread unread' old new =
     StopsCopyingText S who lun bytes taken e unread unread' old new
 FailsToCopyText S who lun bytes taken (refusal.Rt e) unread unread' old new = ⊥
-FailsToCopyText S who lun bytes taken refusal.BadRecord unread unread' old new = LacksText S who lun bytes old new
+FailsToCopyText S who lun bytes taken refusal.BadRecord unread unread' old new = ⊥
 FailsToCopyText S who lun bytes taken refusal.LineTooLong unread unread' old new =
     MeetsNoCopy S who lun bytes taken unread unread' old new
+FailsToCopyText S who lun bytes taken refusal.Unread unread unread' old new = LacksText S who lun bytes old new
 
 -- All bytes of a text were taken, whose copy has so many blocks, this end, and this longest line.
 pub record PlansText (bytes blocks end longest : ℕ) (unread unread' : Option (List ℕ)) : Type 0 where
@@ -106,5 +108,6 @@ pub record PlansText (bytes blocks end longest : ℕ) (unread unread' : Option (
 abbrev pub FailsToPlanText : ℕ → FlxRefusal → Option (List ℕ) → Option (List ℕ) → Type 0
 FailsToPlanText bytes (refusal.Files e) unread unread' = ⊥
 FailsToPlanText bytes (refusal.Rt e) unread unread' = ⊥
-FailsToPlanText bytes refusal.BadRecord unread unread' = 0 < bytes
+FailsToPlanText bytes refusal.BadRecord unread unread' = ⊥
 FailsToPlanText bytes refusal.LineTooLong unread unread' = (taken : List ℕ) × HasNoCopy bytes taken unread unread'
+FailsToPlanText bytes refusal.Unread unread unread' = 0 < bytes

@@ -33,7 +33,7 @@ fn write_bytes<R: Read, S: Asked>(
         let count = left.min(BLOCK_SIZE as u32);
         match read_piece(host, count as usize, &mut block) {
             Ok(()) => {}
-            Err(_) => return Err(FlxRefusal::BadRecord),
+            Err(_) => return Err(FlxRefusal::Unread),
         }
         match write(service, by, place + 1, &mut block) {
             Ok(()) => {}
@@ -44,8 +44,8 @@ fn write_bytes<R: Read, S: Asked>(
     Ok(())
 }
 
-/// Fills the file that is accessed with so many bytes that the host gives, and gives it up. Where the host gives fewer it is told as a source
-/// that can't be read.
+/// Fills the file that is accessed with so many bytes that the host gives, and gives it up. Where the host gives fewer it is refused as
+/// [`FlxRefusal::Unread`].
 pub fn fill<R: Read, S: Asked>(
     host: &mut R,
     bytes: u32,

@@ -44,7 +44,7 @@ fn fill_file<R: Read, S: Asked>(
 }
 
 /// Makes a file of so many bytes that the host gives: how many blocks it has. It ends at its beginning until all its blocks are written. Where
-/// the host gives fewer it is told as a source that can't be read.
+/// the host gives fewer it is refused as [`FlxRefusal::Unread`].
 pub fn make<R: Read, S: Asked>(
     host: &mut R,
     bytes: u32,

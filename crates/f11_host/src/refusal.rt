@@ -25,5 +25,6 @@ pub fn told(refusal: FlxRefusal) -> HostRefusal
         FlxRefusal::Rt(_) => HostRefusal::Unread,
         FlxRefusal::BadRecord => HostRefusal::Unread,
         FlxRefusal::LineTooLong => HostRefusal::LineTooLong,
+        FlxRefusal::Unread => HostRefusal::Unread,
     }
 }

@@ -42,7 +42,7 @@ fn read_text<R: Read, S: Asked>(
         let count = left.min(BLOCK_SIZE as u32);
         match read_piece(host, count as usize, &mut block) {
             Ok(()) => {}
-            Err(_) => return Err(FlxRefusal::BadRecord),
+            Err(_) => return Err(FlxRefusal::Unread),
         }
         cr = expand(&block, count as usize, cr, &mut text);
         write_lines(lines, &text, out, service, by)?;
@@ -51,7 +51,7 @@ fn read_text<R: Read, S: Asked>(
     Ok(())
 }
 
-/// Writes the copy of a text of so many bytes that the host gives. Where the host gives fewer it is told as a source that can't be read.
+/// Writes the copy of a text of so many bytes that the host gives. Where the host gives fewer it is refused as [`FlxRefusal::Unread`].
 pub fn copy_text<R: Read, S: Asked>(
     host: &mut R,
     bytes: u32,

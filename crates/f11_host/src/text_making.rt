@@ -28,11 +28,12 @@ fn unread(refusal: FlxRefusal) -> FlxRefusal
         FlxRefusal::Files(refusal) => FlxRefusal::Files(refusal),
         FlxRefusal::Rt(refusal) => FlxRefusal::Rt(refusal),
         FlxRefusal::BadRecord => FlxRefusal::BadRecord,
-        FlxRefusal::LineTooLong => FlxRefusal::BadRecord,
+        FlxRefusal::LineTooLong => FlxRefusal::Unread,
+        FlxRefusal::Unread => FlxRefusal::Unread,
     }
 }
 
-/// Writes the copy of a text that was judged. Where the host gives fewer bytes, or another text, it is told as a source that can't be read.
+/// Writes the copy of a text that was judged. Where the host gives fewer bytes, or another text, it is refused as [`FlxRefusal::Unread`].
 fn copy_again<R: Read, S: Asked>(
     host: &mut R,
     bytes: u32,
@@ -55,7 +56,7 @@ fn copy_again<R: Read, S: Asked>(
     if are_same(&extent, plan) {
         Ok(())
     } else {
-        Err(FlxRefusal::BadRecord)
+        Err(FlxRefusal::Unread)
     }
 }
 
@@ -120,7 +121,7 @@ fn fill_text_file<R: Read, S: Asked>(
 }
 
 /// Makes a file of a text of so many bytes that the host gives, whose copy was judged. It ends at its beginning until all its blocks are
-/// written. Where the host gives fewer, or another text, it is told as a source that can't be read.
+/// written. Where the host gives fewer, or another text, it is refused as [`FlxRefusal::Unread`].
 pub fn make_text<R: Read, S: Asked>(
     host: &mut R,
     bytes: u32,

@@ -23,3 +23,4 @@ pub use attributes::{blocks_to_end, end, is_directory_name};
 pub use f11_fcp;
 pub use making::{Entry, create, enter, extend};
 pub use named::{carry_out, make};
+pub use steps::is_fatal;

@@ -26,7 +26,7 @@ use Rattle.f11_flx.specs.Planning.{FailsToPlan}
 use Rattle.f11_flx.specs.Refusal.{is_lethal}
 use Rattle.f11_flx.specs.declared.mode.CopyMode.{CopyMode}
 use Rattle.f11_flx.specs.declared.refusal.FlxRefusal.{FlxRefusal}
-use Rattle.f11_flx.specs.declared.refusal.FlxRefusal.TheVariants.{BadRecord, Files, LineTooLong, Rt}
+use Rattle.f11_flx.specs.declared.refusal.FlxRefusal.TheVariants.{BadRecord, Files, LineTooLong, Rt, Unread}
 use Rattle.f11_making.proofs.AskingLemmas.{granted-append}
 use Rattle.f11_making.proofs.CleanlyLemmas.{cleanly-all, cleanly-denied, cleanly-one, cleanly-then, tried-then}
 use Rattle.f11_flx.proofs.FromRt.MakingLemmas.{asks-to-fill}
@@ -76,6 +76,7 @@ module _ {V : Type 0} (S : FilesService V) (who : Who) where
           }
       by BadRecord k = tt
       by LineTooLong k = tt
+      by Unread k = absurd k
 
   -- behind whatever went on cleanly, where the volume itself refuses
   cleanly-so-far : (e : Refusal) (u v w : V) → Cleanly S who u v → SoFar S who (Files e) v w → SoFar S who (Files e) u w
@@ -158,6 +159,8 @@ module _ {V : Type 0} (S : FilesService V) (who : Who) (lun n : ℕ) where
       record { ended = λ lethal. tt; clean = λ clean. cleanly-all S who (extension lun n ++ writes_of lun 0 h.0) v w h.1 }
   broken-so-far LineTooLong v w h =
       record { ended = λ lethal. tt; clean = λ clean. cleanly-all S who (extension lun n ++ writes_of lun 0 h.0) v w h.1 }
+  broken-so-far Unread v w h =
+      record { ended = λ lethal. absurd (cc); clean = λ clean. cleanly-all S who (extension lun n ++ writes_of lun 0 h.0) v w h.1 }
 
 module _ {V H : Type 0} (S : FilesService V) (who : Who) (lun n : ℕ) (Fills : H → H → V → V → Type 0)
     (Fails : FlxRefusal → H → H → V → V → Type 0) (asking : AsksToFill S who lun n Fills Fails) where
@@ -199,6 +202,7 @@ module _ {V E : Type 0} {met : Ghosts E} (S : FilesService V) (disk : E → Disk
   plan-ends (Rt e) a b v h = record { asked = []; granted = refl; building = All-nil builds }
   plan-ends BadRecord a b v h = tt
   plan-ends LineTooLong a b v h = tt
+  plan-ends Unread a b v h = absurd h
 
   pub copy-ends : (f : FlxRefusal) (dir : FileId) (to : List ℕ) (protection : ℕ) (a b : RtAccepted E met) (v w : V)
       → FailsToCopyFrom S disk m who lun name dir to protection f a b v w → is_lethal f ≡ true → Ends S who f v w

@@ -32,7 +32,7 @@ use Rattle.f11_flx.specs.Planning.{FailsToPlan}
 use Rattle.f11_flx.specs.Refusal.{is_lethal}
 use Rattle.f11_flx.specs.declared.mode.CopyMode.{CopyMode}
 use Rattle.f11_flx.specs.declared.refusal.FlxRefusal.{FlxRefusal}
-use Rattle.f11_flx.specs.declared.refusal.FlxRefusal.TheVariants.{BadRecord, Files, LineTooLong, Rt}
+use Rattle.f11_flx.specs.declared.refusal.FlxRefusal.TheVariants.{BadRecord, Files, LineTooLong, Rt, Unread}
 use Rattle.f11_flx.proofs.FromRt.MakingLemmas.{asks-to-fill}
 use Rattle.f11_flx.proofs.SmallLemmas.{or-false}
 use Rattle.f11_making.proofs.VolumeLemmas.{denied-fared, granted-fared, parts-sound, volume-seen}
@@ -53,12 +53,14 @@ calm-fault (Files e) h = by (refusal_number e == 19) refl
 calm-fault (Rt e) h = refl
 calm-fault BadRecord h = refl
 calm-fault LineTooLong h = refl
+calm-fault Unread h = refl
 
 calm-fatal : (f : FlxRefusal) → is_lethal f ≡ false → of_files is_fatal (refused f) ≡ false
 calm-fatal (Files e) h = h
 calm-fatal (Rt e) h = refl
 calm-fatal BadRecord h = refl
 calm-fatal LineTooLong h = refl
+calm-fatal Unread h = refl
 
 module _ {D : Type 0} {met : Ghosts D} where
   -- a volume is what it was
@@ -214,6 +216,8 @@ module _ {D : Type 0} {met : Ghosts D} (who : Who) (lun n : ℕ) where
       alike (refused BadRecord) done v w refl refl (fares-all who (extension lun n ++ writes_of lun 0 h.0) v w h.1)
   broken-fares LineTooLong v w h =
       alike (refused LineTooLong) done v w refl refl (fares-all who (extension lun n ++ writes_of lun 0 h.0) v w h.1)
+  broken-fares Unread v w h =
+      alike (refused Unread) done v w refl refl (fares-all who (extension lun n ++ writes_of lun 0 h.0) v w h.1)
 
 module _ {D H : Type 0} {met : Ghosts D} (who : Who) (lun n : ℕ) (Fills : H → H → Volume D met → Volume D met → Type 0)
     (Fails : FlxRefusal → H → H → Volume D met → Volume D met → Type 0) (asking : AsksToFill of_volume who lun n Fills Fails) where
@@ -256,6 +260,7 @@ module _ {D E : Type 0} {met : Ghosts D} {met' : Ghosts E} (disk : E → Disk) (
   plan-fares (Rt e) a b v h = alike (refused (Rt e)) done v v refl refl (calm-none v)
   plan-fares BadRecord a b v h = absurd h
   plan-fares LineTooLong a b v h = alike (refused LineTooLong) done v v refl refl (calm-none v)
+  plan-fares Unread a b v h = absurd h
 
   pub copies-fares : (dir : FileId) (to : List ℕ) (protection blocks : ℕ) (a b : RtAccepted E met') (v w : Volume D met)
       → CopiesFrom of_volume disk m who lun name dir to protection blocks a b v w → FaresFiles done v w

@@ -22,7 +22,7 @@ use Rattle.f11_flx.specs.RtSource.{Looks}
 use Rattle.f11_flx.specs.Target.{rt_disk, rt_store}
 use Rattle.f11_flx.specs.declared.mode.CopyMode.{CopyMode}
 use Rattle.f11_flx.specs.declared.refusal.FlxRefusal.{FlxRefusal}
-use Rattle.f11_flx.specs.declared.refusal.FlxRefusal.TheVariants.{BadRecord, Files, LineTooLong, Rt}
+use Rattle.f11_flx.specs.declared.refusal.FlxRefusal.TheVariants.{BadRecord, Files, LineTooLong, Rt, Unread}
 use Rattle.f11_flx.proofs.FromRt.FaredLemmas.{alike, copies-fares, fails-fares}
 use Rattle.f11_flx.proofs.FromRt.FromRtLemmas.{copies-seen}
 use Rattle.f11_flx.proofs.FromRt.KeptLemmas.{copies-keep, copies-unfailed, fails-keep, fails-unfailed}
@@ -44,6 +44,7 @@ fault-is (Files e) = refl
 fault-is (Rt e) = refl
 fault-is BadRecord = refl
 fault-is LineTooLong = refl
+fault-is Unread = refl
 
 module _ {E : Type 0} {met : Ghosts E} (disk : E → Disk) where
   reads-rt : (r : Result ℕ FlxRefusal) (b : Bool) (old new : RtAccepted E met) → of_rt is_rt_fault r ≡ b → Looks disk b old new
@@ -99,6 +100,7 @@ module _ {D : Type 0} {met : Ghosts D} (who : Who) (lun : ℕ) (making : Making)
       fares (Rt e) k = alike (refused (Rt e)) (Err (Rt e)) v w refl refl k
       fares BadRecord k = alike (refused BadRecord) (Err BadRecord) v w refl refl k
       fares LineTooLong k = alike (refused LineTooLong) (Err LineTooLong) v w refl refl k
+      fares Unread k = alike (refused Unread) (Err Unread) v w refl refl k
 
 module _ {D E : Type 0} {met : Ghosts D} {met' : Ghosts E} (disk : E → Disk) (m : CopyMode) (who : Who) (lun : ℕ) (name : List ℕ)
     (dir : FileId) (to : List ℕ) (protection : ℕ) (a b : RtAccepted E met') (v w : Volume D met) where

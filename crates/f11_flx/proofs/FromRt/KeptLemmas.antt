@@ -37,7 +37,7 @@ use Rattle.f11_flx.specs.Planning.{FailsToPlan}
 use Rattle.f11_flx.specs.Refusal.{is_lethal}
 use Rattle.f11_flx.specs.declared.mode.CopyMode.{CopyMode}
 use Rattle.f11_flx.specs.declared.refusal.FlxRefusal.{FlxRefusal}
-use Rattle.f11_flx.specs.declared.refusal.FlxRefusal.TheVariants.{BadRecord, Files, LineTooLong, Rt}
+use Rattle.f11_flx.specs.declared.refusal.FlxRefusal.TheVariants.{BadRecord, Files, LineTooLong, Rt, Unread}
 use Rattle.f11_flx.proofs.FromRt.MakingLemmas.{asks-to-fill}
 use Rattle.f11_flx.proofs.FromRt.PassLemmas.{stays-alive}
 use Rattle.f11_making.proofs.VolumeLemmas.{denied-fared, granted-fared}
@@ -248,6 +248,10 @@ module _ {D : Type 0} {met : Ghosts D} (who : Who) (lun n : ℕ) where
     other = λ is. absurd (cc);
     alive = λ clean. all-unspent who (extension lun n ++ writes_of lun 0 h.0) v w alive h.1;
   }
+  broken-live Unread v w alive h = record {
+    other = λ is. absurd (cc);
+    alive = λ clean. all-unspent who (extension lun n ++ writes_of lun 0 h.0) v w alive h.1;
+  }
 
 module _ {D H : Type 0} {met : Ghosts D} (who : Who) (lun n : ℕ) (Fills : H → H → Volume D met → Volume D met → Type 0)
     (Fails : FlxRefusal → H → H → Volume D met → Volume D met → Type 0) (asking : AsksToFill of_volume who lun n Fills Fails) where
@@ -313,6 +317,7 @@ module _ {D E : Type 0} {met : Ghosts D} {met' : Ghosts E} (disk : E → Disk) (
     where
       differ : LineTooLong ≡ Files VolumeFailed → ⊥
       differ is = cc
+  plan-keeps Unread a b v h = absurd h
 
   pub copies-keep : (dir : FileId) (to : List ℕ) (protection blocks : ℕ) (a b : RtAccepted E met') (v w : Volume D met)
       → CopiesFrom of_volume disk m who lun name dir to protection blocks a b v w → KeepsSpent (given blocks) v w
@@ -380,6 +385,7 @@ module _ {V E : Type 0} {met : Ghosts E} (S : FilesService V) (disk : E → Disk
     where
       differ : LineTooLong ≡ Rt Failed → ⊥
       differ is = cc
+  fill-unfailed Unread many n a b v w alive h is = absurd h
 
   make-unfailed : (f : FlxRefusal) (many n : ℕ) (making : Making) (a b : RtAccepted E met) (v w : V) → has_failed a ≡ false
       → FailsToMakeCopy S disk m who lun name many n making f a b v w → f ≡ Rt Failed → ⊥
@@ -404,6 +410,7 @@ module _ {V E : Type 0} {met : Ghosts E} (S : FilesService V) (disk : E → Disk
     where
       differ : LineTooLong ≡ Rt Failed → ⊥
       differ is = cc
+  plan-unfailed Unread a b h = absurd h
 
   pub copies-unfailed : (dir : FileId) (to : List ℕ) (protection blocks : ℕ) (a b : RtAccepted E met) (v w : V)
       → CopiesFrom S disk m who lun name dir to protection blocks a b v w → KeepsFailed disk (given blocks) a b

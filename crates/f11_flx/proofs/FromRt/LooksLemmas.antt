@@ -15,7 +15,7 @@ use Rattle.f11_flx.specs.Refusal.{is_lethal}
 use Rattle.f11_flx.specs.RtSource.{Looks}
 use Rattle.f11_flx.specs.declared.mode.CopyMode.{CopyMode}
 use Rattle.f11_flx.specs.declared.refusal.FlxRefusal.{FlxRefusal}
-use Rattle.f11_flx.specs.declared.refusal.FlxRefusal.TheVariants.{BadRecord, Files, LineTooLong, Rt}
+use Rattle.f11_flx.specs.declared.refusal.FlxRefusal.TheVariants.{BadRecord, Files, LineTooLong, Rt, Unread}
 use Rattle.f11_flx.proofs.FromRt.PassLemmas.{looks-none, looks-then}
 
 -- a refusal is that of a transfer on the RT-11 volume that failed
@@ -24,12 +24,14 @@ is-rt-fault (Files e) = false
 is-rt-fault (Rt e) = is_fault e
 is-rt-fault BadRecord = false
 is-rt-fault LineTooLong = false
+is-rt-fault Unread = false
 
 calm-rt : (f : FlxRefusal) → is_lethal f ≡ false → is-rt-fault f ≡ false
 calm-rt (Files e) h = refl
 calm-rt (Rt e) h = h
 calm-rt BadRecord h = refl
 calm-rt LineTooLong h = refl
+calm-rt Unread h = refl
 
 -- what undoes something doesn't change that
 pub undoing-rt : {V : Type 0} (S : FilesService V) (who : Who) (r : Request) (f f' : FlxRefusal) (v w : V) → Undoing S who r f f' v w
@@ -53,6 +55,7 @@ module _ {V E : Type 0} {met : Ghosts E} (S : FilesService V) (disk : E → Disk
   fill-looks (Rt e) many n a b v w h = h.stops.looks
   fill-looks BadRecord many n a b v w h = absurd h
   fill-looks LineTooLong many n a b v w h = h.reads.looks
+  fill-looks Unread many n a b v w h = absurd h
 
   as-other : (f f' : FlxRefusal) (a b : RtAccepted E met) → is-rt-fault f' ≡ is-rt-fault f → Looks disk (is-rt-fault f) a b
       → Looks disk (is-rt-fault f') a b
@@ -90,6 +93,7 @@ module _ {V E : Type 0} {met : Ghosts E} (S : FilesService V) (disk : E → Disk
   plan-looks (Rt e) a b h = h.looks
   plan-looks BadRecord a b h = absurd h
   plan-looks LineTooLong a b h = h.looks
+  plan-looks Unread a b h = absurd h
 
   pub fails-looks : (f : FlxRefusal) (dir : FileId) (to : List ℕ) (protection : ℕ) (a b : RtAccepted E met) (v w : V)
       → FailsToCopyFrom S disk m who lun name dir to protection f a b v w → Looks disk (is-rt-fault f) a b

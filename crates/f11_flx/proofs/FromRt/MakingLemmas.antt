@@ -14,7 +14,7 @@ use Rattle.f11_flx.specs.Making.{AsksToFill, BreaksFilling, FailsToFillFromRt, F
 use Rattle.f11_flx.specs.Passes.{CopiesFile, FailsToCopyFile, IsCopied}
 use Rattle.f11_flx.specs.declared.mode.CopyMode.{CopyMode}
 use Rattle.f11_flx.specs.declared.refusal.FlxRefusal.{FlxRefusal}
-use Rattle.f11_flx.specs.declared.refusal.FlxRefusal.TheVariants.{BadRecord, Files, LineTooLong, Rt}
+use Rattle.f11_flx.specs.declared.refusal.FlxRefusal.TheVariants.{BadRecord, Files, LineTooLong, Rt, Unread}
 use Rattle.f11_making.proofs.AskingLemmas.{breaks-before, breaks-behind, granted-append, writes-append}
 use Rattle.f11_flx.proofs.FromRt.PassLemmas.{reads-none}
 use Rattle.f11_flx.proofs.FromRt.PassedLemmas.{all-of, chop}
@@ -102,6 +102,7 @@ module _ {V : Type 0} (S : FilesService V) (who : Who) (lun : ℕ) where
       granted = granted-append S who (extension lun n) (writes_of lun 0 h.pieces) u v x g h.granted;
       none = h.none;
     }
+    not-copied Unread a b u v x g h = absurd h
 
     pub not-given : (blocks : ℕ) (attr : List ℕ) (e : Refusal) (a b : RtAccepted E met) (u v w x : V) → Granted S who (extension lun n) u v
         → CopiesFile S disk m who lun name many blocks attr a b v w → BreaksOffAsking S who (giving_up lun) e w x →
@@ -143,3 +144,4 @@ module _ {V : Type 0} (S : FilesService V) (who : Who) (lun : ℕ) where
         broken (Rt e) a b v w h = (h.pieces, h.granted)
         broken BadRecord a b v w h = absurd h
         broken LineTooLong a b v w h = (h.pieces, h.granted)
+        broken Unread a b v w h = absurd h

@@ -29,7 +29,7 @@ use Rattle.f11_flx.specs.Refusal.{is_lethal}
 use Rattle.f11_flx.specs.Target.{rt_disk}
 use Rattle.f11_flx.specs.declared.mode.CopyMode.{CopyMode}
 use Rattle.f11_flx.specs.declared.refusal.FlxRefusal.{FlxRefusal}
-use Rattle.f11_flx.specs.declared.refusal.FlxRefusal.TheVariants.{BadRecord, Files, LineTooLong, Rt}
+use Rattle.f11_flx.specs.declared.refusal.FlxRefusal.TheVariants.{BadRecord, Files, LineTooLong, Rt, Unread}
 use Rattle.f11_making.proofs.AskingLemmas.{granted-append}
 use Rattle.f11_flx.proofs.Made.EnteredLemmas.{entry-refused}
 use Rattle.f11_flx.proofs.FromRt.FromRtLemmas.{Planned, created-next, filled-as-planned, has-making, planned}
@@ -95,6 +95,7 @@ module _ {V : Type 0} (S : FilesService V) (who : Who) (lun : ℕ) (view : V →
   still-filling (Rt e) id s n v w clean h sound k = still-written id s n k.0 v w h sound k.1
   still-filling BadRecord id s n v w clean h sound k = still-written id s n k.0 v w h sound k.1
   still-filling LineTooLong id s n v w clean h sound k = still-written id s n k.0 v w h sound k.1
+  still-filling Unread id s n v w clean h sound k = still-written id s n k.0 v w h sound k.1
 
 -- A making was refused as its first request is that is refused, and undone;
 pub record IsRefusal (making : Making) (who : Who) (lun : ℕ) (f : FlxRefusal) (s s' : Store) : Type 0 where
@@ -114,11 +115,14 @@ pub record IsShort {V H : Type 0} (Fails : FlxRefusal → H → H → V → V �
 rt-no-files : (e : RtRefusal) (d : Refusal) → Rt e ≡ Files d → ⊥
 rt-no-files e d is = cc
 
-pub bad-no-files : (d : Refusal) → BadRecord ≡ Files d → ⊥
+bad-no-files : (d : Refusal) → BadRecord ≡ Files d → ⊥
 bad-no-files d is = cc
 
 long-no-files : (d : Refusal) → LineTooLong ≡ Files d → ⊥
 long-no-files d is = cc
+
+pub unread-no-files : (d : Refusal) → Unread ≡ Files d → ⊥
+unread-no-files d is = cc
 
 -- the making of a file from any source
 module _ {V H : Type 0} (S : FilesService V) (who : Who) (lun n : ℕ) (Fills : H → H → V → V → Type 0)
@@ -239,6 +243,8 @@ module _ {V H : Type 0} (S : FilesService V) (who : Who) (lun n : ℕ) (Fills : 
           short BadRecord between left (λ d. bad-no-files d) is calm-now opens fails k undoes
       broke LineTooLong between left clean is calm-now opens fails k undoes =
           short LineTooLong between left (λ d. long-no-files d) is calm-now opens fails k undoes
+      broke Unread between left clean is calm-now opens fails k undoes =
+          short Unread between left (λ d. unread-no-files d) is calm-now opens fails k undoes
 
       by : FailsToFillOpened S who lun Fails h.id h.f a b h.created h.left
           → (IsRefusal making who lun f' (view v) (view w)) ⊎ (IsShort Fails making who lun n f' a b (view v) (view w))
@@ -319,6 +325,7 @@ module _ {V E : Type 0} {met : Ghosts E} (S : FilesService V) (disk : E → Disk
     },
     ap view h.unasked,
   )
+  copy-refused Unread dir to protection a b v w clean sound tidy stand s (inl h) = absurd h.fails
   copy-refused f dir to protection a b v w clean sound tidy stand s (inr h) = by
       (making-refused S who lun h.blocks (FillsFromRt {met = met} S disk m who lun name h.many h.blocks)
       (FailsToFillFromRt {met = met} S disk m who lun name h.many h.blocks) (asks-to-fill S who lun {met = met} disk m name h.many h.blocks)
@@ -349,6 +356,7 @@ module _ {V E : Type 0} {met : Ghosts E} (S : FilesService V) (disk : E → Disk
       all-given LineTooLong x y other none k =
           some-none p.plan.copied.copy
           (sym p.plan.copied.converted ∙ k.none p.contents (k.reads.are p.sound p.contents p.later) p.plan.count)
+      all-given Unread x y other none k = k
 
       by : (IsRefusal (as_file to dir protection h.attr p.plan.pieces) who lun f (view v) (view w))
           ⊎ (IsShort (FailsToFillFromRt {met = met} S disk m who lun name h.many h.blocks) (as_file to dir protection h.attr p.plan.pieces)

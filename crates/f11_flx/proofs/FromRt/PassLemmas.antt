@@ -28,7 +28,7 @@ use Rattle.f11_flx.specs.Target.{rt_disk, rt_store}
 use Rattle.f11_flx.specs.ToRecords.{EndsText, bytes_to_come, gives, longest_given}
 use Rattle.f11_flx.specs.Writing.{FailsToWritePieces, MeetsLongLine, Onward, StopsAtPiece, WritesPieces, WritesNext, out_bytes}
 use Rattle.f11_flx.specs.declared.refusal.FlxRefusal.{FlxRefusal}
-use Rattle.f11_flx.specs.declared.refusal.FlxRefusal.TheVariants.{BadRecord, Files, LineTooLong, Rt}
+use Rattle.f11_flx.specs.declared.refusal.FlxRefusal.TheVariants.{BadRecord, Files, LineTooLong, Rt, Unread}
 use Rattle.f11_flx.specs.declared.to_records.ToRecords.{ToRecords}
 use Rattle.f11_making.proofs.AskingLemmas.{granted-append, writes-append}
 use Rattle.f11_flx.proofs.Texts.EndLemmas.{records_end}
@@ -246,6 +246,7 @@ module _ {V E : Type 0} {met : Ghosts E} (S : FilesService V) (disk : E → Disk
     meets = subst (λ l. MeetsLongLine S who lun s l o v x) (sym (concat-one h.blocks block))
         (writes-then-long S who lun s t (concat h.blocks) block o p v w x h.writes k);
   }
+  lines-fail Unread place many block s t o p a b c v w x h r k low = absurd k
 
   pub lines-few : (place many : ℕ) (block : List ℕ) (s t : ToRecords) (o p : Out) (a b : RtAccepted E met) (v w : V) → BeginsLines s
       → o.to ≡ 0 → o.place ≡ 0 → ReadsLines S disk who lun name place s t o p a b v w →
@@ -393,6 +394,7 @@ module _ {V : Type 0} (S : FilesService V) (who : Who) (lun : ℕ) where
   end-fails (Rt e) s t o v w ends h = absurd h
   end-fails BadRecord s t o v w ends h = absurd h
   end-fails LineTooLong s t o v w ends h = record { pieces = h.pieces; granted = h.granted; long = sym ends.goes_on.long ∙ h.long [] }
+  end-fails Unread s t o v w ends h = absurd h
 
   pub end-few : (s t u : ToRecords) (o p : Out) (v w : V) → EndsText s t → WritesPieces S who lun t u [] [] o p v w → p.to < 512
       → 512 * o.place + length (out_bytes o s []) < 4294966000 → 512 * p.place + p.to < 4294967295

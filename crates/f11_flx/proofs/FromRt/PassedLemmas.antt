@@ -24,7 +24,7 @@ use Rattle.f11_flx.specs.ToRecords.{bytes_to_come, is_too_long, longest_with}
 use Rattle.f11_flx.specs.Writing.{out_bytes}
 use Rattle.f11_flx.specs.declared.mode.CopyMode.TheVariants.{Image, Text}
 use Rattle.f11_flx.specs.declared.refusal.FlxRefusal.{FlxRefusal}
-use Rattle.f11_flx.specs.declared.refusal.FlxRefusal.TheVariants.{BadRecord, Files, LineTooLong, Rt}
+use Rattle.f11_flx.specs.declared.refusal.FlxRefusal.TheVariants.{BadRecord, Files, LineTooLong, Rt, Unread}
 use Rattle.f11_flx.specs.declared.to_records.ToRecords.{ToRecords}
 use Rattle.f11_flx.proofs.FromRt.PassLemmas.{few-to-come, granted-writes, in-whole-behind, reads-more, stops-reading, to-come}
 use Rattle.f11_flx.proofs.Texts.PourLemmas.{whole-length}
@@ -141,6 +141,7 @@ module _ {V E : Type 0} {met : Ghosts E} (S : FilesService V) (disk : E → Disk
   text-fails (Rt e) s o a b v w begins empty first h = h
   text-fails BadRecord s o a b v w begins empty first h = absurd h
   text-fails LineTooLong s o a b v w begins empty first h = text-long s o a b v w begins first h
+  text-fails Unread s o a b v w begins empty first h = absurd h
 
   pub text-few : (s t : ToRecords) (o p : Out) (a b : RtAccepted E met) (v w : V) → BeginsLines s → o.to ≡ 0 → o.place ≡ 0
       → ReadsLines S disk who lun name many s t o p a b v w → many < 65536 →
@@ -275,6 +276,7 @@ module _ {V E : Type 0} {met : Ghosts E} (S : FilesService V) (disk : E → Disk
         cond-true (has_long_line (lines_of (without_zeros (concat contents)))) None
         (Some (copied_lines (lines_of (without_zeros (concat contents))))) long;
   }
+  text-end-fails Unread s t o p a b v w x begins empty first h k = absurd k
 
   -- blocks as they are
   pub image-copies : (a b : RtAccepted E met) (v w : V) → CopiesImage S disk who lun name many a b v w

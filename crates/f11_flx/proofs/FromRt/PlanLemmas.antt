@@ -19,7 +19,7 @@ use Rattle.f11_flx.specs.Spelled.{image_attributes}
 use Rattle.f11_flx.specs.Target.{rt_disk, rt_store}
 use Rattle.f11_flx.specs.declared.mode.CopyMode.TheVariants.{Image, Text}
 use Rattle.f11_flx.specs.declared.refusal.FlxRefusal.{FlxRefusal}
-use Rattle.f11_flx.specs.declared.refusal.FlxRefusal.TheVariants.{BadRecord, Files, LineTooLong, Rt}
+use Rattle.f11_flx.specs.declared.refusal.FlxRefusal.TheVariants.{BadRecord, Files, LineTooLong, Rt, Unread}
 use Rattle.f11_runs.proofs.AccessLemmas.{true-false}
 use Rattle.f11_flx.proofs.FromRt.PassedLemmas.{all-of}
 use Rattle.f11_flx.proofs.FromRt.PassLemmas.{looks-then, same-contents, stays-alive, stays-sound}
@@ -116,3 +116,4 @@ module _ {E : Type 0} {met : Ghosts E} (disk : E → Disk) (name : List ℕ) whe
         h.none contents (h.reads.are (stays-sound disk false a b f.looks s) contents
         (same-contents disk name contents false a b f.looks has)) (f.length_is s contents has);
   }
+  text-unplanned Unread who lun many a b c v w f h = absurd h

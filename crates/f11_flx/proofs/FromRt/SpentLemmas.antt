@@ -30,7 +30,7 @@ use Rattle.f11_flx.specs.ToRt.{nowhere_takes}
 use Rattle.f11_flx.specs.declared.mode.CopyMode.{CopyMode}
 use Rattle.f11_flx.specs.declared.mode.CopyMode.TheVariants.{Image, Text}
 use Rattle.f11_flx.specs.declared.refusal.FlxRefusal.{FlxRefusal}
-use Rattle.f11_flx.specs.declared.refusal.FlxRefusal.TheVariants.{BadRecord, Files, LineTooLong, Rt}
+use Rattle.f11_flx.specs.declared.refusal.FlxRefusal.TheVariants.{BadRecord, Files, LineTooLong, Rt, Unread}
 use Rattle.f11_flx.specs.declared.target.Nowhere.{Nowhere}
 use Rattle.f11_flx.specs.declared.to_text.ToText.{ToText}
 use Rattle.f11_flx.proofs.FromRt.FromRtLemmas.{has-making, planned}
@@ -72,6 +72,7 @@ module _ {D E : Type 0} {met : Ghosts D} {met' : Ghosts E} (disk : E → Disk) (
       file = h.file s;
       unconverted = h.none s (file_area (h.file s)).contents (record { file = h.file s; contents = refl });
     }
+    unplanned Unread h = absurd h
 
     pub spent-made : (blocks : ℕ) → CopiesFrom of_volume disk m who lun name dir to protection blocks a b v w → ⊥
     spent-made blocks h =
@@ -108,6 +109,7 @@ module _ {V E : Type 0} {met : Ghosts E} (S : FilesService V) (disk : E → Disk
     unfound (Rt e) h = ap Rt (h.dead dead).0
     unfound BadRecord h = absurd h
     unfound LineTooLong h = absurd (true-false (sym dead ∙ h.alive))
+    unfound Unread h = absurd h
 
     pub failed-made : (blocks : ℕ) → CopiesFrom S disk m who lun name dir to protection blocks a b v w → ⊥
     failed-made blocks h = true-false (sym dead ∙ h.plans.alive)

@@ -9,7 +9,7 @@ use Rattle.f11_making.specs.Asking.{BreaksOffAsking, Granted, Who, plain}
 use Rattle.f11_making.specs.AsBefore.{IsAsBefore}
 use Rattle.f11_making.specs.Making.{Making, as_file, creation, deletion, filling, giving_up, new_id, opening}
 use Rattle.f11_flx.specs.MakingLaws.{RefusedCopyLeaves, RefusedMakingLeaves}
-use Rattle.f11_flx.specs.declared.refusal.FlxRefusal.TheVariants.{BadRecord, Files, LineTooLong, Rt}
+use Rattle.f11_flx.specs.declared.refusal.FlxRefusal.TheVariants.{BadRecord, Files, LineTooLong, Rt, Unread}
 use Rattle.f11_making.proofs.AskingLemmas.{granted-parts}
 use Rattle.f11_flx.proofs.Made.EnteredLemmas.{entry-refused}
 use Rattle.f11_flx.proofs.Made.NewLemmas.{IsNewIn, IsOpenIn, closed, deleted, lun-was-free, new-made, opened}
@@ -73,3 +73,4 @@ refused-copy-leaves (Rt e) m name who lun dir to protection disk s s' tidy stand
 refused-copy-leaves BadRecord m name who lun dir to protection disk s s' tidy stand h = absurd h
 refused-copy-leaves LineTooLong m name who lun dir to protection disk s s' tidy stand h =
     subst (λ x. IsAsBefore s x) (sym h.1) (as-before s)
+refused-copy-leaves Unread m name who lun dir to protection disk s s' tidy stand h = absurd h

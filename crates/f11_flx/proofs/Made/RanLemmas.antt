@@ -34,7 +34,7 @@ use Rattle.f11_flx.specs.declared.mode.CopyMode.{CopyMode}
 use Rattle.f11_flx.specs.declared.mode.CopyMode.TheVariants.{Image, Text}
 use Rattle.f11_flx.specs.declared.to_text.ToText.{ToText}
 use Rattle.f11_flx.specs.declared.refusal.FlxRefusal.{FlxRefusal}
-use Rattle.f11_flx.specs.declared.refusal.FlxRefusal.TheVariants.{BadRecord, Files, LineTooLong, Rt}
+use Rattle.f11_flx.specs.declared.refusal.FlxRefusal.TheVariants.{BadRecord, Files, LineTooLong, Rt, Unread}
 use Rattle.f11_flx.specs.Refusal.{is_lethal}
 use Rattle.f11_flx.specs.ToRt.{CopiesFileToRt, CopiesLocked, CountsAs, FailsLocked, FailsToCopyFileToRt, FailsToFillToRt, GaveUp}
 use Rattle.f11_flx.specs.ToRt.{UndoesToRt, nowhere_refuses, nowhere_takes, rt_refuses, rt_takes}
@@ -293,6 +293,7 @@ clean-both (Files r) h = (clean-files r h, h)
 clean-both (Rt r) h = (refl, refl)
 clean-both BadRecord h = (refl, refl)
 clean-both LineTooLong h = (refl, refl)
+clean-both Unread h = (refl, refl)
 
 abbrev ok-reply : Reply → Result Reply Refusal
 ok-reply r = Ok r

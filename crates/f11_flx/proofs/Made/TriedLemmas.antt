@@ -24,7 +24,7 @@ use Rattle.f11_flx.specs.Making.{MakesFile, Undoing, UndoingIf}
 use Rattle.f11_flx.specs.Refusal.{is_lethal}
 use Rattle.f11_flx.specs.declared.mode.CopyMode.{CopyMode}
 use Rattle.f11_flx.specs.declared.refusal.FlxRefusal.{FlxRefusal}
-use Rattle.f11_flx.specs.declared.refusal.FlxRefusal.TheVariants.{BadRecord, Files, LineTooLong, Rt}
+use Rattle.f11_flx.specs.declared.refusal.FlxRefusal.TheVariants.{BadRecord, Files, LineTooLong, Rt, Unread}
 use Rattle.f11_flx.proofs.FromRt.MakingLemmas.{asks-to-fill}
 
 -- Only such things were asked, one after another, whatever was answered.
@@ -135,6 +135,7 @@ module _ {V : Type 0} (S : FilesService V) (P : Asking → Type 0) (who : Who) (
   broken-tries n (Rt e) v w h = tries-granted S P who (extension lun n ++ writes_of lun 0 h.0) v w (only-front n h.0) h.1
   broken-tries n BadRecord v w h = tries-granted S P who (extension lun n ++ writes_of lun 0 h.0) v w (only-front n h.0) h.1
   broken-tries n LineTooLong v w h = tries-granted S P who (extension lun n ++ writes_of lun 0 h.0) v w (only-front n h.0) h.1
+  broken-tries n Unread v w h = tries-granted S P who (extension lun n ++ writes_of lun 0 h.0) v w (only-front n h.0) h.1
 
   -- from any source
   module _ {H : Type 0} (n : ℕ) (Fills : H → H → V → V → Type 0) (Fails : FlxRefusal → H → H → V → V → Type 0)

@@ -22,7 +22,7 @@ use Rattle.f11_flx.specs.Target.{Fares, rt_disk, rt_store}
 use Rattle.f11_flx.specs.ToRt.{CopiesFileToRt, FailsToCopyFileToRt}
 use Rattle.f11_flx.specs.declared.mode.CopyMode.{CopyMode}
 use Rattle.f11_flx.specs.declared.refusal.FlxRefusal.{FlxRefusal}
-use Rattle.f11_flx.specs.declared.refusal.FlxRefusal.TheVariants.{BadRecord, Files, LineTooLong, Rt}
+use Rattle.f11_flx.specs.declared.refusal.FlxRefusal.TheVariants.{BadRecord, Files, LineTooLong, Rt, Unread}
 use Rattle.f11_flx.proofs.ToRt.CopiedLemmas.{copied}
 use Rattle.f11_flx.proofs.ToRt.EndedToRtLemmas.{copy-ends-to-rt}
 use Rattle.f11_flx.proofs.ToRt.KeptToRtLemmas.{made-keeps, uncopied-keeps, unmade-keeps}
@@ -43,6 +43,7 @@ fault-is (Files e) = refl
 fault-is (Rt e) = refl
 fault-is BadRecord = refl
 fault-is LineTooLong = refl
+fault-is Unread = refl
 
 -- What a copy's answer tells of the RT-11 volume.
 module _ {E : Type 0} {met : Ghosts E} (disk : E → Disk) (name : List ℕ) (old new : RtAccepted E met) where

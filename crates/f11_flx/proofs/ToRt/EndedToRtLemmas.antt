@@ -27,7 +27,7 @@ use Rattle.f11_flx.specs.ToRt.{IsNotClosed, UndoesToRt, nowhere_refuses, nowhere
 use Rattle.f11_flx.specs.declared.mode.CopyMode.{CopyMode}
 use Rattle.f11_flx.specs.declared.mode.CopyMode.TheVariants.{Image, Text}
 use Rattle.f11_flx.specs.declared.refusal.FlxRefusal.{FlxRefusal}
-use Rattle.f11_flx.specs.declared.refusal.FlxRefusal.TheVariants.{BadRecord, Files, LineTooLong, Rt}
+use Rattle.f11_flx.specs.declared.refusal.FlxRefusal.TheVariants.{BadRecord, Files, LineTooLong, Rt, Unread}
 use Rattle.f11_flx.specs.declared.to_text.ToText.{ToText}
 use Rattle.f11_making.proofs.AskingLemmas.{granted-append}
 use Rattle.f11_making.specs.Cleanly.{Cleanly}
@@ -51,6 +51,7 @@ Came S who (Files e) old new = Broke S who e old new
 Came S who (Rt e) old new = EndsHeld S who old new
 Came S who BadRecord old new = EndsHeld S who old new
 Came S who LineTooLong old new = EndsHeld S who old new
+Came S who Unread old new = ⊥
 
 files-rt : (e : Refusal) (r : RtRefusal) → Files e ≡ Rt r → ⊥
 files-rt e r is = cc
@@ -106,6 +107,7 @@ module _ {V : Type 0} (S : FilesService V) (who : Who) where
   came-behind (Rt e) u v w h k = held-behind u v w h k
   came-behind BadRecord u v w h k = held-behind u v w h k
   came-behind LineTooLong u v w h k = held-behind u v w h k
+  came-behind Unread u v w h k = absurd k
 
   came-as : (f g : FlxRefusal) (v w : V) → f ≡ g → Came S who g v w → Came S who f v w
   came-as f g v w is h = subst (λ x. Came S who x v w) (sym is) h
@@ -123,6 +125,7 @@ module _ {V : Type 0} (S : FilesService V) (who : Who) where
   came-held (Rt e) v w clean h = h
   came-held BadRecord v w clean h = h
   came-held LineTooLong v w clean h = h
+  came-held Unread v w clean h = absurd h
 
   held-cleanly : (v w : V) → EndsHeld S who v w → Cleanly S who v w
   held-cleanly v w h = cleanly-then S who v h.at w (cleanly-all S who h.holds.asked v h.at h.holds.granted) (by h.last)
@@ -333,6 +336,7 @@ module _ {V : Type 0} (S : FilesService V) (who : Who) (lun : ℕ) (name : List 
       came-ends m (Rt r) v w a b h left = h
       came-ends m BadRecord v w a b h left = tt
       came-ends m LineTooLong v w a b h left = tt
+      came-ends m Unread v w a b h left = absurd h
 
       pub copy-ends-to-rt : (m : CopyMode) (e : FlxRefusal) (v w : V) (a b : RtAccepted E met)
           → FailsToCopyFileToRt m S disk who lun file name day e v w a b →

@@ -29,7 +29,7 @@ use Rattle.f11_flx.specs.ToRt.{nowhere_refuses, nowhere_takes, rt_refuses, rt_ta
 use Rattle.f11_flx.specs.declared.mode.CopyMode.{CopyMode}
 use Rattle.f11_flx.specs.declared.mode.CopyMode.TheVariants.{Image, Text}
 use Rattle.f11_flx.specs.declared.refusal.FlxRefusal.{FlxRefusal}
-use Rattle.f11_flx.specs.declared.refusal.FlxRefusal.TheVariants.{BadRecord, Files, LineTooLong, Rt}
+use Rattle.f11_flx.specs.declared.refusal.FlxRefusal.TheVariants.{BadRecord, Files, LineTooLong, Rt, Unread}
 use Rattle.f11_flx.specs.declared.target.Nowhere.{Nowhere}
 use Rattle.f11_flx.specs.declared.to_text.ToText.{ToText}
 use Rattle.f11_flx.proofs.ToRt.EndedToRtLemmas.{Came, lethal-damaged, locked-came, unclosed-came}
@@ -87,6 +87,7 @@ module _ {D : Type 0} {met : Ghosts D} (who : Who) where
   came-live (Rt e) v w alive h = held-live (Rt e) v w (λ is. absurd (cc)) alive h
   came-live BadRecord v w alive h = held-live BadRecord v w (λ is. absurd (cc)) alive h
   came-live LineTooLong v w alive h = held-live LineTooLong v w (λ is. absurd (cc)) alive h
+  came-live Unread v w alive h = absurd h
 
   gave-other : (lun : ℕ) (f e : FlxRefusal) (v w : Volume D met) → IsLive f v → GaveUp of_volume who lun f e v w → e ≡ Files VolumeFailed
       → ⊥

@@ -294,3 +294,4 @@ refused_source_stays refusal.BadRecord m who lun source name s s' disk h =
     (reading_is_of_file who lun source (attributes_of (file_named s source)) (length_of (file_named s source)) h.0.walked [] s s'
     h.0.asked).stays
 refused_source_stays refusal.LineTooLong m who lun source name s s' disk h = absurd h
+refused_source_stays refusal.Unread m who lun source name s s' disk h = absurd h

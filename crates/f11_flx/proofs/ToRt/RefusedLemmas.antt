@@ -397,6 +397,7 @@ module _ {V : Type 0} (S : FilesService V) (view : V → Store) (is_sound : V �
       Why m (refusal.Rt e) = HasNoRtPlace m f name e (rt_disk disk rt)
       Why m refusal.BadRecord = HasWholeBlocks f → copied_to_rt m f ≡ None
       Why m refusal.LineTooLong = ⊥
+      Why m refusal.Unread = ⊥
 
       why-bad : (m : CopyMode) (e : FlxRefusal) → e ≡ refusal.BadRecord → (HasWholeBlocks f → copied_to_rt m f ≡ None) → Why m e
       why-bad m e is none = subst (Why m) (sym is) none
@@ -529,6 +530,7 @@ module _ {V : Type 0} (S : FilesService V) (view : V → Store) (is_sound : V �
       concludes m (refusal.Rt e) s' why g = (g, why)
       concludes m refusal.BadRecord s' why g = (g, why)
       concludes m refusal.LineTooLong s' why g = absurd why
+      concludes m refusal.Unread s' why g = absurd why
 
       pub refused : (m : CopyMode) (e : FlxRefusal) (old new : V) (rt' : RtAccepted E met) → view old ≡ s → is_sound old ≡ true
           → is_lethal e ≡ false →

@@ -35,6 +35,7 @@ clean-fault (refusal.Files e) h = refl
 clean-fault (refusal.Rt e) h = h
 clean-fault refusal.BadRecord h = refl
 clean-fault refusal.LineTooLong h = refl
+clean-fault refusal.Unread h = refl
 
 fault-of : (e x : FlxRefusal) (b : Bool) → e ≡ x → is_rt_fault x ≡ b → b ≡ is_rt_fault e
 fault-of e x b same is = sym (ap is_rt_fault same ∙ is)
