@@ -1,7 +1,7 @@
 //! The directories of any Files-11 volume whose index file can be read, sound or not: their records in order, files found by name, and
-//! the lines that list them (Files-11 On-Disk Structure Level 1, "Directories").
+//! the names and the lines that list them (Files-11 On-Disk Structure Level 1, "Directories").
 //!
-//! Nothing is written to the volume, and memory is taken by [`AllFiles`] alone. The crate stands on [`f11_reader`], for files, and on [`f11_dir`], for the
+//! Nothing is written to the volume, and memory is taken by [`AllFiles`] and [`names`] alone. The crate stands on [`f11_reader`], for files, and on [`f11_dir`], for the
 //! records of a block.
 #![tactic(auto)]
 
@@ -12,6 +12,7 @@ mod fault;
 mod found;
 pub mod laws;
 mod list;
+mod name_list;
 mod own_name;
 mod record_line;
 mod records;
@@ -24,6 +25,7 @@ pub use directory_name::DirectoryName;
 pub use f11_volume::f11_map;
 pub use fault::{ListFault, WalkFault};
 pub use list::{list_directories, list_directory};
+pub use name_list::names;
 pub use records::stated_end;
 pub use search::find;
 pub use users::user_of;
