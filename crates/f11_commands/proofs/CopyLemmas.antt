@@ -14,7 +14,7 @@ use Rattle.f11_serving.specs.fcp.Serving.{RequestsSpareLost, is_spent, state_in}
 use Rattle.f11_serving.specs.fcp.declared.volume.Volume.{Volume}
 use Rattle.f11_flx.specs.Copying.{FaresFiles, of_files}
 use Rattle.f11_flx.specs.declared.refusal.FlxRefusal.{FlxRefusal}
-use Rattle.f11_flx.specs.declared.refusal.FlxRefusal.TheVariants.{BadRecord, Files, LineTooLong, Rt}
+use Rattle.f11_flx.specs.declared.refusal.FlxRefusal.TheVariants.{BadRecord, Files, LineTooLong, Rt, Unread}
 use Rattle.f11_store.specs.declared.refusals.Refusal.{Refusal}
 use Rattle.f11_store.specs.declared.refusals.Refusal.TheVariants.{Damaged}
 use Rattle.f11_catalog.specs.image_store.StoreOf.{store_of}
@@ -71,6 +71,7 @@ fatal-fault (Err (Files e)) undamaged fatal = fault-of e fatal (λ is. undamaged
 fatal-fault (Err (Rt e)) undamaged fatal = fatal
 fatal-fault (Err BadRecord) undamaged fatal = fatal
 fatal-fault (Err LineTooLong) undamaged fatal = fatal
+fatal-fault (Err Unread) undamaged fatal = fatal
 
 pub still-alive : {D : Type 0} {met : Ghosts D} (result : Result ℕ FlxRefusal) (old : Disk) (first last : Volume D met) → Mounts old first
     → FaresFiles result first last

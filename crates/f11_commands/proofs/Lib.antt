@@ -1,9 +1,11 @@
 pub mod LineLemmas
 pub mod VolumeLemmas
+mod HandedLemmas
 mod AllLemmas
 mod AnyVolumeLemmas
 mod SizeLemmas
 mod LsLemmas
+mod NameListLemmas
 mod GetLemmas
 mod RunLemmas
 mod UpdateLemmas

@@ -23,7 +23,7 @@ use Rattle.f11_flx.specs.Ended.{Ends}
 use Rattle.f11_flx.specs.EndedToRt.{EndsToRt}
 use Rattle.f11_flx.specs.Refusal.{is_lethal}
 use Rattle.f11_flx.specs.declared.refusal.FlxRefusal.{FlxRefusal}
-use Rattle.f11_flx.specs.declared.refusal.FlxRefusal.TheVariants.{BadRecord, Files, LineTooLong, Rt}
+use Rattle.f11_flx.specs.declared.refusal.FlxRefusal.TheVariants.{BadRecord, Files, LineTooLong, Rt, Unread}
 use Rattle.f11_flx.specs.RtOutcome.{HasSameFiles}
 use Rattle.f11_store.specs.Store.{Store}
 use Rattle.f11_store.specs.declared.files.FileId.{FileId}
@@ -310,6 +310,7 @@ module _ {D E : Type 0} {met : Ghosts D} {met' : Ghosts E} (disk : E → Disk) w
         sounds rt-sound (Err (Rt e)) made h none = made.sound rt-sound (ap not none)
         sounds rt-sound (Err BadRecord) made h none = made.sound rt-sound refl
         sounds rt-sound (Err LineTooLong) made h none = made.sound rt-sound refl
+        sounds rt-sound (Err Unread) made h none = made.sound rt-sound refl
 
         begun : IsSoundDisk d → (r : Result ℕ FlxRefusal)
             → IfErr r (λ e. is_lethal e ≡ true → EndsToRt c.mode of_volume disk operator 0 source c.rt_name 0 e v w rt rt')
@@ -319,6 +320,7 @@ module _ {D E : Type 0} {met : Ghosts D} {met' : Ghosts E} (disk : E → Disk) w
         begun rt-sound (Err (Rt e)) h fatal = absurd (cc)
         begun rt-sound (Err BadRecord) h fatal = absurd (cc)
         begun rt-sound (Err LineTooLong) h fatal = absurd (cc)
+        begun rt-sound (Err Unread) h fatal = absurd (cc)
         begun rt-sound (Ok blocks) h fatal = absurd (cc)
 
         held : is_sound v ≡ true → (r : Result ℕ FlxRefusal)
@@ -328,6 +330,7 @@ module _ {D E : Type 0} {met : Ghosts D} {met' : Ghosts E} (disk : E → Disk) w
         held sound (Err (Files e)) h fault = absurd (cc)
         held sound (Err BadRecord) h fault = absurd (cc)
         held sound (Err LineTooLong) h fault = absurd (cc)
+        held sound (Err Unread) h fault = absurd (cc)
         held sound (Ok blocks) h fault = absurd (cc)
 
         by_result : (r : Result ℕ FlxRefusal) → MakesRtFile disk r c.rt_name rt rt'
@@ -378,6 +381,7 @@ module _ {D E : Type 0} {met : Ghosts D} {met' : Ghosts E} (disk : E → Disk) w
         unread sound (Err (Files e)) h fault = absurd (cc)
         unread sound (Err BadRecord) h fault = absurd (cc)
         unread sound (Err LineTooLong) h fault = absurd (cc)
+        unread sound (Err Unread) h fault = absurd (cc)
         unread sound (Ok blocks) h fault = absurd (cc)
 
         same : (r : Result ℕ FlxRefusal) → KeepsRt FromRt r (rt_store_of d.image) (rt_store_of d'.image)

@@ -20,7 +20,7 @@ use Rattle.f11_flx.specs.Copying.{of_files}
 use Rattle.f11_making.specs.Volume.{of_volume}
 use Rattle.f11_flx.specs.Refusal.{is_lethal}
 use Rattle.f11_flx.specs.declared.refusal.FlxRefusal.{FlxRefusal}
-use Rattle.f11_flx.specs.declared.refusal.FlxRefusal.TheVariants.{Files, Rt, BadRecord, LineTooLong}
+use Rattle.f11_flx.specs.declared.refusal.FlxRefusal.TheVariants.{Files, Rt, BadRecord, LineTooLong, Unread}
 use Rattle.f11_home.specs.Home.{HomeFields}
 use Rattle.f11_catalog.specs.image_store.StoreOf.{store_of}
 use Rattle.f11_runs.specs.Each.{call_with}
@@ -50,6 +50,7 @@ fault-fatal (Err (Files _)) h = absurd (let none : false ≡ true = h in cc)
 fault-fatal (Err (Rt e)) h = h
 fault-fatal (Err BadRecord) h = h
 fault-fatal (Err LineTooLong) h = h
+fault-fatal (Err Unread) h = h
 
 -- a sound volume's disk is honest, and no request has failed it
 pub honest-of : (honest spent : Bool) → (honest && not spent) ≡ true → IsTrue honest

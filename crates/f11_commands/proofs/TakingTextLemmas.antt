@@ -1,7 +1,7 @@
 -- The text of a file's records, written block by block.
 use Rattle.std.proofs.Common.{◌≡◌, ℕ, ◌+◌, ◌-◌, ◌*◌, ◌<◌, ◌≤◌, min, false, IsTrue, List, [], ◌∷◌, ◌++◌, length, take, drop, map}
 use Rattle.std.proofs.Common.{Option, Some, None, refl, sym, ap, subst, ◌∙◌, inl, inr, arith, append_assoc, length-append, length-drop}
-use Rattle.std.specs.Prelude.{slice_range, option_and_then, option_map, unwrap_or, Result, Ok, Err, IfErr, IsErrAnd}
+use Rattle.std.specs.Prelude.{slice_range, option_and_then, option_map, unwrap_or}
 use Rattle.std.specs.List.{concat}
 use Rattle.std.proofs.KnownBytes.{Appends-nil}
 use Rattle.std.proofs.Math.Seq.{drop-length, take-nil}
@@ -42,11 +42,6 @@ use Rattle.f11_commands.specs.TakingText.{CountsBefore, WritesText, all_to_come,
 use Rattle.f11_commands.specs.declared.outcome.Failure.{Failure}
 use Rattle.f11_commands.specs.declared.outcome.Failure.TheVariants.{DeviceFault, NoMemory, CannotWrite}
 use Rattle.f11_commands.proofs.TakingOutLemmas.{Taken, contents-stay, taken-more}
-
--- an error that is this one
-pub error-is : {T E : Type 0} (r : Result T E) (e : E) (P : E → Type 0) → IsErrAnd r (λ x. x ≡ e) → P e → IfErr r P
-error-is (Ok x) e P is given = tt
-error-is (Err x) e P is given = subst P (sym is) given
 
 -- So many bytes of a source were converted, and this text was given.
 pub record Giving (t t' : ToText) (source : List ℕ) (used : ℕ) (text : List ℕ) : Type 0 where

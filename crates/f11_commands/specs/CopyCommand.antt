@@ -11,7 +11,7 @@ use Rattle.f11_flx.specs.Target.{SparesFront}
 use Rattle.f11_flx.specs.Copying.{is_whole, of_files, of_rt}
 use Rattle.f11_flx.specs.Refusal.{flx_refusal_name}
 use Rattle.f11_flx.specs.declared.refusal.FlxRefusal.{FlxRefusal}
-use Rattle.f11_flx.specs.declared.refusal.FlxRefusal.TheVariants.{Files, Rt, BadRecord, LineTooLong}
+use Rattle.f11_flx.specs.declared.refusal.FlxRefusal.TheVariants.{Files, Rt, BadRecord, LineTooLong, Unread}
 use Rattle.f11_home.specs.Home.{HomeFields, IsHomeOf}
 use Rattle.f11_catalog.specs.image_store.StoreOf.{store_of}
 use Rattle.f11_store.specs.declared.refusals.Refusal.{Refusal}
@@ -63,6 +63,7 @@ failure_of_refusal (Files e) = failure_of_files e
 failure_of_refusal (Rt e) = failure_of_rt e
 failure_of_refusal BadRecord = None
 failure_of_refusal LineTooLong = None
+failure_of_refusal Unread = None
 
 -- a refusal is told as this failure, and nothing is written; or, where it is none, by its line, which the writer takes or doesn't
 abbrev pub TellsRefusal : {W : Type 0} → FlxRefusal → Option Failure → Result FileAnswer Failure → (W → Option (List ℕ)) → W → W → Type 0

@@ -16,6 +16,7 @@ pub mod Output
 pub mod AllCommand
 pub mod AnyVolume
 pub mod LsCommand
+pub mod DirectoryNames
 pub mod PutSlots
 pub mod Stopping
 pub mod PutCommand

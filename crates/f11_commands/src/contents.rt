@@ -60,10 +60,8 @@ pub(crate) fn put_contents<D: Device, W: Write>(
         file end (D.disk device.old) (D.disk device.new) W.contents writer.old writer.new) }
 {
     let count = put_blocks(device, index, file, end, writer)?;
-    match writer.flush() {
-        Ok(()) => Ok(count),
-        Err(_) => Err(Stop::CannotWrite),
-    }
+    writer.flush()?;
+    Ok(count)
 }
 
 /// Writes the bytes of a file before `end`, a block at a time.
@@ -90,10 +88,7 @@ fn put_blocks<D: Device, W: Write>(
             Err(DeviceFault) => return Err(Stop::DeviceFault(end - left)),
         }
         let count = left.min(BLOCK_SIZE as u64);
-        match writer.write_all(&block[..count as usize]) {
-            Ok(()) => {}
-            Err(_) => return Err(Stop::CannotWrite),
-        }
+        writer.write_all(&block[..count as usize])?;
         left -= count;
     }
     Ok(end)

@@ -8,8 +8,8 @@ ghost use Rattle.f11_serving.specs.fcp.Serving.{device_in};
 ghost use Rattle.f11_store.specs.declared.requests.Reply.TheVariants as reply;
 ghost use Rattle.f11_store.specs.declared.requests.Request.TheVariants as request;
 
-use f11_bytes::BLOCK_SIZE;
 use f11_dev::Device;
+use f11_making::{Asker, ask};
 use f11_rad50::Name;
 use f11_serving::f11_fcp::{Failed, Volume};
 use f11_store::{FileId, Lun, Refusal, Reply, Request, Task, Uic};
@@ -83,16 +83,14 @@ pub fn find<D: Device>(volume: &mut Volume<D>, dir: FileId, name: &Name) -> Resu
     ensures refused { IfErr result (λ e. Fails of_volume operator is_found
         (request.Find dir name.now) e volume.old volume.new) }
 {
-    let mut block = [0; BLOCK_SIZE];
-    match volume.serve(
-        first_task(),
-        OPERATOR,
-        &Request::Find(dir, *name),
-        &mut block,
-    ) {
-        Ok(Reply::Found(id)) => Ok(id),
-        Ok(_) => Err(Refusal::Damaged),
-        Err(refusal) => Err(refusal),
+    let by = Asker {
+        task: first_task(),
+        lun: first_lun(),
+        uic: OPERATOR,
+    };
+    match ask(volume, &by, Request::Find(dir, *name))? {
+        Reply::Found(id) => Ok(id),
+        _ => Err(Refusal::Damaged),
     }
 }
 

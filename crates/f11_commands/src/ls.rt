@@ -8,7 +8,6 @@ ghost use Rattle.f11_commands.specs.LsCommand.{FailsToListIndex, IsNotListed, Li
 use crate::finding::MASTER_DIRECTORY;
 use crate::outcome::{Answer, Failure};
 use crate::volume::read_index;
-use f11_bytes::NoMemory;
 use f11_catalog::{ListFault, find, list_directories, list_directory};
 use f11_dev::{Device, DeviceFault};
 use f11_index::IndexFile;
@@ -90,16 +89,15 @@ fn list_volume<D: Device, W: Write>(
     ensures failed { IfErr result (λ failure. FailsToServe failure
         (D.disk device.old) (D.disk device.new) W.contents writer.old writer.new) }
 {
-    match read_index(alloc, device) {
-        Ok(Ok((_, index))) => match index.with_all_in_use(alloc) {
-            Ok(wide) => list_index(device, &index, &wide, writer, directory),
-            Err(NoMemory) => Err(Failure::NoMemory),
-        },
-        Ok(Err(fault)) => match writeln!(writer, "fault {fault}") {
-            Ok(()) => Ok(Answer::Fault),
-            Err(_) => Err(Failure::CannotWrite),
-        },
-        Err(failure) => Err(failure),
+    match read_index(alloc, device)? {
+        Ok((_, index)) => {
+            let wide = index.with_all_in_use(alloc)?;
+            list_index(device, &index, &wide, writer, directory)
+        }
+        Err(fault) => {
+            writeln!(writer, "fault {fault}")?;
+            Ok(Answer::Fault)
+        }
     }
 }
 
@@ -120,10 +118,10 @@ fn list_index<D: Device, W: Write>(
 {
     match list_asked(device, index, wide, writer, directory) {
         Ok(Ok(())) => Ok(Answer::Done),
-        Ok(Err(refusal)) => match writeln!(writer, "no {refusal}") {
-            Ok(()) => Ok(Answer::Fault),
-            Err(_) => Err(Failure::CannotWrite),
-        },
+        Ok(Err(refusal)) => {
+            writeln!(writer, "no {refusal}")?;
+            Ok(Answer::Fault)
+        }
         Err(ListFault::DeviceFault) => Err(Failure::DeviceFault),
         Err(ListFault::CannotWrite) => Err(Failure::CannotWrite),
     }
@@ -148,11 +146,7 @@ fn list_asked<D: Device, W: Write>(
 {
     match directory {
         Some(directory) => list_one(device, index, wide, writer, &directory),
-        None => match list_directories(device, index, wide, writer, MASTER_DIRECTORY) {
-            Ok(Ok(())) => Ok(Ok(())),
-            Ok(Err(refusal)) => Ok(Err(refusal)),
-            Err(fault) => Err(fault),
-        },
+        None => list_directories(device, index, wide, writer, MASTER_DIRECTORY),
     }
 }
 
@@ -174,11 +168,7 @@ fn list_one<D: Device, W: Write>(
     ensures failed { IfErr result (λ fault. BreaksOff fault (D.disk device.old) (D.disk device.new)) }
 {
     match find(device, index, wide, MASTER_DIRECTORY, name) {
-        Ok(Ok(id)) => match list_directory(device, index, wide, writer, id) {
-            Ok(Ok(())) => Ok(Ok(())),
-            Ok(Err(refusal)) => Ok(Err(refusal)),
-            Err(fault) => Err(fault),
-        },
+        Ok(Ok(id)) => list_directory(device, index, wide, writer, id),
         Ok(Err(refusal)) => Ok(Err(refusal)),
         Err(DeviceFault) => Err(ListFault::DeviceFault),
     }

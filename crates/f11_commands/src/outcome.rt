@@ -2,8 +2,10 @@
 ghost use Rattle.std.specs.Prelude.{◌≡◌};
 ghost use Rattle.f11_commands.specs.FileAnswers.{plain_answer};
 ghost use Rattle.f11_commands.specs.declared.outcome.Failure.TheVariants as failures;
+ghost use Rattle.f11_commands.specs.declared.outcome.Stop.TheVariants as stops;
 
 use crate::report::System;
+use f11_bytes::NoMemory;
 use f11_dev::DeviceFault;
 use std::io;
 
@@ -62,6 +64,14 @@ impl From<DeviceFault> for Failure {
     }
 }
 
+impl From<NoMemory> for Failure {
+    ghost from_gives = { λ _ failure. failure ≡ failures.NoMemory };
+
+    fn from(_: NoMemory) -> Self {
+        Failure::NoMemory
+    }
+}
+
 /// An error of a command's writer.
 impl From<io::Error> for Failure {
     ghost from_gives = { λ _ failure. failure ≡ failures.CannotWrite };
@@ -78,4 +88,12 @@ pub(crate) enum Stop {
     DeviceFault(u64),
     /// The writer takes no more.
     CannotWrite,
+}
+
+impl From<io::Error> for Stop {
+    ghost from_gives = { λ _ stop. stop ≡ stops.CannotWrite };
+
+    fn from(_: io::Error) -> Self {
+        Stop::CannotWrite
+    }
 }

@@ -143,10 +143,8 @@ fn put_by_name<D: Device, R: Read>(
         (hosts (R.remaining host.old) (R.remaining again.old))
         (hosts (R.remaining host.new) (R.remaining again.new))))) volume.old volume.new }
 {
-    match find(volume, MASTER_DIRECTORY, &put.directory) {
-        Ok(dir) => put_into(volume, dir, put, host, again, bytes),
-        Err(refusal) => Err(HostRefusal::Files(refusal)),
-    }
+    let dir = find(volume, MASTER_DIRECTORY, &put.directory).map_err(HostRefusal::Files)?;
+    put_into(volume, dir, put, host, again, bytes)
 }
 
 /// Asks for the slots that the file may need, and makes it in a directory.
@@ -168,10 +166,8 @@ fn put_into<D: Device, R: Read>(
         (hosts (R.remaining host.new) (R.remaining again.new))) dir)) volume.old volume.new }
 {
     let slots = slots_before(volume, put.blocks);
-    match ask_for_slots(volume, slots) {
-        Ok(()) => make_file(volume, dir, put, host, again, bytes),
-        Err(refusal) => Err(HostRefusal::Files(refusal)),
-    }
+    ask_for_slots(volume, slots).map_err(HostRefusal::Files)?;
+    make_file(volume, dir, put, host, again, bytes)
 }
 
 /// Makes the file, and enters it into a directory.

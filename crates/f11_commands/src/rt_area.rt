@@ -7,7 +7,7 @@ ghost use Rattle.f11_reader.specs.Steps.{ReadsOrZeros};
 use f11_bytes::{BLOCK_SIZE, Block};
 use f11_dev::{Device, DeviceFault};
 use std::fmt;
-use std::io::Write;
+use std::io::{self, Write};
 
 /// Why the blocks of an area aren't all written.
 #[derive(Clone, Copy, Debug, PartialEq, Eq)]
@@ -16,6 +16,17 @@ pub(crate) enum AreaStop {
     DeviceFault(u16),
     /// The host's file takes no more.
     HostFull,
+}
+
+/// An error of the host's file.
+impl From<io::Error> for AreaStop {
+    ghost use Rattle.f11_commands.specs.declared.rt_area.AreaStop.TheVariants.{HostFull as Full};
+
+    ghost from_gives = { λ _ stop. stop ≡ Full };
+
+    fn from(_: io::Error) -> Self {
+        AreaStop::HostFull
+    }
 }
 
 /// Which block of an area is the first that lies past the device's end, if there is one.
@@ -75,10 +86,8 @@ pub(crate) fn write_area<D: Device, H: Write>(
         (D.disk device.old) (D.disk device.new) H.contents host.old host.new) }
 {
     write_blocks(device, first, blocks, host)?;
-    match host.flush() {
-        Ok(()) => Ok(()),
-        Err(_) => Err(AreaStop::HostFull),
-    }
+    host.flush()?;
+    Ok(())
 }
 
 /// Writes so many blocks of a device from one on to the host.
@@ -99,10 +108,7 @@ fn write_blocks<D: Device, H: Write>(
             Ok(()) => {}
             Err(DeviceFault) => return Err(AreaStop::DeviceFault(place)),
         }
-        match host.write_all(&block) {
-            Ok(()) => {}
-            Err(_) => return Err(AreaStop::HostFull),
-        }
+        host.write_all(&block)?;
     }
     Ok(())
 }

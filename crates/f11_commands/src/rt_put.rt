@@ -71,10 +71,7 @@ pub fn print_rt_put<D: Device, R: Read, W: Write>(
 pub(crate) fn as_put(told: Result<FileAnswer, Failure>) -> Result<FileAnswer, PutFailure>
     ensures { result ≡ put_told told }
 {
-    match told {
-        Ok(answer) => Ok(answer),
-        Err(failure) => Err(PutFailure::Command(failure)),
-    }
+    told.map_err(PutFailure::Command)
 }
 
 /// Writes the line of what came of it, if it has one.

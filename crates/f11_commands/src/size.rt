@@ -8,7 +8,7 @@ ghost use Rattle.f11_index.specs.Kept.{index_kept, IndexLiesWithin};
 use crate::get::open::open_file;
 use crate::outcome::Failure;
 use crate::volume::read_index;
-use f11_bytes::{BLOCK_BITS, BLOCK_SIZE, Block, NoMemory, read_long};
+use f11_bytes::{BLOCK_BITS, BLOCK_SIZE, Block, read_long};
 use f11_dev::{Device, DeviceFault};
 use f11_index::IndexFile;
 use f11_reader::FileReader;
@@ -36,16 +36,13 @@ pub fn blocks_wanted<D: Device>(alloc: Global, device: &mut D) -> Result<Option<
     ensures failed { IfErr result (λ failure. FailsToFindWanted failure
         (D.disk device.old) (D.disk device.new)) }
 {
-    match read_index(alloc, device) {
-        Ok(Ok((_, index))) => match index.with_all_in_use(alloc) {
-            Ok(wide) => match read_size(device, &index, &wide) {
-                Ok(size) => Ok(above(device.blocks(), size)),
-                Err(DeviceFault) => Err(Failure::DeviceFault),
-            },
-            Err(NoMemory) => Err(Failure::NoMemory),
-        },
-        Ok(Err(_)) => Ok(None),
-        Err(failure) => Err(failure),
+    match read_index(alloc, device)? {
+        Ok((_, index)) => {
+            let wide = index.with_all_in_use(alloc)?;
+            let size = read_size(device, &index, &wide)?;
+            Ok(above(device.blocks(), size))
+        }
+        Err(_) => Ok(None),
     }
 }
 
@@ -66,10 +63,8 @@ pub(crate) fn volume_end<D: Device>(
         (D.disk device.old) (D.disk device.new)) }
     ensures failed { OnErr result (Reads (D.disk device.old) (D.disk device.new) 1) }
 {
-    match read_size(device, index, wide) {
-        Ok(size) => Ok(size.unwrap_or(MOST_BLOCKS).max(device.blocks())),
-        Err(DeviceFault) => Err(DeviceFault),
-    }
+    let size = read_size(device, index, wide)?;
+    Ok(size.unwrap_or(MOST_BLOCKS).max(device.blocks()))
 }
 
 /// A size, if it is above this.
@@ -94,13 +89,12 @@ fn read_size<D: Device>(
         (D.disk device.old) (D.disk device.new)) }
     ensures failed { OnErr result (Reads (D.disk device.old) (D.disk device.new) 1) }
 {
-    match open_file(device, index, wide, BITMAP_FILE) {
-        Ok(Ok(found)) => {
+    match open_file(device, index, wide, BITMAP_FILE)? {
+        Ok(found) => {
             let by = if found.in_use { index } else { wide };
             read_control(device, by, found.file)
         }
-        Ok(Err(_)) => Ok(None),
-        Err(DeviceFault) => Err(DeviceFault),
+        Err(_) => Ok(None),
     }
 }
 
@@ -117,11 +111,10 @@ fn read_control<D: Device>(
 {
     let mut file = file;
     let mut block = [0; BLOCK_SIZE];
-    match file.read(device, by, &mut block) {
-        Ok(true) => Ok(size_in(&block)),
-        Ok(false) => Ok(None),
-        Err(DeviceFault) => Err(DeviceFault),
+    if !file.read(device, by, &mut block)? {
+        return Ok(None);
     }
+    Ok(size_in(&block))
 }
 
 /// The size that a control block states, where it counts 1 to 126 bitmap blocks, and the size is 1 to 4,096 for each of these.

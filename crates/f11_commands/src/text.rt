@@ -45,17 +45,9 @@ pub(crate) fn write_text<D: Device, W: Write>(
     ensures failed { IfErr result (λ failure. FailsToWriteText failure (index_kept index.now) file broke
         (D.disk device.old) (D.disk device.new) W.contents writer.old writer.new) }
 {
-    match put_records(device, index, file, broke, writer) {
-        Ok(Ok(count)) => match writer.flush() {
-            Ok(()) => Ok(Ok(count)),
-            Err(_) => Err(Failure::CannotWrite),
-        },
-        Ok(Err(bad)) => match writer.flush() {
-            Ok(()) => Ok(Err(bad)),
-            Err(_) => Err(Failure::CannotWrite),
-        },
-        Err(failure) => Err(failure),
-    }
+    let answer = put_records(device, index, file, broke, writer)?;
+    writer.flush()?;
+    Ok(answer)
 }
 
 /// How many blocks a file still has, before the one by which it breaks off, if it does.
@@ -72,12 +64,10 @@ fn blocks_before<D: Device>(
     ensures failed { OnErr result
         (Looked (D.disk device.old) (D.disk device.new) (headers_left file) 1) }
 {
-    match file.count(device, index) {
-        Ok(blocks) => match broke {
-            Some(vbn) => Ok(vbn.saturating_sub(1).min(u64::from(blocks)) as u32),
-            None => Ok(blocks),
-        },
-        Err(DeviceFault) => Err(DeviceFault),
+    let blocks = file.count(device, index)?;
+    match broke {
+        Some(vbn) => Ok(vbn.saturating_sub(1).min(u64::from(blocks)) as u32),
+        None => Ok(blocks),
     }
 }
 
@@ -101,16 +91,10 @@ fn put_records<D: Device, W: Write>(
         (D.disk device.old) (D.disk device.new) W.contents writer.old writer.new) }
 {
     let attr = Header::new(file.header()).attributes();
-    match blocks_before(device, index, file, broke) {
-        Ok(blocks) => match ToText::ending(&attr, blocks, LineEnd::Lf) {
-            Ok(text) => match write_lines(device, index, file, text, writer) {
-                Ok(Ok(count)) => Ok(Ok(count)),
-                Ok(Err(bad)) => Ok(Err(bad)),
-                Err(failure) => Err(failure),
-            },
-            Err(bad) => Ok(Err(bad)),
-        },
-        Err(DeviceFault) => Err(Failure::DeviceFault),
+    let blocks = blocks_before(device, index, file, broke)?;
+    match ToText::ending(&attr, blocks, LineEnd::Lf) {
+        Ok(text) => write_lines(device, index, file, text, writer),
+        Err(bad) => Ok(Err(bad)),
     }
 }
 
@@ -143,10 +127,9 @@ fn write_lines<D: Device, W: Write>(
             return Ok(Ok(count));
         }
         let size = text.rest().min(512) as usize;
-        match pour(&mut text, &block[..size], writer) {
-            Ok(Ok(given)) => count += given,
-            Ok(Err(bad)) => return Ok(Err(bad)),
-            Err(failure) => return Err(failure),
+        match pour(&mut text, &block[..size], writer)? {
+            Ok(given) => count += given,
+            Err(bad) => return Ok(Err(bad)),
         }
     }
     Ok(Ok(count))

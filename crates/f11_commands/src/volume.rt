@@ -83,13 +83,12 @@ pub(crate) fn find_index<D: Device>(
     ensures failures { IfErr result (λ failure. (failure ≡ Failure.DeviceFault)
         ⊎ (failure ≡ Failure.NoMemory)) }
 {
-    match read_index(alloc, device) {
-        Ok(Ok((home, index))) => match index.first_past() {
+    match read_index(alloc, device)? {
+        Ok((home, index)) => match index.first_past() {
             Some(n) => Ok(Err(VolumeFault::PastSlots(n))),
             None => Ok(Ok((home, index))),
         },
-        Ok(Err(fault)) => Ok(Err(fault)),
-        Err(failure) => Err(failure),
+        Err(fault) => Ok(Err(fault)),
     }
 }
 

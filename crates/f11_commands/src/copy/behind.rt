@@ -12,10 +12,8 @@ use std::io::Write;
 fn of_both(end: Result<FileAnswer, Failure>) -> Result<FileAnswer, Failure>
     ensures { result ≡ told_of_both end }
 {
-    match end {
-        Ok(_) => Ok(FileAnswer::BothFaulty),
-        Err(failure) => Err(failure),
-    }
+    end?;
+    Ok(FileAnswer::BothFaulty)
 }
 
 /// Verifies the Files-11 volume behind another one, with which it ended so, where that has faults; and writes its report where it has some,

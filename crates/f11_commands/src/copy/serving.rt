@@ -116,10 +116,7 @@ fn copy_by_names<D: Device, E: Device>(
         volume.old volume.new rt.old rt.new }
 {
     let directory = directory_name(copy.directory);
-    let dir = match find(volume, MASTER_DIRECTORY, &directory) {
-        Ok(dir) => dir,
-        Err(refusal) => return Err(FlxRefusal::Files(refusal)),
-    };
+    let dir = find(volume, MASTER_DIRECTORY, &directory).map_err(FlxRefusal::Files)?;
     match copy.direction {
         Direction::ToRt => copy_out(volume, dir, rt, copy),
         Direction::FromRt => copy_in(volume, dir, rt, copy),
@@ -137,10 +134,7 @@ fn copy_out<D: Device, E: Device>(
         (WithinDirectory direction.ToRt copy.now dir result)
         (StopsWithin direction.ToRt dir copy.now.name) volume.old volume.new rt.old rt.new }
 {
-    let source = match find(volume, dir, &copy.name) {
-        Ok(source) => source,
-        Err(refusal) => return Err(FlxRefusal::Files(refusal)),
-    };
+    let source = find(volume, dir, &copy.name).map_err(FlxRefusal::Files)?;
     let task = first_task();
     let lun = first_lun();
     copy_to_rt(

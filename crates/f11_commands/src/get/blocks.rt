@@ -60,12 +60,10 @@ pub(crate) fn last_end<D: Device>(
     ensures failed { OnErr result
         (Looked (D.disk device.old) (D.disk device.new) (2 * headers_left file.now) 1) }
 {
-    match file.count(device, index) {
-        Ok(blocks) => match file.is_whole(device, index) {
-            Ok(true) => Ok((512 * u64::from(blocks), blocks)),
-            Ok(false) => Ok((512 * u64::from(blocks) + 1, blocks)),
-            Err(DeviceFault) => Err(DeviceFault),
-        },
-        Err(DeviceFault) => Err(DeviceFault),
+    let blocks = file.count(device, index)?;
+    if file.is_whole(device, index)? {
+        Ok((512 * u64::from(blocks), blocks))
+    } else {
+        Ok((512 * u64::from(blocks) + 1, blocks))
     }
 }

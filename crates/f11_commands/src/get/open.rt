@@ -35,14 +35,12 @@ pub(crate) fn open_file<D: Device>(
         (index_kept index.now) refusal (D.disk device.old) (D.disk device.new))) }
     ensures failed { OnErr result (Reads (D.disk device.old) (D.disk device.new) 1) }
 {
-    match FileReader::open(device, index, id) {
-        Ok(Some(file)) => Ok(Ok(found_file(file, true))),
-        Ok(None) => match FileReader::open(device, wide, id) {
-            Ok(Some(file)) => Ok(Ok(found_file(file, false))),
-            Ok(None) => Ok(Err(Refusal::NoSuchFile)),
-            Err(DeviceFault) => Err(DeviceFault),
+    match FileReader::open(device, index, id)? {
+        Some(file) => Ok(Ok(found_file(file, true))),
+        None => match FileReader::open(device, wide, id)? {
+            Some(file) => Ok(Ok(found_file(file, false))),
+            None => Ok(Err(Refusal::NoSuchFile)),
         },
-        Err(DeviceFault) => Err(DeviceFault),
     }
 }
 

@@ -21,7 +21,6 @@ use crate::ls::Served;
 use crate::outcome::{Answer, Failure};
 use crate::size::volume_end;
 use crate::volume::read_index;
-use f11_bytes::NoMemory;
 use f11_catalog::find;
 use f11_dev::{Device, DeviceFault};
 use f11_index::IndexFile;
@@ -131,25 +130,23 @@ fn seek_on_volume<D: Device, W: Write>(
     ensures failed { IfErr result (λ failure. FailsToSeek failure directory.now name.now
         (D.disk device.old) (D.disk device.new) writer.old writer.new) }
 {
-    match read_index(alloc, device) {
-        Ok(Ok((_, index))) => match index.with_all_in_use(alloc) {
-            Ok(wide) => match seek_to_end(device, &index, &wide, directory, name) {
-                Ok(Ok((found, size))) => {
+    match read_index(alloc, device)? {
+        Ok((_, index)) => {
+            let wide = index.with_all_in_use(alloc)?;
+            match seek_to_end(device, &index, &wide, directory, name)? {
+                Ok((found, size)) => {
                     Ok(Ok((if found.in_use { index } else { wide }, found, size)))
                 }
-                Ok(Err(refusal)) => match writeln!(writer, "no {refusal}") {
-                    Ok(()) => Ok(Err(Answer::Fault)),
-                    Err(_) => Err(Failure::CannotWrite),
-                },
-                Err(DeviceFault) => Err(Failure::DeviceFault),
-            },
-            Err(NoMemory) => Err(Failure::NoMemory),
-        },
-        Ok(Err(fault)) => match writeln!(writer, "fault {fault}") {
-            Ok(()) => Ok(Err(Answer::Fault)),
-            Err(_) => Err(Failure::CannotWrite),
-        },
-        Err(failure) => Err(failure),
+                Err(refusal) => {
+                    writeln!(writer, "no {refusal}")?;
+                    Ok(Err(Answer::Fault))
+                }
+            }
+        }
+        Err(fault) => {
+            writeln!(writer, "fault {fault}")?;
+            Ok(Err(Answer::Fault))
+        }
     }
 }
 
@@ -172,13 +169,10 @@ fn seek_to_end<D: Device>(
         (index_kept index.now) refusal (D.disk device.old) (D.disk device.new))) }
     ensures failed { OnErr result (Reads (D.disk device.old) (D.disk device.new) 1) }
 {
-    match volume_end(device, index, wide) {
-        Ok(size) => match seek_in_index(device, index, wide, directory, name) {
-            Ok(Ok(found)) => Ok(Ok((found, size))),
-            Ok(Err(refusal)) => Ok(Err(refusal)),
-            Err(DeviceFault) => Err(DeviceFault),
-        },
-        Err(DeviceFault) => Err(DeviceFault),
+    let size = volume_end(device, index, wide)?;
+    match seek_in_index(device, index, wide, directory, name)? {
+        Ok(found) => Ok(Ok((found, size))),
+        Err(refusal) => Ok(Err(refusal)),
     }
 }
 
@@ -201,14 +195,9 @@ fn seek_in_index<D: Device>(
         (index_kept index.now) refusal (D.disk device.old) (D.disk device.new))) }
     ensures failed { OnErr result (Reads (D.disk device.old) (D.disk device.new) 1) }
 {
-    match find(device, index, wide, MASTER_DIRECTORY, directory) {
-        Ok(Ok(id)) => match open_entered(device, index, wide, id, name) {
-            Ok(Ok(found)) => Ok(Ok(found)),
-            Ok(Err(refusal)) => Ok(Err(refusal)),
-            Err(DeviceFault) => Err(DeviceFault),
-        },
-        Ok(Err(refusal)) => Ok(Err(refusal)),
-        Err(DeviceFault) => Err(DeviceFault),
+    match find(device, index, wide, MASTER_DIRECTORY, directory)? {
+        Ok(id) => open_entered(device, index, wide, id, name),
+        Err(refusal) => Ok(Err(refusal)),
     }
 }
 
@@ -230,13 +219,8 @@ fn open_entered<D: Device>(
         (index_kept index.now) refusal (D.disk device.old) (D.disk device.new))) }
     ensures failed { OnErr result (Reads (D.disk device.old) (D.disk device.new) 1) }
 {
-    match find(device, index, wide, directory, name) {
-        Ok(Ok(id)) => match open_file(device, index, wide, id) {
-            Ok(Ok(found)) => Ok(Ok(found)),
-            Ok(Err(refusal)) => Ok(Err(refusal)),
-            Err(DeviceFault) => Err(DeviceFault),
-        },
-        Ok(Err(refusal)) => Ok(Err(refusal)),
-        Err(DeviceFault) => Err(DeviceFault),
+    match find(device, index, wide, directory, name)? {
+        Ok(id) => open_file(device, index, wide, id),
+        Err(refusal) => Ok(Err(refusal)),
     }
 }

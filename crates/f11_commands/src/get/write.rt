@@ -103,10 +103,10 @@ fn write_as<D: Device, H: Write, W: Write>(
         writer.old writer.new) }
 {
     match mode {
-        CopyMode::Image => match write_image(device, index, file, end, broke, host, writer) {
-            Ok(()) => Ok(Answer::Done),
-            Err(failure) => Err(failure),
-        },
+        CopyMode::Image => {
+            write_image(device, index, file, end, broke, host, writer)?;
+            Ok(Answer::Done)
+        }
         CopyMode::Text => write_records(device, index, file, broke, host, writer),
     }
 }
@@ -154,17 +154,11 @@ fn tell_zeros<D: Device, W: Write>(
         (D.disk device.old) (D.disk device.new) writer.old writer.new) }
 {
     let blocks = device.blocks();
-    match file.first_missing(device, index, cut.div_ceil(BLOCK_SIZE as u64), blocks) {
-        Ok(zeros) => {
-            let told = Told::Copied(count);
-            let missing = ShownMissing { zeros, broke };
-            match writeln!(writer, "{told}{missing}") {
-                Ok(()) => Ok(()),
-                Err(_) => Err(Failure::CannotWrite),
-            }
-        }
-        Err(DeviceFault) => Err(Failure::DeviceFault),
-    }
+    let zeros = file.first_missing(device, index, cut.div_ceil(BLOCK_SIZE as u64), blocks)?;
+    let told = Told::Copied(count);
+    let missing = ShownMissing { zeros, broke };
+    writeln!(writer, "{told}{missing}")?;
+    Ok(())
 }
 
 /// Writes the text of a file's records to the host, before the block by which it breaks off, and the line that tells of it, or that they
@@ -186,16 +180,15 @@ fn write_records<D: Device, H: Write, W: Write>(
         broke (D.disk device.old) (D.disk device.new) H.contents host.old host.new
         writer.old writer.new) }
 {
-    match write_text(device, index, file, broke, host) {
-        Ok(Ok(count)) => match tell(writer, Told::Copied(count), broke) {
-            Ok(()) => Ok(Answer::Done),
-            Err(_) => Err(Failure::CannotWrite),
-        },
-        Ok(Err(_)) => match tell(writer, Told::BadRecords, broke) {
-            Ok(()) => Ok(Answer::Fault),
-            Err(_) => Err(Failure::CannotWrite),
-        },
-        Err(failure) => Err(failure),
+    match write_text(device, index, file, broke, host)? {
+        Ok(count) => {
+            tell(writer, Told::Copied(count), broke)?;
+            Ok(Answer::Done)
+        }
+        Err(_) => {
+            tell(writer, Told::BadRecords, broke)?;
+            Ok(Answer::Fault)
+        }
     }
 }
 

@@ -12,6 +12,7 @@ ghost use Rattle.f11_commands.specs.PutSlots.{AsksForSlots, slots_before as slot
 use crate::finding::{OPERATOR, first_task};
 use f11_bytes::BLOCK_SIZE;
 use f11_dev::Device;
+use f11_making::is_fatal;
 use f11_serving::f11_fcp::Volume;
 use f11_store::{Refusal, Request};
 
@@ -47,13 +48,6 @@ pub fn slots_before<D: Device>(volume: &Volume<D>, blocks: u64) -> u32
 {
     let (free, headers) = volume.free();
     slots_for(blocks, free, headers)
-}
-
-/// Whether it is a device fault or `Damaged`.
-fn is_fatal(refusal: Refusal) -> bool
-    ensures { result ≡ is_fatal refusal }
-{
-    matches!(refusal, Refusal::DeviceFault | Refusal::Damaged)
 }
 
 /// Asks for so many slots.

@@ -152,10 +152,10 @@ impl<D: Device> TakingAllRt<D> {
             self.old self.new H.contents host.old host.new writer.old writer.new) }
     {
         match self.take(found, host) {
-            Ok(taken) => match write_copied(writer, found, &taken, self.bad.as_slice()) {
-                Ok(()) => Ok(()),
-                Err(_) => Err(Failure::CannotWrite),
-            },
+            Ok(taken) => {
+                write_copied(writer, found, &taken, self.bad.as_slice())?;
+                Ok(())
+            }
             Err(HostFull) => Err(Failure::CannotWrite),
         }
     }
@@ -166,14 +166,10 @@ impl<D: Device> TakingAllRt<D> {
             H.contents host.old host.new) }
         ensures full { OnErr result (FillsHost found.now D.disk self.old self.new) }
     {
-        match take_out(&mut self.device, &found.entry, host) {
-            Ok(taken) => {
-                self.failed = self.failed || taken.failed;
-                self.counts = counted_copied(&found.place, taken.missing, &self.counts);
-                Ok(taken)
-            }
-            Err(HostFull) => Err(HostFull),
-        }
+        let taken = take_out(&mut self.device, &found.entry, host)?;
+        self.failed = self.failed || taken.failed;
+        self.counts = counted_copied(&found.place, taken.missing, &self.counts);
+        Ok(taken)
     }
 
     /// Writes the line of an entry that isn't taken out: its place, and ` not copied status wrong`, ` not copied past block 65534`, or where a
@@ -188,10 +184,8 @@ impl<D: Device> TakingAllRt<D> {
         ensures failed { IfErr result (λ failure. FailsToRefuse failure self.old self.new) }
     {
         self.counts = counted_refused(&self.counts);
-        match write_not_copied(writer, &found.place, why_of(&found.fate)) {
-            Ok(()) => Ok(()),
-            Err(_) => Err(Failure::CannotWrite),
-        }
+        write_not_copied(writer, &found.place, why_of(&found.fate))?;
+        Ok(())
     }
 
     /// Writes the last line, `all N copied, M cut, K not copied, L in lost`, and gives the device back, and what the command answers: that all is

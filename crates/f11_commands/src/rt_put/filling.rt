@@ -35,10 +35,7 @@ pub(crate) fn fill<D: Device, R: Read>(
     let mut left = bytes;
     for place in 0..blocks {
         let count = left.min(BLOCK_SIZE as u64);
-        match read_piece(host, count as usize, &mut block) {
-            Ok(()) => {}
-            Err(_) => return Err(Stop::Host),
-        }
+        read_piece(host, count as usize, &mut block)?;
         match volume.write(name, place, &block) {
             Ok(()) => {}
             Err(refusal) => return Err(Stop::Volume(refusal)),

@@ -1,5 +1,6 @@
 use Rattle.std.proofs.Common.{Ok, [], refl, ap, arith}
 use Rattle.std.proofs.KnownBytes.{Appends-nil, Appends-trans}
+use Rattle.f11_commands.proofs.HandedLemmas.{error-is}
 use Rattle.f11_commands.proofs.TakingOutLemmas.{content-part, reads-failed, taken-none, taken-more, reads-one, reads-all, content-all}
 use Rattle.f11_commands.proofs.TakingOutLemmas.{reads-ended}
 use Rattle.f11_commands.proofs.TakingOutLemmas.{content-ended}
@@ -29,10 +30,11 @@ returns-in-Err-clause-stops g c =
       reads = reads-failed _ _ _ _ _ _ _ _ _ taken _ _ c.in-Err.ensures.failed;
     }
 
-pub returns-in-Err-write_all-clause-stops : goal.returns-in-Err-write_all-clause-stops
-returns-in-Err-write_all-clause-stops g c =
-    reads-one _ _ _ _ _ _ _ _ _ c.loop-left.invariant.taken _ _ _ (c.in-Ok-true.ensures.reads (ap Ok c.in-Ok-true.field-0-test))
-    (omega arith)
+pub returns-in_err-write_all-clause-stops : goal.returns-in_err-write_all-clause-stops
+returns-in_err-write_all-clause-stops g c =
+    error-is _ _ _ c.from_residual.ensures.1
+    (reads-one _ _ _ _ _ _ _ _ _ c.loop-left.invariant.taken _ _ _ (c.in-Ok-true.ensures.reads (ap Ok c.in-Ok-true.field-0-test))
+    (omega arith))
 
 pub loop-left-preserved : goal.loop-left-preserved
 loop-left-preserved g c = record {
@@ -40,7 +42,7 @@ loop-left-preserved g c = record {
   text = _;
   taken = taken-more _ _ _ _ _ _ _ _ _ c.loop-left.invariant.taken _ _ _ (c.in-Ok-true.ensures.reads (ap Ok c.in-Ok-true.field-0-test))
       (omega arith) _ _ c.read.array_long c.min-count.ensures refl c.in-Ok-true.ensures.reading;
-  takes = Appends-trans _ _ _ _ _ c.loop-left.invariant.takes c.in-Ok.ensures.bytes;
+  takes = Appends-trans _ _ _ _ _ c.loop-left.invariant.takes c.in_ok-write_all.ensures.bytes;
 }
 
 pub returns-clause-writes : goal.returns-clause-writes

@@ -1,5 +1,6 @@
 use Rattle.std.proofs.Common.{◌≡◌, [], ◌∷◌, ◌++◌, arith}
 use Rattle.std.proofs.KnownBytes.{Appends-nil}
+use Rattle.f11_commands.proofs.HandedLemmas.{error-is}
 use Rattle.f11_commands.proofs.RtTakingLemmas.{reads-more, reads-none, reads-within, stops-reading, takes-out, text-more}
 use Rattle.f11_commands.proofs.rt_area.write_blocks.Goals as goal
 
@@ -12,10 +13,11 @@ returns-in-Err-clause-failed g c =
     stops-reading c.args.first _ _ _ _ l.invariant.reads c.args.blocks _ _ _ l.invariant.text _ c.loop-place-test.true
     c.in-Err.ensures.failed
 
-pub returns-in-Err-write_all-clause-failed : goal.returns-in-Err-write_all-clause-failed
-returns-in-Err-write_all-clause-failed g c =
+pub returns-in_err-write_all-clause-failed : goal.returns-in_err-write_all-clause-failed
+returns-in_err-write_all-clause-failed g c =
     let l = c.loop-place in
-    reads-within c.args.first _ _ _ _ l.invariant.reads _ c.args.blocks _ _ c.loop-place-test.true c.in-Ok.ensures.reads
+    error-is _ _ _ c.from_residual.ensures.1
+    (reads-within c.args.first _ _ _ _ l.invariant.reads _ c.args.blocks _ _ c.loop-place-test.true c.in-Ok.ensures.reads)
 
 pub loop-place-preserved : goal.loop-place-preserved
 loop-place-preserved g c =
@@ -23,7 +25,7 @@ loop-place-preserved g c =
     record {
       given = l.invariant.given ++ c.read_at.new.into ∷ [];
       reads = reads-more c.args.first _ _ _ _ l.invariant.reads _ c.read_at.new.into _ (omega arith) (search) c.in-Ok.ensures.reads;
-      text = text-more g.H.Write.contents _ l.host _ l.invariant.given c.read_at.new.into l.invariant.text c.in-Ok-write_all.ensures.bytes;
+      text = text-more g.H.Write.contents _ l.host _ l.invariant.given c.read_at.new.into l.invariant.text c.in_ok-write_all.ensures.bytes;
     }
 
 pub returns-clause-takes : goal.returns-clause-takes

@@ -9,8 +9,8 @@ use Rattle.f11_commands.proofs.size.read_size.Goals.{then-found, else-found}
 
 pub returns-after-found-clause-reads : goal.returns-after-found-clause-reads
 returns-after-found-clause-reads g c =
-    let found = c.in-Ok-Ok.found in
-    let opens = rw c.in-Ok-Ok.field-0-is at c.in-Ok-Ok.ensures.found in
+    let found = c.in-Ok.found in
+    let opens = rw c.in-Ok.is at c.in_ok-found.ensures.found in
     let either : Bool → Index = λ b. if b then index_kept c.args.index.now else index_kept c.args.wide.now in
     let chosen : index_kept c.if-found.by.now ≡ either found.in_use = elim c.if-found.branch [
       | then-found w ↦ rw w.by-is (sym (ap either w.if-found.true))
@@ -20,5 +20,5 @@ returns-after-found-clause-reads g c =
 
 pub returns-after-found-clause-failed : goal.returns-after-found-clause-failed
 returns-after-found-clause-failed g c =
-    let opens = rw c.in-Ok-Ok.field-0-is at c.in-Ok-Ok.ensures.found in
+    let opens = rw c.in-Ok.is at c.in_ok-found.ensures.found in
     on_err_weaker c.read_control.result (λ fails. reads-then opens.reads fails) c.read_control.ensures.failed

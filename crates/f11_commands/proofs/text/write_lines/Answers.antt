@@ -4,8 +4,9 @@ use Rattle.std.proofs.lemmas.List.{length-append}
 use Rattle.f11_flx.specs.ToText.{rest_of}
 use Rattle.f11_index.specs.Kept.{index_kept}
 use Rattle.f11_commands.specs.TakingText.{FailsToPour}
+use Rattle.f11_commands.proofs.HandedLemmas.{error-is}
 use Rattle.f11_commands.proofs.TakingOutLemmas.{reads-all, reads-ended, reads-one, taken-more, taken-none}
-use Rattle.f11_commands.proofs.TakingTextLemmas.{bad-text, begun-text, ended-text, error-is, gives-bad, gives-more, gives-none}
+use Rattle.f11_commands.proofs.TakingTextLemmas.{bad-text, begun-text, ended-text, gives-bad, gives-more, gives-none}
 use Rattle.f11_commands.proofs.TakingTextLemmas.{reads-broken}
 use Rattle.f11_commands.proofs.TakingTextLemmas.{taken-poured, whole-text}
 use Rattle.f11_commands.proofs.text.write_lines.Goals as goal
@@ -52,7 +53,7 @@ loop-reader-preserved g c =
     let l = c.loop-reader.invariant in
     let some : 0 < rest_of c.loop-reader.text = omega (arith, c.rest.ensures, c.loop-reader-test.true) in
     let reads = c.in_ok-read.ensures.reads (ap Ok c.if-not-branch.false) in
-    let gives = rw c.in-Ok-Ok.field-0-is at c.in-Ok-Ok.ensures.gives in
+    let gives = rw c.in-Ok.is at c.in_ok-given.ensures.gives in
     record {
       k = _;
       bytes = _;
@@ -66,12 +67,12 @@ loop-reader-preserved g c =
       takes = Appends-trans _ _ _ _ _ l.takes gives.takes;
     }
 
-pub returns-in-Ok-Err-clause-bad : goal.returns-in-Ok-Err-clause-bad
-returns-in-Ok-Err-clause-bad g c =
+pub returns-in-Err-clause-bad : goal.returns-in-Err-clause-bad
+returns-in-Err-clause-bad g c =
     let l = c.loop-reader.invariant in
     let some : 0 < rest_of c.loop-reader.text = omega (arith, c.rest.ensures, c.loop-reader-test.true) in
     let reads = c.in_ok-read.ensures.reads (ap Ok c.if-not-branch.false) in
-    let bad = rw c.in-Ok-Err.field-0-is at c.in-Ok-Err.ensures.bad in
+    let bad = rw c.in-Err.is at c.in_ok-given.ensures.bad in
     let taken = taken-more _ _ _ _ _ _ _ _ _ l.taken _ _ _ reads some _ _ c.read.array_long
     (omega (arith, c.min-size.ensures, c.rest-in-loop-reader.ensures)) refl
     c.in_ok-read.ensures.reading in
@@ -84,14 +85,15 @@ returns-in-Ok-Err-clause-bad g c =
       reads = reads-one _ _ _ _ _ _ _ _ _ l.taken _ _ _ reads some;
     }
 
-pub returns-in-Err-clause-failed : goal.returns-in-Err-clause-failed
-returns-in-Err-clause-failed g c =
+pub returns-in_err-given-clause-failed : goal.returns-in_err-given-clause-failed
+returns-in_err-given-clause-failed g c =
     let l = c.loop-reader.invariant in
     let some : 0 < rest_of c.loop-reader.text = omega (arith, c.rest.ensures, c.loop-reader-test.true) in
     let reads = c.in_ok-read.ensures.reads (ap Ok c.if-not-branch.false) in
-    subst (λ failure. FailsToPour failure (index_kept c.args.index.now) c.args.file c.args.text (g.D.Device.disk c.args.device.now)
-    (g.D.Device.disk c.read.new.device) g.W.Write.contents c.args.writer.now c.pour.new.writer) (sym c.in-Err.ensures.failed)
-    (reads-one _ _ _ _ _ _ _ _ _ l.taken _ _ _ reads some)
+    error-is _ _ _ c.from_residual-in_err-given.ensures.1
+    (subst (λ failure. FailsToPour failure (index_kept c.args.index.now) c.args.file c.args.text (g.D.Device.disk c.args.device.now)
+    (g.D.Device.disk c.read.new.device) g.W.Write.contents c.args.writer.now c.pour.new.writer) (sym c.in_err-given.ensures.failed)
+    (reads-one _ _ _ _ _ _ _ _ _ l.taken _ _ _ reads some))
 
 pub returns-clause-writes : goal.returns-clause-writes
 returns-clause-writes g c =

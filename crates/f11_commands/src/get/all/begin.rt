@@ -12,9 +12,8 @@ use crate::ls::Served;
 use crate::outcome::{Answer, Failure};
 use crate::size::volume_end;
 use crate::volume::read_index;
-use f11_bytes::NoMemory;
 use f11_catalog::{AllFiles, WalkFault};
-use f11_dev::{Device, DeviceFault};
+use f11_dev::Device;
 use f11_index::IndexFile;
 use f11_serving::f11_vfy::{VfyError, is_faulty};
 use std::alloc::Global;
@@ -108,20 +107,19 @@ fn begin_on_volume<D: Device, W: Write>(
     ensures failed { IfErr result (λ failure.
         FailsToBeginAll failure (D.disk device.old) (D.disk device.new) writer.old writer.new) }
 {
-    match read_index(alloc, device) {
-        Ok(Ok((_, index))) => match index.with_all_in_use(alloc) {
-            Ok(wide) => match begin_in_index(alloc, device, &index, &wide) {
+    match read_index(alloc, device)? {
+        Ok((_, index)) => {
+            let wide = index.with_all_in_use(alloc)?;
+            match begin_in_index(alloc, device, &index, &wide) {
                 Ok((size, files, failed)) => Ok(Ok((index, wide, size, files, failed))),
                 Err(WalkFault::DeviceFault) => Err(Failure::DeviceFault),
                 Err(WalkFault::NoMemory) => Err(Failure::NoMemory),
-            },
-            Err(NoMemory) => Err(Failure::NoMemory),
-        },
-        Ok(Err(fault)) => match writeln!(writer, "fault {fault}") {
-            Ok(()) => Ok(Err(Answer::Fault)),
-            Err(_) => Err(Failure::CannotWrite),
-        },
-        Err(failure) => Err(failure),
+            }
+        }
+        Err(fault) => {
+            writeln!(writer, "fault {fault}")?;
+            Ok(Err(Answer::Fault))
+        }
     }
 }
 
@@ -139,11 +137,7 @@ fn begin_in_index<D: Device>(
         begun.0 begun.1 begun.2 (D.disk device.old) (D.disk device.new)) }
     ensures failed { IfErr result (λ fault. FailsWithEnd fault (D.disk device.old) (D.disk device.new)) }
 {
-    match volume_end(device, index, wide) {
-        Ok(size) => match AllFiles::begin(alloc, device, index, wide, MASTER_DIRECTORY) {
-            Ok((files, failed)) => Ok((size, files, failed)),
-            Err(fault) => Err(fault),
-        },
-        Err(DeviceFault) => Err(WalkFault::DeviceFault),
-    }
+    let size = volume_end(device, index, wide)?;
+    let (files, failed) = AllFiles::begin(alloc, device, index, wide, MASTER_DIRECTORY)?;
+    Ok((size, files, failed))
 }

@@ -103,10 +103,10 @@ impl<D: Device> TakingAll<D> {
             D.disk self.old self.new H.contents host.old host.new writer.old writer.new) }
     {
         match self.take(place, file, in_use, host) {
-            Ok(taken) => match write_line(writer, place, in_use, beside, &taken) {
-                Ok(()) => Ok(()),
-                Err(_) => Err(Failure::CannotWrite),
-            },
+            Ok(taken) => {
+                write_line(writer, place, in_use, beside, &taken)?;
+                Ok(())
+            }
             Err(HostFull) => Err(Failure::CannotWrite),
         }
     }
@@ -125,7 +125,7 @@ impl<D: Device> TakingAll<D> {
             self.old self.new H.contents host.old host.new) }
         ensures full { OnErr result (FillsHost D.disk self.old self.new) }
     {
-        match take_by(
+        let taken = take_by(
             &mut self.device,
             &self.index,
             &self.wide,
@@ -133,14 +133,10 @@ impl<D: Device> TakingAll<D> {
             self.size,
             file,
             host,
-        ) {
-            Ok(taken) => {
-                self.failed = self.failed || taken.failed;
-                self.counts.add_copied(taken.is_cut(), is_lost(place));
-                Ok(taken)
-            }
-            Err(HostFull) => Err(HostFull),
-        }
+        )?;
+        self.failed = self.failed || taken.failed;
+        self.counts.add_copied(taken.is_cut(), is_lost(place));
+        Ok(taken)
     }
 
     /// Writes the line of a file that isn't taken out: `[g,m] NAME.TYP;V not copied` and why.
@@ -159,10 +155,8 @@ impl<D: Device> TakingAll<D> {
         ensures failed { IfErr result (λ failure. FailsToLeaveOut failure why.now self.old self.new) }
     {
         self.counts.add_left_out(why.is_wanting());
-        match write_left_out(writer, place, why) {
-            Ok(()) => Ok(()),
-            Err(_) => Err(Failure::CannotWrite),
-        }
+        write_left_out(writer, place, why)?;
+        Ok(())
     }
 
     /// Writes the last line, `all N copied, M cut, K not copied, L in lost`: how many files were taken out, how many of these broke off, how

@@ -69,10 +69,8 @@ fn end_taken<D: Device>(
         let end = stated_end(&Header::new(file.header()).attributes());
         return Ok((end, false));
     }
-    match last_end(device, index, file) {
-        Ok((end, blocks)) => Ok((end, blocks != 0)),
-        Err(DeviceFault) => Err(DeviceFault),
-    }
+    let (end, blocks) = last_end(device, index, file)?;
+    Ok((end, blocks != 0))
 }
 
 /// Takes out a file as [`take_out`] does, by the index file where its slot is in use, else by that with each slot in use.
@@ -127,10 +125,7 @@ fn take_out<D: Device, H: Write>(
     match end_taken(device, index, file) {
         Ok((end, all_blocks)) => {
             match file.first_missing(device, index, end.div_ceil(BLOCK_SIZE as u64), size) {
-                Ok(broke) => match take_to(device, index, *file, end, broke, all_blocks, host) {
-                    Ok(taken) => Ok(taken),
-                    Err(HostFull) => Err(HostFull),
-                },
+                Ok(broke) => take_to(device, index, *file, end, broke, all_blocks, host),
                 Err(DeviceFault) => Ok(none_taken(file)),
             }
         }

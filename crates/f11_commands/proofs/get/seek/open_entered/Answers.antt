@@ -1,19 +1,22 @@
+use Rattle.std.proofs.lemmas.Result.{on_err_weaker}
 use Rattle.f11_catalog.proofs.ListingLemmas.{reads-then}
 use Rattle.f11_commands.proofs.GetLemmas.{entered-is, finds-behind, none-behind}
+use Rattle.f11_commands.proofs.HandedLemmas.{found-then, refused-then}
 use Rattle.f11_commands.proofs.get.seek.open_entered.Goals as goal
 
-pub returns-in-Ok-Ok-open_file-clause-found : goal.returns-in-Ok-Ok-open_file-clause-found
-returns-in-Ok-Ok-open_file-clause-found g c =
-    let found = rw c.in-Ok-Ok.field-0-is at c.in-Ok-Ok.ensures.found in
-    finds-behind _ _ _ _ _ _ found.reads (entered-is _ _ _ _ _ _ _ found) _ _
-    (rw c.in-Ok-Ok-open_file.field-0-is at c.in-Ok-Ok-open_file.ensures.found)
+pub returns-in-Ok-clause-found : goal.returns-in-Ok-clause-found
+returns-in-Ok-clause-found g c =
+    let found = rw c.in-Ok.is at c.in_ok-id.ensures.found in
+    found-then c.open_file.result (λ _ opens. finds-behind _ _ _ _ _ _ found.reads (entered-is _ _ _ _ _ _ _ found) _ _ opens)
+    c.open_file.ensures.found
 
-pub returns-in-Ok-Err-open_file-clause-none : goal.returns-in-Ok-Err-open_file-clause-none
-returns-in-Ok-Err-open_file-clause-none g c =
-    let found = rw c.in-Ok-Ok.field-0-is at c.in-Ok-Ok.ensures.found in
-    none-behind _ _ _ _ _ _ found.reads (entered-is _ _ _ _ _ _ _ found) _
-    (rw c.in-Ok-Err-open_file.field-0-is at c.in-Ok-Err-open_file.ensures.none)
+pub returns-in-Ok-clause-none : goal.returns-in-Ok-clause-none
+returns-in-Ok-clause-none g c =
+    let found = rw c.in-Ok.is at c.in_ok-id.ensures.found in
+    refused-then c.open_file.result (λ _ lacks. none-behind _ _ _ _ _ _ found.reads (entered-is _ _ _ _ _ _ _ found) _ lacks)
+    c.open_file.ensures.none
 
-pub returns-in-Err-open_file-clause-failed : goal.returns-in-Err-open_file-clause-failed
-returns-in-Err-open_file-clause-failed g c =
-    let found = rw c.in-Ok-Ok.field-0-is at c.in-Ok-Ok.ensures.found in reads-then found.reads c.in-Err-open_file.ensures.failed
+pub returns-in-Ok-clause-failed : goal.returns-in-Ok-clause-failed
+returns-in-Ok-clause-failed g c =
+    let found = rw c.in-Ok.is at c.in_ok-id.ensures.found in
+    on_err_weaker c.open_file.result (λ fails. reads-then found.reads fails) c.open_file.ensures.failed

@@ -1,6 +1,8 @@
 use Rattle.f11_commands.proofs.AllLemmas.{begin-fails}
+use Rattle.f11_commands.proofs.HandedLemmas.{error-is}
 use Rattle.f11_commands.proofs.get.all.begin.begin_in_index.Goals as goal
 
-pub returns-in-Err-begin-clause-failed : goal.returns-in-Err-begin-clause-failed
-returns-in-Err-begin-clause-failed g c =
-    begin-fails c.in-Err-begin.fault _ _ _ c.in-Ok.ensures.finds.reads c.in-Err-begin.ensures.failed
+pub returns-in_err-files-clause-failed : goal.returns-in_err-files-clause-failed
+returns-in_err-files-clause-failed g c =
+    error-is _ _ _ c.from_residual-in_err-files.ensures.1
+    (begin-fails _ _ _ _ c.in_ok-size.ensures.finds.reads c.in_err-files.ensures.failed)

@@ -1,5 +1,7 @@
 use Rattle.f11_commands.specs.RtAll.{line_lost}
+use Rattle.f11_commands.proofs.HandedLemmas.{error-is}
 use Rattle.f11_commands.proofs.rt_all.state.TakingAllRt.write.Goals as goal
 
-pub returns-in-Err-write_copied-clause-failed : goal.returns-in-Err-write_copied-clause-failed
-returns-in-Err-write_copied-clause-failed g c = line_lost c.in-Ok.taken c.in-Ok.ensures.takes
+pub returns-in_err-write_copied-in-Ok-clause-failed : goal.returns-in_err-write_copied-in-Ok-clause-failed
+returns-in_err-write_copied-in-Ok-clause-failed g c =
+    error-is _ _ _ c.from_residual.ensures.1 (line_lost c.in-Ok.taken c.in-Ok.ensures.takes)
