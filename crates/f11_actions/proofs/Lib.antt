@@ -1,2 +1,3 @@
 pub mod AllLemmas
+pub mod ChangeLemmas
 pub mod CommandLemmas

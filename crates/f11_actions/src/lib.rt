@@ -5,16 +5,20 @@
 //! counts them. One that is refused doesn't end the others, unless memory ran out. Each is a plan of requests to the file processor
 //! ([`f11_making`]), so that the volume is accepted at each moment, and no file is another but those that are named, their directories and the
 //! index file. [`deletion`] and [`renaming`] leave directories what they are. [`print_making`] makes a directory with the protection that the
-//! volume gives its files.
+//! volume gives its files. [`print_chosen`] does one [`Change`] to each file of a directory whose name a pattern chooses.
 #![tactic(auto)]
 
 mod acting;
+mod change;
+mod chosen;
 mod command;
 mod directories;
 mod line;
 mod making;
 mod protection;
 
+pub use change::Change;
+pub use chosen::print_chosen;
 pub use command::print_actions;
 pub use directories::{deletion, renaming};
 pub use f11_making::{Action, is_directory_name};

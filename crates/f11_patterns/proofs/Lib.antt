@@ -1,4 +1,5 @@
 -- Laws of patterns.
+pub mod ChosenLemmas
 pub mod LikeLemmas
 pub mod SplitLemmas
 pub mod VersionLemmas

@@ -1,4 +1,5 @@
 -- The definitions that the contracts of patterns cite.
+pub mod Chosen
 pub mod Like
 pub mod Meant
 pub mod Parts

@@ -1,10 +1,11 @@
 //! Patterns of files' names, as users of RSX-11's PIP write them: `*.TXT;*`, `LOGIN.CMD`, `A%.*;1`.
 //!
 //! A [`Pattern`] is read from its text ([`Pattern::parse`]) and decided against a name ([`Pattern::fits`]), and against the names of a directory,
-//! where it may ask for the highest version alone ([`Pattern::means`], [`Versions`]). Nothing here takes memory. The crate stands on
-//! [`f11_rad50`], for names, and on [`f11_bytes`], for octal digits.
+//! where it may ask for the highest version alone ([`Pattern::means`], [`Versions`]); [`Pattern::choose`] gives those of them that are meant.
+//! The crate stands on [`f11_rad50`], for names, and on [`f11_bytes`], for octal digits.
 #![tactic(auto)]
 
+mod choose;
 mod errors;
 pub mod laws;
 mod like;
@@ -16,6 +17,7 @@ mod split;
 mod tests;
 mod versions;
 
+pub use choose::Choice;
 pub use errors::BadPattern;
 pub use meant::is_highest;
 pub use pattern::Pattern;

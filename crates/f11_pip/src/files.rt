@@ -1,4 +1,5 @@
 //! The commands that do something to files of a volume by their names: which image they open, and what is said of a refusal.
+use crate::chosen::{OneName, Sought, change, one_name, sought};
 use crate::directory::{name_of, owner_of};
 use crate::heard::Heard;
 use crate::host_files::{Named, ended};
@@ -6,23 +7,30 @@ use crate::image::{opened_to_write, tell_fault};
 use crate::outcome::Failure;
 use crate::refusals::{self, of_action, of_making_directory};
 use crate::remarks::{self, Remark};
-use f11_actions::{Action, deletion, is_directory_name, print_actions, print_making, renaming};
+use f11_actions::{
+    Action, Change, deletion, is_directory_name, print_actions, print_making, renaming,
+};
 use f11_commands::f11_rad50::Name;
 use f11_commands::{Answer, read_name, refuse_names};
 use f11_dev::FileImage;
+use f11_patterns::{Choice, Pattern, Versions};
 use f11_words::Directory;
 use std::fs::File;
 use std::io::Write;
 
-/// Deletes a file, whose name isn't that of a directory.
+/// Deletes a file, whose name isn't that of a directory, or those that a pattern means.
 pub fn delete<'a, W: Write>(
     rt: &HostRuntime,
     file: &Named<'a>,
     writer: &mut W,
     remark: &mut Option<Remark<'a>>,
 ) -> Result<Answer, Failure> {
-    let Some(name) = name_in(rt, file.name, writer, remark)? else {
-        return Ok(Answer::Fault);
+    let name = match sought(rt, file.name, writer, remark)? {
+        Some(Sought::One(name)) => name,
+        Some(Sought::Those(pattern)) => {
+            return meant(rt, file, &pattern, Change::Delete, writer, remark);
+        }
+        None => return Ok(Answer::Fault),
     };
     let Some(action) = deletion(file.directory, name) else {
         *remark = Some(remarks::of_directory(file.name));
@@ -30,6 +38,33 @@ pub fn delete<'a, W: Write>(
     };
     let device = opened_to_write(rt, file.image, remark)?;
     act(rt, device, file, file.name, &action, writer, remark)
+}
+
+/// Deletes the versions of which there is a higher one, of files whose name and type a pattern means, which asks for no version.
+pub fn purge<'a, W: Write>(
+    rt: &HostRuntime,
+    file: &Named<'a>,
+    writer: &mut W,
+    remark: &mut Option<Remark<'a>>,
+) -> Result<Answer, Failure> {
+    match Pattern::parse(file.name.as_bytes()) {
+        Ok(pattern) if pattern.versions() == Versions::Highest => {
+            change(
+                rt,
+                file,
+                &pattern,
+                Choice::Superseded,
+                Change::Delete,
+                writer,
+                remark,
+            )
+        }
+        _ => {
+            *remark = Some(remarks::of_purge(file.name));
+            refuse_names(writer)?;
+            Ok(Answer::Fault)
+        }
+    }
 }
 
 /// Gives a file another name, in its directory or in this one.
@@ -41,21 +76,40 @@ pub fn rename<'a, W: Write>(
     writer: &mut W,
     remark: &mut Option<Remark<'a>>,
 ) -> Result<Answer, Failure> {
-    let Some(name) = name_in(rt, file.name, writer, remark)? else {
+    let Some(named) = one_name(rt, file.name)? else {
+        *remark = Some(remarks::of_name(file.name));
+        refuse_names(writer)?;
         return Ok(Answer::Fault);
     };
     let Some(new_name) = name_in(rt, new, writer, remark)? else {
         return Ok(Answer::Fault);
     };
-    let Some(action) = renaming(file.directory, name, to.unwrap_or(file.directory), new_name) else {
+    if !agree(&named, &new_name) {
         *remark = Some(remarks::of_type(new));
         return Ok(Answer::Fault);
+    }
+    let mut device = opened_to_write(rt, file.image, remark)?;
+    let name = match named.found_in(rt, &mut device, &file.directory) {
+        Ok(name) => name,
+        Err(failure) => {
+            tell_fault(rt, file.image, device);
+            return Err(failure);
+        }
     };
-    let device = opened_to_write(rt, file.image, remark)?;
-    act(rt, device, file, new, &action, writer, remark)
+    let to = to.unwrap_or(file.directory);
+    match renaming(file.directory, name, to, new_name) {
+        Some(action) => act(rt, device, file, new, &action, writer, remark),
+        None => Ok(Answer::Fault),
+    }
 }
 
-/// Gives a file a protection word.
+/// Whether a file that is renamed has a directory's name before and behind it, or neither.
+fn agree(named: &OneName<'_>, new: &Name) -> bool {
+    let (OneName::Whole(old) | OneName::Highest(_, old)) = named;
+    is_directory_name(old) == is_directory_name(new)
+}
+
+/// Gives a file a protection word, or those that a pattern means.
 pub fn protect<'a, W: Write>(
     rt: &HostRuntime,
     file: &Named<'a>,
@@ -63,8 +117,13 @@ pub fn protect<'a, W: Write>(
     writer: &mut W,
     remark: &mut Option<Remark<'a>>,
 ) -> Result<Answer, Failure> {
-    let Some(name) = name_in(rt, file.name, writer, remark)? else {
-        return Ok(Answer::Fault);
+    let name = match sought(rt, file.name, writer, remark)? {
+        Some(Sought::One(name)) => name,
+        Some(Sought::Those(pattern)) => {
+            let change = Change::Protect(protection);
+            return meant(rt, file, &pattern, change, writer, remark);
+        }
+        None => return Ok(Answer::Fault),
     };
     let action = Action::Protect {
         directory: file.directory,
@@ -75,15 +134,19 @@ pub fn protect<'a, W: Write>(
     act(rt, device, file, file.name, &action, writer, remark)
 }
 
-/// Leaves a file the blocks up to its end.
+/// Leaves a file the blocks up to its end, or those that a pattern means.
 pub fn truncate<'a, W: Write>(
     rt: &HostRuntime,
     file: &Named<'a>,
     writer: &mut W,
     remark: &mut Option<Remark<'a>>,
 ) -> Result<Answer, Failure> {
-    let Some(name) = name_in(rt, file.name, writer, remark)? else {
-        return Ok(Answer::Fault);
+    let name = match sought(rt, file.name, writer, remark)? {
+        Some(Sought::One(name)) => name,
+        Some(Sought::Those(pattern)) => {
+            return meant(rt, file, &pattern, Change::Truncate, writer, remark);
+        }
+        None => return Ok(Answer::Fault),
     };
     let action = Action::Truncate {
         directory: file.directory,
@@ -120,6 +183,18 @@ pub fn make_directory<'a, W: Write>(
         refusals::tell(rt, of_making_directory(refusal, image));
     }
     Ok(ended(rt, image, told?, remark))
+}
+
+/// Does something to each file of a directory whose name a pattern means.
+fn meant<'a, W: Write>(
+    rt: &HostRuntime,
+    file: &Named<'a>,
+    pattern: &Pattern,
+    done: Change,
+    writer: &mut W,
+    remark: &mut Option<Remark<'a>>,
+) -> Result<Answer, Failure> {
+    change(rt, file, pattern, Choice::Meant, done, writer, remark)
 }
 
 /// The name that a word is; where it is none, that is written.

@@ -72,9 +72,10 @@ const GROUPS: [Group; 4] = [
             Synopsis {
                 command: Subcommand::Del,
                 words: "f11_pip del IMAGE DIR NAME",
-                does: "deletes a file",
+                does: "deletes a file, or those that a pattern means",
                 about: &[
-                    "of a volume that is accepted; NAME with its version; no directory, and none of the volume's own files",
+                    "of a volume that is accepted; no directory, and none of the volume's own files",
+                    "NAME: with its version, or without one the highest; * stands for any characters and % for one, as *.TXT;*",
                     "DIR: a UIC, octal, as 200,1, or a name, as [USERFILES]; 0,0 is the master file directory",
                 ],
                 example: "f11_pip del pack.dsk 200,1 'LOGIN.CMD;1'",
@@ -93,20 +94,33 @@ const GROUPS: [Group; 4] = [
             Synopsis {
                 command: Subcommand::Prot,
                 words: "f11_pip prot IMAGE DIR NAME WORD",
-                does: "gives a file a protection word",
+                does: "gives a file a protection word, or those that a pattern means",
                 about: &[
-                    "of a volume that is accepted; NAME with its version; none of the volume's own files",
+                    "of a volume that is accepted; none of the volume's own files",
+                    "NAME: with its version, or without one the highest; * stands for any characters and % for one, as *.TXT;*",
                     "WORD: octal, as ls and rights have it: a bit that is set denies a right",
                     "DIR: a UIC, octal, as 200,1, or a name, as [USERFILES]; 0,0 is the master file directory",
                 ],
                 example: "f11_pip prot pack.dsk 200,1 'LOGIN.CMD;1' 177400",
             },
             Synopsis {
+                command: Subcommand::Purge,
+                words: "f11_pip purge IMAGE DIR [NAME]",
+                does: "deletes the versions of files but the highest",
+                about: &[
+                    "of a volume that is accepted; no directory, and none of the volume's own files",
+                    "NAME: without a version; * stands for any characters and % for one, as *.TXT; where it isn't given, *.*",
+                    "DIR: a UIC, octal, as 200,1, or a name, as [USERFILES]; 0,0 is the master file directory",
+                ],
+                example: "f11_pip purge pack.dsk 200,1 '*.TXT'",
+            },
+            Synopsis {
                 command: Subcommand::Trunc,
                 words: "f11_pip trunc IMAGE DIR NAME",
                 does: "gives back the blocks behind a file's end",
                 about: &[
-                    "of a volume that is accepted; NAME with its version; none of the volume's own files",
+                    "of a volume that is accepted; none of the volume's own files",
+                    "NAME: with its version, or without one the highest; * stands for any characters and % for one, as *.TXT;*",
                     "the end is that which ls shows in bytes; a file that states none, or that was open when the system stopped, isn't cut",
                     "DIR: a UIC, octal, as 200,1, or a name, as [USERFILES]; 0,0 is the master file directory",
                 ],

@@ -1,4 +1,5 @@
 //! The commands on files of the host: which files they open, and how.
+use crate::chosen::one_name;
 use crate::heard::Heard;
 use crate::host_file::{HostFile, PIECE};
 use crate::image::{
@@ -43,11 +44,18 @@ pub fn get<'a, W: Write>(
     writer: &mut W,
     remark: &mut Option<Remark<'a>>,
 ) -> Result<Answer, Failure> {
-    let Some(name) = read_name(rt.alloc(), file.name)? else {
+    let Some(named) = one_name(rt, file.name)? else {
         *remark = Some(remarks::of_name(file.name));
         return Ok(refuse_names(writer)?);
     };
-    let device = opened_to_read(rt, file.image, remark)?;
+    let mut device = opened_to_read(rt, file.image, remark)?;
+    let name = match named.found_in(rt, &mut device, &file.directory) {
+        Ok(name) => name,
+        Err(failure) => {
+            tell_read_fault(rt, file.image, device);
+            return Err(failure);
+        }
+    };
     let served = match seek(rt, file, &name, device, writer) {
         Ok(Ok(found)) => {
             if !found.is_in_use() {

@@ -4,6 +4,7 @@
 //! function of [`f11_commands`], and ends with the [`status`] of the outcome. The crate stands on these two, on [`f11_dev`] and [`f11_read_ahead`], for images, and on [`f11_store`].
 #![tactic(auto)]
 
+mod chosen;
 mod commands;
 mod copies;
 mod directory;

@@ -1,6 +1,6 @@
 //! What a refusal means to whoever asked for it, and which word of the command it is about.
 use crate::remarks::{Remark, Why};
-use f11_actions::Action;
+use f11_actions::{Action, Change};
 
 /// The line that says that a directory has no record of a name.
 pub const NO_SUCH_ENTRY: &str = "no NoSuchEntry";
@@ -72,6 +72,10 @@ pub fn of_making<'a>(
     Some(refused(word, why))
 }
 
+/// Why a file can't be truncated.
+const NO_END: &str =
+    "it states no end, or it was open when the system stopped; get --blocks takes all its blocks; or its record names a file of another volume of a set";
+
 /// What there is to say of a refusal to do something to a file of this name on the volume of this image, which was to get a new name.
 pub fn of_action<'a>(
     refusal: &str,
@@ -80,6 +84,33 @@ pub fn of_action<'a>(
     name: &'a str,
     new: &'a str,
 ) -> Option<Remark<'a>> {
+    match (refusal, action) {
+        ("BadArgument", Action::Truncate { .. }) => Some(refused(name, NO_END)),
+        ("BadArgument", Action::Rename { .. }) => {
+            Some(refused(
+                name,
+                "its own header says that it is a directory, and NEW isn't one's name, or the other way round; or it is to go into itself; or its record names a file of another volume of a set",
+            ))
+        }
+        _ => of_any(refusal, image, name, new),
+    }
+}
+
+/// The same of something that is done to each file that this word names.
+pub fn of_change<'a>(
+    refusal: &str,
+    change: Change,
+    image: &'a str,
+    word: &'a str,
+) -> Option<Remark<'a>> {
+    match (refusal, change) {
+        ("BadArgument", Change::Truncate) => Some(refused(word, NO_END)),
+        _ => of_any(refusal, image, word, word),
+    }
+}
+
+/// The same of anything that is done to a file.
+fn of_any<'a>(refusal: &str, image: &'a str, name: &'a str, new: &'a str) -> Option<Remark<'a>> {
     let (word, why) = match refusal {
         "NoSuchEntry" => (
             name,
@@ -94,17 +125,7 @@ pub fn of_action<'a>(
             "what the master file directory has under the directory's name is no directory",
         ),
         "SystemFile" => (name, "files 1 to 5 are the volume's own"),
-        "BadArgument" => match action {
-            Action::Truncate { .. } => (
-                name,
-                "it states no end, or it was open when the system stopped; get --blocks takes all its blocks; or its record names a file of another volume of a set",
-            ),
-            Action::Rename { .. } => (
-                name,
-                "its own header says that it is a directory, and NEW isn't one's name, or the other way round; or it is to go into itself; or its record names a file of another volume of a set",
-            ),
-            _ => (name, "its record names a file of another volume of a set"),
-        },
+        "BadArgument" => (name, "its record names a file of another volume of a set"),
         "Marked" => (
             name,
             "it, or its directory, is marked for delete; del deletes it",

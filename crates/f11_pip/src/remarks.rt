@@ -115,6 +115,14 @@ impl Why {
     pub const NO_NAME: Why = Why::Said(
         "no name; one is in capitals, as LOGIN.CMD;1: up to 9 of A to Z, 0 to 9 and $, a dot, up to 3 more, at least one of all these, and an octal version, 1 to 77777",
     );
+    /// It is neither the name of a file on a Files-11 volume nor a pattern of such names.
+    pub const NO_PATTERN: Why = Why::Said(
+        "no name, and no pattern of names; a name is as LOGIN.CMD;1: up to 9 of A to Z, 0 to 9 and $, a dot, up to 3 more, at least one of all these, and an octal version, 1 to 77777; a pattern may have * and % among the characters, and * or nothing for the version, as *.TXT;* for all and LOGIN.CMD for the highest",
+    );
+    /// It is no pattern of names without a version.
+    pub const VERSION: Why = Why::Said(
+        "no pattern of names without a version, as *.TXT or LOGIN.CMD; purge deletes all versions but the highest",
+    );
     /// It is the name of no file on an RT-11 volume.
     pub const NO_RT_NAME: Why = Why::Said(
         "no name; one is in capitals, as LOGIN.CMD: 1 to 6 of A to Z, 0 to 9 and $, a dot and up to 3 more",
@@ -522,6 +530,16 @@ fn of_length(bytes: u64) -> Option<Why> {
 /// That a word names no file on a Files-11 volume.
 pub fn of_name(word: &str) -> Remark<'_> {
     Remark::of(word, Why::NO_NAME)
+}
+
+/// That a word is neither the name of a file on a Files-11 volume nor a pattern of such names.
+pub fn of_pattern(word: &str) -> Remark<'_> {
+    Remark::of(word, Why::NO_PATTERN)
+}
+
+/// That a word is no pattern of names without a version.
+pub fn of_purge(word: &str) -> Remark<'_> {
+    Remark::of(word, Why::VERSION)
 }
 
 /// That a word names a directory, which isn't deleted.

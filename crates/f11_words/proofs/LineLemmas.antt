@@ -28,6 +28,7 @@ use Rattle.f11_words.specs.declared.usage.Subcommand.TheVariants.{
   Mkdir,
   Name,
   Prot,
+  Purge,
   Put,
   Ren,
   Rights,
@@ -109,6 +110,7 @@ command-met Ls = (refl, refl, refl, refl)
 command-met Mkdir = (refl, refl, refl, refl)
 command-met Name = (refl, refl, refl, refl)
 command-met Prot = (refl, refl, refl, refl)
+command-met Purge = (refl, refl, refl, refl)
 command-met Put = (refl, refl, refl, refl)
 command-met Ren = (refl, refl, refl, refl)
 command-met Rights = (refl, refl, refl, refl)

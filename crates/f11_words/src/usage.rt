@@ -17,6 +17,7 @@ pub enum Subcommand {
     Mkdir,
     Name,
     Prot,
+    Purge,
     Put,
     Ren,
     Rights,
@@ -45,7 +46,7 @@ pub(crate) enum Word {
 
 impl Subcommand {
     /// All commands.
-    pub(crate) fn all() -> [Subcommand; 24]
+    pub(crate) fn all() -> [Subcommand; 25]
         ensures { result ≡ all_commands }
     {
         [
@@ -60,6 +61,7 @@ impl Subcommand {
             Subcommand::Mkdir,
             Subcommand::Name,
             Subcommand::Prot,
+            Subcommand::Purge,
             Subcommand::Put,
             Subcommand::Ren,
             Subcommand::Rights,
@@ -93,6 +95,7 @@ impl Subcommand {
             "mkdir" => Some(Subcommand::Mkdir),
             "name" => Some(Subcommand::Name),
             "prot" => Some(Subcommand::Prot),
+            "purge" => Some(Subcommand::Purge),
             "put" => Some(Subcommand::Put),
             "ren" => Some(Subcommand::Ren),
             "rights" => Some(Subcommand::Rights),
@@ -126,6 +129,7 @@ impl Subcommand {
             Subcommand::Mkdir => "mkdir",
             Subcommand::Name => "name",
             Subcommand::Prot => "prot",
+            Subcommand::Purge => "purge",
             Subcommand::Put => "put",
             Subcommand::Ren => "ren",
             Subcommand::Rights => "rights",
@@ -204,6 +208,13 @@ impl Subcommand {
                     Word::Place("dir", true),
                     Word::Place("name", true),
                     Word::Place("word", true),
+                ]
+            }
+            Subcommand::Purge => {
+                &[
+                    Word::Place("image", true),
+                    Word::Place("dir", true),
+                    Word::Place("name", false),
                 ]
             }
             Subcommand::Put => {

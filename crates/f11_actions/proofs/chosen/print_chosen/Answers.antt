@@ -1,0 +1,36 @@
+use Rattle.std.proofs.Common.{◌≡◌, ◌∙◌, List, refl, subst}
+use Rattle.f11_making.specs.declared.action.Action.{Action}
+use Rattle.f11_store.specs.declared.refusals.Refusal.{Refusal}
+use Rattle.f11_actions.specs.Chosen.{ActsOnChosen, TellsNone}
+use Rattle.f11_actions.specs.Chosen.EndsChosen.{acts, failed, refused, unreadable}
+use Rattle.f11_actions.proofs.chosen.print_chosen.Goals as goal
+
+pub returns-in-Ok-Ok : goal.returns-in-Ok-Ok
+returns-in-Ok-Ok g c =
+    let chosen = rw c.in-Ok-Ok.field-0-is at c.in-Ok-Ok.ensures.chosen in
+    record {
+      ends =
+          acts chosen.0 _ chosen.1.1
+          (subst
+          (λ (xs : List Action). ActsOnChosen c.args.choice xs c.act_on_chosen.result.1 (g.D.Device.disk c.chosen_actions.new.device)
+          (g.D.Device.disk c.act_on_chosen.result.0) g.W.Write.contents c.args.writer.now c.act_on_chosen.new.writer)
+          (c.deref.ensures.value ∙ chosen.1.0) c.act_on_chosen.ensures.ends);
+    }
+
+pub returns-in-Ok-Err-Refused : goal.returns-in-Ok-Err-Refused
+returns-in-Ok-Err-Refused g c =
+    let none = rw c.in-Ok-Err-Refused.field-0-is at c.in-Ok-Err-Refused.ensures.none in
+    record {
+      ends =
+          refused c.in-Ok-Err-Refused.refusal (rw c.in-Ok-Err-Refused.field-0-0-is at none)
+          (subst (λ (e : Refusal). TellsNone e c.tell_none.result g.W.Write.contents c.args.writer.now c.tell_none.new.writer)
+          c.in-Ok-Err-Refused.refusal-is c.tell_none.ensures.tells);
+    }
+
+pub returns-in-Ok-Err-Unreadable : goal.returns-in-Ok-Err-Unreadable
+returns-in-Ok-Err-Unreadable g c =
+    let none = rw c.in-Ok-Err-Unreadable.field-0-is at c.in-Ok-Err-Unreadable.ensures.none in
+    record { ends = unreadable _ (rw c.in-Ok-Err-Unreadable.field-0-0-is at none) c.print_actions.ensures.ends }
+
+pub returns-in-Err : goal.returns-in-Err
+returns-in-Err g c = record { ends = failed c.in-Err.failure c.in-Err.ensures.failed refl refl }

@@ -1,0 +1,132 @@
+//! The files that a word names: one by its whole name, or those that a pattern chooses, to which something is done; and the one file that a
+//! name without a version means.
+use crate::heard::Heard;
+use crate::host_files::{Named, ended};
+use crate::image::{opened_to_write, tell_fault};
+use crate::outcome::Failure;
+use crate::refusals::{self, of_change, of_finding};
+use crate::remarks::{self, Remark};
+use f11_actions::{Change, print_chosen};
+use f11_commands::f11_rad50::Name;
+use f11_commands::{Answer, directory_names, read_name, refuse_names};
+use f11_dev::Device;
+use f11_patterns::{Choice, Pattern, Versions};
+use std::io::Write;
+
+/// Which files of a directory a word names.
+pub enum Sought<'a> {
+    /// The one that has this name, with its version.
+    One(Name),
+    /// Those that a pattern means.
+    Those(Pattern<'a>),
+}
+
+/// Which files a word names; where it is neither a name nor a pattern, that is written.
+pub fn sought<'a, W: Write>(
+    rt: &HostRuntime,
+    word: &'a str,
+    writer: &mut W,
+    remark: &mut Option<Remark<'a>>,
+) -> Result<Option<Sought<'a>>, Failure> {
+    if let Some(name) = read_name(rt.alloc(), word)? {
+        return Ok(Some(Sought::One(name)));
+    }
+    if let Ok(pattern) = Pattern::parse(word.as_bytes()) {
+        return Ok(Some(Sought::Those(pattern)));
+    }
+    *remark = Some(remarks::of_pattern(word));
+    refuse_names(writer)?;
+    Ok(None)
+}
+
+/// The one file that a word names.
+#[derive(Clone, Copy)]
+pub enum OneName<'a> {
+    /// That of this name, with its version.
+    Whole(Name),
+    /// That of the highest version which fits, and the name with version 1.
+    Highest(Pattern<'a>, Name),
+}
+
+/// Which file a word names; `None` where it is no name, or may be that of several.
+pub fn one_name<'a>(rt: &HostRuntime, word: &'a str) -> Result<Option<OneName<'a>>, Failure> {
+    if let Some(name) = read_name(rt.alloc(), word)? {
+        return Ok(Some(OneName::Whole(name)));
+    }
+    match Pattern::parse(word.as_bytes()) {
+        Ok(pattern) if pattern.is_one() && pattern.versions() == Versions::Highest => {
+            Ok(first_version(word).map(|first| OneName::Highest(pattern, first)))
+        }
+        _ => Ok(None),
+    }
+}
+
+/// The name with version 1 of a word without a version; `None` where it is none.
+fn first_version(word: &str) -> Option<Name> {
+    let mut text = [0; 15];
+    let length = word.len();
+    if length > 13 {
+        return None;
+    }
+    text[..length].copy_from_slice(word.as_bytes());
+    text[length] = b';';
+    text[length + 1] = b'1';
+    text.make_ascii_uppercase();
+    Name::parse(&text[..length + 2]).ok()
+}
+
+impl OneName<'_> {
+    /// The name of the file in a directory: the highest version that it has, and version 1 where it has none, or can't be read.
+    pub fn found_in<D: Device>(
+        &self,
+        rt: &HostRuntime,
+        device: &mut D,
+        directory: &Name,
+    ) -> Result<Name, Failure> {
+        match *self {
+            OneName::Whole(name) => Ok(name),
+            OneName::Highest(pattern, first) => match directory_names(
+                rt.alloc(),
+                device,
+                directory,
+            )? {
+                Ok(names) => {
+                    let those = pattern.choose(rt.alloc(), Choice::Meant, &names)?;
+                    Ok(those.first().copied().unwrap_or(first))
+                }
+                Err(_) => Ok(first),
+            },
+        }
+    }
+}
+
+/// Does something to each file of a directory whose name a pattern chooses, and says what the last refusal means.
+pub fn change<'a, W: Write>(
+    rt: &HostRuntime,
+    file: &Named<'a>,
+    pattern: &Pattern,
+    choice: Choice,
+    change: Change,
+    writer: &mut W,
+    remark: &mut Option<Remark<'a>>,
+) -> Result<Answer, Failure> {
+    let device = opened_to_write(rt, file.image, remark)?;
+    let mut heard = Heard::new(writer, None);
+    let (device, told) = print_chosen(
+        rt.alloc(),
+        device,
+        file.directory,
+        pattern,
+        choice,
+        change,
+        &mut heard,
+    );
+    tell_fault(rt, file.image, device);
+    if let Some(line) = heard.refusal() {
+        refusals::tell(rt, of_finding(line, file.name));
+    }
+    if let Some(refusal) = heard.refused_action() {
+        refusals::tell(rt, of_change(refusal, change, file.image, file.name));
+    }
+    Ok(ended(rt, file.image, told?, remark))
+}
