@@ -1,23 +1,27 @@
--- Which names of a directory a pattern chooses (RSX-11M-PLUS MCR Operations Manual, PIP).
-use Rattle.std.specs.Prelude.{◌≡◌, ◌⊎◌, ℕ, List, [], ◌∷◌}
-use Rattle.f11_patterns.specs.declared.choose.Choice.{Choice}
-use Rattle.f11_patterns.specs.declared.choose.Choice.TheVariants.{Meant, Superseded}
-use Rattle.f11_patterns.specs.Meant.{IsSuperseded, Means}
+-- Which names of a directory a pattern means, in their order (RSX-11M-PLUS MCR Operations Manual, file specifications and wildcards).
+use Rattle.std.specs.Prelude.{◌≡◌, ◌⊎◌, ℕ, List, [], ◌∷◌, ◌++◌, Contains}
+use Rattle.f11_patterns.specs.Meant.{Means}
 use Rattle.f11_patterns.specs.Parts.{Parts}
 
--- A name is chosen: the pattern means it, or a purge deletes it.
-abbrev pub IsChosen : Choice → Parts → List (List ℕ) → List ℕ → Type 0
-IsChosen Meant parts names name = Means parts names name
-IsChosen Superseded parts names name = IsSuperseded parts names name
+-- The pattern means a name among all names, and none of those before it is the same.
+pub record IsMeantFirst (parts : Parts) (all before : List (List ℕ)) (name : List ℕ) : Type 0 where
+  pub means : Means parts all name
+  pub first : ¬ Contains before name
 
--- The first of some names is one of those, and so on behind it.
-pub record HasFirst (P : List ℕ → Type 0) (Rest : List (List ℕ) → Type 0) (name : List ℕ) (those : List (List ℕ)) : Type 0 where
-  pub is : P name
+-- The first of some names is one of those, and the rest of those are among the others.
+pub record HasFirst (Rest : List (List ℕ) → Type 0) (name : List ℕ) (those : List (List ℕ)) : Type 0 where
   pub rest : List (List ℕ)
   pub first : those ≡ name ∷ rest
   pub others : Rest rest
 
--- Those of some names that P holds of, in their order: of the first one it holds, and that comes first, or it doesn't.
-abbrev pub AreThose : (List ℕ → Type 0) → List (List ℕ) → List (List ℕ) → Type 0
-AreThose P [] those = those ≡ []
-AreThose P (name ∷ names) those = HasFirst P (AreThose P names) name those ⊎ ((¬ P name) × AreThose P names those)
+-- Of the names behind some others those are meant, in their order, each where it stands first: of the next name that holds, and it comes
+-- first, or it doesn't.
+abbrev pub AreMeantBehind : Parts → List (List ℕ) → List (List ℕ) → List (List ℕ) → List (List ℕ) → Type 0
+AreMeantBehind parts all before [] those = those ≡ []
+AreMeantBehind parts all before (name ∷ names) those =
+    (IsMeantFirst parts all before name × HasFirst (AreMeantBehind parts all (before ++ name ∷ []) names) name those)
+    ⊎ ((¬ IsMeantFirst parts all before name) × AreMeantBehind parts all (before ++ name ∷ []) names those)
+
+-- Of all names of a directory.
+abbrev pub AreMeant : Parts → List (List ℕ) → List (List ℕ) → Type 0
+AreMeant parts names those = AreMeantBehind parts names [] names those

@@ -17,7 +17,6 @@ mod split;
 mod tests;
 mod versions;
 
-pub use choose::Choice;
 pub use errors::BadPattern;
 pub use meant::is_highest;
 pub use pattern::Pattern;

@@ -1,16 +1,16 @@
-//! The files that a word names: one by its whole name, or those that a pattern chooses, to which something is done; and the one file that a
-//! name without a version means.
+//! The files that a word names: one by its whole name, or those that a pattern means, to which something is done; and the one file that a name
+//! without a version means.
 use crate::heard::Heard;
 use crate::host_files::{Named, ended};
 use crate::image::{opened_to_write, tell_fault};
 use crate::outcome::Failure;
-use crate::refusals::{self, of_change, of_finding};
+use crate::refusals::{self, of_change, of_none};
 use crate::remarks::{self, Remark};
 use f11_actions::{Change, print_chosen};
 use f11_commands::f11_rad50::Name;
 use f11_commands::{Answer, directory_names, read_name, refuse_names};
 use f11_dev::Device;
-use f11_patterns::{Choice, Pattern, Versions};
+use f11_patterns::{Pattern, Versions};
 use std::io::Write;
 
 /// Which files of a directory a word names.
@@ -61,14 +61,18 @@ pub fn one_name<'a>(rt: &HostRuntime, word: &'a str) -> Result<Option<OneName<'a
     }
 }
 
-/// The name with version 1 of a word without a version; `None` where it is none.
+/// The name with version 1 of a word that asks for the highest one; `None` where it is none.
 fn first_version(word: &str) -> Option<Name> {
+    let plain = match word.split_once(';') {
+        Some((plain, _)) => plain,
+        None => word,
+    };
     let mut text = [0; 15];
-    let length = word.len();
+    let length = plain.len();
     if length > 13 {
         return None;
     }
-    text[..length].copy_from_slice(word.as_bytes());
+    text[..length].copy_from_slice(plain.as_bytes());
     text[length] = b';';
     text[length + 1] = b'1';
     text.make_ascii_uppercase();
@@ -91,7 +95,7 @@ impl OneName<'_> {
                 directory,
             )? {
                 Ok(names) => {
-                    let those = pattern.choose(rt.alloc(), Choice::Meant, &names)?;
+                    let those = pattern.choose(rt.alloc(), &names)?;
                     Ok(those.first().copied().unwrap_or(first))
                 }
                 Err(_) => Ok(first),
@@ -100,12 +104,11 @@ impl OneName<'_> {
     }
 }
 
-/// Does something to each file of a directory whose name a pattern chooses, and says what the last refusal means.
+/// Does something to each file of a directory whose name a pattern means, and says what the last refusal means.
 pub fn change<'a, W: Write>(
     rt: &HostRuntime,
     file: &Named<'a>,
     pattern: &Pattern,
-    choice: Choice,
     change: Change,
     writer: &mut W,
     remark: &mut Option<Remark<'a>>,
@@ -117,16 +120,15 @@ pub fn change<'a, W: Write>(
         device,
         file.directory,
         pattern,
-        choice,
         change,
         &mut heard,
     );
     tell_fault(rt, file.image, device);
     if let Some(line) = heard.refusal() {
-        refusals::tell(rt, of_finding(line, file.name));
+        refusals::tell(rt, of_none(line, file.name));
     }
-    if let Some(refusal) = heard.refused_action() {
-        refusals::tell(rt, of_change(refusal, change, file.image, file.name));
+    if let (Some(name), Some(refusal)) = (heard.refused_name(), heard.refused_action()) {
+        refusals::tell(rt, of_change(refusal, change, file.image, name));
     }
     Ok(ended(rt, file.image, told?, remark))
 }

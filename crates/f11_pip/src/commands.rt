@@ -123,11 +123,6 @@ pub fn run<'a, W: Write>(
             let file = named(image, directory, name);
             files::protect(rt, &file, protection, writer, remark)
         }
-        Words::Purge {
-            image,
-            directory,
-            name,
-        } => files::purge(rt, &named(image, directory, name), writer, remark),
         Words::Put {
             mode,
             image,

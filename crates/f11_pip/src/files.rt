@@ -13,7 +13,6 @@ use f11_actions::{
 use f11_commands::f11_rad50::Name;
 use f11_commands::{Answer, read_name, refuse_names};
 use f11_dev::FileImage;
-use f11_patterns::{Choice, Pattern, Versions};
 use f11_words::Directory;
 use std::fs::File;
 use std::io::Write;
@@ -28,7 +27,7 @@ pub fn delete<'a, W: Write>(
     let name = match sought(rt, file.name, writer, remark)? {
         Some(Sought::One(name)) => name,
         Some(Sought::Those(pattern)) => {
-            return meant(rt, file, &pattern, Change::Delete, writer, remark);
+            return change(rt, file, &pattern, Change::Delete, writer, remark);
         }
         None => return Ok(Answer::Fault),
     };
@@ -38,33 +37,6 @@ pub fn delete<'a, W: Write>(
     };
     let device = opened_to_write(rt, file.image, remark)?;
     act(rt, device, file, file.name, &action, writer, remark)
-}
-
-/// Deletes the versions of which there is a higher one, of files whose name and type a pattern means, which asks for no version.
-pub fn purge<'a, W: Write>(
-    rt: &HostRuntime,
-    file: &Named<'a>,
-    writer: &mut W,
-    remark: &mut Option<Remark<'a>>,
-) -> Result<Answer, Failure> {
-    match Pattern::parse(file.name.as_bytes()) {
-        Ok(pattern) if pattern.versions() == Versions::Highest => {
-            change(
-                rt,
-                file,
-                &pattern,
-                Choice::Superseded,
-                Change::Delete,
-                writer,
-                remark,
-            )
-        }
-        _ => {
-            *remark = Some(remarks::of_purge(file.name));
-            refuse_names(writer)?;
-            Ok(Answer::Fault)
-        }
-    }
 }
 
 /// Gives a file another name, in its directory or in this one.
@@ -120,8 +92,8 @@ pub fn protect<'a, W: Write>(
     let name = match sought(rt, file.name, writer, remark)? {
         Some(Sought::One(name)) => name,
         Some(Sought::Those(pattern)) => {
-            let change = Change::Protect(protection);
-            return meant(rt, file, &pattern, change, writer, remark);
+            let done = Change::Protect(protection);
+            return change(rt, file, &pattern, done, writer, remark);
         }
         None => return Ok(Answer::Fault),
     };
@@ -144,7 +116,7 @@ pub fn truncate<'a, W: Write>(
     let name = match sought(rt, file.name, writer, remark)? {
         Some(Sought::One(name)) => name,
         Some(Sought::Those(pattern)) => {
-            return meant(rt, file, &pattern, Change::Truncate, writer, remark);
+            return change(rt, file, &pattern, Change::Truncate, writer, remark);
         }
         None => return Ok(Answer::Fault),
     };
@@ -183,18 +155,6 @@ pub fn make_directory<'a, W: Write>(
         refusals::tell(rt, of_making_directory(refusal, image));
     }
     Ok(ended(rt, image, told?, remark))
-}
-
-/// Does something to each file of a directory whose name a pattern means.
-fn meant<'a, W: Write>(
-    rt: &HostRuntime,
-    file: &Named<'a>,
-    pattern: &Pattern,
-    done: Change,
-    writer: &mut W,
-    remark: &mut Option<Remark<'a>>,
-) -> Result<Answer, Failure> {
-    change(rt, file, pattern, Choice::Meant, done, writer, remark)
 }
 
 /// The name that a word is; where it is none, that is written.

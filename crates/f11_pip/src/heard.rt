@@ -36,6 +36,13 @@ impl Beginning {
         Some(refusal)
     }
 
+    /// The name of the file, where the line says that an action on it is refused.
+    fn refused_name(&self) -> Option<&str> {
+        let line = str::from_utf8(self.bytes.get(..self.length)?).ok()?;
+        let (name, _) = line.split_once(" not ")?;
+        Some(name)
+    }
+
     /// The line, where it refuses something: `bad line`, or `no` and why.
     fn refusal(&self) -> Option<&str> {
         let line = str::from_utf8(self.bytes.get(..self.length)?).ok()?;
@@ -98,6 +105,11 @@ impl<'w, 't, W: Write> Heard<'w, 't, W> {
     /// Why the last action that is refused is so.
     pub fn refused_action(&self) -> Option<&str> {
         self.refused.refused_action()
+    }
+
+    /// The name of the file on which the last action is refused that is so.
+    pub fn refused_name(&self) -> Option<&str> {
+        self.refused.refused_name()
     }
 
     /// Ends the line.

@@ -39,7 +39,7 @@ const GROUPS: [Group; 4] = [
                 words: "f11_pip get [--mode M|--blocks] IMAGE DIR NAME HOST | get --all IMAGE FOLDER",
                 does: "takes out a file, or all files",
                 about: &[
-                    "of a volume that has faults, too; HOST and FOLDER are made, and mustn't be there",
+                    "of a volume that has faults, too; HOST and FOLDER are made, and mustn't be there; NAME: without a version the highest",
                     "--mode M: image, as where none is given, all bytes as they are, or text: records become lines",
                     "--blocks: all its blocks, those behind its end, too",
                     "--all: each file, as it is, into a folder of FOLDER for its directory, as [200,001]; those that none names into FOLDER/lost",
@@ -85,7 +85,7 @@ const GROUPS: [Group; 4] = [
                 words: "f11_pip ren IMAGE DIR NAME NEW",
                 does: "gives a file another name",
                 about: &[
-                    "of a volume that is accepted; NAME with its version; none of the volume's own files",
+                    "of a volume that is accepted; NAME: with its version, or without one the highest; none of the volume's own files",
                     "NEW: a name with a version that isn't there yet, in the same directory, or DIR/NAME, in that one",
                     "DIR: a UIC, octal, as 200,1, or a name, as [USERFILES]; 0,0 is the master file directory",
                 ],
@@ -102,17 +102,6 @@ const GROUPS: [Group; 4] = [
                     "DIR: a UIC, octal, as 200,1, or a name, as [USERFILES]; 0,0 is the master file directory",
                 ],
                 example: "f11_pip prot pack.dsk 200,1 'LOGIN.CMD;1' 177400",
-            },
-            Synopsis {
-                command: Subcommand::Purge,
-                words: "f11_pip purge IMAGE DIR [NAME]",
-                does: "deletes the versions of files but the highest",
-                about: &[
-                    "of a volume that is accepted; no directory, and none of the volume's own files",
-                    "NAME: without a version; * stands for any characters and % for one, as *.TXT; where it isn't given, *.*",
-                    "DIR: a UIC, octal, as 200,1, or a name, as [USERFILES]; 0,0 is the master file directory",
-                ],
-                example: "f11_pip purge pack.dsk 200,1 '*.TXT'",
             },
             Synopsis {
                 command: Subcommand::Trunc,
@@ -190,7 +179,7 @@ const GROUPS: [Group; 4] = [
                 words: "f11_pip rt-get RT NAME HOST | rt-get --all RT FOLDER",
                 does: "takes out a file, or all files, as they are",
                 about: &[
-                    "of a volume that has faults, too; HOST and FOLDER are made, and mustn't be there",
+                    "of a volume that has faults, too; HOST and FOLDER are made, and mustn't be there; NAME: without a version the highest",
                 ],
                 example: "f11_pip rt-get rt.dsk SWAP.SYS swap.sys",
             },

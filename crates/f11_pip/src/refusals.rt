@@ -34,6 +34,16 @@ pub fn of_finding<'a>(line: &str, name: &'a str) -> Option<Remark<'a>> {
     not_found(line).map(|why| refused(name, why))
 }
 
+/// What there is to say where this pattern means nothing that something can be done to.
+pub fn of_none<'a>(line: &str, pattern: &'a str) -> Option<Remark<'a>> {
+    if line == NO_SUCH_ENTRY {
+        let why =
+            "it means no file of that directory, or only directories, which del doesn't delete, or there is no such directory; ls lists them";
+        return Some(refused(pattern, why));
+    }
+    of_finding(line, pattern)
+}
+
 /// What there is to say of a refusal to make a file on the Files-11 volume of this image, under this name, of this source.
 pub fn of_making<'a>(
     line: &str,
@@ -96,7 +106,7 @@ pub fn of_action<'a>(
     }
 }
 
-/// The same of something that is done to each file that this word names.
+/// The same of something that is done to each file of some, of which this one is refused.
 pub fn of_change<'a>(
     refusal: &str,
     change: Change,

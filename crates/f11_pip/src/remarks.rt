@@ -117,11 +117,7 @@ impl Why {
     );
     /// It is neither the name of a file on a Files-11 volume nor a pattern of such names.
     pub const NO_PATTERN: Why = Why::Said(
-        "no name, and no pattern of names; a name is as LOGIN.CMD;1: up to 9 of A to Z, 0 to 9 and $, a dot, up to 3 more, at least one of all these, and an octal version, 1 to 77777; a pattern may have * and % among the characters, and * or nothing for the version, as *.TXT;* for all and LOGIN.CMD for the highest",
-    );
-    /// It is no pattern of names without a version.
-    pub const VERSION: Why = Why::Said(
-        "no pattern of names without a version, as *.TXT or LOGIN.CMD; purge deletes all versions but the highest",
+        "no name; one is as LOGIN.CMD;1: up to 9 of A to Z, 0 to 9 and $, a dot, up to 3 more, at least one of all these, and an octal version, 1 to 77777; without a version the highest is meant; * stands for any characters and % for one, and ;* for each version, as *.TXT;*",
     );
     /// It is the name of no file on an RT-11 volume.
     pub const NO_RT_NAME: Why = Why::Said(
@@ -535,11 +531,6 @@ pub fn of_name(word: &str) -> Remark<'_> {
 /// That a word is neither the name of a file on a Files-11 volume nor a pattern of such names.
 pub fn of_pattern(word: &str) -> Remark<'_> {
     Remark::of(word, Why::NO_PATTERN)
-}
-
-/// That a word is no pattern of names without a version.
-pub fn of_purge(word: &str) -> Remark<'_> {
-    Remark::of(word, Why::VERSION)
 }
 
 /// That a word names a directory, which isn't deleted.

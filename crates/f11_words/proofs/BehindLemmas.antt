@@ -22,7 +22,6 @@ use Rattle.f11_words.specs.Lines.{
   mkdir_line,
   name_line,
   prot_line,
-  purge_line,
   put_line,
   quiet_run_line,
   ren_line,
@@ -58,7 +57,6 @@ use Rattle.f11_words.specs.declared.usage.Subcommand.TheVariants.{
   Mkdir,
   Name,
   Prot,
-  Purge,
   Put,
   Ren,
   Rights,
@@ -104,7 +102,6 @@ takes-words Ls = (λ h word. refl, (λ h word. refl, tt))
 takes-words Mkdir = (λ h word. refl, (λ h word. refl, tt))
 takes-words Name = (λ h word. refl, tt)
 takes-words Prot = (λ h word. refl, (λ h word. refl, (λ h word. refl, (λ h word. refl, tt))))
-takes-words Purge = (λ h word. refl, (λ h word. refl, (λ h word. refl, tt)))
 takes-words Put = (λ h word rest. (refl, refl, refl), (λ h word. refl, (λ h word. refl, (λ h word. refl, (λ h word. refl, tt)))))
 takes-words Ren = (λ h word. refl, (λ h word. refl, (λ h word. refl, (λ h word. refl, tt))))
 takes-words Rights = (λ h word. refl, (λ h word. refl, (λ h word. refl, tt)))
@@ -157,8 +154,6 @@ line-met (ls_in_line image dir) = (tt, refl, refl)
 line-met (mkdir_line image dir) = (tt, refl, refl)
 line-met (name_line word) = (tt, refl, refl)
 line-met (prot_line image dir name word) = (tt, refl, refl)
-line-met (purge_line image dir None) = (refl, refl, refl)
-line-met (purge_line image dir (Some name)) = (tt, refl, refl)
 line-met (put_line None image dir name host) = (tt, refl, refl)
 line-met (put_line (Some mode) image dir name host) = (tt, refl, refl)
 line-met (ren_line image dir name new) = (tt, refl, refl)

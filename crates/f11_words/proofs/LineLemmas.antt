@@ -28,7 +28,6 @@ use Rattle.f11_words.specs.declared.usage.Subcommand.TheVariants.{
   Mkdir,
   Name,
   Prot,
-  Purge,
   Put,
   Ren,
   Rights,
@@ -110,7 +109,6 @@ command-met Ls = (refl, refl, refl, refl)
 command-met Mkdir = (refl, refl, refl, refl)
 command-met Name = (refl, refl, refl, refl)
 command-met Prot = (refl, refl, refl, refl)
-command-met Purge = (refl, refl, refl, refl)
 command-met Put = (refl, refl, refl, refl)
 command-met Ren = (refl, refl, refl, refl)
 command-met Rights = (refl, refl, refl, refl)

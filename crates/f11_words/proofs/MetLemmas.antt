@@ -24,7 +24,6 @@ use Rattle.f11_words.specs.Lines.{
   mkdir_line,
   name_line,
   prot_line,
-  purge_line,
   put_line,
   quiet_run_line,
   ren_line,
@@ -59,7 +58,6 @@ use Rattle.f11_words.specs.declared.usage.Subcommand.TheVariants.{
   Mkdir,
   Name,
   Prot,
-  Purge,
   Put,
   Ren,
   Rights,
@@ -93,7 +91,6 @@ named-is Ls = refl
 named-is Mkdir = refl
 named-is Name = refl
 named-is Prot = refl
-named-is Purge = refl
 named-is Put = refl
 named-is Ren = refl
 named-is Rights = refl
@@ -158,7 +155,6 @@ reads-line matches result (ls_in_line image dir) reads = reads.one image dir
 reads-line matches result (mkdir_line image dir) reads = reads image dir
 reads-line matches result (name_line word) reads = reads word
 reads-line matches result (prot_line image dir name word) reads = reads image dir name word
-reads-line matches result (purge_line image dir name) reads = reads image dir name
 reads-line matches result (put_line mode image dir name host) reads = reads mode image dir name host
 reads-line matches result (ren_line image dir name new) reads = reads image dir name new
 reads-line matches result (rights_line caller owner word) reads = reads caller owner word

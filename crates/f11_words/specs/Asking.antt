@@ -1,5 +1,5 @@
 -- What a command line asks for (profile).
-use Rattle.std.specs.Prelude.{◌≡◌, ◌⊎◌, ℕ, Bool, true, false, List, Option, Some, None, codes, unwrap_or}
+use Rattle.std.specs.Prelude.{◌≡◌, ◌⊎◌, ℕ, Bool, true, false, List, Option, Some, None, codes}
 use Rattle.f11_numbers.specs.Decimal.{IsCount, IsNumber, SpellsNumber, SpellsCount}
 use Rattle.f11_numbers.specs.Octal.{IsProtection, SpellsProtection, SpellsUic}
 use Rattle.f11_words.specs.Directory.{IsNoDirectory, IsNoTarget, IsNoUic, SpellsDirectory, SpellsTarget}
@@ -17,7 +17,6 @@ use Rattle.f11_words.specs.Lines.{
   mkdir_line,
   name_line,
   prot_line,
-  purge_line,
   put_line,
   quiet_run_line,
   ren_line,
@@ -57,7 +56,6 @@ use Rattle.f11_words.specs.declared.words.Words.TheVariants.{
   Mkdir,
   Name,
   Prot,
-  Purge,
   Put,
   Ren,
   Rights,
@@ -95,12 +93,6 @@ abbrev pub AsksRen : List ℕ → List ℕ → List ℕ → List ℕ → Words �
 AsksRen image dir name new (Ren from directory file to named) =
     (from.now ≡ image) × SpellsDirectory dir directory × (file.now ≡ name) × SpellsTarget new to named.now
 AsksRen image dir name new _ = ⊥
-
--- the words ask that the versions be deleted of which there is a higher one, of files with this name and type, and else of all
-abbrev pub AsksPurge : List ℕ → List ℕ → Option (List ℕ) → Words → Type 0
-AsksPurge image dir name (Purge from directory file) =
-    (from.now ≡ image) × SpellsDirectory dir directory × (file.now ≡ unwrap_or name (codes "*.*"))
-AsksPurge image dir name _ = ⊥
 
 -- the words ask that this directory be made on this image
 abbrev pub AsksMkdir : List ℕ → List ℕ → Words → Type 0
@@ -262,7 +254,6 @@ Asks (ls_in_line image dir) words = AsksLs image (Some dir) words
 Asks (mkdir_line image dir) words = AsksMkdir image dir words
 Asks (name_line text) words = AsksName text words
 Asks (prot_line image dir name word) words = AsksProt image dir name word words
-Asks (purge_line image dir name) words = AsksPurge image dir name words
 Asks (put_line mode image dir name host) words = AsksPut mode image dir name host words
 Asks (ren_line image dir name new) words = AsksRen image dir name new words
 Asks (rights_line caller owner word) words = AsksRights caller owner word words
@@ -318,7 +309,6 @@ IsUnreadable (ls_in_line image dir) = IsNoDirectory dir
 IsUnreadable (mkdir_line image dir) = IsNoDirectory dir
 IsUnreadable (name_line text) = ⊥
 IsUnreadable (prot_line image dir name word) = IsNoDirectory dir ⊎ ¬ IsProtection word
-IsUnreadable (purge_line image dir name) = IsNoDirectory dir
 IsUnreadable (put_line mode image dir name host) = IsNoMove mode dir
 IsUnreadable (ren_line image dir name new) = IsNoDirectory dir ⊎ IsNoTarget new
 IsUnreadable (rights_line caller owner word) = IsNoUic caller ⊎ (IsNoUic owner ⊎ ¬ IsProtection word)

@@ -14,7 +14,6 @@ use Rattle.f11_words.specs.declared.usage.Subcommand.TheVariants.{
   Mkdir,
   Name,
   Prot,
-  Purge,
   Put,
   Ren,
   Rights,
@@ -46,7 +45,6 @@ pub data CommandLine : Type 0 where
   mkdir_line : (image dir : List ℕ) → CommandLine
   name_line : (word : List ℕ) → CommandLine
   prot_line : (image dir name word : List ℕ) → CommandLine
-  purge_line : (image dir : List ℕ) → (name : Option (List ℕ)) → CommandLine
   put_line : (mode : Option (List ℕ)) → (image dir name host : List ℕ) → CommandLine
   ren_line : (image dir name new : List ℕ) → CommandLine
   rights_line : (caller owner word : List ℕ) → CommandLine
@@ -80,7 +78,6 @@ command_in (ls_in_line image dir) = Ls
 command_in (mkdir_line image dir) = Mkdir
 command_in (name_line word) = Name
 command_in (prot_line image dir name word) = Prot
-command_in (purge_line image dir name) = Purge
 command_in (put_line mode image dir name host) = Put
 command_in (ren_line image dir name new) = Ren
 command_in (rights_line caller owner word) = Rights
@@ -117,7 +114,6 @@ given_in (ls_in_line image dir) = text image ∷ text dir ∷ []
 given_in (mkdir_line image dir) = text image ∷ text dir ∷ []
 given_in (name_line word) = text word ∷ []
 given_in (prot_line image dir name word) = text image ∷ text dir ∷ text name ∷ text word ∷ []
-given_in (purge_line image dir name) = text image ∷ text dir ∷ says name ∷ []
 given_in (put_line mode image dir name host) = says mode ∷ text image ∷ text dir ∷ text name ∷ text host ∷ []
 given_in (ren_line image dir name new) = text image ∷ text dir ∷ text name ∷ text new ∷ []
 given_in (rights_line caller owner word) = text caller ∷ text owner ∷ text word ∷ []

@@ -19,7 +19,6 @@ use Rattle.f11_words.specs.Lines.{
   mkdir_line,
   name_line,
   prot_line,
-  purge_line,
   put_line,
   quiet_run_line,
   ren_line,
@@ -53,7 +52,6 @@ use Rattle.f11_words.specs.declared.usage.Subcommand.TheVariants.{
   Mkdir,
   Name,
   Prot,
-  Purge,
   Put,
   Ren,
   Rights,
@@ -152,7 +150,6 @@ ReadsWords Ls matches result = ReadsLs matches result
 ReadsWords Mkdir matches result = (image dir : Text) → Reads (mkdir_line image dir) matches result
 ReadsWords Name matches result = (word : Text) → Reads (name_line word) matches result
 ReadsWords Prot matches result = (image dir name word : Text) → Reads (prot_line image dir name word) matches result
-ReadsWords Purge matches result = (image dir : Text) → (name : Option Text) → Reads (purge_line image dir name) matches result
 ReadsWords Put matches result =
     (mode : Option Text) → (image dir name host : Text) → Reads (put_line mode image dir name host) matches result
 ReadsWords Ren matches result = (image dir name new : Text) → Reads (ren_line image dir name new) matches result

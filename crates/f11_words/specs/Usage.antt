@@ -13,7 +13,6 @@ use Rattle.f11_words.specs.declared.usage.Subcommand.TheVariants.{
   Mkdir,
   Name,
   Prot,
-  Purge,
   Put,
   Ren,
   Rights,
@@ -42,7 +41,7 @@ needed name = place name true
 -- the commands
 abbrev pub all_commands : List Subcommand
 all_commands =
-    Del ∷ Dump ∷ FlxFromRt ∷ FlxToRt ∷ Get ∷ Home ∷ Init ∷ Ls ∷ Mkdir ∷ Name ∷ Prot ∷ Purge ∷ Put ∷ Ren ∷ Rights ∷ RtDel ∷ RtGet ∷ RtInit
+    Del ∷ Dump ∷ FlxFromRt ∷ FlxToRt ∷ Get ∷ Home ∷ Init ∷ Ls ∷ Mkdir ∷ Name ∷ Prot ∷ Put ∷ Ren ∷ Rights ∷ RtDel ∷ RtGet ∷ RtInit
     ∷ RtList ∷ RtLs ∷ RtPut ∷ RtVfy ∷ Run ∷ Trunc ∷ Vfy ∷ []
 
 -- a command's name
@@ -58,7 +57,6 @@ name_of Ls = codes "ls"
 name_of Mkdir = codes "mkdir"
 name_of Name = codes "name"
 name_of Prot = codes "prot"
-name_of Purge = codes "purge"
 name_of Put = codes "put"
 name_of Ren = codes "ren"
 name_of Rights = codes "rights"
@@ -95,7 +93,6 @@ words_of Ls = needed (codes "image") ∷ place (codes "dir") false ∷ []
 words_of Mkdir = needed (codes "image") ∷ needed (codes "dir") ∷ []
 words_of Name = needed (codes "text") ∷ []
 words_of Prot = file_words (codes "dir") ++ needed (codes "word") ∷ []
-words_of Purge = needed (codes "image") ∷ needed (codes "dir") ∷ place (codes "name") false ∷ []
 words_of Put = option (codes "mode") false ∷ (file_words (codes "dir") ++ needed (codes "host") ∷ [])
 words_of Ren = file_words (codes "dir") ++ needed (codes "new") ∷ []
 words_of Rights = needed (codes "uic") ∷ needed (codes "owner") ∷ needed (codes "word") ∷ []

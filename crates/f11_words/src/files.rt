@@ -37,16 +37,6 @@ pub fn prot_of<'a>(given: &ArgMatches<'a>) -> Option<Words<'a>>
     })
 }
 
-pub fn purge_of<'a>(given: &ArgMatches<'a>) -> Option<Words<'a>>
-    ensures { ReadsWords subcommand.Purge given.now result }
-{
-    Some(Words::Purge {
-        image: given.get_str("image")?,
-        directory: directory_of(given)?,
-        name: given.get_str("name").unwrap_or("*.*"),
-    })
-}
-
 pub fn ren_of<'a>(given: &ArgMatches<'a>) -> Option<Words<'a>>
     ensures { ReadsWords subcommand.Ren given.now result }
 {

@@ -7,7 +7,7 @@ ghost use Rattle.f11_words.specs.Reading.{Meets, ReadsWords};
 ghost use Rattle.f11_words.specs.Told.{program_app};
 
 use crate::copies::{from_rt_of, to_rt_of};
-use crate::files::{del_of, mkdir_of, prot_of, purge_of, ren_of, trunc_of};
+use crate::files::{del_of, mkdir_of, prot_of, ren_of, trunc_of};
 use crate::host_files::{get_of, put_of};
 use crate::program::program;
 use crate::rt11::{rt_del_of, rt_get_of, rt_init_of, rt_list_of, rt_ls_of, rt_put_of, rt_vfy_of};
@@ -106,7 +106,6 @@ fn words_of<'a>(command: Subcommand, given: &ArgMatches<'a>) -> Option<Words<'a>
         Subcommand::Mkdir => mkdir_of(given),
         Subcommand::Name => name_of(given),
         Subcommand::Prot => prot_of(given),
-        Subcommand::Purge => purge_of(given),
         Subcommand::Put => put_of(given),
         Subcommand::Ren => ren_of(given),
         Subcommand::Rights => rights_of(given),

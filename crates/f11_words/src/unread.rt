@@ -63,11 +63,9 @@ pub fn refusal(alloc: Global, words: &[String]) -> Option<String> {
 /// The first of a command's words that can't be read, if there is one.
 fn first_unread<'a>(command: Subcommand, given: &ArgMatches<'a>) -> Option<Unread<'a>> {
     match command {
-        Subcommand::Del
-        | Subcommand::Ls
-        | Subcommand::Mkdir
-        | Subcommand::Purge
-        | Subcommand::Trunc => { directory(given) }
+        Subcommand::Del | Subcommand::Ls | Subcommand::Mkdir | Subcommand::Trunc => {
+            directory(given)
+        }
         Subcommand::Ren => directory(given).or(target(given)),
         Subcommand::Dump => number(given, "number", "NUMBER", 65_535),
         Subcommand::FlxFromRt | Subcommand::FlxToRt => mode(given).or(user(given, "uic")),

@@ -17,7 +17,6 @@ pub enum Subcommand {
     Mkdir,
     Name,
     Prot,
-    Purge,
     Put,
     Ren,
     Rights,
@@ -46,7 +45,7 @@ pub(crate) enum Word {
 
 impl Subcommand {
     /// All commands.
-    pub(crate) fn all() -> [Subcommand; 25]
+    pub(crate) fn all() -> [Subcommand; 24]
         ensures { result ≡ all_commands }
     {
         [
@@ -61,7 +60,6 @@ impl Subcommand {
             Subcommand::Mkdir,
             Subcommand::Name,
             Subcommand::Prot,
-            Subcommand::Purge,
             Subcommand::Put,
             Subcommand::Ren,
             Subcommand::Rights,
@@ -95,7 +93,6 @@ impl Subcommand {
             "mkdir" => Some(Subcommand::Mkdir),
             "name" => Some(Subcommand::Name),
             "prot" => Some(Subcommand::Prot),
-            "purge" => Some(Subcommand::Purge),
             "put" => Some(Subcommand::Put),
             "ren" => Some(Subcommand::Ren),
             "rights" => Some(Subcommand::Rights),
@@ -129,7 +126,6 @@ impl Subcommand {
             Subcommand::Mkdir => "mkdir",
             Subcommand::Name => "name",
             Subcommand::Prot => "prot",
-            Subcommand::Purge => "purge",
             Subcommand::Put => "put",
             Subcommand::Ren => "ren",
             Subcommand::Rights => "rights",
@@ -208,13 +204,6 @@ impl Subcommand {
                     Word::Place("dir", true),
                     Word::Place("name", true),
                     Word::Place("word", true),
-                ]
-            }
-            Subcommand::Purge => {
-                &[
-                    Word::Place("image", true),
-                    Word::Place("dir", true),
-                    Word::Place("name", false),
                 ]
             }
             Subcommand::Put => {

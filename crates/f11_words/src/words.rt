@@ -89,13 +89,6 @@ pub enum Words<'a> {
         name: &'a str,
         protection: u16,
     },
-    /// `purge IMAGE DIR [NAME]`: the versions of files in a directory of which there is a higher one, of those that a pattern means, and
-    /// else of all, `*.*`
-    Purge {
-        image: &'a str,
-        directory: Directory,
-        name: &'a str,
-    },
     /// `put [--mode M] IMAGE DIR NAME HOST`: how the file in which directory is made, and one of the host
     Put {
         mode: CopyMode,

@@ -1,7 +1,7 @@
-use Rattle.std.proofs.Common.{◌≡◌, ◌∙◌, List, refl, subst}
+use Rattle.std.proofs.Common.{◌∙◌, List, refl, subst}
 use Rattle.f11_making.specs.declared.action.Action.{Action}
 use Rattle.f11_store.specs.declared.refusals.Refusal.{Refusal}
-use Rattle.f11_actions.specs.Chosen.{ActsOnChosen, TellsNone}
+use Rattle.f11_actions.specs.Chosen.{ActsOnChosen, EndsUndone}
 use Rattle.f11_actions.specs.Chosen.EndsChosen.{acts, failed, refused, unreadable}
 use Rattle.f11_actions.proofs.chosen.print_chosen.Goals as goal
 
@@ -12,7 +12,7 @@ returns-in-Ok-Ok g c =
       ends =
           acts chosen.0 _ chosen.1.1
           (subst
-          (λ (xs : List Action). ActsOnChosen c.args.choice xs c.act_on_chosen.result.1 (g.D.Device.disk c.chosen_actions.new.device)
+          (λ (xs : List Action). ActsOnChosen xs c.act_on_chosen.result.1 (g.D.Device.disk c.chosen_actions.new.device)
           (g.D.Device.disk c.act_on_chosen.result.0) g.W.Write.contents c.args.writer.now c.act_on_chosen.new.writer)
           (c.deref.ensures.value ∙ chosen.1.0) c.act_on_chosen.ensures.ends);
     }
@@ -22,9 +22,11 @@ returns-in-Ok-Err-Refused g c =
     let none = rw c.in-Ok-Err-Refused.field-0-is at c.in-Ok-Err-Refused.ensures.none in
     record {
       ends =
-          refused c.in-Ok-Err-Refused.refusal (rw c.in-Ok-Err-Refused.field-0-0-is at none)
-          (subst (λ (e : Refusal). TellsNone e c.tell_none.result g.W.Write.contents c.args.writer.now c.tell_none.new.writer)
-          c.in-Ok-Err-Refused.refusal-is c.tell_none.ensures.tells);
+          refused c.in-Ok-Err-Refused.refusal _ (rw c.in-Ok-Err-Refused.field-0-0-is at none)
+          (subst
+          (λ (e : Refusal). EndsUndone e c.leave_all.result.1 (g.D.Device.disk c.chosen_actions.new.device)
+          (g.D.Device.disk c.leave_all.result.0) g.W.Write.contents c.args.writer.now c.leave_all.new.writer)
+          c.in-Ok-Err-Refused.refusal-is c.leave_all.ensures.ends);
     }
 
 pub returns-in-Ok-Err-Unreadable : goal.returns-in-Ok-Err-Unreadable
