@@ -14,7 +14,7 @@ use f11_patterns::{Pattern, Versions};
 use std::io::Write;
 
 /// Which files of a directory a word names.
-pub enum Sought<'a> {
+pub enum Meant<'a> {
     /// The one that has this name, with its version.
     One(Name),
     /// Those that a pattern means.
@@ -27,12 +27,12 @@ pub fn sought<'a, W: Write>(
     word: &'a str,
     writer: &mut W,
     remark: &mut Option<Remark<'a>>,
-) -> Result<Option<Sought<'a>>, Failure> {
+) -> Result<Option<Meant<'a>>, Failure> {
     if let Some(name) = read_name(rt.alloc(), word)? {
-        return Ok(Some(Sought::One(name)));
+        return Ok(Some(Meant::One(name)));
     }
     if let Ok(pattern) = Pattern::parse(word.as_bytes()) {
-        return Ok(Some(Sought::Those(pattern)));
+        return Ok(Some(Meant::Those(pattern)));
     }
     *remark = Some(remarks::of_pattern(word));
     refuse_names(writer)?;

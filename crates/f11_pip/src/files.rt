@@ -1,5 +1,5 @@
 //! The commands that do something to files of a volume by their names: which image they open, and what is said of a refusal.
-use crate::chosen::{OneName, Sought, change, one_name, sought};
+use crate::chosen::{Meant, OneName, change, one_name, sought};
 use crate::directory::{name_of, owner_of};
 use crate::heard::Heard;
 use crate::host_files::{Named, ended};
@@ -25,8 +25,8 @@ pub fn delete<'a, W: Write>(
     remark: &mut Option<Remark<'a>>,
 ) -> Result<Answer, Failure> {
     let name = match sought(rt, file.name, writer, remark)? {
-        Some(Sought::One(name)) => name,
-        Some(Sought::Those(pattern)) => {
+        Some(Meant::One(name)) => name,
+        Some(Meant::Those(pattern)) => {
             return change(rt, file, &pattern, Change::Delete, writer, remark);
         }
         None => return Ok(Answer::Fault),
@@ -90,8 +90,8 @@ pub fn protect<'a, W: Write>(
     remark: &mut Option<Remark<'a>>,
 ) -> Result<Answer, Failure> {
     let name = match sought(rt, file.name, writer, remark)? {
-        Some(Sought::One(name)) => name,
-        Some(Sought::Those(pattern)) => {
+        Some(Meant::One(name)) => name,
+        Some(Meant::Those(pattern)) => {
             let done = Change::Protect(protection);
             return change(rt, file, &pattern, done, writer, remark);
         }
@@ -114,8 +114,8 @@ pub fn truncate<'a, W: Write>(
     remark: &mut Option<Remark<'a>>,
 ) -> Result<Answer, Failure> {
     let name = match sought(rt, file.name, writer, remark)? {
-        Some(Sought::One(name)) => name,
-        Some(Sought::Those(pattern)) => {
+        Some(Meant::One(name)) => name,
+        Some(Meant::Those(pattern)) => {
             return change(rt, file, &pattern, Change::Truncate, writer, remark);
         }
         None => return Ok(Answer::Fault),
