@@ -13,49 +13,23 @@ use f11_dev::Device;
 use f11_patterns::{Pattern, Versions};
 use std::io::Write;
 
-/// Which files of a directory a word names.
-pub enum Meant<'a> {
-    /// The one that has this name, with its version.
-    One(Name),
-    /// Those that a pattern means.
-    Those(Pattern<'a>),
-}
-
-/// Which files a word names; where it is neither a name nor a pattern, that is written.
-pub fn sought<'a, W: Write>(
-    rt: &HostRuntime,
-    word: &'a str,
-    writer: &mut W,
-    remark: &mut Option<Remark<'a>>,
-) -> Result<Option<Meant<'a>>, Failure> {
-    if let Some(name) = read_name(rt.alloc(), word)? {
-        return Ok(Some(Meant::One(name)));
-    }
-    if let Ok(pattern) = Pattern::parse(word.as_bytes()) {
-        return Ok(Some(Meant::Those(pattern)));
-    }
-    *remark = Some(remarks::of_pattern(word));
-    refuse_names(writer)?;
-    Ok(None)
-}
-
 /// The one file that a word names.
-#[derive(Clone, Copy)]
-pub enum OneName<'a> {
+#[derive(Clone, Copy, Debug, PartialEq, Eq)]
+pub enum OneName {
     /// That of this name, with its version.
     Whole(Name),
-    /// That of the highest version which fits, and the name with version 1.
-    Highest(Pattern<'a>, Name),
+    /// That of the highest version, of which this is the name with version 1.
+    Highest(Name),
 }
 
 /// Which file a word names; `None` where it is no name, or may be that of several.
-pub fn one_name<'a>(rt: &HostRuntime, word: &'a str) -> Result<Option<OneName<'a>>, Failure> {
+pub fn one_name(rt: &HostRuntime, word: &str) -> Result<Option<OneName>, Failure> {
     if let Some(name) = read_name(rt.alloc(), word)? {
         return Ok(Some(OneName::Whole(name)));
     }
     match Pattern::parse(word.as_bytes()) {
         Ok(pattern) if pattern.is_one() && pattern.versions() == Versions::Highest => {
-            Ok(first_version(word).map(|first| OneName::Highest(pattern, first)))
+            Ok(first_version(word).map(OneName::Highest))
         }
         _ => Ok(None),
     }
@@ -79,47 +53,50 @@ fn first_version(word: &str) -> Option<Name> {
     Name::parse(&text[..length + 2]).ok()
 }
 
-impl OneName<'_> {
-    /// The name of the file in a directory: the highest version that it has, and version 1 where it has none, or can't be read.
-    pub fn found_in<D: Device>(
-        &self,
-        rt: &HostRuntime,
-        device: &mut D,
-        directory: &Name,
-    ) -> Result<Name, Failure> {
-        match *self {
-            OneName::Whole(name) => Ok(name),
-            OneName::Highest(pattern, first) => match directory_names(
-                rt.alloc(),
-                device,
-                directory,
-            )? {
-                Ok(names) => {
-                    let those = pattern.choose(rt.alloc(), &names)?;
-                    Ok(those.first().copied().unwrap_or(first))
-                }
-                Err(_) => Ok(first),
-            },
-        }
-    }
+/// The name of the file that a word names in a directory: its own, or that of the highest version that the directory has, and version 1 where
+/// it has none, or can't be read.
+pub fn found_in<D: Device>(
+    rt: &HostRuntime,
+    device: &mut D,
+    directory: &Name,
+    named: &OneName,
+    word: &str,
+) -> Result<Name, Failure> {
+    let first = match *named {
+        OneName::Whole(name) => return Ok(name),
+        OneName::Highest(first) => first,
+    };
+    let Ok(pattern) = Pattern::parse(word.as_bytes()) else {
+        return Ok(first);
+    };
+    let Ok(names) = directory_names(rt.alloc(), device, directory)? else {
+        return Ok(first);
+    };
+    let those = pattern.choose(rt.alloc(), &names)?;
+    Ok(those.first().copied().unwrap_or(first))
 }
 
-/// Does something to each file of a directory whose name a pattern means, and says what the last refusal means.
+/// Does something to each file of a directory whose name is one that a pattern means, and says what the last refusal means; where the word is
+/// no pattern, that is written.
 pub fn change<'a, W: Write>(
     rt: &HostRuntime,
     file: &Named<'a>,
-    pattern: &Pattern,
     change: Change,
     writer: &mut W,
     remark: &mut Option<Remark<'a>>,
 ) -> Result<Answer, Failure> {
+    let Ok(pattern) = Pattern::parse(file.name.as_bytes()) else {
+        *remark = Some(remarks::of_pattern(file.name));
+        refuse_names(writer)?;
+        return Ok(Answer::Fault);
+    };
     let device = opened_to_write(rt, file.image, remark)?;
     let mut heard = Heard::new(writer, None);
     let (device, told) = print_chosen(
         rt.alloc(),
         device,
         file.directory,
-        pattern,
+        &pattern,
         change,
         &mut heard,
     );

@@ -1,5 +1,5 @@
 //! The commands that do something to files of a volume by their names: which image they open, and what is said of a refusal.
-use crate::chosen::{Meant, OneName, change, one_name, sought};
+use crate::chosen::{OneName, change, found_in, one_name};
 use crate::directory::{name_of, owner_of};
 use crate::heard::Heard;
 use crate::host_files::{Named, ended};
@@ -24,12 +24,8 @@ pub fn delete<'a, W: Write>(
     writer: &mut W,
     remark: &mut Option<Remark<'a>>,
 ) -> Result<Answer, Failure> {
-    let name = match sought(rt, file.name, writer, remark)? {
-        Some(Meant::One(name)) => name,
-        Some(Meant::Those(pattern)) => {
-            return change(rt, file, &pattern, Change::Delete, writer, remark);
-        }
-        None => return Ok(Answer::Fault),
+    let Some(name) = read_name(rt.alloc(), file.name)? else {
+        return change(rt, file, Change::Delete, writer, remark);
     };
     let Some(action) = deletion(file.directory, name) else {
         *remark = Some(remarks::of_directory(file.name));
@@ -61,7 +57,7 @@ pub fn rename<'a, W: Write>(
         return Ok(Answer::Fault);
     }
     let mut device = opened_to_write(rt, file.image, remark)?;
-    let name = match named.found_in(rt, &mut device, &file.directory) {
+    let name = match found_in(rt, &mut device, &file.directory, &named, file.name) {
         Ok(name) => name,
         Err(failure) => {
             tell_fault(rt, file.image, device);
@@ -76,9 +72,9 @@ pub fn rename<'a, W: Write>(
 }
 
 /// Whether a file that is renamed has a directory's name before and behind it, or neither.
-fn agree(named: &OneName<'_>, new: &Name) -> bool {
-    let (OneName::Whole(old) | OneName::Highest(_, old)) = named;
-    is_directory_name(old) == is_directory_name(new)
+fn agree(named: &OneName, new: &Name) -> bool {
+    let (OneName::Whole(old) | OneName::Highest(old)) = *named;
+    is_directory_name(&old) == is_directory_name(new)
 }
 
 /// Gives a file a protection word, or those that a pattern means.
@@ -89,13 +85,8 @@ pub fn protect<'a, W: Write>(
     writer: &mut W,
     remark: &mut Option<Remark<'a>>,
 ) -> Result<Answer, Failure> {
-    let name = match sought(rt, file.name, writer, remark)? {
-        Some(Meant::One(name)) => name,
-        Some(Meant::Those(pattern)) => {
-            let done = Change::Protect(protection);
-            return change(rt, file, &pattern, done, writer, remark);
-        }
-        None => return Ok(Answer::Fault),
+    let Some(name) = read_name(rt.alloc(), file.name)? else {
+        return change(rt, file, Change::Protect(protection), writer, remark);
     };
     let action = Action::Protect {
         directory: file.directory,
@@ -113,12 +104,8 @@ pub fn truncate<'a, W: Write>(
     writer: &mut W,
     remark: &mut Option<Remark<'a>>,
 ) -> Result<Answer, Failure> {
-    let name = match sought(rt, file.name, writer, remark)? {
-        Some(Meant::One(name)) => name,
-        Some(Meant::Those(pattern)) => {
-            return change(rt, file, &pattern, Change::Truncate, writer, remark);
-        }
-        None => return Ok(Answer::Fault),
+    let Some(name) = read_name(rt.alloc(), file.name)? else {
+        return change(rt, file, Change::Truncate, writer, remark);
     };
     let action = Action::Truncate {
         directory: file.directory,

@@ -1,5 +1,5 @@
 //! The commands on files of the host: which files they open, and how.
-use crate::chosen::one_name;
+use crate::chosen::{found_in, one_name};
 use crate::heard::Heard;
 use crate::host_file::{HostFile, PIECE};
 use crate::image::{
@@ -49,7 +49,7 @@ pub fn get<'a, W: Write>(
         return Ok(refuse_names(writer)?);
     };
     let mut device = opened_to_read(rt, file.image, remark)?;
-    let name = match named.found_in(rt, &mut device, &file.directory) {
+    let name = match found_in(rt, &mut device, &file.directory, &named, file.name) {
         Ok(name) => name,
         Err(failure) => {
             tell_read_fault(rt, file.image, device);
