@@ -3,7 +3,7 @@ ghost use Rattle.std.specs.Prelude.{◌≡◌, ◌*◌, ◌≤◌, ◌<◌, ◌^
 ghost use Rattle.f11_store.specs.File.{File, length_of};
 ghost use Rattle.f11_store.specs.Directory.{entry_count, is_directory as is_directory_file, with_end};
 
-use f11_bytes::{long_bytes, put_bytes, read_long, read_word, word_bytes};
+use f11_bytes::{BLOCK_SIZE, long_bytes, put_bytes, read_long, read_word, word_bytes};
 
 /// The bytes of a record.
 const RECORD_SIZE: u32 = 16;
@@ -23,12 +23,12 @@ pub fn entry_count(attr: &[u8; 32], length: u32) -> u32
     ensures count { (f : File) → f.attr ≡ attr.now → length_of f ≡ length → result ≡ entry_count f }
     ensures within { result ≤ 32 * length }
 {
-    let most = u64::from(512 * length);
+    let most = u64::from(length) * BLOCK_SIZE as u64;
     let block = u64::from(read_long(attr, 8));
     if block == 0 {
         return 0;
     }
-    let stated = (block - 1) * 512 + u64::from(read_word(attr, 12));
+    let stated = (block - 1) * BLOCK_SIZE as u64 + u64::from(read_word(attr, 12));
     stated.min(most) as u32 / RECORD_SIZE
 }
 
@@ -38,8 +38,8 @@ pub fn moved_end(attr: &[u8; 32], length: u32, end: u32) -> [u8; 32]
     ensures { result ≡ with_end attr.now length end }
 {
     let [a, b, c, d] = long_bytes(length);
-    let [e, f, g, h] = long_bytes(end / 512 + 1);
-    let [low, high] = word_bytes((end % 512) as u16);
+    let [e, f, g, h] = long_bytes(end / BLOCK_SIZE as u32 + 1);
+    let [low, high] = word_bytes((end % BLOCK_SIZE as u32) as u16);
     let mut moved = *attr;
     put_bytes(&mut moved, 4, &[a, b, c, d, e, f, g, h, low, high]);
     moved

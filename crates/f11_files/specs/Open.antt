@@ -60,13 +60,14 @@ pub record AnswersCall {D T : Type 0} {met : Ghosts D} (result : Result T Refusa
   pub home : home_in new ≡ home_in old
   pub counts : is_refused is_clean result ≡ true → counts_in new ≡ counts_in old
 
--- An answer that was made of what calls gave was noted: where it is DeviceFault or Damaged it fails the volume, as a call's would. Nothing
--- else is another.
+-- An answer that was made of what calls gave was noted: where it is DeviceFault or Damaged it fails the volume, as a call's would. What
+-- is known of the files else is as it was.
 pub record NotesAnswer {D T : Type 0} {met : Ghosts D} (result : Result T Refusal) (old new : Files D met) : Type 0 where
   pub next : has_failed new ≡ (has_failed old || is_refused is_fatal result)
   pub device : device_in new ≡ device_in old
   pub home : home_in new ≡ home_in old
   pub counts : counts_in new ≡ counts_in old
+  pub seen : seen_in new ≡ seen_in old
 
 -- A call keeps the counts that are told, and which header a call on blocks reached last.
 pub record KeepsTold {D : Type 0} {met : Ghosts D} (old new : Files D met) : Type 0 where

@@ -16,7 +16,7 @@ pub enum FlxRefusal {
     BadRecord,
     /// A line of the source has more than 2,048 bytes.
     LineTooLong,
-    /// The source gave fewer bytes than it had, or others where it was read again.
+    /// The source gave fewer bytes than it had, or others where it was read again: a file of the host may, no volume does.
     Unread,
 }
 

@@ -8,7 +8,7 @@ use Rattle.f11_store.specs.Directory.{entry_count}
 use Rattle.f11_volume.specs.Contents.{file_of}
 use Rattle.f11_vfy.specs.Directory.Flaws.{EntersIn, HasFlaw, flaw_code}
 use Rattle.f11_findings.specs.Found.{Finds, FoundAmong}
-use Rattle.f11_vfy.specs.Directory.Gathered.{FindsFlaws, FlawsUpTo, IsEnteredUpTo, IsNewGathered, ShowsGathered, TakesRecords}
+use Rattle.f11_vfy.specs.Directory.Gathered.{FindsFlaws, FlawsUpTo, IsEnteredUpTo, HasGatheredNothing, ShowsGathered, TakesRecords}
 use Rattle.f11_volume.specs.Notes.{IsDirectory, IsRecord}
 use Rattle.f11_volume.specs.Volume.{Volume}
 use Rattle.f11_vfy.specs.declared.directories.flaws.Flaw.{Flaw}
@@ -28,7 +28,7 @@ module _ (image : Image) (v : Volume) (low : (n : ℕ) → v.table.in_use n ≡ 
   finds-none-yet : (flaw : Flaw) (l : List Finding) → l ≡ [] → Finds (FlawsUpTo image v flaw 0) [] l
   finds-none-yet flaw l is = subst (λ (m : List Finding). Finds (FlawsUpTo image v flaw 0) [] m) (sym is) (finds-none _ [] (none-yet flaw))
 
-  pub gathered-new : (l : Gathered) → IsNewGathered l → ShowsGathered image v 0 l
+  pub gathered-new : (l : Gathered) → HasGatheredNothing l → ShowsGathered image v 0 l
   gathered-new l is = record {
     entered = λ n. (
       λ has. absurd (both_ways _ (is.entered n) has),

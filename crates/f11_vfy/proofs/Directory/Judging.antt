@@ -17,7 +17,7 @@ use Rattle.f11_vfy.specs.Directory.Reading.{LooksFor, TakesDirectory, most_reads
 use Rattle.f11_vfy.specs.Directory.Notes.{IsDirectoryNote, has_directory, reads_at, JudgesSlot, JudgesUpTo, LooksAt, LooksUpTo}
 use Rattle.f11_vfy.specs.Directory.Notes.{LooksThrough}
 use Rattle.f11_findings.specs.Found.{Finds, FoundAmong}
-use Rattle.f11_vfy.specs.Directory.Gathered.{FlawsUpTo, IsNewGathered, ShowsGathered}
+use Rattle.f11_vfy.specs.Directory.Gathered.{FlawsUpTo, HasGatheredNothing, ShowsGathered}
 use Rattle.f11_volume.specs.Notes.{IsDirectory, IsEntered, IsVolumeNote, blocks_lost, header_dead, orphan, marked, not_closed}
 use Rattle.f11_volume.specs.Notes.{in_no_directory, names_no_file, name_repeated, no_name, not_contiguous}
 use Rattle.f11_vfy.specs.Scanning.Reading.{ShowsVolume, volume_in}
@@ -112,7 +112,7 @@ module _ (index : Index) (r : Reading) (k : ℕ) (s : Slot) (old new : Disk) (be
     }
 
 -- before the first slot
-pub judged-none : (index : Index) (r : Reading) (gathered : Gathered) (disk : Disk) → IsNewGathered gathered
+pub judged-none : (index : Index) (r : Reading) (gathered : Gathered) (disk : Disk) → HasGatheredNothing gathered
     → gathered.entered.limit ≡ length r.survey.slots.items + 1 → JudgesUpTo index r 0 gathered disk disk
 judged-none index r gathered disk new limit = record {
   shows = λ honest bitmap is. gathered-new disk.image (volume_in disk.image index bitmap) is.fit.low gathered new;

@@ -53,7 +53,7 @@ pub record TakesOn (slots : List Slot) (d : ℕ) (P : Image → List (List ℕ) 
       TakesRecords image t d blocks from first old → TakesRecords image t d blocks to first new
 
 -- nothing is found yet
-pub record IsNewGathered (l : Gathered) : Type 0 where
+pub record HasGatheredNothing (l : Gathered) : Type 0 where
   pub entered : (n : ℕ) → has l.entered n ≡ false
   pub no_file : l.no_file ≡ []
   pub repeated : l.repeated ≡ []

@@ -5,7 +5,7 @@ ghost use Rattle.f11_header.specs.Header.{holds_header};
 ghost use Rattle.f11_store.specs.File.{stated_end as end_stated};
 
 use crate::survey::slot::State;
-use f11_bytes::{Block, read_long, read_word};
+use f11_bytes::{BLOCK_SIZE, Block, read_long, read_word};
 use f11_header::Header;
 
 /// Whether a slot in this state has a valid header.
@@ -25,7 +25,7 @@ fn stated_end(attributes: &[u8; 32]) -> u64
     if block == 0 {
         return 0;
     }
-    u64::from(block - 1) * 512 + u64::from(read_word(attributes, 12))
+    u64::from(block - 1) * BLOCK_SIZE as u64 + u64::from(read_word(attributes, 12))
 }
 
 /// How many whole records are before the end that a file states, whose first header this is.

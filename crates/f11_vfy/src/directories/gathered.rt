@@ -34,7 +34,7 @@ pub(crate) struct Gathered {
 impl Gathered {
     ghost use Rattle.f11_vfy.specs.Surveying.Bits.{limit_of};
     ghost use Rattle.f11_vfy.specs.Directory.Reading.{until};
-    ghost use Rattle.f11_vfy.specs.Directory.Gathered.{Begins, IsNewGathered, TakesOn};
+    ghost use Rattle.f11_vfy.specs.Directory.Gathered.{Begins, HasGatheredNothing, TakesOn};
 
     /// Nothing is found yet, of a volume of so many slots, on a device of so many blocks.
     ///
@@ -43,7 +43,7 @@ impl Gathered {
     /// `NoMemory` where there is no memory for a bit a slot and a bit a block.
     pub(crate) fn new(alloc: Global, slots: u32, blocks: u32) -> Result<Gathered, NoMemory>
         requires { slots < 65536 }
-        ensures new { IfOk result (λ gathered. IsNewGathered gathered) }
+        ensures new { IfOk result (λ gathered. HasGatheredNothing gathered) }
         ensures limit { IfOk result (λ gathered. limit_of gathered.entered ≡ slots + 1) }
         ensures room { IfOk result (λ gathered. limit_of gathered.blank ≡ blocks) }
     {
