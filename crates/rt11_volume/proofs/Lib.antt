@@ -11,6 +11,7 @@ pub mod SurveyLemmas
 pub mod SurveyFiles
 pub mod BadBlockLemmas
 pub mod DeleteLemmas
+pub mod ChangeLemmas
 pub mod CreateLemmas
 pub mod Splitting
 pub mod TextLemmas

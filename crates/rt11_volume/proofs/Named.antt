@@ -2,3 +2,4 @@ pub mod Placing
 pub mod Changing
 pub mod Ascending
 pub mod Laws
+pub mod Entry

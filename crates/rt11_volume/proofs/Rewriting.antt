@@ -5,3 +5,4 @@ pub mod Draft
 pub mod Assembly
 pub mod Edit
 pub mod Rewrite
+pub mod Overwriting

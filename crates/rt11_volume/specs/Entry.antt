@@ -1,6 +1,7 @@
 -- An entry of an RT-11 directory (RT-11 Volume and File Formats Manual, "Directory Entry"). An entry is the list of its words: the status,
 -- three words of name and type, the length, the job and channel, the date, and then the extra words.
-use Rattle.std.specs.Prelude.{ℕ, ◌+◌, ◌/◌, ◌==◌, ◌&&◌, Bool, if◌then◌else◌, List, [], ◌∷◌, ◌++◌, replicate, slice_index}
+use Rattle.std.specs.Prelude.{ℕ, ◌+◌, ◌/◌, ◌%◌, ◌==◌, ◌&&◌, Bool, if◌then◌else◌, List, [], ◌∷◌, ◌++◌, length, take, drop, replicate}
+use Rattle.std.specs.Prelude.{slice_index}
 use Rattle.std.specs.Int.{bit_at}
 use Rattle.rt11_volume.specs.declared.area.RtKind.{RtKind}
 use Rattle.rt11_volume.specs.declared.area.RtKind.TheVariants.{Tentative, Empty, Permanent}
@@ -74,3 +75,19 @@ is_same_name a b = slice_index a 0 == slice_index b 0 && (slice_index a 1 == sli
 -- the entry is that of a file of this name
 abbrev pub is_file_named : List ℕ → List ℕ → Bool
 is_file_named name e = is_permanent e && is_same_name (name_words e) name
+
+-- words with some of them, from one on, replaced
+abbrev pub with_words : List ℕ → ℕ → List ℕ → List ℕ
+with_words s at ws = take at s ++ (ws ++ drop (at + length ws) s)
+
+-- an entry with another name, and all else as it was (RT-11 System User's Guide, RENAME)
+abbrev pub renamed_entry : List ℕ → List ℕ → List ℕ
+renamed_entry name e = with_words e 1 name
+
+-- a status word whose bit of protection, octal 100000, is 1 or 0
+abbrev pub protected_status : Bool → ℕ → ℕ
+protected_status on word = word % 32768 + (if on then 32768 else 0)
+
+-- an entry that is protected, or isn't, and all else as it was (RT-11 System User's Guide, PROTECT and UNPROTECT)
+abbrev pub protected_entry : Bool → List ℕ → List ℕ
+protected_entry on e = with_words e 0 (protected_status on (status e) ∷ [])

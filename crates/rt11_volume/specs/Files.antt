@@ -1,13 +1,14 @@
 -- What the calls on an RT-11 volume's files answer, and what they do to its disk.
-use Rattle.std.specs.Prelude.{◌≡◌, ℕ, ◌+◌, ◌<◌, ◌≤◌, Bool, true, false, if◌then◌else◌, List, Result, Ok, Err, Some, ⊤, slice_set, length}
-use Rattle.std.specs.Prelude.{map}
+use Rattle.std.specs.Prelude.{◌≡◌, ◌⊎◌, ℕ, ◌+◌, ◌<◌, ◌≤◌, Bool, true, false, if◌then◌else◌, List, Result, Ok, Err, Some, ⊤, slice_set}
+use Rattle.std.specs.Prelude.{length}
+use Rattle.std.specs.Prelude.{map, slice_index}
 use Rattle.std.specs.List.{slice_get}
 use Rattle.f11_dev.specs.Disk.{Disk}
 use Rattle.f11_dev.specs.Image.{Image}
-use Rattle.rt11_volume.specs.Entry.{is_file_named}
+use Rattle.rt11_volume.specs.Entry.{is_file_named, protected_entry, renamed_entry}
 use Rattle.rt11_volume.specs.Directory.{count_of, data_start, KeepsData}
 use Rattle.rt11_volume.specs.Named.{files_named}
-use Rattle.rt11_volume.specs.Operations.{needs_split, with_area_emptied, with_block, with_new_file}
+use Rattle.rt11_volume.specs.Operations.{needs_split, with_area_emptied, with_block, with_entry, with_new_file}
 use Rattle.rt11_volume.specs.Searching.Search.{IsFirst, HasNone, is_empty_for}
 use Rattle.rt11_volume.specs.Segment.{Segment}
 use Rattle.rt11_volume.specs.Store.{RtStore, rt_store_of, Area, area_at}
@@ -201,3 +202,60 @@ pub record CreatesFile (name : List ℕ) (blocks day : ℕ) (old new : Image) : 
   pub fits : needs_split (rt_store_of old).extra area.segment area.i blocks ≡ true → (rt_store_of old).highest < (rt_store_of old).count
   pub store_is : rt_store_of new ≡ with_new_file (rt_store_of old) area.place area.i area.segment name blocks day
   pub accepted : IsRtAccepted new
+
+-- The file's entry is another, and nothing else; the image is accepted as it was.
+pub record ChangesEntry (changed : List ℕ → List ℕ) (name : List ℕ) (old new : Image) : Type 0 where
+  pub file : HasFile name (rt_store_of old)
+  pub store_is : rt_store_of new ≡ with_entry (rt_store_of old) file.place file.i file.segment (changed file.entry)
+  pub accepted : IsRtAccepted new
+
+-- While it is written each of its words is as it was or as it is to be; nothing else is another, and the image is accepted as it was.
+pub record IsChangingEntry (changed : List ℕ → List ℕ) (name : List ℕ) (old image : Image) : Type 0 where
+  pub file : HasFile name (rt_store_of old)
+  pub entry : List ℕ
+  pub size : length entry ≡ length file.entry
+  pub each : (k : ℕ) → (slice_index entry k ≡ slice_index file.entry k) ⊎ (slice_index entry k ≡ slice_index (changed file.entry) k)
+  pub store_is : rt_store_of image ≡ with_entry (rt_store_of old) file.place file.i file.segment entry
+  pub accepted : IsRtAccepted image
+
+-- the images that stand meanwhile
+abbrev pub HasEntryChanged : (List ℕ → List ℕ) → List ℕ → Disk → Image → Type 0
+HasEntryChanged changed name old image = IsSoundDisk old → IsChangingEntry changed name old.image image
+
+-- There was no file of the new name, and the file has it.
+pub record RenamesFile (name other : List ℕ) (old new : Image) : Type 0 where
+  pub no_file : HasNoFile other (rt_store_of old)
+  pub changes : ChangesEntry (renamed_entry other) name old new
+
+-- why a name isn't free
+abbrev pub FailsToFree : RtRefusal → List ℕ → Disk → Type 0
+FailsToFree Failed name disk = ⊤
+FailsToFree NoSuchFile name disk = ⊥
+FailsToFree EndOfFile name disk = ⊥
+FailsToFree Protected name disk = ⊥
+FailsToFree DuplicateName name disk = IsSoundDisk disk → HasFile name (rt_store_of disk.image)
+FailsToFree NoSpace name disk = ⊥
+FailsToFree DirectoryFull name disk = ⊥
+FailsToFree NoMemory name disk = ⊥
+FailsToFree DeviceFault name disk = ⊤
+
+-- There is the file, and one of the other name, which may be that one.
+pub record HasBoth (name other : List ℕ) (store : RtStore) : Type 0 where
+  pub file : HasFile name store
+  pub other_file : HasFile other store
+
+-- why a file is not renamed
+abbrev pub FailsToRename : RtRefusal → List ℕ → List ℕ → Disk → Type 0
+FailsToRename Failed name other disk = ⊤
+FailsToRename NoSuchFile name other disk = IsSoundDisk disk → HasNoFile name (rt_store_of disk.image)
+FailsToRename EndOfFile name other disk = ⊥
+FailsToRename Protected name other disk = ⊥
+FailsToRename DuplicateName name other disk = IsSoundDisk disk → HasBoth name other (rt_store_of disk.image)
+FailsToRename NoSpace name other disk = ⊥
+FailsToRename DirectoryFull name other disk = ⊥
+FailsToRename NoMemory name other disk = ⊥
+FailsToRename DeviceFault name other disk = ⊤
+
+-- the file is protected, or isn't, as it is told
+abbrev pub ProtectsFile : Bool → List ℕ → Image → Image → Type 0
+ProtectsFile on name old new = ChangesEntry (protected_entry on) name old new

@@ -1,10 +1,10 @@
 -- Laws of what the calls make of a store's files, for whoever keeps files on an RT-11 volume (profile).
-use Rattle.std.specs.Prelude.{◌≡◌, ℕ, ◌<◌, true, false, List, [], ◌∷◌, find, length, map, option_map, slice_set}
+use Rattle.std.specs.Prelude.{◌≡◌, ℕ, ◌<◌, Bool, true, false, List, [], ◌∷◌, find, length, map, option_map, slice_set}
 use Rattle.std.specs.List.{slice_get}
 use Rattle.f11_dev.specs.Image.{Image}
 use Rattle.rt11_volume.specs.AnyDirectory.{as_area, blocks_from, directory_entries, is_sound_file_named}
 use Rattle.rt11_volume.specs.Entry.{is_same_name}
-use Rattle.rt11_volume.specs.Files.{HasFile, HasNoFile, file_area, CreatesFile, WritesBlock, DeletesFile}
+use Rattle.rt11_volume.specs.Files.{HasFile, HasNoFile, file_area, CreatesFile, WritesBlock, DeletesFile, RenamesFile, ProtectsFile}
 use Rattle.rt11_volume.specs.Listing.{shown_area}
 use Rattle.rt11_volume.specs.Named.{files_named}
 use Rattle.rt11_volume.specs.RtName.{IsRtName, is_rt_name}
@@ -46,6 +46,23 @@ pub record HasGone (name : List ℕ) (old new : RtStore) : Type 0 where
   pub was : files_named name old ≡ file ∷ files_named name new
   pub others : KeepsOtherNames name old new
 
+-- The file has another name, the only one with it, and nothing else is another.
+pub record HasRenamed (name other : List ℕ) (old new : RtStore) : Type 0 where
+  pub file : Area
+  pub was : files_named name old ≡ file ∷ files_named name new
+  pub none : files_named other old ≡ []
+  pub is : files_named other new ≡ record file { name = other } ∷ []
+  pub others : (third : List ℕ) → is_same_name name third ≡ false → is_same_name other third ≡ false →
+      files_named third new ≡ files_named third old
+
+-- The file is protected, or isn't, as it is told, and nothing else is another.
+pub record HasProtected (on : Bool) (name : List ℕ) (old new : RtStore) : Type 0 where
+  pub file : Area
+  pub more : List Area
+  pub was : files_named name old ≡ file ∷ more
+  pub is : files_named name new ≡ record file { protected = on } ∷ more
+  pub others : KeepsOtherNames name old new
+
 -- the file of a name is the first of those with it, and where there is none, there are none
 abbrev pub FileIsFirst : Type 0
 FileIsFirst = (name : List ℕ) (store : RtStore) (file : HasFile name store) → IsFirstNamed name store (file_area file)
@@ -68,6 +85,18 @@ WrittenIsReplaced =
 -- what delete takes away
 abbrev pub DeletedIsGone : Type 0
 DeletedIsGone = (name : List ℕ) (old new : Image) → DeletesFile name old new → HasGone name (rt_store_of old) (rt_store_of new)
+
+-- what rename changes
+abbrev pub RenamedIsRenamed : Type 0
+RenamedIsRenamed =
+    (name other : List ℕ) (old new : Image) → IsRtName other → RenamesFile name other old new →
+    HasRenamed name other (rt_store_of old) (rt_store_of new)
+
+-- what protect changes
+abbrev pub ProtectedIsProtected : Type 0
+ProtectedIsProtected =
+    (on : Bool) (name : List ℕ) (old new : Image) → ProtectsFile on name old new →
+    HasProtected on name (rt_store_of old) (rt_store_of new)
 
 -- The entries that are read of an accepted volume are its store's areas, in order.
 abbrev pub ListsTheStoresAreas : Type 0

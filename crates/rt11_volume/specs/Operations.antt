@@ -112,6 +112,10 @@ without_file extra es i =
 unfoldable pub with_area_emptied : RtStore → ℕ → ℕ → Segment → RtStore
 with_area_emptied store place i seg = record store { segments = with_entries store.segments place (without_file store.extra seg.entries i) }
 
+-- the store with another entry of area i of the segment at this place
+unfoldable pub with_entry : RtStore → ℕ → ℕ → Segment → List ℕ → RtStore
+with_entry store place i seg e = record store { segments = with_entries store.segments place (slice_set seg.entries i e) }
+
 -- the store with another block in an area
 unfoldable pub with_block : RtStore → ℕ → List ℕ → RtStore
 with_block store lbn bytes = record store { block = λ n. if n == lbn then bytes else store.block n }

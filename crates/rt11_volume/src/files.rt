@@ -2,7 +2,8 @@
 ghost use Rattle.std.specs.Prelude.{◌≡◌, false, IfOk, IfErr, OnOk, OnErr, IsErrOf};
 ghost use Rattle.f11_dev.specs.Looked.{Looked};
 ghost use Rattle.f11_dev.specs.Went.{Went};
-ghost use Rattle.rt11_volume.specs.Files.{is_device_fault, faults_in, FailsToReach, HasBlock, WritesBlock, HasBlockWritten, KeepsFiles, DeletesFile, FailsToDelete, CreatesFile, FailsToCreate};
+ghost use Rattle.rt11_volume.specs.Files.{is_device_fault, faults_in, FailsToReach, HasBlock, WritesBlock, HasBlockWritten, KeepsFiles, DeletesFile, FailsToDelete, CreatesFile, FailsToCreate, FailsToRename, HasEntryChanged, ProtectsFile, RenamesFile};
+ghost use Rattle.rt11_volume.specs.Entry.{protected_entry, renamed_entry};
 ghost use Rattle.rt11_volume.specs.Searching.Locating.{Knows, LiesThere};
 ghost use Rattle.rt11_volume.specs.Listing.{ListsAreas, FailsToList};
 ghost use Rattle.rt11_volume.specs.Verifying.Verdict.{IsSoundDisk};
@@ -14,7 +15,9 @@ use crate::delete::delete_file;
 use crate::list::list_areas;
 use crate::lookup::file::{Located, locate, reach};
 use crate::name::RtName;
+use crate::protect::protect_file;
 use crate::refusal::RtRefusal;
+use crate::rename::rename_file;
 use crate::rewrite::edit::NewFile;
 use crate::volume::RtAccepted;
 use f11_bytes::Block;
@@ -222,6 +225,64 @@ impl<D: Device> RtAccepted<D> {
         };
         self.last = None;
         let answer = create_file(&mut self.device, file);
+        self.failed = is_device_fault(&answer);
+        answer
+    }
+
+    /// Gives a file another name: its length, date, protection and place stay. A protected file is renamed, too. The block of its
+    /// segment in which its name stands is written, or both, in ascending order, where its name stands in both, which is so in a directory of 2, 48 or 110
+    /// extra bytes alone.
+    ///
+    /// # Errors
+    ///
+    /// `Failed` where an earlier call answered `DeviceFault`, `NoSuchFile` where there is no such file, `DuplicateName` where there is a file
+    /// with the other name, also where that is the name it has, `DeviceFault` where a transfer failed.
+    pub fn rename(&mut self, name: &RtName, other: &RtName) -> Result<(), RtRefusal>
+        ensures answers { AnswersRt D.disk result self.old self.new }
+        ensures went { Went (HasEntryChanged (renamed_entry other.now) name.now
+            (D.disk (volume_device self.old))) (D.disk (volume_device self.old))
+            (D.disk (volume_device self.new)) 126 (faults_in result) }
+        ensures renamed { OnOk result (IsSoundDisk (D.disk (volume_device self.old))
+            → RenamesFile name.now other.now (D.disk (volume_device self.old)).image
+            (D.disk (volume_device self.new)).image) }
+        ensures refused { IfErr result (λ refusal. FailsToRename refusal name.now other.now
+            (D.disk (volume_device self.old))) }
+        ensures kept { is_device_fault result ≡ false → OnErr result
+            (Looked (D.disk (volume_device self.old)) (D.disk (volume_device self.new)) 124 0) }
+    {
+        if self.failed {
+            return Err(RtRefusal::Failed);
+        }
+        self.last = None;
+        let answer = rename_file(&mut self.device, name.words(), other.words());
+        self.failed = is_device_fault(&answer);
+        answer
+    }
+
+    /// Protects a file, so that it isn't deleted, or has it protected no more. It may be so already. The block of its segment in which
+    /// its status word stands is written.
+    ///
+    /// # Errors
+    ///
+    /// `Failed` where an earlier call answered `DeviceFault`, `NoSuchFile` where there is no such file, `DeviceFault` where a transfer failed.
+    pub fn protect(&mut self, name: &RtName, on: bool) -> Result<(), RtRefusal>
+        ensures answers { AnswersRt D.disk result self.old self.new }
+        ensures went { Went (HasEntryChanged (protected_entry on) name.now
+            (D.disk (volume_device self.old))) (D.disk (volume_device self.old))
+            (D.disk (volume_device self.new)) 63 (faults_in result) }
+        ensures protected { OnOk result (IsSoundDisk (D.disk (volume_device self.old))
+            → ProtectsFile on name.now (D.disk (volume_device self.old)).image
+            (D.disk (volume_device self.new)).image) }
+        ensures refused { IfErr result (λ refusal.
+            FailsToFindFile refusal name.now (D.disk (volume_device self.old))) }
+        ensures kept { is_device_fault result ≡ false → OnErr result
+            (Looked (D.disk (volume_device self.old)) (D.disk (volume_device self.new)) 62 0) }
+    {
+        if self.failed {
+            return Err(RtRefusal::Failed);
+        }
+        self.last = None;
+        let answer = protect_file(&mut self.device, name.words(), on);
         self.failed = is_device_fault(&answer);
         answer
     }

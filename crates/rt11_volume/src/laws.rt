@@ -7,10 +7,12 @@ pub fn names()
     ensures none { laws.NoFileIsNone }
 {}
 
-/// What making a file, writing a block of it and deleting it make of it and of all others.
+/// What making a file, writing a block of it, renaming, protecting and deleting it make of it and of all others.
 pub fn changes()
     ensures made { laws.CreatedIsMade }
     ensures replaced { laws.WrittenIsReplaced }
+    ensures renamed { laws.RenamedIsRenamed }
+    ensures protected { laws.ProtectedIsProtected }
     ensures gone { laws.DeletedIsGone }
 {}
 

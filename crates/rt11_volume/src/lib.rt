@@ -2,8 +2,8 @@
 //!
 //! [`verify`] answers exactly the faults and notes of an image, and [`init`] makes a fresh volume. An [`RtAccepted`] is a volume
 //! without faults, which owns its device: [`RtAccepted::list`] gives its areas, [`RtAccepted::find`] a file, [`RtAccepted::read`]
-//! and [`RtAccepted::write`] read and write a file's blocks, [`RtAccepted::create`] makes a file, and [`RtAccepted::delete`]
-//! deletes one. [`survey`] reads the entries of a directory whether the volume has faults or not. What these mean stands in specs/ (`Store`, `Search`, `Operations`, `Files`). The crate stands on [`f11_dev`],
+//! and [`RtAccepted::write`] read and write a file's blocks, [`RtAccepted::create`] makes a file,
+//! [`RtAccepted::rename`] and [`RtAccepted::protect`] change its entry, and [`RtAccepted::delete`] deletes it. [`survey`] reads the entries of a directory whether the volume has faults or not. What these mean stands in specs/ (`Store`, `Search`, `Operations`, `Files`). The crate stands on [`f11_dev`],
 //! [`f11_findings`] and [`f11_rad50`].
 #![tactic(auto)]
 
@@ -23,7 +23,9 @@ pub mod laws;
 mod list;
 mod lookup;
 mod name;
+mod protect;
 mod refusal;
+mod rename;
 mod rewrite;
 mod segment;
 mod verifier;

@@ -3,3 +3,4 @@
 pub(crate) mod assembly;
 pub(crate) mod draft;
 pub(crate) mod edit;
+pub(crate) mod overwrite;

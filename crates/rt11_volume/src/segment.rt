@@ -1,10 +1,11 @@
 //! A segment of the directory in hand.
 ghost use Rattle.std.specs.Prelude.{◌≡◌, ◌↔◌, ◌+◌, ◌*◌, ◌^◌, ◌<◌, ◌≤◌, [], length, IsTrue, IfOk, OnErr, OnOk, slice_index, slice_index_or, slice_set};
 ghost use Rattle.f11_dev.specs.Looked.{Looked};
-ghost use Rattle.rt11_volume.specs.Entry.{entry_size};
+ghost use Rattle.rt11_volume.specs.Entry.{entry_size, with_words};
 ghost use Rattle.rt11_volume.specs.Segment.{segment_lbn, segment_count, next_segment, highest_segment, extra_bytes, first_block, entry_room, entry_place, entries, HasEnd, segment_with, area_start, areas_end};
 ghost use Rattle.f11_dev.specs.Went.{Went};
 ghost use Rattle.rt11_volume.specs.InHand.{KeepsOthers, ReadsSegment, WritesSegment, SaysEntry};
+ghost use Rattle.rt11_volume.specs.Rewriting.Overwriting.{HasBlockOf};
 
 use crate::entry::{END, Entry, has_bit};
 use f11_bytes::{BLOCK_SIZE, Block, read_word, write_word};
@@ -94,6 +95,31 @@ impl Segment {
         Ok(())
     }
 
+    /// Writes the block of segment `k` in which word `i` stands.
+    pub(crate) fn write_block_of<D: Device>(
+        &self,
+        device: &mut D,
+        k: u16,
+        i: usize,
+    ) -> Result<(), DeviceFault>
+        requires on_device { segment_lbn k + 1 < length (D.disk device.old).image }
+        requires word { i < 512 }
+        ensures written { OnOk result (HasBlockOf i k self.now (D.disk device.old).image
+            (D.disk device.new).image) }
+        ensures went { OnOk result (Went (HasBlockOf i k self.now (D.disk device.old).image)
+            (D.disk device.old) (D.disk device.new) 1 0) }
+        ensures failed { OnErr result (Went (HasBlockOf i k self.now (D.disk device.old).image)
+            (D.disk device.old) (D.disk device.new) 1 1) }
+    {
+        let lbn = 4 + 2 * u32::from(k);
+        if i < BLOCK_WORDS {
+            device.write(lbn, &self.low)?;
+            return Ok(());
+        }
+        device.write(lbn + 1, &self.high)?;
+        Ok(())
+    }
+
     /// Word `i` of the segment; 0 past its end.
     pub(crate) fn word(&self, i: usize) -> u16
         ensures { result ≡ slice_index self.now i }
@@ -116,6 +142,21 @@ impl Segment {
             write_word(&mut self.low, 2 * i, word);
         } else {
             write_word(&mut self.high, 2 * (i - BLOCK_WORDS), word);
+        }
+    }
+
+    /// Puts words, the first as word `at`.
+    pub(crate) fn set_words(&mut self, at: usize, words: &[u16])
+        requires { at + length words.now ≤ 512 }
+        ensures words { self.new ≡ with_words self.old at words.now }
+        ensures long { length self.old ≡ 512 }
+    {
+        // So that the proof knows of what the words are made.
+        let _ = &self.low;
+        let mut i = at;
+        for word in words {
+            self.set_word(i, *word);
+            i += 1;
         }
     }
 

@@ -32,19 +32,20 @@ use Rattle.rt11_volume.proofs.Rewriting.Edit.{three_words}
 use Rattle.rt11_volume.proofs.Verifying.Sound.{sound_from}
 
 -- whether an area is that of a file of this name
-abbrev named : List ℕ → Placed → Bool
+abbrev pub named : List ℕ → Placed → Bool
 named name p = is_file_named name p.entry
 
-files-are : (name : List ℕ) (store : RtStore)
+pub files-are : (name : List ℕ) (store : RtStore)
     → files_named name store ≡ map (area_of store.block) (filter (named name) (placed_in store.segments))
 unfolding files_named
 files-are name store = refl
 
 -- one that passes, and one that doesn't
-passes : (name : List ℕ) (p : Placed) (ps : List Placed) → named name p ≡ true → filter (named name) (p ∷ ps) ≡ p ∷ filter (named name) ps
+pub passes : (name : List ℕ) (p : Placed) (ps : List Placed) → named name p ≡ true
+    → filter (named name) (p ∷ ps) ≡ p ∷ filter (named name) ps
 passes name p ps is = ap (λ (b : Bool). if b then p ∷ filter (named name) ps else filter (named name) ps) is
 
-fails : (name : List ℕ) (p : Placed) (ps : List Placed) → named name p ≡ false → filter (named name) (p ∷ ps) ≡ filter (named name) ps
+pub fails : (name : List ℕ) (p : Placed) (ps : List Placed) → named name p ≡ false → filter (named name) (p ∷ ps) ≡ filter (named name) ps
 fails name p ps is = ap (λ (b : Bool). if b then p ∷ filter (named name) ps else filter (named name) ps) is
 
 -- an empty area is no file
@@ -75,7 +76,7 @@ none-placed name start (e ∷ es) none =
     fails name (at_start e start) (placed (start + area_length e) es) (none zero e (omega arith))
     ∙ none-placed name (start + area_length e) es (λ i d within. none (suc i) d (omega (arith, within)))
 
-none-in : (name : List ℕ) (segs : List Segment) → All (λ (s : Segment). All (λ e. is_file_named name e ≡ false) s.entries) segs
+pub none-in : (name : List ℕ) (segs : List Segment) → All (λ (s : Segment). All (λ e. is_file_named name e ≡ false) s.entries) segs
     → filter (named name) (placed_in segs) ≡ []
 none-in name [] none = ap (filter (named name)) segments-nil
 none-in name (s ∷ segs) none =
@@ -87,20 +88,22 @@ pub no-file : (name : List ℕ) (store : RtStore) → HasNoFile name store → f
 no-file name store none = files-are name store ∙ ap (map (area_of store.block)) (none-in name store.segments none)
 
 -- What stands around the area of a file.
-record HasPlace (name : List ℕ) (store : RtStore) (file : HasFile name store) : Type 0 where
-  p : Placed
-  before : List Placed
-  before_is : before ≡ placed_in (take file.place store.segments) ++ placed file.segment.first (take file.i file.segment.entries)
-  p_is : p ≡ at_start (entry_at file.segment.entries file.i) (area_start file.segment file.i)
-  behind : List Placed
-  all : placed_in store.segments ≡ before ++ (p ∷ behind)
-  none_before : filter (named name) before ≡ []
-  passes_it : named name p ≡ true
-  area : area_of store.block p ≡ file_area file
-  start_is : p.start ≡ (file_area file).start
-  length_is : area_length p.entry ≡ (file_area file).length
+pub record HasPlace (name : List ℕ) (store : RtStore) (file : HasFile name store) : Type 0 where
+  pub p : Placed
+  pub before : List Placed
+  pub before_is : before ≡ placed_in (take file.place store.segments) ++ placed file.segment.first (take file.i file.segment.entries)
+  pub p_is : p ≡ at_start (entry_at file.segment.entries file.i) (area_start file.segment file.i)
+  pub behind : List Placed
+  pub behind_is : behind ≡ placed (file.segment.first + sum_by area_length (take (file.i + 1) file.segment.entries))
+      (drop (file.i + 1) file.segment.entries) ++ placed_in (drop (file.place + 1) store.segments)
+  pub all : placed_in store.segments ≡ before ++ (p ∷ behind)
+  pub none_before : filter (named name) before ≡ []
+  pub passes_it : named name p ≡ true
+  pub area : area_of store.block p ≡ file_area file
+  pub start_is : p.start ≡ (file_area file).start
+  pub length_is : area_length p.entry ≡ (file_area file).length
 
-file-place : (name : List ℕ) (store : RtStore) (file : HasFile name store) → HasPlace name store file
+pub file-place : (name : List ℕ) (store : RtStore) (file : HasFile name store) → HasPlace name store file
 unfolding area_at
 file-place name store file =
     let segs : List Segment = store.segments in
@@ -114,6 +117,7 @@ file-place name store file =
       behind = placed (seg.first + sum_by area_length (take (file.i + 1) seg.entries)) (drop (file.i + 1) seg.entries) ++ placed_in
           (drop (file.place + 1) segs);
       before_is = refl;
+      behind_is = refl;
       p_is = refl;
       all = all-around segs file.place seg file.i file.first.segment_is inside;
       none_before = filter-append (named name) (placed_in (take file.place segs)) (placed seg.first (take file.i seg.entries))
@@ -143,13 +147,13 @@ file-place name store file =
         (file.first.none_earlier j (get_or store.segments j d) less (slice_get-get_or store.segments j d (omega (arith, less, on))))
 
 -- the files of the name among the areas
-file-list : (name : List ℕ) (before : List Placed) (p : Placed) (behind : List Placed) → filter (named name) before ≡ []
+pub file-list : (name : List ℕ) (before : List Placed) (p : Placed) (behind : List Placed) → filter (named name) before ≡ []
     → named name p ≡ true
     → filter (named name) (before ++ (p ∷ behind)) ≡ p ∷ filter (named name) behind
 file-list name before p behind none is = filter-append (named name) before (p ∷ behind) ∙ (λ t. none t ++ passes name p behind is t)
 
 -- and their areas, whatever the blocks are
-named-list : (name : List ℕ) (store : RtStore) (file : HasFile name store) (at : HasPlace name store file) (block : ℕ → List ℕ)
+pub named-list : (name : List ℕ) (store : RtStore) (file : HasFile name store) (at : HasPlace name store file) (block : ℕ → List ℕ)
     → map (area_of block) (filter (named name) (placed_in store.segments)) ≡ area_of block at.p ∷ map (area_of block)
     (filter (named name) at.behind)
 named-list name store file at block =
@@ -172,13 +176,13 @@ file-entry-named name other extra blocks day three =
     ap (λ (n : List ℕ). is_file_named other (file_entry extra n blocks day)) (three_words name three)
     ∙ ap (λ (n : List ℕ). is_same_name n other) (sym (three_words name three))
 
-same-itself : (name : List ℕ) → is_same_name name name ≡ true
+pub same-itself : (name : List ℕ) → is_same_name name name ≡ true
 same-itself name =
     λ t. eq-eqb (get_or name 0 0) (get_or name 0 0) refl t &&
     (eq-eqb (get_or name 1 0) (get_or name 1 0) refl t && eq-eqb (get_or name 2 0) (get_or name 2 0) refl t)
 
 -- an entry of one name has no other
-other-unnamed : (name other e : List ℕ) → is_file_named name e ≡ true → is_same_name name other ≡ false → is_file_named other e ≡ false
+pub other-unnamed : (name other e : List ℕ) → is_file_named name e ≡ true → is_same_name name other ≡ false → is_file_named other e ≡ false
 other-unnamed name other e is apart =
     let parts = and_parts (is_permanent e) (is_same_name (name_words e) name) is in
     let a = and_parts (get_or e 1 0 == get_or name 0 0) (get_or e 2 0 == get_or name 1 0 && get_or e 3 0 == get_or name 2 0) parts.1 in
@@ -188,7 +192,7 @@ other-unnamed name other e is apart =
     let second : get_or e 3 0 ≡ get_or name 2 0 = eqb-true _ _ b.1 in
     (λ t. parts.0 t && (zeroth t == get_or other 0 0 && (first t == get_or other 1 0 && second t == get_or other 2 0))) ∙ apart
 
-rt-name-three : (name : List ℕ) → IsRtName name → length name ≡ 3
+pub rt-name-three : (name : List ℕ) → IsRtName name → length name ≡ 3
 unfolding rt_words_of
 rt-name-three name is = ap (λ (n : List ℕ). length n) (sym is.same_words)
 
@@ -204,6 +208,10 @@ put-others other old new area file put unnamed none =
     ∙ sym (fails other (at_start area put.start) put.behind unnamed))
     ∙ sym (filter-append (named other) put.before (at_start area put.start ∷ put.behind)) ∙ sym (ap (filter (named other)) put.was)
 
+pub nil-parts : (xs ys : List Placed) → xs ++ ys ≡ [] → (xs ≡ []) × (ys ≡ [])
+nil-parts [] ys is = (refl, is)
+nil-parts (x ∷ xs) ys is = absurd (cc)
+
 put-itself : (name : List ℕ) (old new : List Placed) (area file : List ℕ) (put : IsPut old new area file) → is_file_named name area ≡ false
     → is_file_named name file ≡ true → filter (named name) old ≡ []
     → filter (named name) new ≡ at_start file put.start ∷ []
@@ -217,10 +225,6 @@ put-itself name old new area file put unnamed is none =
     ∙ (λ t. both.0 t ++ passes name (at_start file put.start) (put.left ++ put.behind) is t)
     ∙ ap (λ ps. at_start file put.start ∷ ps)
     (filter-append (named name) put.left put.behind ∙ (λ t. none-empty name put.left put.left_empty t ++ both.1 t))
-  where
-    nil-parts : (xs ys : List Placed) → xs ++ ys ≡ [] → (xs ≡ []) × (ys ≡ [])
-    nil-parts [] ys is = (refl, is)
-    nil-parts (x ∷ xs) ys is = absurd (cc)
 
 -- the segments with a new file
 create-put : (store : RtStore) (place i : ℕ) (seg : Segment) (name : List ℕ) (blocks day : ℕ) → slice_get store.segments place ≡ Some seg

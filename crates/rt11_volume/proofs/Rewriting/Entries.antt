@@ -37,13 +37,13 @@ pub entry_words-at : (extra : ℕ) (s : List ℕ) (i k : ℕ) → k < 7
 entry_words-at extra s i k within = get_or-between s (entry_place extra i) (entry_place extra (i + 1)) k 0 (omega arith)
 
 -- the whole entries of a segment, before it is told which are its own
-abbrev whole : ℕ → List ℕ → List (List ℕ)
+abbrev pub whole : ℕ → List ℕ → List (List ℕ)
 whole extra s = map (entry_words extra s) (range_with_len 0 (entry_room extra))
 
-length-whole : (extra : ℕ) (s : List ℕ) → length (whole extra s) ≡ entry_room extra
+pub length-whole : (extra : ℕ) (s : List ℕ) → length (whole extra s) ≡ entry_room extra
 length-whole extra s = simp (length-map, length-range_with_len)
 
-whole-at : (extra : ℕ) (s : List ℕ) (i : ℕ) (d : List ℕ) → i < entry_room extra → get_or (whole extra s) i d ≡ entry_words extra s i
+pub whole-at : (extra : ℕ) (s : List ℕ) (i : ℕ) (d : List ℕ) → i < entry_room extra → get_or (whole extra s) i d ≡ entry_words extra s i
 whole-at extra s i d inside = get_or-map-range_with_len (entry_words extra s) 0 (entry_room extra) i i d inside (omega arith)
 
 -- the status of entry i, where it stands

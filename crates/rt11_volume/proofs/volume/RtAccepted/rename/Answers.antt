@@ -1,0 +1,4 @@
+use Rattle.rt11_volume.proofs.volume.RtAccepted.rename.Goals as goal
+
+pub invariant_of-self-clause-lies : goal.invariant_of-self-clause-lies
+invariant_of-self-clause-lies g c = λ honest alive. tt
