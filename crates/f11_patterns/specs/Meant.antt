@@ -1,5 +1,5 @@
 -- Which names of a directory a pattern means (RSX-11M-PLUS MCR Operations Manual, file specifications and wildcards).
-use Rattle.std.specs.Prelude.{◌≡◌, ◌==◌, ◌&&◌, ℕ, Bool, false, nat_lt, All, List, slice_index_or}
+use Rattle.std.specs.Prelude.{◌≡◌, ◌⊎◌, ◌==◌, ◌&&◌, ℕ, Bool, true, false, nat_lt, All, Contains, List, slice_index_or}
 use Rattle.f11_patterns.specs.declared.versions.Versions.TheVariants.{Each, Highest}
 use Rattle.f11_patterns.specs.Parts.{Parts}
 use Rattle.f11_patterns.specs.Pattern.{Fits, with_versions}
@@ -20,6 +20,13 @@ is_higher one other = are_alike one other && nat_lt (word_at other 4) (word_at o
 -- none of these names is a higher version of one
 abbrev pub IsHighest : List (List ℕ) → List ℕ → Type 0
 IsHighest names name = All (λ other. is_higher other name ≡ false) names
+
+-- The highest version of a name among some names: it is that itself, or one of these, of the same name and type, and none of these is
+-- higher.
+pub record IsHighestVersion (names : List (List ℕ)) (name highest : List ℕ) : Type 0 where
+  pub among : (highest ≡ name) ⊎ Contains names highest
+  pub alike : are_alike highest name ≡ true
+  pub none_higher : IsHighest names highest
 
 -- A pattern means a name among these: it fits, and is the highest version where that is asked for.
 pub record Means (parts : Parts) (names : List (List ℕ)) (name : List ℕ) : Type 0 where

@@ -2,6 +2,7 @@
 //!
 //! A [`Pattern`] is read from its text ([`Pattern::parse`]) and decided against a name ([`Pattern::fits`]), and against the names of a directory,
 //! where it may ask for the highest version alone ([`Pattern::means`], [`Versions`]); [`Pattern::choose`] gives those of them that are meant.
+//! [`next_version`] gives the name of a file that is made there without a version.
 //! The crate stands on [`f11_rad50`], for names, and on [`f11_bytes`], for octal digits.
 #![tactic(auto)]
 
@@ -11,13 +12,16 @@ pub mod laws;
 mod like;
 mod meant;
 mod name_parts;
+mod next;
 mod pattern;
 mod split;
 #[cfg(test)]
 mod tests;
 mod versions;
 
+pub use choose::Choice;
 pub use errors::BadPattern;
-pub use meant::is_highest;
+pub use meant::{highest_version, is_highest};
+pub use next::next_version;
 pub use pattern::Pattern;
 pub use versions::Versions;

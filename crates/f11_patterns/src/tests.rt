@@ -4,7 +4,7 @@ ghost use Rattle.f11_patterns.specs.Pattern.{Fits, TextFits};
 ghost use Rattle.f11_patterns.specs.Lent.{parts_of};
 
 use crate::like::is_like;
-use crate::{BadPattern, Pattern, Versions};
+use crate::{BadPattern, Pattern, Versions, next_version};
 use f11_rad50::{BadName, Name};
 use std::test::Fail;
 
@@ -337,5 +337,29 @@ fn the_highest_version_is_meant(rt: HostRuntime) -> Result<(), Fail> {
     assert!(rt; meant("a.txt;1", &names) == Some(([true, false, false, false], others)));
     assert!(rt; meant("B.*;0", &names) == Some(([false, false, true, false], none)));
     assert!(rt; meant("C.TXT", &names) == Some((none, none)));
+    Ok(())
+}
+
+/// A name, in these names of a directory, and with its next version there; `None` where there is none.
+fn next(name: &str, names: &[Name; 4]) -> Option<Name> {
+    match Name::parse(name.as_bytes()) {
+        Ok(name) => next_version(names, &name),
+        Err(BadName) => None,
+    }
+}
+
+#[test]
+fn the_next_version_is_above_the_highest(rt: HostRuntime) -> Result<(), Fail> {
+    let names = [
+        Name::parse(b"A.TXT;7")?,
+        Name::parse(b"A.TXT;1")?,
+        Name::parse(b"B.TXT;77777")?,
+        Name::parse(b"A.LST;2")?,
+    ];
+    assert!(rt; next("A.TXT;1", &names) == Some(Name::parse(b"A.TXT;10")?));
+    assert!(rt; next("A.TXT;12", &names) == Some(Name::parse(b"A.TXT;10")?));
+    assert!(rt; next("A.LST;1", &names) == Some(Name::parse(b"A.LST;3")?));
+    assert!(rt; next("B.TXT;1", &names) == None);
+    assert!(rt; next("C.TXT;4", &names) == Some(Name::parse(b"C.TXT;1")?));
     Ok(())
 }
