@@ -25,13 +25,15 @@ use Rattle.f11_store.proofs.StoreLemmas.{none_first, none_rest, same_number}
 use Rattle.f11_fcp.specs.files.Answers.{is_fatal}
 use Rattle.f11_making.specs.Actions.{within}
 use Rattle.f11_making.specs.Asking.{Grants, Who, plain, told}
-use Rattle.f11_making.specs.Done.{DoneIsDone, IsDeleted, IsNamed, IsRenamed, IsTruncated, MakesDirectory}
+use Rattle.f11_making.specs.Done.{DoneIsDone, IsDeleted, IsNamed, IsPurged, IsRenamed, IsTruncated, MakesDirectory, PurgesName}
 use Rattle.f11_making.specs.FilesPlan.{AsksFile, Carried, FilesPlan, attributes_in, describes, done, file_in, if_granted, names, on_err}
 use Rattle.f11_making.specs.FilesPlan.{on_ok, one}
 use Rattle.f11_making.specs.FilesPlan.{or_undone, undoing, undoing_if, worse}
 use Rattle.f11_making.specs.Plan.{and_then, gives}
 use Rattle.f11_making.specs.Plans.{blocks_to_end, cuts_held, cuts_if, directory_attributes, enters, finds_other, is_absent, is_own}
-use Rattle.f11_making.specs.Plans.{judged_by, makes_empty, may_move, moves, moves_if, not_own, on_absent, removes, renames, retitles, sets}
+use Rattle.f11_making.specs.Plans.{is_lower, judged_by, makes_empty, may_move, moves, moves_if, not_own, on_absent, judges_kept, purges_by}
+use Rattle.f11_making.specs.Plans.{purges_if, removes}
+use Rattle.f11_making.specs.Plans.{removes_but, renames, retitles, sets}
 use Rattle.f11_making.specs.Plans.{shortens, states_end, unless_gone, with_blocks, with_name}
 use Rattle.f11_making.specs.Sparing.{Finds}
 use Rattle.f11_making.proofs.PlanLemmas.{goes-parts}
@@ -319,6 +321,47 @@ module _ (who : Who) where
           undone true h = (let never : Ok tt ≡ Err e = h.0 in cc)
           undone false h = (let never : Ok tt ≡ Err (worse e h.0) = h.3.0 in cc)
 
+  -- a lower version was purged
+  but-then : (b : Bool) (dir : FileId) (name : List ℕ) (id kept : FileId) (s t : Store) → (id.number == kept.number) ≡ b
+      → Carried plain who (removes_but b dir name id) (Ok tt) s t → IsPurged dir name id kept s t
+  but-then true dir name id kept s t is h = inl (is, (one-done who (request.Remove dir name) tt s t h).3.changes)
+  but-then false dir name id kept s t is h = inr (is, deleted-then dir name id s t h)
+
+  there-is : (s : Store) (id : FileId) (f : File) → s.file id.number ≡ Some f → (f.sequence == id.sequence) ≡ true
+      → is_missing s id ≡ false
+  there-is s id f is same =
+      ap (λ (o : Option File). is_none (option_and_then (of_sequence id.sequence) o)) is
+      ∙ ap (λ b. is_none (if b then Some f else None)) same
+
+  good-then : (r : Result (Unit {0}) Refusal) (kept dir : FileId) (name : List ℕ) (s t : Store)
+      → Carried plain who (purges_by r kept dir name) (Ok tt) s t
+      → (r ≡ Ok tt)
+      × Carried plain who (if_granted (finds_other dir name) (λ id. removes_but (id.number == kept.number) dir name id)) (Ok tt) s t
+  good-then (Ok x) kept dir name s t h = (refl, h)
+  good-then (Err e) kept dir name s t h = absurd (let never : Ok tt ≡ Err e = h.0 in cc)
+
+  purged-then : (b : Bool) (dir : FileId) (name highest : List ℕ) (s t : Store) → is_lower name highest ≡ b
+      → Carried plain who (purges_if b dir name highest) (Ok tt) s t
+      → (id : FileId) × (Finds who dir name s id) × PurgesName who dir name highest id s t
+  purged-then false dir name highest s t lower h = absurd (let never : Ok tt ≡ Err refusal.BadArgument = h.0 in cc)
+  purged-then true dir name highest s t lower h =
+      let k = found-then who s t dir highest
+      (λ kept. if_granted (one (describes kept)) (λ of. purges_by (judges_kept of) kept dir name)) h in
+      let d = described-then who s t k.0 (λ of. purges_by (judges_kept of) k.0 dir name) k.2 in
+      let g = good-then (judges_kept (attributes_of d.0)) k.0 dir name s t d.3 in
+      let o = other-then who s t dir name (λ id. removes_but (id.number == k.0.number) dir name id) g.1 in (
+        o.0,
+        o.1,
+        record {
+          lower = lower;
+          kept = k.0;
+          kept_is = k.1;
+          there = there-is s k.0 d.0 d.1 d.2;
+          good = ap (λ (f : File). judges_kept (attributes_of f)) (named s k.0 d.0 d.1 d.2) ∙ g.0;
+          purged = but-then (o.0.number == k.0.number) dir name o.0 k.0 s t refl o.2;
+        },
+      )
+
   renamed-then : (dir : FileId) (old : List ℕ) (to : FileId) (new : List ℕ) (id : FileId) (f : File) (s t : Store) → file_named s id ≡ f
       → Carried plain who (moves dir old to new id (attributes_of f).ident) (Ok tt) s t → IsRenamed dir old to new id s t
   renamed-then dir old to new id f s t of h =
@@ -398,6 +441,10 @@ pub done-is-done : DoneIsDone
 done-is-done who lun master (action.Delete directory name) s t h =
     let f = named-then who master directory name (λ dir id. removes dir name id) s t h in
     (f.0, deleted-then who f.0.dir name f.0.id s t f.1)
+done-is-done who lun master (action.Purge directory name highest) s t h =
+    let d = found-then who s t master directory (λ dir. purges_if (is_lower name highest) dir name highest) h in
+    let p = purged-then who (is_lower name highest) d.0 name highest s t refl d.2 in
+    (record { dir = d.0; id = p.0; directory_is = d.1; file_is = p.1 }, p.2)
 done-is-done who lun master (action.Rename directory name to new) s t h =
     let d = found-then who s t master directory (λ dir. within master to (λ into. renames dir name into new)) h in
     let i = found-then who s t master to (λ into. renames d.0 name into new) d.2 in

@@ -1,5 +1,6 @@
 -- Each plan is tidy.
 use Rattle.std.proofs.Common.{◌≡◌, ◌==◌, ◌∙◌, Bool, true, false, if◌then◌else◌, refl, sym, ap, subst, ℕ, List, Result, Ok, Err}
+use Rattle.std.specs.Int.{bit_at}
 use Rattle.f11_store.specs.Ident.{ident_with}
 use Rattle.f11_store.specs.declared.callers.Uic.{Uic}
 use Rattle.f11_store.specs.declared.files.Attr.{Attr}
@@ -11,8 +12,11 @@ use Rattle.f11_store.specs.declared.requests.Request.TheVariants as request
 use Rattle.f11_making.specs.Carrying.{IsFitting}
 use Rattle.f11_making.specs.Actions.{plan_of, within}
 use Rattle.f11_making.specs.Plans.{blocks_to_end, cuts_held, cuts_if, deletes, directory_attributes, enters, finds_other, is_absent}
-use Rattle.f11_making.specs.Plans.{is_gone, is_own, judged_by, keeps, makes_empty, may_move, moves, moves_if, not_own, on_absent, protects}
-use Rattle.f11_making.specs.Plans.{removes, renames, retitles, sets, shortens, states_end, truncates, unless_gone, with_blocks, with_name}
+use Rattle.f11_making.specs.Plans.{is_gone, is_lower, is_own, judged_by, keeps, makes_empty, may_move, moves, moves_if, not_own, on_absent}
+use Rattle.f11_making.specs.Plans.{protects}
+use Rattle.f11_making.specs.Plans.{judges_kept, purges_by, purges_if, removes, removes_but, renames, retitles, sets, shortens, states_end}
+use Rattle.f11_making.specs.Plans.{truncates, unless_gone}
+use Rattle.f11_making.specs.Plans.{with_blocks, with_name}
 use Rattle.f11_making.specs.Plan.{and_then, gives}
 use Rattle.f11_making.specs.FilesPlan.{FilesPlan, Question, counts, describes, done, if_granted, names, names_for, one, or_undone, undoing}
 use Rattle.f11_making.specs.FilesPlan.{undoing_if}
@@ -134,6 +138,25 @@ behind-attributes id on tidy = clean-if IsFitting (one (describes id)) on (clean
 clean-deletes : (dir : FileId) (name : List ℕ) → IsTidy IsFitting (deletes dir name)
 clean-deletes dir name = behind-other dir name (λ id. removes dir name id) (λ id. tidy-removal IsFitting dir name id tt tt tt)
 
+clean-purges : (b : Bool) (dir : FileId) (name highest : List ℕ) → IsTidy IsFitting (purges_if b dir name highest)
+clean-purges false dir name highest = refl
+clean-purges true dir name highest =
+    behind-find dir highest (λ kept. if_granted (one (describes kept)) (λ of. purges_by (judges_kept of) kept dir name)) (λ kept.
+    behind-attributes kept (λ of. purges_by (judges_kept of) kept dir name) (λ of.
+    kept-as (bit_at of.characteristics 15 == 1) (bit_at of.characteristics 6 == 1) kept))
+  where
+    by : (b : Bool) (id : FileId) → IsTidy IsFitting (removes_but b dir name id)
+    by true id = clean-one IsFitting (done (request.Remove dir name)) tt
+    by false id = tidy-removal IsFitting dir name id tt tt tt
+
+    kept-as : (marked opened : Bool) (kept : FileId)
+        → IsTidy IsFitting (purges_by (if marked then Err refusal.Marked else if opened then Err refusal.BadArgument else Ok tt) kept dir
+        name)
+    kept-as true opened kept = refl
+    kept-as false true kept = refl
+    kept-as false false kept =
+        behind-other dir name (λ id. removes_but (id.number == kept.number) dir name id) (λ id. by (id.number == kept.number) id)
+
 clean-moves : (b : Bool) (dir : FileId) (old : List ℕ) (to : FileId) (new : List ℕ) (id : FileId) (ident : List ℕ)
     → IsTidy IsFitting (moves_if b dir old to new id ident)
 clean-moves false dir old to new id ident = refl
@@ -196,6 +219,9 @@ clean-absent dir name p tidy =
 pub clean-action : (lun : ℕ) (master : FileId) (a : Action) → IsTidy IsFitting (plan_of lun master a)
 clean-action lun master (action.Delete directory name) =
     behind-find master directory (λ dir. deletes dir name) (λ dir. clean-deletes dir name)
+clean-action lun master (action.Purge directory name highest) =
+    behind-find master directory (λ dir. purges_if (is_lower name highest) dir name highest) (λ dir.
+    clean-purges (is_lower name highest) dir name highest)
 clean-action lun master (action.Rename directory name to new) =
     behind-find master directory (λ dir. within master to (λ into. renames dir name into new)) (λ dir.
     behind-find master to (λ into. renames dir name into new) (λ into. clean-renames dir name into new))

@@ -1,5 +1,6 @@
 -- What is done to one file by its name leaves all others as they were.
-use Rattle.std.proofs.Common.{◌≡◌, inl, inr, ◌==◌, ◌&&◌, ℕ, Bool, true, false, if◌then◌else◌, List, take, Option, Some, None, option_map}
+use Rattle.std.proofs.Common.{◌≡◌, ◌⊎◌, inl, inr, ◌==◌, ◌&&◌, ℕ, Bool, true, false, if◌then◌else◌, List, take, Option, Some, None}
+use Rattle.std.proofs.Common.{option_map}
 use Rattle.std.proofs.Common.{Result, Ok, Err, unwrap_or, refl, sym, ap, ◌∙◌, subst}
 use Rattle.f11_runs.proofs.AccessLemmas.{true-false}
 use Rattle.f11_store.specs.Causes.{is_no_writer}
@@ -30,10 +31,11 @@ use Rattle.f11_making.specs.Asking.{Fails, Grants, Who, plain, told}
 use Rattle.f11_making.specs.FilesPlan.{AnswerOf, Asks, AsksFile, Carried, FilesPlan, Question, counts, describes, done, file_in, for_user}
 use Rattle.f11_making.specs.FilesPlan.{if_granted, names, names_file, names_for, on_ok, one, or_undone, reads, tells_attributes, writes}
 use Rattle.f11_making.specs.Plans.{cuts_held, cuts_if, deletes, directory_attributes, enters, finds_other, is_absent, is_own, judged_by}
-use Rattle.f11_making.specs.Plans.{makes_empty, may_move, moves, moves_if, not_own, on_absent, protects, removes, renames, sets, states_end}
-use Rattle.f11_making.specs.Plans.{truncates}
+use Rattle.f11_making.specs.Plans.{makes_empty, may_move, moves, moves_if, not_own, on_absent, protects, removes, removes_but, renames}
+use Rattle.f11_making.specs.Plans.{sets, states_end}
+use Rattle.f11_making.specs.Plans.{is_lower, judges_kept, purges_by, purges_if, truncates}
 use Rattle.f11_making.specs.Plan.{and_then, gives}
-use Rattle.f11_making.specs.Sparing.{ActionsSpareOthers, Finds, Spares, may_change}
+use Rattle.f11_making.specs.Sparing.{ActionsSpareOthers, Finds, Is, IsNot, Spares, may_change}
 use Rattle.f11_making.specs.Telling.{AddsUp, IsTidy, bare}
 use Rattle.f11_making.specs.declared.action.Action.TheVariants as action
 use Rattle.f11_making.proofs.GainedLemmas.{enters-from}
@@ -340,6 +342,42 @@ absent-spares n late who dir name p r s t behind (Err e, u, asked, rest) = by (i
     by true h = behind u (same asked) h
     by false h = ap (λ (x : Store). x.file n) h.1 ∙ ap (λ (x : Store). x.file n) (same asked)
 
+-- a lower version is purged, whose file or that of the highest this isn't
+purged-spares : (n : ℕ) (late : (n == 1) ≡ false) (who : Who) (b : Bool) (dir : FileId) (name highest : List ℕ)
+    (r : Result (Unit {0}) Refusal) (s t : Store) → (n == dir.number) ≡ false → (IsNot n who dir name s) ⊎ (Is n who dir highest s)
+    → Carried plain who (purges_if b dir name highest) r s t → t.file n ≡ s.file n
+purged-spares n late who false dir name highest r s t apart off h = ap (λ (x : Store). x.file n) h.1
+purged-spares n late who true dir name highest r s t apart off h =
+    found-spares n late who dir highest (λ kept. if_granted (one (describes kept)) (λ of. purges_by (judges_kept of) kept dir name)) r s t
+    (λ kept at more.
+    described-spares n late who kept (λ of. purges_by (judges_kept of) kept dir name) r s t
+    (λ of rest. kept-by kept at (judges_kept of) rest) more) h
+  where
+    other : (kept : FileId) → Finds who dir highest s kept → (id : FileId) → Finds who dir name s id
+        → (id.number == kept.number) ≡ false → (n == id.number) ≡ false
+    other kept at id found is = from off
+      where
+        from : (IsNot n who dir name s) ⊎ (Is n who dir highest s) → (n == id.number) ≡ false
+        from (inl not) = not id found
+        from (inr its) = other_number n id.number (λ same. true-false
+            (sym (ap (λ k. k == kept.number) (sym same) ∙ its kept at) ∙ is))
+
+    by : (kept : FileId) → Finds who dir highest s kept → (id : FileId) → Finds who dir name s id → (b : Bool)
+        → (id.number == kept.number) ≡ b → Carried plain who (removes_but b dir name id) r s t → t.file n ≡ s.file n
+    by kept at id found true is goes =
+        plan-spares n late who (one (done (request.Remove dir name))) r s t
+        (clean-one (Spares n) (done (request.Remove dir name)) apart) goes
+    by kept at id found false is goes =
+        plan-spares n late who (removes dir name id) r s t
+        (tidy-removal (Spares n) dir name id apart apart (other kept at id found is)) goes
+
+    kept-by : (kept : FileId) → Finds who dir highest s kept → (a : Result (Unit {0}) Refusal)
+        → Carried plain who (purges_by a kept dir name) r s t → t.file n ≡ s.file n
+    kept-by kept at (Ok x) rest =
+        other-spares n late who dir name (λ id. removes_but (id.number == kept.number) dir name id) r s t
+        (λ id found goes. by kept at id found (id.number == kept.number) refl goes) rest
+    kept-by kept at (Err e) ended = ap (λ (x : Store). x.file n) ended.1
+
 -- what an action asks once its directories and its file are found
 pub actions-spare-others : ActionsSpareOthers
 actions-spare-others who lun master (action.Delete directory name) r s t n h late off =
@@ -347,6 +385,9 @@ actions-spare-others who lun master (action.Delete directory name) r s t n h lat
     other-spares n late who dir name (λ id. removes dir name id) r s t (λ id found more.
     plan-spares n late who (removes dir name id) r s t
     (tidy-removal (Spares n) dir name id (off.0 dir at) (off.0 dir at) (off.1 dir at id found)) more) within) h
+actions-spare-others who lun master (action.Purge directory name highest) r s t n h late off =
+    found-spares n late who master directory (λ dir. purges_if (is_lower name highest) dir name highest) r s t (λ dir at more.
+    purged-spares n late who (is_lower name highest) dir name highest r s t (off.0 dir at) (off.1 dir at) more) h
 actions-spare-others who lun master (action.Rename directory name to new) r s t n h late off =
     found-spares n late who master directory (λ dir. within master to (λ into. renames dir name into new)) r s t (λ dir at rest.
     found-spares n late who master to (λ into. renames dir name into new) r s t (λ into there within.

@@ -1,11 +1,11 @@
 -- What an action that was done makes of the plain store (profile).
-use Rattle.std.specs.Prelude.{◌≡◌, ◌⊎◌, ◌+◌, ◌/◌, ℕ, true, take, List, Ok, Some}
+use Rattle.std.specs.Prelude.{◌≡◌, ◌⊎◌, ◌+◌, ◌/◌, ◌==◌, ℕ, true, false, take, List, Ok, Some}
 use Rattle.f11_store.specs.Causes.{is_missing}
 use Rattle.f11_store.specs.Changes.{Enters, MakesFile, after_delete, after_remove, with_change, with_replacement, with_slots_first}
 use Rattle.f11_store.specs.Directory.{record_bytes}
 use Rattle.f11_store.specs.File.{File, end_of}
 use Rattle.f11_store.specs.Ident.{ident_with}
-use Rattle.f11_store.specs.Step.{next_id}
+use Rattle.f11_store.specs.Step.{attributes_of, next_id}
 use Rattle.f11_store.specs.Store.{Store, file_named}
 use Rattle.f11_store.specs.declared.callers.Uic.{Uic}
 use Rattle.f11_store.specs.declared.files.Change.TheVariants as change
@@ -13,7 +13,7 @@ use Rattle.f11_store.specs.declared.files.FileId.{FileId}
 use Rattle.f11_making.specs.Actions.{plan_of}
 use Rattle.f11_making.specs.Asking.{Who, plain}
 use Rattle.f11_making.specs.FilesPlan.{Carried}
-use Rattle.f11_making.specs.Plans.{directory_attributes, with_blocks, with_name}
+use Rattle.f11_making.specs.Plans.{directory_attributes, is_lower, judges_kept, with_blocks, with_name}
 use Rattle.f11_making.specs.Sparing.{Finds}
 use Rattle.f11_making.specs.declared.action.Action.{Action}
 use Rattle.f11_making.specs.declared.action.Action.TheVariants as action
@@ -30,6 +30,21 @@ abbrev pub IsDeleted : FileId → List ℕ → FileId → Store → Store → Ty
 IsDeleted dir name id s t =
     (t ≡ after_delete (after_remove s dir name) id)
     ⊎ ((is_missing (after_remove s dir name) id ≡ true) × (t ≡ after_remove s dir name))
+
+-- A name was removed: alone, where it leads to the file that is kept, or its file was deleted with it.
+abbrev pub IsPurged : FileId → List ℕ → FileId → FileId → Store → Store → Type 0
+IsPurged dir name id kept s t =
+    (((id.number == kept.number) ≡ true) × (t ≡ after_remove s dir name))
+    ⊎ (((id.number == kept.number) ≡ false) × IsDeleted dir name id s t)
+
+-- The file of the highest version is there, neither marked for delete nor left open, and a lower one was purged.
+pub record PurgesName (who : Who) (f : FileId) (name highest : List ℕ) (id : FileId) (s t : Store) : Type 0 where
+  pub lower : is_lower name highest ≡ true
+  pub kept : FileId
+  pub kept_is : Finds who f highest s kept
+  pub there : is_missing s kept ≡ false
+  pub good : judges_kept (attributes_of (file_named s kept)) ≡ Ok tt
+  pub purged : IsPurged f name id kept s t
 
 -- The file was entered under the new name, its header got that, and the old one was removed.
 pub record IsRenamed (dir : FileId) (old : List ℕ) (to : FileId) (new : List ℕ) (id : FileId) (s t : Store) : Type 0 where
@@ -70,6 +85,8 @@ pub record MakesDirectory (master : FileId) (name : List ℕ) (owner : Uic) (pro
 abbrev pub IsDone : Who → FileId → Action → Store → Store → Type 0
 IsDone who master (action.Delete directory name) s t =
     (f : IsNamed who master directory name s) × IsDeleted f.dir name f.id s t
+IsDone who master (action.Purge directory name highest) s t =
+    (f : IsNamed who master directory name s) × PurgesName who f.dir name highest f.id s t
 IsDone who master (action.Rename directory name to new) s t =
     (f : IsNamed who master directory name s) × (into : FileId) × (Finds who master to s into) × IsRenamed f.dir name into new f.id s t
 IsDone who master (action.Protect directory name protection) s t =

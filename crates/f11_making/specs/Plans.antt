@@ -55,6 +55,45 @@ removes dir name id =
 abbrev pub deletes : FileId → List ℕ → FilesPlan (Result (Unit {0}) Refusal)
 deletes dir name = if_granted (finds_other dir name) (λ id. removes dir name id)
 
+-- a lower version of a name: the same name and type, four words, and a lower number, the fifth (Files-11 On-Disk Structure Level 1,
+-- "Directories")
+abbrev pub has_word : ℕ → List ℕ → List ℕ → Bool
+has_word k name other = slice_index_or name k 0 == slice_index_or other k 0
+
+abbrev pub is_lower : List ℕ → List ℕ → Bool
+is_lower name highest =
+    has_word 0 name highest
+    && (has_word 1 name highest
+    && (has_word 2 name highest && (has_word 3 name highest && nat_lt (slice_index_or name 4 0) (slice_index_or highest 4 0))))
+
+-- a file for which others go: it isn't marked for delete (SC.MDL, bit 15 of the characteristics), and it was closed since it was written
+-- (UC.DLK, bit 6) (Files-11 On-Disk Structure Level 1, H.UCHA, H.SCHA)
+abbrev pub judged_kept : ℕ → ℕ → Result (Unit {0}) Refusal
+judged_kept marked opened = if marked == 1 then Err refusal.Marked else if opened == 1 then Err refusal.BadArgument else Ok tt
+
+abbrev pub judges_kept : Attr → Result (Unit {0}) Refusal
+judges_kept of = judged_kept (bit_at of.characteristics 15) (bit_at of.characteristics 6)
+
+-- a name that leads to the file which is kept is removed, and where it leads to another that is deleted with it
+abbrev pub removes_but : Bool → FileId → List ℕ → FileId → FilesPlan (Result (Unit {0}) Refusal)
+removes_but true dir name id = one (done (request.Remove dir name))
+removes_but false dir name id = removes dir name id
+
+-- so it is done where a file may be kept
+abbrev pub purges_by : Result (Unit {0}) Refusal → FileId → FileId → List ℕ → FilesPlan (Result (Unit {0}) Refusal)
+purges_by (Ok x) kept dir name = if_granted (finds_other dir name) (λ id. removes_but (id.number == kept.number) dir name id)
+purges_by (Err e) kept dir name = gives (Err e)
+
+-- the file of the highest version is kept: it is there, and then so
+abbrev pub purges : FileId → List ℕ → List ℕ → FilesPlan (Result (Unit {0}) Refusal)
+purges dir name highest =
+    if_granted (one (names (request.Find dir highest))) (λ kept.
+    if_granted (one (describes kept)) (λ of. purges_by (judges_kept of) kept dir name))
+
+abbrev pub purges_if : Bool → FileId → List ℕ → List ℕ → FilesPlan (Result (Unit {0}) Refusal)
+purges_if true dir name highest = purges dir name highest
+purges_if false dir name highest = gives (Err refusal.BadArgument)
+
 -- an ident area with another name, the first five of its words (Files-11 On-Disk Structure Level 1, "Ident Area")
 abbrev pub with_name : List ℕ → List ℕ → List ℕ
 with_name name ident = with_bytes ident 0 (take 10 (ident_with name))

@@ -1,5 +1,5 @@
 -- Which files of the plain store a plan leaves as they are (profile).
-use Rattle.std.specs.Prelude.{◌≡◌, ◌==◌, ℕ, Bool, true, false, List, Result}
+use Rattle.std.specs.Prelude.{◌≡◌, ◌⊎◌, ◌==◌, ℕ, Bool, true, false, List, Result}
 use Rattle.f11_store.specs.Store.{Store}
 use Rattle.f11_store.specs.declared.files.FileId.{FileId}
 use Rattle.f11_store.specs.declared.refusals.Refusal.{Refusal}
@@ -45,11 +45,22 @@ IsNot n who dir name s = (id : FileId) → Finds who dir name s id → (n == id.
 abbrev pub IsNotWithin : ℕ → Who → FileId → List ℕ → List ℕ → Store → Type 0
 IsNotWithin n who master directory name s = (dir : FileId) → Finds who master directory s dir → IsNot n who dir name s
 
+-- it is the one of a name
+abbrev pub Is : ℕ → Who → FileId → List ℕ → Store → Type 0
+Is n who dir name s = (id : FileId) → Finds who dir name s id → (n == id.number) ≡ true
+
+-- file n isn't one that a directory has under a name, or it is the one that it has under another, which is kept
+abbrev pub IsNotBut : ℕ → Who → FileId → List ℕ → List ℕ → List ℕ → Store → Type 0
+IsNotBut n who master directory name highest s =
+    (dir : FileId) → Finds who master directory s dir → (IsNot n who dir name s) ⊎ (Is n who dir highest s)
+
 -- File n is none that an action names: not a directory in which it enters or removes a name, nor the file that it deletes, renames,
--- protects or truncates; and its slot is in use, where a file is made.
+-- protects or truncates, or purges, unless it is that of the highest version; and its slot is in use, where a file is made.
 abbrev pub IsUnnamed : ℕ → Who → FileId → Action → Store → Type 0
 IsUnnamed n who master (action.Delete directory name) s =
     IsNot n who master directory s × IsNotWithin n who master directory name s
+IsUnnamed n who master (action.Purge directory name highest) s =
+    IsNot n who master directory s × IsNotBut n who master directory name highest s
 IsUnnamed n who master (action.Rename directory name to new) s =
     IsNot n who master directory s × IsNot n who master to s × IsNotWithin n who master directory name s
 IsUnnamed n who master (action.Protect directory name protection) s = IsNotWithin n who master directory name s

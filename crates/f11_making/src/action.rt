@@ -11,6 +11,13 @@ pub enum Action {
         directory: Name,
         name: Name,
     },
+    /// It is deleted as `Delete` does, as a lower version of a name whose file is there; where both names lead to one file, the lower one alone
+    /// is removed.
+    Purge {
+        directory: Name,
+        name: Name,
+        highest: Name,
+    },
     /// It gets a name in this directory or another, and the old one is removed.
     Rename {
         directory: Name,

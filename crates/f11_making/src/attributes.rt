@@ -1,9 +1,10 @@
 //! Where the attributes of a file say that it ends, and how many blocks it has, and the name in its header.
-ghost use Rattle.std.specs.Prelude.{◌≡◌, ◌*◌, ◌≤◌, min};
+ghost use Rattle.std.specs.Prelude.{◌≡◌, ◌==◌, ◌*◌, ◌≤◌, min};
+ghost use Rattle.std.specs.Int.{bit_at};
 ghost use Rattle.f11_store.specs.File.{most_blocks, stated_end};
 ghost use Rattle.f11_making.specs.Plans.{blocks_to_end, is_directory_ident, is_directory_name, states_end, with_blocks, with_name};
 
-use f11_bytes::{long_bytes, put_bytes, read_long, read_word};
+use f11_bytes::{BLOCK_SIZE, long_bytes, put_bytes, read_long, read_word};
 use f11_rad50::Name;
 use f11_store::{Attr, ident_with};
 
@@ -22,6 +23,9 @@ const END_BYTE: usize = 12;
 /// UC.DLK, the bit of H.UCHA that is set while a file is written.
 const OPEN: u32 = 6;
 
+/// SC.MDL, the bit of H.SCHA that marks a file for delete.
+const MARKED: u32 = 15;
+
 /// The type in the name at the front of an ident area, a word.
 const NAME_TYPE: usize = 6;
 
@@ -38,12 +42,12 @@ pub fn end(attr: &[u8; 32], allocation: u32) -> u32
     requires { allocation ≤ most_blocks }
     ensures { result ≡ min (stated_end attr.now) (512 * allocation) }
 {
-    let most = 512 * allocation;
+    let most = allocation * BLOCK_SIZE as u32;
     let block = u64::from(read_long(attr, END_BLOCK));
     if block == 0 {
         0
     } else {
-        let stated = (block - 1) * 512 + u64::from(read_word(attr, END_BYTE));
+        let stated = (block - 1) * BLOCK_SIZE as u64 + u64::from(read_word(attr, END_BYTE));
         stated.min(u64::from(most)) as u32
     }
 }
@@ -53,7 +57,7 @@ pub fn blocks_to_end(attr: &[u8; 32], allocation: u32) -> u32
     requires { allocation ≤ most_blocks }
     ensures { result ≡ blocks_to_end attr.now allocation }
 {
-    end(attr, allocation).div_ceil(512)
+    end(attr, allocation).div_ceil(BLOCK_SIZE as u32)
 }
 
 /// Whether a file states an end: its attributes name a type of records, and the block that the end is in, and it was closed since it was
@@ -62,6 +66,20 @@ pub(crate) fn states_end(of: &Attr) -> bool
     ensures { result ≡ states_end of.now }
 {
     of.attr[TYPE] > 0 && read_long(&of.attr, END_BLOCK) > 0 && of.characteristics >> OPEN & 1 == 0
+}
+
+/// Whether a file wasn't closed since it was written.
+pub(crate) fn is_left_open(of: &Attr) -> bool
+    ensures { result ≡ (bit_at of.now.characteristics 6 == 1) }
+{
+    of.characteristics >> OPEN & 1 == 1
+}
+
+/// Whether a file is marked for delete.
+pub(crate) fn is_marked(of: &Attr) -> bool
+    ensures { result ≡ (bit_at of.now.characteristics 15 == 1) }
+{
+    of.characteristics >> MARKED & 1 == 1
 }
 
 /// Whether it is the name of a directory.

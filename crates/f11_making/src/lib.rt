@@ -14,6 +14,7 @@ pub mod laws;
 mod making;
 mod named;
 mod plans;
+mod purge;
 mod steps;
 mod volume;
 

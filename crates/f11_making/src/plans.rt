@@ -4,7 +4,7 @@ ghost use Rattle.f11_making.specs.Asking.{who_asks};
 ghost use Rattle.f11_making.specs.Actions.{plan_of, within};
 ghost use Rattle.f11_making.specs.Plans.{cuts, cuts_if, deletes, directory_attributes, enters, finds_other, is_gone, is_own, judged_by};
 ghost use Rattle.f11_making.specs.Plans.{is_absent, keeps, makes_directory, makes_empty, may_move, moves, moves_if, protects, renames};
-ghost use Rattle.f11_making.specs.Plans.{retitles, shortens, truncates};
+ghost use Rattle.f11_making.specs.Plans.{removes, retitles, shortens, truncates};
 ghost use Rattle.f11_making.specs.FilesPlan.{Carried};
 
 use crate::action::Action;
@@ -12,6 +12,7 @@ use crate::asked::{Asked, Asker};
 use crate::attributes::{
     blocks_to_end, is_directory_ident, is_directory_name, states_end, with_blocks, with_name,
 };
+use crate::purge::purge;
 use crate::steps::{ask_attributes, ask_done, ask_file, ask_file_for, ask_length, undo};
 use f11_rad50::Name;
 use f11_store::{Change, FileId, Mode, Refusal, Request, Uic, ident_with};
@@ -49,7 +50,7 @@ fn judged(id: FileId) -> Result<FileId, Refusal>
 }
 
 /// Finds the file that a directory has under a name, unless it is one of the volume's own, 1 to 5, or of another volume of a set.
-fn find_other<S: Asked>(
+pub(crate) fn find_other<S: Asked>(
     service: &mut S,
     by: &Asker,
     dir: FileId,
@@ -60,6 +61,29 @@ fn find_other<S: Asked>(
 {
     let id = ask_file(service, by, Request::Find(dir, *name))?;
     judged(id)
+}
+
+/// Removes a name from a directory, and deletes the file that it leads to, if that is there.
+pub(crate) fn remove_file<S: Asked>(
+    service: &mut S,
+    by: &Asker,
+    dir: FileId,
+    name: &Name,
+    id: FileId,
+) -> Result<(), Refusal>
+    ensures goes { Carried S.service (who_asks by.now.task by.now.uic) (removes dir name.now id) result
+        service.old service.new }
+{
+    ask_done(service, by, Request::Remove(dir, *name))?;
+    match ask_done(service, by, Request::Delete(id)) {
+        Ok(()) => Ok(()),
+        Err(refusal) => {
+            if is_gone(refusal) {
+                return Ok(());
+            }
+            Err(undo(service, by, Request::Enter(dir, *name, id), refusal))
+        }
+    }
 }
 
 /// Deletes the file that a directory has under a name, or the name alone where it leads to no file.
@@ -73,16 +97,7 @@ fn delete_file<S: Asked>(
         service.old service.new }
 {
     let id = find_other(service, by, dir, name)?;
-    ask_done(service, by, Request::Remove(dir, *name))?;
-    match ask_done(service, by, Request::Delete(id)) {
-        Ok(()) => Ok(()),
-        Err(refusal) => {
-            if is_gone(refusal) {
-                return Ok(());
-            }
-            Err(undo(service, by, Request::Enter(dir, *name, id), refusal))
-        }
-    }
+    remove_file(service, by, dir, name, id)
 }
 
 /// Gives a file with this ident area a name in its header, and removes another one from a directory.
@@ -303,6 +318,14 @@ pub fn act<S: Asked>(
         Action::Delete { directory, name } => {
             let dir = ask_file(service, by, Request::Find(master, *directory))?;
             delete_file(service, by, dir, name)
+        }
+        Action::Purge {
+            directory,
+            name,
+            highest,
+        } => {
+            let dir = ask_file(service, by, Request::Find(master, *directory))?;
+            purge(service, by, dir, name, highest)
         }
         Action::Rename {
             directory,
