@@ -6,6 +6,7 @@ mod PlacesLemmas
 pub mod HandedLemmas
 pub mod ListingLemmas
 pub mod SearchLemmas
+pub mod HoldingLemmas
 pub mod NamesLemmas
 pub mod LineLemmas
 pub mod DirectoryLemmas

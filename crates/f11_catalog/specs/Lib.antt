@@ -4,6 +4,7 @@ pub mod Users
 pub mod DirectoryNames
 pub mod Lines
 pub mod Listing
+pub mod Holding
 pub mod Names
 pub mod AllDirectories
 pub mod AllFiles

@@ -314,15 +314,16 @@ module _ (directory name : List ℕ) (old mid new : Disk) (reads : Reads old mid
     reads = reads-then reads lacks.reads;
   }
 
-  pub why-not-behind : {W : Type 0} (answer : Answer) (contents : W → Option (List ℕ)) (before after : W)
-      → TellsWhyNot directory name answer mid new contents before after → TellsWhyNot directory name answer old new contents before after
-  why-not-behind answer contents before after (tells_none none) = tells_none (record {
+  pub why-not-behind : {W : Type 0} (called : Option (List ℕ)) (answer : Answer) (contents : W → Option (List ℕ)) (before after : W)
+      → TellsWhyNot called directory name answer mid new contents before after
+      → TellsWhyNot called directory name answer old new contents before after
+  why-not-behind called answer contents before after (tells_none none) = tells_none (record {
     is_fault = none.is_fault;
     refusal = none.refusal;
     lacks = lacks-behind none.refusal none.lacks;
     takes = none.takes;
   })
-  why-not-behind answer contents before after (tells_fault fault) =
+  why-not-behind called answer contents before after (tells_fault fault) =
       tells_fault (fault-behind answer old mid new contents before after reads fault)
 
   unfound-behind : CannotBeFound directory name mid new → CannotBeFound directory name old new

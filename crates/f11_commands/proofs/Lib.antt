@@ -5,7 +5,7 @@ mod AllLemmas
 mod AnyVolumeLemmas
 mod SizeLemmas
 mod LsLemmas
-mod NameListLemmas
+mod LookingLemmas
 mod GetLemmas
 mod RunLemmas
 mod UpdateLemmas
@@ -27,6 +27,6 @@ mod RtAnyLemmas
 mod RtTakingLemmas
 mod RtFillLemmas
 mod RtPutLemmas
-mod RtDeleteLemmas
+mod RtChangeLemmas
 pub use Rattle.f11_serving.proofs as serving
 pub use Rattle.f11_flx.proofs as flx

@@ -1,5 +1,5 @@
 -- What `get` takes out of a volume, faulty or not (profile).
-use Rattle.std.specs.Prelude.{◌≡◌, ℕ, ◌+◌, Bool, IsTrue, List, [], ◌∷◌, ◌++◌, codes, length, take, Option, None, is_some, option_map}
+use Rattle.std.specs.Prelude.{◌≡◌, ℕ, ◌+◌, Bool, IsTrue, List, [], ◌∷◌, ◌++◌, codes, length, take, Option, Some, None, is_some, option_map}
 use Rattle.std.specs.Prelude.{Result, Ok, Err}
 use Rattle.std.specs.Fmt.{decimal}
 use Rattle.std.specs.List.{concat}
@@ -18,6 +18,7 @@ use Rattle.f11_home.specs.Home.{HomeFields}
 use Rattle.f11_index.specs.IndexFile.{Index, all_in_use, index_of}
 use Rattle.f11_index.specs.Kept.{IndexLiesWithin}
 use Rattle.f11_index.specs.Table.{Table, table_in, table_of}
+use Rattle.f11_rad50.specs.Name.{name_text}
 use Rattle.f11_reader.specs.Missing.{FindsMissing}
 use Rattle.f11_reader.specs.Reading.{IsReading, headers_left}
 use Rattle.f11_reader.specs.declared.file.FileReader.{FileReader}
@@ -138,20 +139,27 @@ pub data CannotBeFound (directory name : List ℕ) (old new : Disk) : Type 0 whe
   lacks_file : (refusal : Refusal) → LacksFile directory name refusal old new → CannotBeFound directory name old new
   cannot_be_read : (fault : VolumeFault) → CannotBeRead fault old new → CannotBeFound directory name old new
 
+-- what a line begins with: the name of its file, or nothing
+abbrev pub called_text : Option (List ℕ) → List ℕ
+called_text None = []
+called_text (Some name) = name_text name ++ codes " "
+
 -- The line was written that says why there is none.
-pub record TellsNone {W : Type 0} (directory name : List ℕ) (answer : Answer) (old new : Disk) (contents : W → Option (List ℕ))
+pub record TellsNone {W : Type 0} (called : Option (List ℕ)) (directory name : List ℕ) (answer : Answer) (old new : Disk)
+    (contents : W → Option (List ℕ))
     (before after : W) : Type 0 where
   pub is_fault : answer ≡ Fault
   pub refusal : Refusal
   pub lacks : LacksFile directory name refusal old new
-  pub takes : WriterTakes contents before after (refused_line (Files refusal))
+  pub takes : WriterTakes contents before after (called_text called ++ refused_line (Files refusal))
 
 -- Nothing is taken out: the volume can be read and the file isn't found, or it can't be read.
-pub data TellsWhyNot {W : Type 0} (directory name : List ℕ) (answer : Answer) (old new : Disk) (contents : W → Option (List ℕ))
-    (before after : W) : Type 0 where
-  tells_none : TellsNone directory name answer old new contents before after
-      → TellsWhyNot directory name answer old new contents before after
-  tells_fault : TellsFault answer old new contents before after → TellsWhyNot directory name answer old new contents before after
+pub data TellsWhyNot {W : Type 0} (called : Option (List ℕ)) (directory name : List ℕ) (answer : Answer) (old new : Disk)
+    (contents : W → Option (List ℕ)) (before after : W) : Type 0 where
+  tells_none : TellsNone called directory name answer old new contents before after
+      → TellsWhyNot called directory name answer old new contents before after
+  tells_fault : TellsFault answer old new contents before after
+      → TellsWhyNot called directory name answer old new contents before after
 
 -- The file couldn't be sought: a transfer failed, or there was no memory, and nothing was written; or there was a line to write, and the
 -- writer takes no more.
@@ -166,12 +174,12 @@ told_text (Copied count) = codes "copied " ++ (decimal count ++ codes " bytes")
 told_text BadRecords = codes "no " ++ flx_refusal_name BadRecord
 
 -- its line: for which block zeros were the first, and by which the file broke off
-abbrev pub taken_line : Told → Option ℕ → Option ℕ → List ℕ
-taken_line told zeros broke = told_text told ++ (missing_text zeros broke ++ 10 ∷ [])
+abbrev pub taken_line : Option (List ℕ) → Told → Option ℕ → Option ℕ → List ℕ
+taken_line called told zeros broke = called_text called ++ (told_text told ++ (missing_text zeros broke ++ 10 ∷ []))
 
 -- the line of a file that was taken out as text
-abbrev pub text_line : Told → Option ℕ → List ℕ
-text_line told broke = taken_line told None broke
+abbrev pub text_line : Option (List ℕ) → Told → Option ℕ → List ℕ
+text_line called told broke = taken_line called told None broke
 
 -- behind how many blocks a file breaks off: as it is at the volume's end, as text at the device's
 abbrev pub limit_in : CopyMode → ℕ → ℕ → ℕ
@@ -180,11 +188,12 @@ limit_in mode.Text size blocks = blocks
 
 -- The line was written of a file of which so many bytes were given, before an end: it tells for which block zeros were the first, if for
 -- any.
-pub record TellsZeros {W : Type 0} (index : Index) (file : FileReader) (end count : ℕ) (broke : Option ℕ) (old new : Disk)
+pub record TellsZeros {W : Type 0} (called : Option (List ℕ)) (index : Index) (file : FileReader) (end count : ℕ) (broke : Option ℕ)
+    (old new : Disk)
     (contents : W → Option (List ℕ)) (before after : W) : Type 0 where
   pub zeros : Option ℕ
   pub finds : FindsMissing index file (length old.image) (blocks_before_end end) zeros old new
-  pub takes : WriterTakes contents before after (taken_line (Copied count) zeros broke)
+  pub takes : WriterTakes contents before after (taken_line called (Copied count) zeros broke)
 
 -- It wasn't: a transfer failed before that block was found, and nothing is told; or it was found, and the writer takes no more.
 abbrev pub FailsToZero : {W : Type 0} → Failure → Index → FileReader → ℕ → Disk → Disk → W → W → Type 0
@@ -194,12 +203,13 @@ FailsToZero CannotWrite index file end old new before after =
     (zeros : Option ℕ) × FindsMissing index file (length old.image) (blocks_before_end end) zeros old new
 
 -- The file was written to the host, as it is: so many bytes, up to the end or before the block by which it breaks off; and then its line.
-pub record TakesOutImage {H W : Type 0} (index : Index) (file : FileReader) (end : ℕ) (broke : Option ℕ) (old new : Disk)
+pub record TakesOutImage {H W : Type 0} (called : Option (List ℕ)) (index : Index) (file : FileReader) (end : ℕ) (broke : Option ℕ)
+    (old new : Disk)
     (held : H → Option (List ℕ)) (host_before host_after : H) (contents : W → Option (List ℕ)) (before after : W) : Type 0 where
   pub count : ℕ
   pub mid : Disk
   pub writes : WritesContent index file (end_before end broke) count old mid held host_before host_after
-  pub tells : TellsZeros index file (end_before end broke) count broke mid new contents before after
+  pub tells : TellsZeros called index file (end_before end broke) count broke mid new contents before after
 
 -- It couldn't be: a transfer failed, and then the host was given a beginning of it, or the host takes no more; or its line couldn't be
 -- written. It takes no memory.
@@ -212,25 +222,27 @@ pub data FailsToTakeOutImage {H W : Type 0} (failure : Failure) (index : Index) 
       → FailsToTakeOutImage failure index file end broke old new held host_before host_after before after
 
 -- The text of its records was written to the host, and its line.
-pub record TakesOutText {H W : Type 0} (index : Index) (file : FileReader) (broke : Option ℕ) (old new : Disk) (held : H → Option (List ℕ))
+pub record TakesOutText {H W : Type 0} (called : Option (List ℕ)) (index : Index) (file : FileReader) (broke : Option ℕ) (old new : Disk)
+    (held : H → Option (List ℕ))
     (host_before host_after : H) (contents : W → Option (List ℕ)) (before after : W) : Type 0 where
   pub count : ℕ
   pub writes : WritesText index file broke count old new held host_before host_after
-  pub line : WriterTakes contents before after (text_line (Copied count) broke)
+  pub line : WriterTakes contents before after (text_line called (Copied count) broke)
 
 -- Its records can't all be read: the text of those before the first that can't was written to the host, and the line that says so.
-pub record TellsBadRecord {H W : Type 0} (index : Index) (file : FileReader) (broke : Option ℕ) (old new : Disk)
+pub record TellsBadRecord {H W : Type 0} (called : Option (List ℕ)) (index : Index) (file : FileReader) (broke : Option ℕ) (old new : Disk)
     (held : H → Option (List ℕ)) (host_before host_after : H) (contents : W → Option (List ℕ)) (before after : W) : Type 0 where
   pub writes : WritesGoodText index file broke old new held host_before host_after
-  pub line : WriterTakes contents before after (text_line BadRecords broke)
+  pub line : WriterTakes contents before after (text_line called BadRecords broke)
 
 -- what was told of a text, with each answer
-abbrev pub TakesOutTextAs : {H W : Type 0} → Answer → Index → FileReader → Option ℕ → Disk → Disk → (H → Option (List ℕ)) → H → H
+abbrev pub TakesOutTextAs : {H W : Type 0} → Option (List ℕ) → Answer → Index → FileReader → Option ℕ → Disk → Disk → (H → Option (List ℕ))
+    → H → H
     → (W → Option (List ℕ)) → W → W → Type 0
-TakesOutTextAs Done index file broke old new held host_before host_after contents before after =
-    TakesOutText index file broke old new held host_before host_after contents before after
-TakesOutTextAs Fault index file broke old new held host_before host_after contents before after =
-    TellsBadRecord index file broke old new held host_before host_after contents before after
+TakesOutTextAs called Done index file broke old new held host_before host_after contents before after =
+    TakesOutText called index file broke old new held host_before host_after contents before after
+TakesOutTextAs called Fault index file broke old new held host_before host_after contents before after =
+    TellsBadRecord called index file broke old new held host_before host_after contents before after
 
 -- It couldn't be as text, likewise: or the writer takes no more of the line.
 pub data FailsToTakeOutText {H W : Type 0} (failure : Failure) (index : Index) (file : FileReader) (broke : Option ℕ) (old new : Disk)
@@ -243,13 +255,14 @@ pub data FailsToTakeOutText {H W : Type 0} (failure : Failure) (index : Index) (
       → FailsToTakeOutText failure index file broke old new held host_before host_after before after
 
 -- what was taken out in each mode, before the block by which the file breaks off
-abbrev pub TakesOutAs : {H W : Type 0} → CopyMode → Answer → Index → FileReader → ℕ → Option ℕ → Disk → Disk → (H → Option (List ℕ))
+abbrev pub TakesOutAs : {H W : Type 0} → Option (List ℕ) → CopyMode → Answer → Index → FileReader → ℕ → Option ℕ → Disk → Disk
+    → (H → Option (List ℕ))
     → H → H → (W → Option (List ℕ)) → W → W → Type 0
-TakesOutAs mode.Image Done index file end broke old new held host_before host_after contents before after =
-    TakesOutImage index file end broke old new held host_before host_after contents before after
-TakesOutAs mode.Image Fault index file end broke old new held host_before host_after contents before after = ⊥
-TakesOutAs mode.Text answer index file end broke old new held host_before host_after contents before after =
-    TakesOutTextAs answer index file broke old new held host_before host_after contents before after
+TakesOutAs called mode.Image Done index file end broke old new held host_before host_after contents before after =
+    TakesOutImage called index file end broke old new held host_before host_after contents before after
+TakesOutAs called mode.Image Fault index file end broke old new held host_before host_after contents before after = ⊥
+TakesOutAs called mode.Text answer index file end broke old new held host_before host_after contents before after =
+    TakesOutTextAs called answer index file broke old new held host_before host_after contents before after
 
 -- nor in a mode
 abbrev pub FailsToTakeOutAs : {H W : Type 0} → CopyMode → Failure → Index → FileReader → ℕ → Option ℕ → Disk → Disk
@@ -260,12 +273,13 @@ FailsToTakeOutAs mode.Text failure index file end broke old new held host_before
     FailsToTakeOutText failure index file broke old new held host_before host_after before after
 
 -- It was found by which block before its end the file breaks off, if by any, and it was taken out so.
-pub record TakesOut {H W : Type 0} (mode : CopyMode) (answer : Answer) (index : Index) (file : FileReader) (size end : ℕ) (old new : Disk)
+pub record TakesOut {H W : Type 0} (called : Option (List ℕ)) (mode : CopyMode) (answer : Answer) (index : Index) (file : FileReader)
+    (size end : ℕ) (old new : Disk)
     (held : H → Option (List ℕ)) (host_before host_after : H) (contents : W → Option (List ℕ)) (before after : W) : Type 0 where
   pub broke : Option ℕ
   pub mid : Disk
   pub finds : FindsMissing index file (limit_in mode size (length old.image)) (blocks_before_end end) broke old mid
-  pub takes : TakesOutAs mode answer index file end broke mid new held host_before host_after contents before after
+  pub takes : TakesOutAs called mode answer index file end broke mid new held host_before host_after contents before after
 
 -- A transfer failed before that was found, and nothing was written; or it was, and it couldn't be taken out.
 pub data FailsToTakeOut {H W : Type 0} (mode : CopyMode) (failure : Failure) (index : Index) (file : FileReader) (size end : ℕ)

@@ -7,6 +7,7 @@ mod missing;
 pub mod name;
 pub mod open;
 pub mod seek;
+pub mod several;
 pub mod sought;
 mod told;
 pub mod write;

@@ -2,12 +2,12 @@
 ghost use Rattle.std.specs.Prelude.{◌≡◌, Err, IfErr, IfOk, Ok, length};
 ghost use Rattle.f11_catalog.specs.Names.{FailsToName};
 ghost use Rattle.f11_index.specs.Kept.{index_kept, IndexLiesWithin};
-ghost use Rattle.f11_commands.specs.DirectoryNames.{FailsToFindNames, FindsNames, HasNoNames, LooksForNames, failure_by};
+ghost use Rattle.f11_commands.specs.DirectoryNames.{FailsToFindNames, FindsNames, HasNoNames, LooksForNames};
+ghost use Rattle.f11_commands.specs.Looking.{failure_by};
 
 use crate::finding::MASTER_DIRECTORY;
+use crate::looking::read_indexes;
 use crate::outcome::Failure;
-use crate::volume::read_index;
-use f11_bytes::NoMemory;
 use f11_catalog::{WalkFault, find, names};
 use f11_dev::Device;
 use f11_index::IndexFile;
@@ -15,7 +15,7 @@ use f11_rad50::Name;
 use f11_store::Refusal;
 use std::alloc::Global;
 
-/// Why a directory's names aren't told.
+/// Why a directory's names, or its records, aren't told.
 #[derive(Clone, Copy, Debug, PartialEq, Eq)]
 pub enum NoNames {
     /// The home block or the index file can't be read.
@@ -57,14 +57,9 @@ pub fn directory_names<D: Device>(
     ensures failed { IfErr result (λ failure. FailsToFindNames failure
         (D.disk device.old) (D.disk device.new)) }
 {
-    let index = match read_index(alloc, device) {
-        Ok(Ok((_, index))) => index,
-        Ok(Err(_)) => return Ok(Err(NoNames::Unreadable)),
-        Err(failure) => return Err(failure),
-    };
-    let wide = match index.with_all_in_use(alloc) {
-        Ok(wide) => wide,
-        Err(NoMemory) => return Err(Failure::NoMemory),
+    let (index, wide) = match read_indexes(alloc, device)? {
+        Ok(both) => both,
+        Err(_) => return Ok(Err(NoNames::Unreadable)),
     };
     match names_under(alloc, device, &index, &wide, directory)? {
         Ok(names) => Ok(Ok(names)),

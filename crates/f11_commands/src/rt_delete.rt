@@ -1,12 +1,10 @@
 //! The command `rt-del`.
-ghost use Rattle.f11_commands.specs.RtDelete.{EndsDeletion, TellsDeleted};
+ghost use Rattle.f11_commands.specs.RtDelete.{EndsDeletion};
 
 use crate::outcome::{Failure, FileAnswer};
-use crate::sync::synced;
-use crate::telling::tell;
+use crate::rt_change::end_change;
 use crate::verifying::accept_rt;
 use f11_dev::Device;
-use f11_flx::FlxRefusal;
 use rt11_volume::RtName;
 use std::alloc::Global;
 use std::io::Write;
@@ -16,8 +14,8 @@ use std::io::Write;
 ///
 /// # Errors
 ///
-/// [`Failure::DeviceFault`] where a transfer failed, or the sync when the file is deleted, [`Failure::NoMemory`] where there was no memory, and [`Failure::CannotWrite`] where
-/// the writer takes no more: then the file may be deleted.
+/// [`Failure::DeviceFault`] where a transfer failed, or the sync when the file is deleted, [`Failure::NoMemory`] where there was no memory, and
+/// [`Failure::CannotWrite`] where the writer takes no more: then the file may be deleted.
 pub fn print_rt_delete<D: Device, W: Write>(
     alloc: Global,
     device: D,
@@ -31,22 +29,6 @@ pub fn print_rt_delete<D: Device, W: Write>(
         Ok(volume) => volume,
         Err((device, told)) => return (device, told),
     };
-    match volume.delete(name) {
-        Ok(()) => match synced(volume.device()) {
-            Ok(device) => (device, tell_deleted(writer)),
-            Err(device) => (device, Err(Failure::DeviceFault)),
-        },
-        Err(refusal) => {
-            let told = tell(Err(FlxRefusal::Rt(refusal)), writer);
-            (volume.device(), told)
-        }
-    }
-}
-
-/// Writes that the file was deleted.
-fn tell_deleted<W: Write>(writer: &mut W) -> Result<FileAnswer, Failure>
-    ensures tells { TellsDeleted result W.contents writer.old writer.new }
-{
-    writeln!(writer, "ok")?;
-    Ok(FileAnswer::Done)
+    let answer = volume.delete(name);
+    end_change(volume, answer, writer)
 }

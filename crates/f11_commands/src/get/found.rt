@@ -33,6 +33,13 @@ pub struct FoundFile<D: Device> {
 }
 
 impl<D: Device> FoundFile<D> {
+    /// Its device.
+    pub fn into_device(self) -> D
+        ensures { result ≡ self.device }
+    {
+        self.device
+    }
+
     /// Whether the bit of its slot says that it is in use. Where it doesn't its blocks may have become another file's, if the volume was
     /// written since.
     pub fn is_in_use(&self) -> bool

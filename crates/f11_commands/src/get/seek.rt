@@ -1,5 +1,5 @@
 //! The first step of `get`: the file is found.
-ghost use Rattle.std.specs.Prelude.{◌≡◌, IfErr, IfOk, OnErr, length, if◌then◌else◌};
+ghost use Rattle.std.specs.Prelude.{◌≡◌, IfErr, IfOk, None, OnErr, length, if◌then◌else◌};
 ghost use Rattle.f11_catalog.specs.Records.{Reads};
 ghost use Rattle.f11_header.specs.Fields.{attributes};
 ghost use Rattle.f11_index.specs.Kept.{index_kept, IndexLiesWithin};
@@ -17,6 +17,7 @@ use crate::finding::MASTER_DIRECTORY;
 use crate::get::found::FoundFile;
 use crate::get::open::open_file;
 use crate::get::sought::Sought;
+use crate::get::told::Called;
 use crate::ls::Served;
 use crate::outcome::{Answer, Failure};
 use crate::size::volume_end;
@@ -59,23 +60,29 @@ pub fn seek_file<D: Device, W: Write>(
         (D.disk device) (D.disk (device_with found)))) }
     ensures none { IfOk result (λ answer. IfErr answer (λ told.
         IsVerified told.1.faulty (D.disk device)
-        × TellsWhyNot directory.now name.now told.1.answer
+        × TellsWhyNot None directory.now name.now told.1.answer
         (D.disk device) (D.disk told.0) W.contents writer.old writer.new)) }
     ensures failed { IfErr result (λ failed. FailsToSeek failed.1 directory.now name.now
         (D.disk device) (D.disk failed.0) writer.old writer.new) }
 {
     match is_faulty(alloc, device) {
-        Ok((device, faulty)) => seek(alloc, device, faulty, writer, directory, name),
+        Ok((device, faulty)) => seek_verified(alloc, device, faulty, None, writer, directory, name),
         Err(VfyError::DeviceFault(device)) => Err((device, Failure::DeviceFault)),
         Err(VfyError::NoMemory(device)) => Err((device, Failure::NoMemory)),
     }
 }
 
-/// Finds the file on a volume that has faults or hasn't.
-fn seek<D: Device, W: Write>(
+/// Finds a file as [`seek_file`] does, on a volume that has faults or hasn't: it isn't verified again. The line that says why there is none
+/// begins with the name by which the file is called, where it is: `NAME no NoSuchFile`.
+///
+/// # Errors
+///
+/// As of [`seek_file`].
+pub fn seek_verified<D: Device, W: Write>(
     alloc: Global,
     device: D,
     faulty: bool,
+    called: Option<Name>,
     writer: &mut W,
     directory: &Name,
     name: &Name,
@@ -89,13 +96,13 @@ fn seek<D: Device, W: Write>(
         (file_to_come (index_with found) (D.disk (device_with found)) (reader_of found))
         (D.disk device) (D.disk (device_with found)))) }
     ensures none { IfOk result (λ answer. IfErr answer (λ told. (told.1.faulty ≡ faulty)
-        × TellsWhyNot directory.now name.now told.1.answer
+        × TellsWhyNot called directory.now name.now told.1.answer
         (D.disk device) (D.disk told.0) W.contents writer.old writer.new)) }
     ensures failed { IfErr result (λ failed. FailsToSeek failed.1 directory.now name.now
         (D.disk device) (D.disk failed.0) writer.old writer.new) }
 {
     let mut device = device;
-    match seek_on_volume(alloc, &mut device, writer, directory, name) {
+    match seek_on_volume(alloc, &mut device, called, writer, directory, name) {
         Ok(Ok((index, found, size))) => Ok(Ok(FoundFile {
             device,
             index,
@@ -114,6 +121,7 @@ fn seek<D: Device, W: Write>(
 fn seek_on_volume<D: Device, W: Write>(
     alloc: Global,
     device: &mut D,
+    called: Option<Name>,
     writer: &mut W,
     directory: &Name,
     name: &Name,
@@ -125,7 +133,8 @@ fn seek_on_volume<D: Device, W: Write>(
         found.1.end (lbns_to_come (index_kept found.0) (D.disk device.new) found.1.file)
         (file_to_come (index_kept found.0) (D.disk device.new) found.1.file)
         (D.disk device.old) (D.disk device.new))) }
-    ensures none { IfOk result (λ answer. IfErr answer (λ told. TellsWhyNot directory.now name.now told
+    ensures none { IfOk result (λ answer. IfErr answer (λ told. TellsWhyNot called directory.now
+        name.now told
         (D.disk device.old) (D.disk device.new) W.contents writer.old writer.new)) }
     ensures failed { IfErr result (λ failure. FailsToSeek failure directory.now name.now
         (D.disk device.old) (D.disk device.new) writer.old writer.new) }
@@ -138,7 +147,8 @@ fn seek_on_volume<D: Device, W: Write>(
                     Ok(Ok((if found.in_use { index } else { wide }, found, size)))
                 }
                 Err(refusal) => {
-                    writeln!(writer, "no {refusal}")?;
+                    let called = Called(called);
+                    writeln!(writer, "{called}no {refusal}")?;
                     Ok(Err(Answer::Fault))
                 }
             }

@@ -51,7 +51,7 @@ impl Counts {
 }
 
 /// One more, if it counts.
-fn count_if(count: u64, counts: bool) -> u64
+pub(crate) fn count_if(count: u64, counts: bool) -> u64
     ensures { result ≡ more_if counts count }
 {
     if counts {
