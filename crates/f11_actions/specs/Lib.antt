@@ -2,7 +2,11 @@
 pub mod Changes
 pub mod Chosen
 pub mod Command
+pub mod Undone
+pub mod Deletion
 pub mod Lines
 pub mod Making
+pub mod Meant
 pub mod Plans
 pub mod Protection
+pub mod Taking

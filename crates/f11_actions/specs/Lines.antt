@@ -12,6 +12,7 @@ use Rattle.f11_actions.specs.Plans.{Acted}
 -- the name of the file
 abbrev pub name_in : Action → List ℕ
 name_in (action.Delete directory name) = name
+name_in (action.Purge directory name highest) = name
 name_in (action.Rename directory name to new) = name
 name_in (action.Protect directory name protection) = name
 name_in (action.Truncate directory name) = name
@@ -20,6 +21,7 @@ name_in (action.MakeDirectory name owner protection) = name
 -- what is done to it
 abbrev pub done_text : Action → List ℕ
 done_text (action.Delete directory name) = codes "deleted"
+done_text (action.Purge directory name highest) = codes "purged"
 done_text (action.Rename directory name to new) = codes "renamed " ++ name_text new
 done_text (action.Protect directory name protection) = codes "protected"
 done_text (action.Truncate directory name) = codes "truncated"

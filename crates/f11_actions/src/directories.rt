@@ -7,7 +7,7 @@ use f11_making::{Action, is_directory_name};
 use f11_rad50::Name;
 
 /// The deletion of a file; `None` where its name is that of a directory, whose files would be in none then.
-pub fn deletion(directory: Name, name: Name) -> Option<Action>
+pub(crate) fn deletion(directory: Name, name: Name) -> Option<Action>
     ensures { MatchOption result (is_directory_name name ≡ true)
         (λ a. (is_directory_name name ≡ false) × (a ≡ action.Delete directory name)) }
 {

@@ -1,25 +1,33 @@
-//! What a user has done to files of a Files-11 volume by their names: they are deleted, renamed, protected, truncated; and directories are
-//! made.
+//! What a user has done to files of a Files-11 volume by their names: they are deleted, purged, renamed, protected, truncated; and directories
+//! are made.
 //!
 //! [`print_actions`] verifies a volume once, mounts it once, and does one [`Action`] after another: it writes a line for each, and one that
 //! counts them. One that is refused doesn't end the others, unless memory ran out. Each is a plan of requests to the file processor
-//! ([`f11_making`]), so that the volume is accepted at each moment, and no file is another but those that are named, their directories and the
-//! index file. [`deletion`] and [`renaming`] leave directories what they are. [`print_making`] makes a directory with the protection that the
-//! volume gives its files. [`print_chosen`] does one [`Change`] to each file of a directory whose name a pattern chooses.
+//! ([`f11_making`]), so that the volume is accepted at each moment, and each leaves every file as it was but the one that it names, its
+//! directories and the index file. [`print_deletion`] deletes no directory that has records, and [`renaming`] leaves directories what they are.
+//! [`print_making`] makes a directory with the protection that the volume gives its files. [`print_chosen`] does one [`Change`] to each file of
+//! a directory whose name a pattern chooses; [`meant_names`] are those that it means. [`begin_taking`] decides which files `get` takes out by a
+//! pattern.
 #![tactic(auto)]
 
 mod acting;
 mod change;
 mod chosen;
 mod command;
+mod deletion;
 mod directories;
 mod line;
 mod making;
+mod meant;
 mod protection;
+mod taking;
 
 pub use change::Change;
 pub use chosen::print_chosen;
 pub use command::print_actions;
-pub use directories::{deletion, renaming};
+pub use deletion::print_deletion;
+pub use directories::renaming;
 pub use f11_making::{Action, is_directory_name};
 pub use making::print_making;
+pub use meant::meant_names;
+pub use taking::begin_taking;

@@ -19,10 +19,11 @@ impl fmt::Display for Done {
 
     ghost output = { λ done. Some (done_text done.0) };
 
-    /// Writes `deleted`, `made`, `protected`, `truncated`, or `renamed` and the new name.
+    /// Writes `deleted`, `made`, `protected`, `purged`, `truncated`, or `renamed` and the new name.
     fn fmt<W: fmt::Write>(&self, f: &mut fmt::Formatter<W>) -> fmt::Result {
         match &self.0 {
             Action::Delete { .. } => write!(f, "deleted"),
+            Action::Purge { .. } => write!(f, "purged"),
             Action::Rename { new, .. } => write!(f, "renamed {new}"),
             Action::Protect { .. } => write!(f, "protected"),
             Action::Truncate { .. } => write!(f, "truncated"),
@@ -37,6 +38,7 @@ fn name_of(action: &Action) -> Name
 {
     match action {
         Action::Delete { name, .. } => *name,
+        Action::Purge { name, .. } => *name,
         Action::Rename { name, .. } => *name,
         Action::Protect { name, .. } => *name,
         Action::Truncate { name, .. } => *name,

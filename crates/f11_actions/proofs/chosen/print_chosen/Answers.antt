@@ -1,20 +1,25 @@
 use Rattle.std.proofs.Common.{◌∙◌, List, refl, subst}
 use Rattle.f11_making.specs.declared.action.Action.{Action}
+use Rattle.f11_patterns.specs.declared.choose.Choice.{Choice}
 use Rattle.f11_store.specs.declared.refusals.Refusal.{Refusal}
-use Rattle.f11_actions.specs.Chosen.{ActsOnChosen, EndsUndone}
+use Rattle.f11_actions.specs.Chosen.{ActsOnChosen, EndsNone}
 use Rattle.f11_actions.specs.Chosen.EndsChosen.{acts, failed, refused, unreadable}
 use Rattle.f11_actions.proofs.chosen.print_chosen.Goals as goal
 
 pub returns-in-Ok-Ok : goal.returns-in-Ok-Ok
 returns-in-Ok-Ok g c =
-    let chosen = rw c.in-Ok-Ok.field-0-is at c.in-Ok-Ok.ensures.chosen in
     record {
       ends =
-          acts chosen.0 _ chosen.1.1
+          acts c.in-Ok-Ok.actions.items _ (rw c.in-Ok-Ok.field-0-is at c.in-Ok-Ok.ensures.chosen)
           (subst
-          (λ (xs : List Action). ActsOnChosen xs c.act_on_chosen.result.1 (g.D.Device.disk c.chosen_actions.new.device)
+          (λ (choice : Choice). ActsOnChosen choice c.in-Ok-Ok.actions.items c.act_on_chosen.result.1
+          (g.D.Device.disk c.chosen_actions.new.device) (g.D.Device.disk c.act_on_chosen.result.0) g.W.Write.contents
+          c.args.writer.now c.act_on_chosen.new.writer)
+          c.choice.ensures
+          (subst
+          (λ (xs : List Action). ActsOnChosen c.choice.result xs c.act_on_chosen.result.1 (g.D.Device.disk c.chosen_actions.new.device)
           (g.D.Device.disk c.act_on_chosen.result.0) g.W.Write.contents c.args.writer.now c.act_on_chosen.new.writer)
-          (c.deref.ensures.value ∙ chosen.1.0) c.act_on_chosen.ensures.ends);
+          c.deref.ensures.value c.act_on_chosen.ensures.ends));
     }
 
 pub returns-in-Ok-Err-Refused : goal.returns-in-Ok-Err-Refused
@@ -24,7 +29,7 @@ returns-in-Ok-Err-Refused g c =
       ends =
           refused c.in-Ok-Err-Refused.refusal _ (rw c.in-Ok-Err-Refused.field-0-0-is at none)
           (subst
-          (λ (e : Refusal). EndsUndone e c.leave_all.result.1 (g.D.Device.disk c.chosen_actions.new.device)
+          (λ (e : Refusal). EndsNone e c.leave_all.result.1 (g.D.Device.disk c.chosen_actions.new.device)
           (g.D.Device.disk c.leave_all.result.0) g.W.Write.contents c.args.writer.now c.leave_all.new.writer)
           c.in-Ok-Err-Refused.refusal-is c.leave_all.ensures.ends);
     }
