@@ -1,1 +1,2 @@
 pub mod OctalLemmas
+pub mod RightsLemmas

@@ -22,6 +22,8 @@ use Rattle.f11_words.specs.Lines.{
   mkdir_line,
   name_line,
   prot_line,
+  purge_line,
+  put_each_line,
   put_line,
   quiet_run_line,
   ren_line,
@@ -32,7 +34,10 @@ use Rattle.f11_words.specs.Lines.{
   rt_init_line,
   rt_list_line,
   rt_ls_line,
+  rt_prot_line,
   rt_put_line,
+  rt_ren_line,
+  rt_unprot_line,
   rt_vfy_line,
   run_line,
   to_rt_line,
@@ -57,6 +62,7 @@ use Rattle.f11_words.specs.declared.usage.Subcommand.TheVariants.{
   Mkdir,
   Name,
   Prot,
+  Purge,
   Put,
   Ren,
   Rights,
@@ -65,7 +71,9 @@ use Rattle.f11_words.specs.declared.usage.Subcommand.TheVariants.{
   RtInit,
   RtList,
   RtLs,
+  RtProt,
   RtPut,
+  RtRen,
   RtVfy,
   Run,
   Trunc,
@@ -102,7 +110,11 @@ takes-words Ls = (λ h word. refl, (λ h word. refl, tt))
 takes-words Mkdir = (λ h word. refl, (λ h word. refl, tt))
 takes-words Name = (λ h word. refl, tt)
 takes-words Prot = (λ h word. refl, (λ h word. refl, (λ h word. refl, (λ h word. refl, tt))))
-takes-words Put = (λ h word rest. (refl, refl, refl), (λ h word. refl, (λ h word. refl, (λ h word. refl, (λ h word. refl, tt)))))
+takes-words Purge = (λ h word. refl, (λ h word. refl, (λ h word. refl, tt)))
+takes-words Put = (
+  λ h rest. (refl, refl),
+  (λ h word rest. (refl, refl, refl), (λ h word. refl, (λ h word. refl, (λ h word. refl, (λ h word. refl, tt))))),
+)
 takes-words Ren = (λ h word. refl, (λ h word. refl, (λ h word. refl, (λ h word. refl, tt))))
 takes-words Rights = (λ h word. refl, (λ h word. refl, (λ h word. refl, tt)))
 takes-words RtDel = (λ h word. refl, (λ h word. refl, tt))
@@ -110,7 +122,9 @@ takes-words RtGet = (λ h rest. (refl, refl), (λ h word. refl, (λ h word. refl
 takes-words RtInit = (λ h word rest. (refl, refl, refl), (λ h word rest. (refl, refl, refl), (λ h word. refl, tt)))
 takes-words RtList = (λ h word. refl, tt)
 takes-words RtLs = (λ h word. refl, tt)
+takes-words RtProt = (λ h rest. (refl, refl), (λ h word. refl, (λ h word. refl, tt)))
 takes-words RtPut = (λ h word. refl, (λ h word. refl, (λ h word. refl, tt)))
+takes-words RtRen = (λ h word. refl, (λ h word. refl, (λ h word. refl, tt)))
 takes-words RtVfy = (λ h word. refl, tt)
 takes-words Run = (λ h rest. (refl, refl), (λ h word. refl, (λ h word. refl, tt)))
 takes-words Trunc = (λ h word. refl, (λ h word. refl, (λ h word. refl, tt)))
@@ -154,8 +168,12 @@ line-met (ls_in_line image dir) = (tt, refl, refl)
 line-met (mkdir_line image dir) = (tt, refl, refl)
 line-met (name_line word) = (tt, refl, refl)
 line-met (prot_line image dir name word) = (tt, refl, refl)
+line-met (purge_line image dir None) = (refl, refl, refl)
+line-met (purge_line image dir (Some name)) = (tt, refl, refl)
 line-met (put_line None image dir name host) = (tt, refl, refl)
 line-met (put_line (Some mode) image dir name host) = (tt, refl, refl)
+line-met (put_each_line None image dir host) = (refl, refl, refl)
+line-met (put_each_line (Some mode) image dir host) = (refl, refl, refl)
 line-met (ren_line image dir name new) = (tt, refl, refl)
 line-met (rights_line caller owner word) = (tt, refl, refl)
 line-met (rt_del_line rt name) = (tt, refl, refl)
@@ -164,7 +182,10 @@ line-met (rt_get_all_line rt folder) = (refl, refl, refl)
 line-met (rt_init_line blocks segments image) = (tt, refl, refl)
 line-met (rt_list_line image) = (tt, refl, refl)
 line-met (rt_ls_line rt) = (tt, refl, refl)
+line-met (rt_prot_line rt name) = (tt, refl, refl)
+line-met (rt_unprot_line rt name) = (tt, refl, refl)
 line-met (rt_put_line rt name host) = (tt, refl, refl)
+line-met (rt_ren_line rt name new) = (tt, refl, refl)
 line-met (rt_vfy_line image) = (tt, refl, refl)
 line-met (run_line image script) = (tt, refl, refl)
 line-met (quiet_run_line image script) = (tt, refl, refl)

@@ -5,3 +5,4 @@ mod MetLemmas
 mod ReadingLemmas
 mod ToldLemmas
 mod WalkLemmas
+pub mod HostsLemmas

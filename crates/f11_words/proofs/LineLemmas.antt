@@ -28,6 +28,7 @@ use Rattle.f11_words.specs.declared.usage.Subcommand.TheVariants.{
   Mkdir,
   Name,
   Prot,
+  Purge,
   Put,
   Ren,
   Rights,
@@ -36,7 +37,9 @@ use Rattle.f11_words.specs.declared.usage.Subcommand.TheVariants.{
   RtInit,
   RtList,
   RtLs,
+  RtProt,
   RtPut,
+  RtRen,
   RtVfy,
   Run,
   Trunc,
@@ -109,6 +112,7 @@ command-met Ls = (refl, refl, refl, refl)
 command-met Mkdir = (refl, refl, refl, refl)
 command-met Name = (refl, refl, refl, refl)
 command-met Prot = (refl, refl, refl, refl)
+command-met Purge = (refl, refl, refl, refl)
 command-met Put = (refl, refl, refl, refl)
 command-met Ren = (refl, refl, refl, refl)
 command-met Rights = (refl, refl, refl, refl)
@@ -117,7 +121,9 @@ command-met RtGet = (refl, refl, refl, refl)
 command-met RtInit = (refl, refl, refl, refl)
 command-met RtList = (refl, refl, refl, refl)
 command-met RtLs = (refl, refl, refl, refl)
+command-met RtProt = (refl, refl, refl, refl)
 command-met RtPut = (refl, refl, refl, refl)
+command-met RtRen = (refl, refl, refl, refl)
 command-met RtVfy = (refl, refl, refl, refl)
 command-met Run = (refl, refl, refl, refl)
 command-met Trunc = (refl, refl, refl, refl)

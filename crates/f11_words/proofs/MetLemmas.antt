@@ -24,6 +24,8 @@ use Rattle.f11_words.specs.Lines.{
   mkdir_line,
   name_line,
   prot_line,
+  purge_line,
+  put_each_line,
   put_line,
   quiet_run_line,
   ren_line,
@@ -34,7 +36,10 @@ use Rattle.f11_words.specs.Lines.{
   rt_init_line,
   rt_list_line,
   rt_ls_line,
+  rt_prot_line,
   rt_put_line,
+  rt_ren_line,
+  rt_unprot_line,
   rt_vfy_line,
   run_line,
   to_rt_line,
@@ -58,6 +63,7 @@ use Rattle.f11_words.specs.declared.usage.Subcommand.TheVariants.{
   Mkdir,
   Name,
   Prot,
+  Purge,
   Put,
   Ren,
   Rights,
@@ -66,7 +72,9 @@ use Rattle.f11_words.specs.declared.usage.Subcommand.TheVariants.{
   RtInit,
   RtList,
   RtLs,
+  RtProt,
   RtPut,
+  RtRen,
   RtVfy,
   Run,
   Trunc,
@@ -91,6 +99,7 @@ named-is Ls = refl
 named-is Mkdir = refl
 named-is Name = refl
 named-is Prot = refl
+named-is Purge = refl
 named-is Put = refl
 named-is Ren = refl
 named-is Rights = refl
@@ -99,7 +108,9 @@ named-is RtGet = refl
 named-is RtInit = refl
 named-is RtList = refl
 named-is RtLs = refl
+named-is RtProt = refl
 named-is RtPut = refl
+named-is RtRen = refl
 named-is RtVfy = refl
 named-is Run = refl
 named-is Trunc = refl
@@ -155,7 +166,9 @@ reads-line matches result (ls_in_line image dir) reads = reads.one image dir
 reads-line matches result (mkdir_line image dir) reads = reads image dir
 reads-line matches result (name_line word) reads = reads word
 reads-line matches result (prot_line image dir name word) reads = reads image dir name word
-reads-line matches result (put_line mode image dir name host) reads = reads mode image dir name host
+reads-line matches result (purge_line image dir name) reads = reads image dir name
+reads-line matches result (put_line mode image dir name host) reads = reads.file mode image dir name host
+reads-line matches result (put_each_line mode image dir host) reads = reads.each mode image dir host
 reads-line matches result (ren_line image dir name new) reads = reads image dir name new
 reads-line matches result (rights_line caller owner word) reads = reads caller owner word
 reads-line matches result (rt_del_line rt name) reads = reads rt name
@@ -164,7 +177,10 @@ reads-line matches result (rt_get_all_line rt folder) reads = reads.all rt folde
 reads-line matches result (rt_init_line blocks segments image) reads = reads blocks segments image
 reads-line matches result (rt_list_line image) reads = reads image
 reads-line matches result (rt_ls_line rt) reads = reads rt
+reads-line matches result (rt_prot_line rt name) reads = reads.on rt name
+reads-line matches result (rt_unprot_line rt name) reads = reads.off rt name
 reads-line matches result (rt_put_line rt name host) reads = reads rt name host
+reads-line matches result (rt_ren_line rt name new) reads = reads rt name new
 reads-line matches result (rt_vfy_line image) reads = reads image
 reads-line matches result (run_line image script) reads = reads.told image script
 reads-line matches result (quiet_run_line image script) reads = reads.quiet image script

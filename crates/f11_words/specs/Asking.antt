@@ -1,7 +1,8 @@
 -- What a command line asks for (profile).
-use Rattle.std.specs.Prelude.{◌≡◌, ◌⊎◌, ℕ, Bool, true, false, List, Option, Some, None, codes}
+use Rattle.std.specs.Prelude.{◌≡◌, ◌⊎◌, ℕ, Bool, true, false, List, Option, Some, None, codes, unwrap_or}
 use Rattle.f11_numbers.specs.Decimal.{IsCount, IsNumber, SpellsNumber, SpellsCount}
 use Rattle.f11_numbers.specs.Octal.{IsProtection, SpellsProtection, SpellsUic}
+use Rattle.f11_numbers.specs.Rights.{SpellsRights}
 use Rattle.f11_words.specs.Directory.{IsNoDirectory, IsNoTarget, IsNoUic, SpellsDirectory, SpellsTarget}
 use Rattle.f11_words.specs.Lines.{
   CommandLine,
@@ -17,6 +18,8 @@ use Rattle.f11_words.specs.Lines.{
   mkdir_line,
   name_line,
   prot_line,
+  purge_line,
+  put_each_line,
   put_line,
   quiet_run_line,
   ren_line,
@@ -27,7 +30,10 @@ use Rattle.f11_words.specs.Lines.{
   rt_init_line,
   rt_list_line,
   rt_ls_line,
+  rt_prot_line,
   rt_put_line,
+  rt_ren_line,
+  rt_unprot_line,
   rt_vfy_line,
   run_line,
   to_rt_line,
@@ -56,7 +62,9 @@ use Rattle.f11_words.specs.declared.words.Words.TheVariants.{
   Mkdir,
   Name,
   Prot,
+  Purge,
   Put,
+  PutEach,
   Ren,
   Rights,
   RtDel,
@@ -65,12 +73,22 @@ use Rattle.f11_words.specs.declared.words.Words.TheVariants.{
   RtInit,
   RtList,
   RtLs,
+  RtProt,
   RtPut,
+  RtRen,
   RtVfy,
   Run,
   Trunc,
   Vfy,
 }
+
+-- a text spells a protection word in octal, or as RSX-11 shows it
+abbrev pub SpellsWord : List ℕ → ℕ → Type 0
+SpellsWord text word = SpellsProtection text word ⊎ SpellsRights text word
+
+-- a text spells none
+abbrev pub IsNoWord : List ℕ → Type 0
+IsNoWord text = (word : ℕ) → ¬ SpellsWord text word
 
 -- the words ask that the file of this name in this directory of this image be deleted
 abbrev pub AsksDel : List ℕ → List ℕ → List ℕ → Words → Type 0
@@ -85,7 +103,7 @@ AsksTrunc image dir name _ = ⊥
 -- that it get this protection
 abbrev pub AsksProt : List ℕ → List ℕ → List ℕ → List ℕ → Words → Type 0
 AsksProt image dir name word (Prot from directory file protection) =
-    (from.now ≡ image) × SpellsDirectory dir directory × (file.now ≡ name) × SpellsProtection word protection
+    (from.now ≡ image) × SpellsDirectory dir directory × (file.now ≡ name) × SpellsWord word protection
 AsksProt image dir name word _ = ⊥
 
 -- and that it get the name, in this directory or the other, that this text spells
@@ -93,6 +111,12 @@ abbrev pub AsksRen : List ℕ → List ℕ → List ℕ → List ℕ → Words �
 AsksRen image dir name new (Ren from directory file to named) =
     (from.now ≡ image) × SpellsDirectory dir directory × (file.now ≡ name) × SpellsTarget new to named.now
 AsksRen image dir name new _ = ⊥
+
+-- the words ask that the versions be deleted of which there is a higher one, of files with this name and type, and else of all
+abbrev pub AsksPurge : List ℕ → List ℕ → Option (List ℕ) → Words → Type 0
+AsksPurge image dir name (Purge from directory file) =
+    (from.now ≡ image) × SpellsDirectory dir directory × (file.now ≡ unwrap_or name (codes "*.*"))
+AsksPurge image dir name _ = ⊥
 
 -- the words ask that this directory be made on this image
 abbrev pub AsksMkdir : List ℕ → List ℕ → Words → Type 0
@@ -149,6 +173,12 @@ AsksPut mode image dir name host (Put in_mode to directory file from) =
     SpellsModeOrNone mode in_mode × (to.now ≡ image) × SpellsDirectory dir directory × (file.now ≡ name) × (from.now ≡ host)
 AsksPut mode image dir name host _ = ⊥
 
+-- the words ask that this file of the host, the first of some, become in this mode one of its own name in this directory of this image
+abbrev pub AsksPutEach : Option (List ℕ) → List ℕ → List ℕ → List ℕ → Words → Type 0
+AsksPutEach mode image dir host (PutEach in_mode to directory first) =
+    SpellsModeOrNone mode in_mode × (to.now ≡ image) × SpellsDirectory dir directory × (first.now ≡ host)
+AsksPutEach mode image dir host _ = ⊥
+
 -- the words ask for the home block of this image
 abbrev pub AsksHome : List ℕ → Words → Type 0
 AsksHome name (Home image) = image.now ≡ name
@@ -199,6 +229,16 @@ AsksRtLs image _ = ⊥
 abbrev pub AsksRtPut : List ℕ → List ℕ → List ℕ → Words → Type 0
 AsksRtPut image text path (RtPut rt name host) = (rt.now ≡ image) × (name.now ≡ text) × (host.now ≡ path)
 AsksRtPut image text path _ = ⊥
+
+-- the words ask that this file of it be protected, or be so no more
+abbrev pub AsksRtProt : Bool → List ℕ → List ℕ → Words → Type 0
+AsksRtProt protected image text (RtProt rt name on) = (rt.now ≡ image) × (name.now ≡ text) × (on ≡ protected)
+AsksRtProt protected image text _ = ⊥
+
+-- the words ask that this file of it get this name
+abbrev pub AsksRtRen : List ℕ → List ℕ → List ℕ → Words → Type 0
+AsksRtRen image text other (RtRen rt name new) = (rt.now ≡ image) × (name.now ≡ text) × (new.now ≡ other)
+AsksRtRen image text other _ = ⊥
 
 -- the words ask that the areas of the RT-11 volume in this image be listed
 abbrev pub AsksRtList : List ℕ → Words → Type 0
@@ -254,7 +294,9 @@ Asks (ls_in_line image dir) words = AsksLs image (Some dir) words
 Asks (mkdir_line image dir) words = AsksMkdir image dir words
 Asks (name_line text) words = AsksName text words
 Asks (prot_line image dir name word) words = AsksProt image dir name word words
+Asks (purge_line image dir name) words = AsksPurge image dir name words
 Asks (put_line mode image dir name host) words = AsksPut mode image dir name host words
+Asks (put_each_line mode image dir host) words = AsksPutEach mode image dir host words
 Asks (ren_line image dir name new) words = AsksRen image dir name new words
 Asks (rights_line caller owner word) words = AsksRights caller owner word words
 Asks (rt_del_line rt name) words = AsksRtDel rt name words
@@ -263,7 +305,10 @@ Asks (rt_get_all_line rt folder) words = AsksRtGetAll rt folder words
 Asks (rt_init_line blocks segments image) words = AsksRtInit blocks segments image words
 Asks (rt_list_line image) words = AsksRtList image words
 Asks (rt_ls_line rt) words = AsksRtLs rt words
+Asks (rt_prot_line rt name) words = AsksRtProt true rt name words
+Asks (rt_unprot_line rt name) words = AsksRtProt false rt name words
 Asks (rt_put_line rt name host) words = AsksRtPut rt name host words
+Asks (rt_ren_line rt name new) words = AsksRtRen rt name new words
 Asks (rt_vfy_line image) words = AsksRtVfy image words
 Asks (run_line image script) words = AsksRun false image script words
 Asks (quiet_run_line image script) words = AsksRun true image script words
@@ -308,8 +353,10 @@ IsUnreadable (ls_line image) = ⊥
 IsUnreadable (ls_in_line image dir) = IsNoDirectory dir
 IsUnreadable (mkdir_line image dir) = IsNoDirectory dir
 IsUnreadable (name_line text) = ⊥
-IsUnreadable (prot_line image dir name word) = IsNoDirectory dir ⊎ ¬ IsProtection word
+IsUnreadable (prot_line image dir name word) = IsNoDirectory dir ⊎ IsNoWord word
+IsUnreadable (purge_line image dir name) = IsNoDirectory dir
 IsUnreadable (put_line mode image dir name host) = IsNoMove mode dir
+IsUnreadable (put_each_line mode image dir host) = IsNoMove mode dir
 IsUnreadable (ren_line image dir name new) = IsNoDirectory dir ⊎ IsNoTarget new
 IsUnreadable (rights_line caller owner word) = IsNoUic caller ⊎ (IsNoUic owner ⊎ ¬ IsProtection word)
 IsUnreadable (rt_del_line rt name) = ⊥
@@ -318,7 +365,10 @@ IsUnreadable (rt_get_all_line rt folder) = ⊥
 IsUnreadable (rt_init_line blocks segments image) = ¬ IsNumber blocks ⊎ ¬ IsNumber segments
 IsUnreadable (rt_list_line image) = ⊥
 IsUnreadable (rt_ls_line rt) = ⊥
+IsUnreadable (rt_prot_line rt name) = ⊥
+IsUnreadable (rt_unprot_line rt name) = ⊥
 IsUnreadable (rt_put_line rt name host) = ⊥
+IsUnreadable (rt_ren_line rt name new) = ⊥
 IsUnreadable (rt_vfy_line image) = ⊥
 IsUnreadable (run_line image script) = ⊥
 IsUnreadable (quiet_run_line image script) = ⊥

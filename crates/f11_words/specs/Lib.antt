@@ -2,6 +2,7 @@ pub mod Asking
 pub mod Directory
 pub mod Failing
 pub mod Lines
+pub mod Hosts
 pub mod Reading
 pub mod Told
 pub mod Usage

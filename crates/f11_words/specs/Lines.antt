@@ -14,6 +14,7 @@ use Rattle.f11_words.specs.declared.usage.Subcommand.TheVariants.{
   Mkdir,
   Name,
   Prot,
+  Purge,
   Put,
   Ren,
   Rights,
@@ -22,7 +23,9 @@ use Rattle.f11_words.specs.declared.usage.Subcommand.TheVariants.{
   RtInit,
   RtList,
   RtLs,
+  RtProt,
   RtPut,
+  RtRen,
   RtVfy,
   Run,
   Trunc,
@@ -45,7 +48,9 @@ pub data CommandLine : Type 0 where
   mkdir_line : (image dir : List ℕ) → CommandLine
   name_line : (word : List ℕ) → CommandLine
   prot_line : (image dir name word : List ℕ) → CommandLine
+  purge_line : (image dir : List ℕ) → (name : Option (List ℕ)) → CommandLine
   put_line : (mode : Option (List ℕ)) → (image dir name host : List ℕ) → CommandLine
+  put_each_line : (mode : Option (List ℕ)) → (image dir host : List ℕ) → CommandLine
   ren_line : (image dir name new : List ℕ) → CommandLine
   rights_line : (caller owner word : List ℕ) → CommandLine
   rt_del_line : (rt name : List ℕ) → CommandLine
@@ -54,7 +59,10 @@ pub data CommandLine : Type 0 where
   rt_init_line : (blocks segments image : List ℕ) → CommandLine
   rt_list_line : (image : List ℕ) → CommandLine
   rt_ls_line : (rt : List ℕ) → CommandLine
+  rt_prot_line : (rt name : List ℕ) → CommandLine
+  rt_unprot_line : (rt name : List ℕ) → CommandLine
   rt_put_line : (rt name host : List ℕ) → CommandLine
+  rt_ren_line : (rt name new : List ℕ) → CommandLine
   rt_vfy_line : (image : List ℕ) → CommandLine
   run_line : (image script : List ℕ) → CommandLine
   quiet_run_line : (image script : List ℕ) → CommandLine
@@ -78,7 +86,9 @@ command_in (ls_in_line image dir) = Ls
 command_in (mkdir_line image dir) = Mkdir
 command_in (name_line word) = Name
 command_in (prot_line image dir name word) = Prot
+command_in (purge_line image dir name) = Purge
 command_in (put_line mode image dir name host) = Put
+command_in (put_each_line mode image dir host) = Put
 command_in (ren_line image dir name new) = Ren
 command_in (rights_line caller owner word) = Rights
 command_in (rt_del_line rt name) = RtDel
@@ -87,7 +97,10 @@ command_in (rt_get_all_line rt folder) = RtGet
 command_in (rt_init_line blocks segments image) = RtInit
 command_in (rt_list_line image) = RtList
 command_in (rt_ls_line rt) = RtLs
+command_in (rt_prot_line rt name) = RtProt
+command_in (rt_unprot_line rt name) = RtProt
 command_in (rt_put_line rt name host) = RtPut
+command_in (rt_ren_line rt name new) = RtRen
 command_in (rt_vfy_line image) = RtVfy
 command_in (run_line image script) = Run
 command_in (quiet_run_line image script) = Run
@@ -114,7 +127,9 @@ given_in (ls_in_line image dir) = text image ∷ text dir ∷ []
 given_in (mkdir_line image dir) = text image ∷ text dir ∷ []
 given_in (name_line word) = text word ∷ []
 given_in (prot_line image dir name word) = text image ∷ text dir ∷ text name ∷ text word ∷ []
-given_in (put_line mode image dir name host) = says mode ∷ text image ∷ text dir ∷ text name ∷ text host ∷ []
+given_in (purge_line image dir name) = text image ∷ text dir ∷ says name ∷ []
+given_in (put_line mode image dir name host) = is_there false ∷ says mode ∷ text image ∷ text dir ∷ text name ∷ text host ∷ []
+given_in (put_each_line mode image dir host) = is_there true ∷ says mode ∷ text image ∷ text dir ∷ text host ∷ says None ∷ []
 given_in (ren_line image dir name new) = text image ∷ text dir ∷ text name ∷ text new ∷ []
 given_in (rights_line caller owner word) = text caller ∷ text owner ∷ text word ∷ []
 given_in (rt_del_line rt name) = text rt ∷ text name ∷ []
@@ -123,7 +138,10 @@ given_in (rt_get_all_line rt folder) = is_there true ∷ text rt ∷ text folder
 given_in (rt_init_line blocks segments image) = text blocks ∷ text segments ∷ text image ∷ []
 given_in (rt_list_line image) = text image ∷ []
 given_in (rt_ls_line rt) = text rt ∷ []
+given_in (rt_prot_line rt name) = is_there false ∷ text rt ∷ text name ∷ []
+given_in (rt_unprot_line rt name) = is_there true ∷ text rt ∷ text name ∷ []
 given_in (rt_put_line rt name host) = text rt ∷ text name ∷ text host ∷ []
+given_in (rt_ren_line rt name new) = text rt ∷ text name ∷ text new ∷ []
 given_in (rt_vfy_line image) = text image ∷ []
 given_in (run_line image script) = is_there false ∷ text image ∷ text script ∷ []
 given_in (quiet_run_line image script) = is_there true ∷ text image ∷ text script ∷ []

@@ -19,6 +19,8 @@ use Rattle.f11_words.specs.Lines.{
   mkdir_line,
   name_line,
   prot_line,
+  purge_line,
+  put_each_line,
   put_line,
   quiet_run_line,
   ren_line,
@@ -29,7 +31,10 @@ use Rattle.f11_words.specs.Lines.{
   rt_init_line,
   rt_list_line,
   rt_ls_line,
+  rt_prot_line,
   rt_put_line,
+  rt_ren_line,
+  rt_unprot_line,
   rt_vfy_line,
   run_line,
   to_rt_line,
@@ -52,6 +57,7 @@ use Rattle.f11_words.specs.declared.usage.Subcommand.TheVariants.{
   Mkdir,
   Name,
   Prot,
+  Purge,
   Put,
   Ren,
   Rights,
@@ -60,7 +66,9 @@ use Rattle.f11_words.specs.declared.usage.Subcommand.TheVariants.{
   RtInit,
   RtList,
   RtLs,
+  RtProt,
   RtPut,
+  RtRen,
   RtVfy,
   Run,
   Trunc,
@@ -114,6 +122,11 @@ pub record ReadsGet (matches : ArgMatches) (result : Option Words) : Type 0 wher
   pub blocks : (image dir name host : Text) → Reads (get_blocks_line image dir name host) matches result
   pub all : (image folder : Text) → Reads (get_all_line image folder) matches result
 
+-- What those of `put` are: for one file under a name, or for each of some under its own.
+pub record ReadsPut (matches : ArgMatches) (result : Option Words) : Type 0 where
+  pub file : (mode : Option Text) → (image dir name host : Text) → Reads (put_line mode image dir name host) matches result
+  pub each : (mode : Option Text) → (image dir host : Text) → Reads (put_each_line mode image dir host) matches result
+
 -- What those of `rt-get` are: for one file, or for all files.
 pub record ReadsRtGet (matches : ArgMatches) (result : Option Words) : Type 0 where
   pub file : (rt name host : Text) → Reads (rt_get_line rt name host) matches result
@@ -123,6 +136,11 @@ pub record ReadsRtGet (matches : ArgMatches) (result : Option Words) : Type 0 wh
 pub record ReadsLs (matches : ArgMatches) (result : Option Words) : Type 0 where
   pub all : (image : Text) → Reads (ls_line image) matches result
   pub one : (image dir : Text) → Reads (ls_in_line image dir) matches result
+
+-- What those of `rt-prot` are: with the file protected, or so no more.
+pub record ReadsRtProt (matches : ArgMatches) (result : Option Words) : Type 0 where
+  pub on : (rt name : Text) → Reads (rt_prot_line rt name) matches result
+  pub off : (rt name : Text) → Reads (rt_unprot_line rt name) matches result
 
 -- What those of `run` are: with what is refused told, or not.
 pub record ReadsRun (matches : ArgMatches) (result : Option Words) : Type 0 where
@@ -150,8 +168,8 @@ ReadsWords Ls matches result = ReadsLs matches result
 ReadsWords Mkdir matches result = (image dir : Text) → Reads (mkdir_line image dir) matches result
 ReadsWords Name matches result = (word : Text) → Reads (name_line word) matches result
 ReadsWords Prot matches result = (image dir name word : Text) → Reads (prot_line image dir name word) matches result
-ReadsWords Put matches result =
-    (mode : Option Text) → (image dir name host : Text) → Reads (put_line mode image dir name host) matches result
+ReadsWords Purge matches result = (image dir : Text) → (name : Option Text) → Reads (purge_line image dir name) matches result
+ReadsWords Put matches result = ReadsPut matches result
 ReadsWords Ren matches result = (image dir name new : Text) → Reads (ren_line image dir name new) matches result
 ReadsWords Rights matches result = (caller owner word : Text) → Reads (rights_line caller owner word) matches result
 ReadsWords RtDel matches result = (rt name : Text) → Reads (rt_del_line rt name) matches result
@@ -159,7 +177,9 @@ ReadsWords RtGet matches result = ReadsRtGet matches result
 ReadsWords RtInit matches result = (blocks segments image : Text) → Reads (rt_init_line blocks segments image) matches result
 ReadsWords RtList matches result = (image : Text) → Reads (rt_list_line image) matches result
 ReadsWords RtLs matches result = (rt : Text) → Reads (rt_ls_line rt) matches result
+ReadsWords RtProt matches result = ReadsRtProt matches result
 ReadsWords RtPut matches result = (rt name host : Text) → Reads (rt_put_line rt name host) matches result
+ReadsWords RtRen matches result = (rt name new : Text) → Reads (rt_ren_line rt name new) matches result
 ReadsWords RtVfy matches result = (image : Text) → Reads (rt_vfy_line image) matches result
 ReadsWords Run matches result = ReadsRun matches result
 ReadsWords Trunc matches result = (image dir name : Text) → Reads (trunc_line image dir name) matches result

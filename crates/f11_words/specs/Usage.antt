@@ -13,6 +13,7 @@ use Rattle.f11_words.specs.declared.usage.Subcommand.TheVariants.{
   Mkdir,
   Name,
   Prot,
+  Purge,
   Put,
   Ren,
   Rights,
@@ -21,7 +22,9 @@ use Rattle.f11_words.specs.declared.usage.Subcommand.TheVariants.{
   RtInit,
   RtList,
   RtLs,
+  RtProt,
   RtPut,
+  RtRen,
   RtVfy,
   Run,
   Trunc,
@@ -41,8 +44,8 @@ needed name = place name true
 -- the commands
 abbrev pub all_commands : List Subcommand
 all_commands =
-    Del ∷ Dump ∷ FlxFromRt ∷ FlxToRt ∷ Get ∷ Home ∷ Init ∷ Ls ∷ Mkdir ∷ Name ∷ Prot ∷ Put ∷ Ren ∷ Rights ∷ RtDel ∷ RtGet ∷ RtInit
-    ∷ RtList ∷ RtLs ∷ RtPut ∷ RtVfy ∷ Run ∷ Trunc ∷ Vfy ∷ []
+    Del ∷ Dump ∷ FlxFromRt ∷ FlxToRt ∷ Get ∷ Home ∷ Init ∷ Ls ∷ Mkdir ∷ Name ∷ Prot ∷ Purge ∷ Put ∷ Ren ∷ Rights ∷ RtDel ∷ RtGet ∷ RtInit
+    ∷ RtList ∷ RtLs ∷ RtProt ∷ RtPut ∷ RtRen ∷ RtVfy ∷ Run ∷ Trunc ∷ Vfy ∷ []
 
 -- a command's name
 abbrev pub name_of : Subcommand → List ℕ
@@ -57,6 +60,7 @@ name_of Ls = codes "ls"
 name_of Mkdir = codes "mkdir"
 name_of Name = codes "name"
 name_of Prot = codes "prot"
+name_of Purge = codes "purge"
 name_of Put = codes "put"
 name_of Ren = codes "ren"
 name_of Rights = codes "rights"
@@ -65,7 +69,9 @@ name_of RtGet = codes "rt-get"
 name_of RtInit = codes "rt-init"
 name_of RtList = codes "rt-list"
 name_of RtLs = codes "rt-ls"
+name_of RtProt = codes "rt-prot"
 name_of RtPut = codes "rt-put"
+name_of RtRen = codes "rt-ren"
 name_of RtVfy = codes "rt-vfy"
 name_of Run = codes "run"
 name_of Trunc = codes "trunc"
@@ -78,7 +84,8 @@ file_words directory = needed (codes "image") ∷ needed directory ∷ needed (c
 abbrev pub rt_file_words : List Word
 rt_file_words = needed (codes "rt") ∷ needed (codes "rt-name") ∷ []
 
--- The words of a command. The folder of `get --all` stands in the directory's place, and that of `rt-get --all` in the name's.
+-- The words of a command. The folder of `get --all` stands in the directory's place, that of `rt-get --all` in the name's, and so does the
+-- first file of the host of `put --each`, behind which the others stand.
 abbrev pub words_of : Subcommand → List Word
 words_of Del = file_words (codes "dir")
 words_of Dump = needed (codes "image") ∷ needed (codes "number") ∷ []
@@ -93,7 +100,8 @@ words_of Ls = needed (codes "image") ∷ place (codes "dir") false ∷ []
 words_of Mkdir = needed (codes "image") ∷ needed (codes "dir") ∷ []
 words_of Name = needed (codes "text") ∷ []
 words_of Prot = file_words (codes "dir") ++ needed (codes "word") ∷ []
-words_of Put = option (codes "mode") false ∷ (file_words (codes "dir") ++ needed (codes "host") ∷ [])
+words_of Purge = needed (codes "image") ∷ needed (codes "dir") ∷ place (codes "name") false ∷ []
+words_of Put = flag (codes "each") ∷ option (codes "mode") false ∷ (file_words (codes "dir") ++ place (codes "host") false ∷ [])
 words_of Ren = file_words (codes "dir") ++ needed (codes "new") ∷ []
 words_of Rights = needed (codes "uic") ∷ needed (codes "owner") ∷ needed (codes "word") ∷ []
 words_of RtDel = needed (codes "rt") ∷ needed (codes "name") ∷ []
@@ -101,7 +109,9 @@ words_of RtGet = flag (codes "all") ∷ needed (codes "rt") ∷ needed (codes "n
 words_of RtInit = option (codes "blocks") true ∷ option (codes "segments") true ∷ needed (codes "image") ∷ []
 words_of RtList = needed (codes "image") ∷ []
 words_of RtLs = needed (codes "rt") ∷ []
+words_of RtProt = flag (codes "off") ∷ needed (codes "rt") ∷ needed (codes "name") ∷ []
 words_of RtPut = needed (codes "rt") ∷ needed (codes "name") ∷ needed (codes "host") ∷ []
+words_of RtRen = needed (codes "rt") ∷ needed (codes "name") ∷ needed (codes "new") ∷ []
 words_of RtVfy = needed (codes "image") ∷ []
 words_of Run = flag (codes "quiet") ∷ needed (codes "image") ∷ needed (codes "script") ∷ []
 words_of Trunc = file_words (codes "dir")

@@ -2,14 +2,14 @@
 ghost use Rattle.std.specs.Prelude.{◌≡◌, ℕ, List, Option, MatchOption, codes, is_some};
 ghost use Rattle.clap.specs.Words.{first_value, found_of};
 ghost use Rattle.f11_numbers.specs.Octal.{SpellsUic};
-ghost use Rattle.f11_words.specs.Asking.{IsMode, IsNoModeOrNone, SpellsMode, SpellsModeOrNone};
+ghost use Rattle.f11_words.specs.Asking.{IsMode, IsNoModeOrNone, IsNoWord, SpellsMode, SpellsModeOrNone, SpellsWord};
 ghost use Rattle.f11_words.specs.Directory.{IsNoDirectory, IsNoTarget, IsNoUic, SpellsDirectory, SpellsTarget};
 ghost use Rattle.f11_words.specs.Reading.{HasText};
 
 use crate::directory::{Directory, read_directory, read_target};
 use clap::ArgMatches;
 use f11_flx::CopyMode;
-use f11_numbers::read_uic;
+use f11_numbers::{read_protection, read_rights, read_uic};
 use f11_store::Uic;
 
 /// Whether there is a word of this name.
@@ -47,6 +47,24 @@ pub fn mode_of(given: &ArgMatches<'_>) -> Option<CopyMode>
         → MatchOption result (¬ IsMode text) (SpellsMode text) }
 {
     mode_in(given.get_str("mode")?)
+}
+
+/// The protection word that a text spells, in octal or as RSX-11 shows it.
+pub fn word_in(text: &str) -> Option<u16>
+    ensures { MatchOption result (IsNoWord text.now) (SpellsWord text.now) }
+{
+    match read_protection(text) {
+        Some(word) => Some(word),
+        None => read_rights(text),
+    }
+}
+
+/// The protection word among the words, which has to be there.
+pub fn word_of(given: &ArgMatches<'_>) -> Option<u16>
+    ensures { (text : List ℕ) → HasText (codes "word") text given.now
+        → MatchOption result (IsNoWord text) (SpellsWord text) }
+{
+    word_in(given.get_str("word")?)
 }
 
 /// The user's code that a word spells.

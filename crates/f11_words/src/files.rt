@@ -2,10 +2,9 @@
 ghost use Rattle.f11_words.specs.Reading.{ReadsWords};
 ghost use Rattle.f11_words.specs.declared.usage.Subcommand.TheVariants as subcommand;
 
-use crate::args::{directory_of, target_of};
+use crate::args::{directory_of, target_of, word_of};
 use crate::words::Words;
 use clap::ArgMatches;
-use f11_numbers::read_protection;
 
 pub fn del_of<'a>(given: &ArgMatches<'a>) -> Option<Words<'a>>
     ensures { ReadsWords subcommand.Del given.now result }
@@ -33,7 +32,17 @@ pub fn prot_of<'a>(given: &ArgMatches<'a>) -> Option<Words<'a>>
         image: given.get_str("image")?,
         directory: directory_of(given)?,
         name: given.get_str("name")?,
-        protection: read_protection(given.get_str("word")?)?,
+        protection: word_of(given)?,
+    })
+}
+
+pub fn purge_of<'a>(given: &ArgMatches<'a>) -> Option<Words<'a>>
+    ensures { ReadsWords subcommand.Purge given.now result }
+{
+    Some(Words::Purge {
+        image: given.get_str("image")?,
+        directory: directory_of(given)?,
+        name: given.get_str("name").unwrap_or("*.*"),
     })
 }
 

@@ -1,6 +1,6 @@
 //! The words of the commands on files of the host.
 ghost use Rattle.std.specs.Prelude.{ℕ, List, Option};
-ghost use Rattle.f11_words.specs.Lines.{get_all_line, get_blocks_line, get_line};
+ghost use Rattle.f11_words.specs.Lines.{get_all_line, get_blocks_line, get_line, put_each_line, put_line};
 ghost use Rattle.f11_words.specs.Reading.{Reads, ReadsWords};
 ghost use Rattle.f11_words.specs.declared.usage.Subcommand.TheVariants as subcommand;
 
@@ -71,6 +71,34 @@ fn get_all_of<'a>(given: &ArgMatches<'a>) -> Option<Words<'a>>
 
 pub fn put_of<'a>(given: &ArgMatches<'a>) -> Option<Words<'a>>
     ensures { ReadsWords subcommand.Put given.now result }
+{
+    if given.get_flag("each") {
+        put_each_of(given)
+    } else {
+        put_file_of(given)
+    }
+}
+
+/// The words of `put --each`, among which is one file of the host.
+fn put_each_of<'a>(given: &ArgMatches<'a>) -> Option<Words<'a>>
+    ensures { (mode : Option (List ℕ)) → (image uic host : List ℕ)
+        → Reads (put_each_line mode image uic host) given.now result }
+{
+    if has(given, "host") {
+        return None;
+    }
+    Some(Words::PutEach {
+        mode: mode_or_image(given)?,
+        image: given.get_str("image")?,
+        directory: directory_of(given)?,
+        host: given.get_str("name")?,
+    })
+}
+
+/// The words of `put` for one file.
+fn put_file_of<'a>(given: &ArgMatches<'a>) -> Option<Words<'a>>
+    ensures { (mode : Option (List ℕ)) → (image uic name host : List ℕ)
+        → Reads (put_line mode image uic name host) given.now result }
 {
     Some(Words::Put {
         mode: mode_or_image(given)?,

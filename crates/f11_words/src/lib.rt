@@ -10,6 +10,7 @@ mod copies;
 mod directory;
 mod files;
 mod host_files;
+mod hosts;
 mod program;
 mod reading;
 mod rt11;
@@ -21,6 +22,7 @@ mod words;
 pub mod worked;
 
 pub use directory::{Directory, read_directory};
+pub use hosts::split_hosts;
 pub use reading::{Failure, parse};
 pub use unread::{Unread, Why, misread, refusal};
 pub use usage::Subcommand;

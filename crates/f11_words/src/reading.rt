@@ -7,10 +7,13 @@ ghost use Rattle.f11_words.specs.Reading.{Meets, ReadsWords};
 ghost use Rattle.f11_words.specs.Told.{program_app};
 
 use crate::copies::{from_rt_of, to_rt_of};
-use crate::files::{del_of, mkdir_of, prot_of, ren_of, trunc_of};
+use crate::files::{del_of, mkdir_of, prot_of, purge_of, ren_of, trunc_of};
 use crate::host_files::{get_of, put_of};
 use crate::program::program;
-use crate::rt11::{rt_del_of, rt_get_of, rt_init_of, rt_list_of, rt_ls_of, rt_put_of, rt_vfy_of};
+use crate::rt11::{
+    rt_del_of, rt_get_of, rt_init_of, rt_list_of, rt_ls_of, rt_prot_of, rt_put_of, rt_ren_of,
+    rt_vfy_of,
+};
 use crate::spelled::{name_of, rights_of};
 use crate::usage::Subcommand;
 use crate::volumes::{dump_of, home_of, init_of, ls_of, run_of, vfy_of};
@@ -60,8 +63,9 @@ impl From<clap::Error> for Failure {
 ///
 /// [`Failure::Usage`] for words that don't parse, that ask for help, or that are none at all; and for numbers, users' codes, directories and
 /// protection words that [`read_number`](f11_numbers::read_number), [`read_uic`](f11_numbers::read_uic),
-/// [`read_directory`](crate::read_directory) and [`read_protection`](f11_numbers::read_protection) don't read, and modes of a copy but `image`
-/// and `text`. [`Failure::NoMemory`] where there was no memory.
+/// [`read_directory`](crate::read_directory) and [`read_protection`](f11_numbers::read_protection), or of `prot` also
+/// [`read_rights`](f11_numbers::read_rights), don't read, and modes of a copy but `image` and `text`. [`Failure::NoMemory`] where there was no
+/// memory.
 pub fn parse<'a, S: AsStr>(alloc: Global, words: &'a [S]) -> Result<Words<'a>, Failure>
     ensures asks { (line : CommandLine) → IsLineOf line (map S.text words.entry.now)
         → MatchResult result (Asks line) (FailsToAsk line) }
@@ -106,6 +110,7 @@ fn words_of<'a>(command: Subcommand, given: &ArgMatches<'a>) -> Option<Words<'a>
         Subcommand::Mkdir => mkdir_of(given),
         Subcommand::Name => name_of(given),
         Subcommand::Prot => prot_of(given),
+        Subcommand::Purge => purge_of(given),
         Subcommand::Put => put_of(given),
         Subcommand::Ren => ren_of(given),
         Subcommand::Rights => rights_of(given),
@@ -114,7 +119,9 @@ fn words_of<'a>(command: Subcommand, given: &ArgMatches<'a>) -> Option<Words<'a>
         Subcommand::RtInit => rt_init_of(given),
         Subcommand::RtList => rt_list_of(given),
         Subcommand::RtLs => rt_ls_of(given),
+        Subcommand::RtProt => rt_prot_of(given),
         Subcommand::RtPut => rt_put_of(given),
+        Subcommand::RtRen => rt_ren_of(given),
         Subcommand::RtVfy => rt_vfy_of(given),
         Subcommand::Run => run_of(given),
         Subcommand::Trunc => trunc_of(given),

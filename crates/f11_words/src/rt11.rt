@@ -76,6 +76,16 @@ pub fn rt_ls_of<'a>(given: &ArgMatches<'a>) -> Option<Words<'a>>
     Some(Words::RtLs { rt })
 }
 
+pub fn rt_prot_of<'a>(given: &ArgMatches<'a>) -> Option<Words<'a>>
+    ensures { ReadsWords subcommand.RtProt given.now result }
+{
+    Some(Words::RtProt {
+        rt: given.get_str("rt")?,
+        name: given.get_str("name")?,
+        on: !given.get_flag("off"),
+    })
+}
+
 pub fn rt_put_of<'a>(given: &ArgMatches<'a>) -> Option<Words<'a>>
     ensures { ReadsWords subcommand.RtPut given.now result }
 {
@@ -83,6 +93,16 @@ pub fn rt_put_of<'a>(given: &ArgMatches<'a>) -> Option<Words<'a>>
         rt: given.get_str("rt")?,
         name: given.get_str("name")?,
         host: given.get_str("host")?,
+    })
+}
+
+pub fn rt_ren_of<'a>(given: &ArgMatches<'a>) -> Option<Words<'a>>
+    ensures { ReadsWords subcommand.RtRen given.now result }
+{
+    Some(Words::RtRen {
+        rt: given.get_str("rt")?,
+        name: given.get_str("name")?,
+        new: given.get_str("new")?,
     })
 }
 

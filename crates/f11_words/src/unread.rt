@@ -1,6 +1,6 @@
 //! Which word of a command can't be read, and why.
 
-use crate::args::mode_in;
+use crate::args::{mode_in, word_in};
 use crate::directory::read_directory;
 use crate::program::program;
 use crate::usage::Subcommand;
@@ -41,9 +41,12 @@ pub enum Why {
     /// It names no directory.
     #[error("no directory; one is a user's code, two octal numbers of 0 to 377 as 200,1, or a name of up to 9 of A to Z, 0 to 9 and $, in brackets or without")]
     NoDirectory,
-    /// It is no protection word.
+    /// It is no protection word in octal.
     #[error("no protection word; one is up to 6 octal digits, at most 177777")]
     NoProtection,
+    /// It is no protection word, in octal or as RSX-11 shows it.
+    #[error("no protection word; one is up to 6 octal digits, at most 177777, or [RWED,RWED,RWED,R], what the system, the owner, the group and the world are granted, each some of R, W, E and D in this order")]
+    NoWord,
 }
 
 /// The first word that can't be read, and why, of words that [`parse`](crate::parse) refuses. `None` for those that it takes, for those that
@@ -63,15 +66,17 @@ pub fn refusal(alloc: Global, words: &[String]) -> Option<String> {
 /// The first of a command's words that can't be read, if there is one.
 fn first_unread<'a>(command: Subcommand, given: &ArgMatches<'a>) -> Option<Unread<'a>> {
     match command {
-        Subcommand::Del | Subcommand::Ls | Subcommand::Mkdir | Subcommand::Trunc => {
-            directory(given)
-        }
+        Subcommand::Del
+        | Subcommand::Ls
+        | Subcommand::Mkdir
+        | Subcommand::Purge
+        | Subcommand::Trunc => { directory(given) }
         Subcommand::Ren => directory(given).or(target(given)),
         Subcommand::Dump => number(given, "number", "NUMBER", 65_535),
         Subcommand::FlxFromRt | Subcommand::FlxToRt => mode(given).or(user(given, "uic")),
         Subcommand::Get => get(given),
-        Subcommand::Prot => directory(given).or(protection(given)),
-        Subcommand::Put => mode(given).or(directory(given)),
+        Subcommand::Prot => directory(given).or(word(given)),
+        Subcommand::Put => put(given),
         Subcommand::Init => blocks(given)
             .or(number(given, "slots", "--slots", 16_000))
             .or(number(given, "max", "--max", 65_500)),
@@ -92,7 +97,9 @@ fn first_unread<'a>(command: Subcommand, given: &ArgMatches<'a>) -> Option<Unrea
         | Subcommand::RtDel
         | Subcommand::RtList
         | Subcommand::RtLs
+        | Subcommand::RtProt
         | Subcommand::RtPut
+        | Subcommand::RtRen
         | Subcommand::RtVfy
         | Subcommand::Run
         | Subcommand::Vfy => None,
@@ -111,6 +118,14 @@ fn get<'a>(given: &ArgMatches<'a>) -> Option<Unread<'a>> {
         .or(there(given, "name", "NAME"))
         .or(there(given, "host", "HOST"))
         .or(unless(!has_mode || !has_blocks, "--mode", Why::BesideBlocks))
+}
+
+fn put<'a>(given: &ArgMatches<'a>) -> Option<Unread<'a>> {
+    let unread = mode(given).or(directory(given));
+    if given.get_flag("each") {
+        return unread;
+    }
+    unread.or(there(given, "host", "HOST"))
 }
 
 fn rt_get<'a>(given: &ArgMatches<'a>) -> Option<Unread<'a>> {
@@ -172,6 +187,11 @@ fn mode<'a>(given: &ArgMatches<'a>) -> Option<Unread<'a>> {
 fn protection<'a>(given: &ArgMatches<'a>) -> Option<Unread<'a>> {
     let text = given.get_str("word")?;
     unless(read_protection(text).is_some(), text, Why::NoProtection)
+}
+
+fn word<'a>(given: &ArgMatches<'a>) -> Option<Unread<'a>> {
+    let text = given.get_str("word")?;
+    unless(word_in(text).is_some(), text, Why::NoWord)
 }
 
 /// Why a word isn't read, unless it is.

@@ -17,6 +17,7 @@ pub enum Subcommand {
     Mkdir,
     Name,
     Prot,
+    Purge,
     Put,
     Ren,
     Rights,
@@ -25,7 +26,9 @@ pub enum Subcommand {
     RtInit,
     RtList,
     RtLs,
+    RtProt,
     RtPut,
+    RtRen,
     RtVfy,
     Run,
     Trunc,
@@ -45,7 +48,7 @@ pub(crate) enum Word {
 
 impl Subcommand {
     /// All commands.
-    pub(crate) fn all() -> [Subcommand; 24]
+    pub(crate) fn all() -> [Subcommand; 27]
         ensures { result ≡ all_commands }
     {
         [
@@ -60,6 +63,7 @@ impl Subcommand {
             Subcommand::Mkdir,
             Subcommand::Name,
             Subcommand::Prot,
+            Subcommand::Purge,
             Subcommand::Put,
             Subcommand::Ren,
             Subcommand::Rights,
@@ -68,7 +72,9 @@ impl Subcommand {
             Subcommand::RtInit,
             Subcommand::RtList,
             Subcommand::RtLs,
+            Subcommand::RtProt,
             Subcommand::RtPut,
+            Subcommand::RtRen,
             Subcommand::RtVfy,
             Subcommand::Run,
             Subcommand::Trunc,
@@ -93,6 +99,7 @@ impl Subcommand {
             "mkdir" => Some(Subcommand::Mkdir),
             "name" => Some(Subcommand::Name),
             "prot" => Some(Subcommand::Prot),
+            "purge" => Some(Subcommand::Purge),
             "put" => Some(Subcommand::Put),
             "ren" => Some(Subcommand::Ren),
             "rights" => Some(Subcommand::Rights),
@@ -101,7 +108,9 @@ impl Subcommand {
             "rt-init" => Some(Subcommand::RtInit),
             "rt-list" => Some(Subcommand::RtList),
             "rt-ls" => Some(Subcommand::RtLs),
+            "rt-prot" => Some(Subcommand::RtProt),
             "rt-put" => Some(Subcommand::RtPut),
+            "rt-ren" => Some(Subcommand::RtRen),
             "rt-vfy" => Some(Subcommand::RtVfy),
             "run" => Some(Subcommand::Run),
             "trunc" => Some(Subcommand::Trunc),
@@ -126,6 +135,7 @@ impl Subcommand {
             Subcommand::Mkdir => "mkdir",
             Subcommand::Name => "name",
             Subcommand::Prot => "prot",
+            Subcommand::Purge => "purge",
             Subcommand::Put => "put",
             Subcommand::Ren => "ren",
             Subcommand::Rights => "rights",
@@ -134,7 +144,9 @@ impl Subcommand {
             Subcommand::RtInit => "rt-init",
             Subcommand::RtList => "rt-list",
             Subcommand::RtLs => "rt-ls",
+            Subcommand::RtProt => "rt-prot",
             Subcommand::RtPut => "rt-put",
+            Subcommand::RtRen => "rt-ren",
             Subcommand::RtVfy => "rt-vfy",
             Subcommand::Run => "run",
             Subcommand::Trunc => "trunc",
@@ -206,13 +218,21 @@ impl Subcommand {
                     Word::Place("word", true),
                 ]
             }
+            Subcommand::Purge => {
+                &[
+                    Word::Place("image", true),
+                    Word::Place("dir", true),
+                    Word::Place("name", false),
+                ]
+            }
             Subcommand::Put => {
                 &[
+                    Word::Flag("each"),
                     Word::Option("mode", false),
                     Word::Place("image", true),
                     Word::Place("dir", true),
                     Word::Place("name", true),
-                    Word::Place("host", true),
+                    Word::Place("host", false),
                 ]
             }
             Subcommand::Ren => {
@@ -247,11 +267,25 @@ impl Subcommand {
                 ]
             }
             Subcommand::RtLs => &[Word::Place("rt", true)],
+            Subcommand::RtProt => {
+                &[
+                    Word::Flag("off"),
+                    Word::Place("rt", true),
+                    Word::Place("name", true),
+                ]
+            }
             Subcommand::RtPut => {
                 &[
                     Word::Place("rt", true),
                     Word::Place("name", true),
                     Word::Place("host", true),
+                ]
+            }
+            Subcommand::RtRen => {
+                &[
+                    Word::Place("rt", true),
+                    Word::Place("name", true),
+                    Word::Place("new", true),
                 ]
             }
             Subcommand::Run => {

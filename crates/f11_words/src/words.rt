@@ -89,12 +89,27 @@ pub enum Words<'a> {
         name: &'a str,
         protection: u16,
     },
+    /// `purge IMAGE DIR [NAME]`: the versions of files in a directory of which there is a higher one, of those that a pattern means, and
+    /// else of all, `*.*`
+    Purge {
+        image: &'a str,
+        directory: Directory,
+        name: &'a str,
+    },
     /// `put [--mode M] IMAGE DIR NAME HOST`: how the file in which directory is made, and one of the host
     Put {
         mode: CopyMode,
         image: &'a str,
         directory: Directory,
         name: &'a str,
+        host: &'a str,
+    },
+    /// `put --each [--mode M] IMAGE DIR HOST`: how files are made in which directory under their own names, and the first one of the host;
+    /// the words of the others stand behind ([`split_hosts`](crate::split_hosts))
+    PutEach {
+        mode: CopyMode,
+        image: &'a str,
+        directory: Directory,
         host: &'a str,
     },
     /// `ren IMAGE DIR NAME NEW`: a file in a directory, its new name, and in which other directory it gets that
@@ -141,11 +156,23 @@ pub enum Words<'a> {
     RtLs {
         rt: &'a str,
     },
+    /// `rt-prot [--off] RT NAME`: a file of an RT-11 volume, and whether it is protected
+    RtProt {
+        rt: &'a str,
+        name: &'a str,
+        on: bool,
+    },
     /// `rt-put RT NAME HOST`: a file of an RT-11 volume that is made, and one of the host
     RtPut {
         rt: &'a str,
         name: &'a str,
         host: &'a str,
+    },
+    /// `rt-ren RT NAME NEW`: a file of an RT-11 volume, and its new name
+    RtRen {
+        rt: &'a str,
+        name: &'a str,
+        new: &'a str,
     },
     /// `rt-vfy IMAGE`
     RtVfy {

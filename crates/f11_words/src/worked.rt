@@ -7,6 +7,7 @@ pub fn examples()
     ensures get_image { worked.GetImage }
     ensures get_blocks { worked.GetBlocks }
     ensures get_all { worked.GetAll }
+    ensures put_each { worked.PutEach }
     ensures init_max { worked.InitMax }
     ensures init { worked.Init }
     ensures to_rt { worked.ToRt }

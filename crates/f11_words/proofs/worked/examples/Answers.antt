@@ -7,6 +7,7 @@ returns c = record {
   get_image = refl;
   get_blocks = refl;
   get_all = refl;
+  put_each = refl;
   init_max = refl;
   init = refl;
   to_rt = refl;
