@@ -1,6 +1,7 @@
 //! The commands, each with the files that the words name for it.
 use crate::copies::{Asked, copy};
 use crate::directory::{OPERATOR, name_of};
+use crate::each::{Each, put_each};
 use crate::folder::get_all;
 use crate::host_files::{self, Named, Taking};
 use crate::outcome::Failure;
@@ -12,10 +13,11 @@ use f11_commands::{Answer, Direction, print_name, print_rights};
 use f11_words::{Directory, Words};
 use std::io::Write;
 
-/// Does what the words ask for, with the files that they name.
+/// Does what the words ask for, with the files that they name, and of `put --each` the others behind its first one.
 pub fn run<'a, W: Write>(
     rt: &HostRuntime,
     words: &Words<'a>,
+    others: &'a [String],
     writer: &mut W,
     remark: &mut Option<Remark<'a>>,
 ) -> Result<Answer, Failure> {
@@ -123,6 +125,11 @@ pub fn run<'a, W: Write>(
             let file = named(image, directory, name);
             files::protect(rt, &file, protection, writer, remark)
         }
+        Words::Purge {
+            image,
+            directory,
+            name,
+        } => files::purge(rt, &named(image, directory, name), writer, remark),
         Words::Put {
             mode,
             image,
@@ -132,6 +139,21 @@ pub fn run<'a, W: Write>(
         } => {
             let file = named(image, directory, name);
             host_files::put(rt, &file, mode, host, writer, remark)
+        }
+        Words::PutEach {
+            mode,
+            image,
+            directory,
+            host,
+        } => {
+            let each = Each {
+                mode,
+                image,
+                directory: name_of(directory),
+                first: host,
+                others,
+            };
+            put_each(rt, &each, writer, remark)
         }
         Words::Ren {
             image,
@@ -164,11 +186,21 @@ pub fn run<'a, W: Write>(
         } => rt_volumes::init(rt, image, blocks, segments, writer, remark),
         Words::RtList { image } => rt_volumes::list(rt, image, writer, remark),
         Words::RtLs { rt: image } => rt_volumes::ls(rt, image, writer, remark),
+        Words::RtProt {
+            rt: image,
+            name,
+            on,
+        } => rt_files::protect(rt, image, name, on, writer, remark),
         Words::RtPut {
             rt: image,
             name,
             host,
         } => rt_files::put(rt, image, name, host, writer, remark),
+        Words::RtRen {
+            rt: image,
+            name,
+            new,
+        } => rt_files::rename(rt, image, name, new, writer, remark),
         Words::RtVfy { image } => rt_volumes::vfy(rt, image, writer, remark),
         Words::Run {
             image,

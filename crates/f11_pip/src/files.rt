@@ -1,5 +1,5 @@
 //! The commands that do something to files of a volume by their names: which image they open, and what is said of a refusal.
-use crate::chosen::{OneName, change, found_in, one_name};
+use crate::chosen::{OneName, change, found_in, next_in, one_name};
 use crate::directory::{name_of, owner_of};
 use crate::heard::Heard;
 use crate::host_files::{Named, ended};
@@ -8,31 +8,76 @@ use crate::outcome::Failure;
 use crate::refusals::{self, of_action, of_making_directory};
 use crate::remarks::{self, Remark};
 use f11_actions::{
-    Action, Change, deletion, is_directory_name, print_actions, print_making, renaming,
+    Action, Change, is_directory_name, print_actions, print_deletion, print_making, renaming,
 };
 use f11_commands::f11_rad50::Name;
 use f11_commands::{Answer, read_name, refuse_names};
 use f11_dev::FileImage;
+use f11_patterns::{Pattern, Versions};
 use f11_words::Directory;
 use std::fs::File;
 use std::io::Write;
 
-/// Deletes a file, whose name isn't that of a directory, or those that a pattern means.
+/// Deletes a file, unless it is a directory that has records, or those that a pattern means.
 pub fn delete<'a, W: Write>(
     rt: &HostRuntime,
     file: &Named<'a>,
     writer: &mut W,
     remark: &mut Option<Remark<'a>>,
 ) -> Result<Answer, Failure> {
-    let Some(name) = read_name(rt.alloc(), file.name)? else {
-        return change(rt, file, Change::Delete, writer, remark);
+    match one_name(rt, file.name)? {
+        Some(named) => delete_one(rt, file, &named, writer, remark),
+        None => change(rt, file, Change::Delete, writer, remark),
+    }
+}
+
+/// Deletes one file.
+fn delete_one<'a, W: Write>(
+    rt: &HostRuntime,
+    file: &Named<'a>,
+    named: &OneName,
+    writer: &mut W,
+    remark: &mut Option<Remark<'a>>,
+) -> Result<Answer, Failure> {
+    let mut device = opened_to_write(rt, file.image, remark)?;
+    let directory = file.directory;
+    let name = match found_in(rt, &mut device, &directory, named, file.name) {
+        Ok(name) => name,
+        Err(failure) => {
+            tell_fault(rt, file.image, device);
+            return Err(failure);
+        }
     };
-    let Some(action) = deletion(file.directory, name) else {
-        *remark = Some(remarks::of_directory(file.name));
-        return Ok(Answer::Fault);
-    };
-    let device = opened_to_write(rt, file.image, remark)?;
-    act(rt, device, file, file.name, &action, writer, remark)
+    let mut heard = Heard::new(writer, None);
+    let (device, told) = print_deletion(rt.alloc(), device, directory, name, &mut heard);
+    tell_fault(rt, file.image, device);
+    if let Some(refusal) = heard.refused_action() {
+        let action = Action::Delete { directory, name };
+        refusals::tell(
+            rt,
+            of_action(refusal, &action, file.image, file.name, file.name),
+        );
+    }
+    Ok(ended(rt, file.image, told?, remark))
+}
+
+/// Deletes the lower versions of files, where the highest is there, whose name and type a pattern means, which asks for no version.
+pub fn purge<'a, W: Write>(
+    rt: &HostRuntime,
+    file: &Named<'a>,
+    writer: &mut W,
+    remark: &mut Option<Remark<'a>>,
+) -> Result<Answer, Failure> {
+    match Pattern::parse(file.name.as_bytes()) {
+        Ok(pattern) if pattern.versions() == Versions::Highest => {
+            change(rt, file, Change::Purge, writer, remark)
+        }
+        _ => {
+            *remark = Some(remarks::of_purge(file.name));
+            refuse_names(writer)?;
+            Ok(Answer::Fault)
+        }
+    }
 }
 
 /// Gives a file another name, in its directory or in this one.
@@ -44,37 +89,53 @@ pub fn rename<'a, W: Write>(
     writer: &mut W,
     remark: &mut Option<Remark<'a>>,
 ) -> Result<Answer, Failure> {
-    let Some(named) = one_name(rt, file.name)? else {
-        *remark = Some(remarks::of_name(file.name));
-        refuse_names(writer)?;
+    let Some(named) = name_in(rt, file.name, writer, remark)? else {
         return Ok(Answer::Fault);
     };
-    let Some(new_name) = name_in(rt, new, writer, remark)? else {
+    let Some(new_named) = name_in(rt, new, writer, remark)? else {
         return Ok(Answer::Fault);
     };
-    if !agree(&named, &new_name) {
+    if is_directory_name(&first_of(&named)) != is_directory_name(&first_of(&new_named)) {
         *remark = Some(remarks::of_type(new));
         return Ok(Answer::Fault);
     }
+    let to = to.unwrap_or(file.directory);
     let mut device = opened_to_write(rt, file.image, remark)?;
-    let name = match found_in(rt, &mut device, &file.directory, &named, file.name) {
-        Ok(name) => name,
+    let (name, new_name) = match both_names(rt, &mut device, file, &named, &to, &new_named) {
+        Ok(both) => both,
         Err(failure) => {
             tell_fault(rt, file.image, device);
             return Err(failure);
         }
     };
-    let to = to.unwrap_or(file.directory);
     match renaming(file.directory, name, to, new_name) {
         Some(action) => act(rt, device, file, new, &action, writer, remark),
         None => Ok(Answer::Fault),
     }
 }
 
-/// Whether a file that is renamed has a directory's name before and behind it, or neither.
-fn agree(named: &OneName, new: &Name) -> bool {
-    let (OneName::Whole(old) | OneName::Highest(old)) = *named;
-    is_directory_name(&old) == is_directory_name(new)
+/// The name that a word is, or with version 1 where it asks for none.
+fn first_of(named: &OneName) -> Name {
+    let (OneName::Whole(name) | OneName::Highest(name)) = *named;
+    name
+}
+
+/// The name of a file that is renamed, and the one that it gets: of the next version where none is given, but of a directory 1, by which it
+/// is found.
+fn both_names(
+    rt: &HostRuntime,
+    device: &mut FileImage<File>,
+    file: &Named<'_>,
+    named: &OneName,
+    to: &Name,
+    new_named: &OneName,
+) -> Result<(Name, Name), Failure> {
+    let name = found_in(rt, device, &file.directory, named, file.name)?;
+    let new = first_of(new_named);
+    if is_directory_name(&new) {
+        return Ok((name, new));
+    }
+    Ok((name, next_in(rt, device, to, new_named)?))
 }
 
 /// Gives a file a protection word, or those that a pattern means.
@@ -144,19 +205,19 @@ pub fn make_directory<'a, W: Write>(
     Ok(ended(rt, image, told?, remark))
 }
 
-/// The name that a word is; where it is none, that is written.
+/// Which file a word names; where it is no name, that is written.
 fn name_in<'a, W: Write>(
     rt: &HostRuntime,
     word: &'a str,
     writer: &mut W,
     remark: &mut Option<Remark<'a>>,
-) -> Result<Option<Name>, Failure> {
-    let name = read_name(rt.alloc(), word)?;
-    if name.is_none() {
+) -> Result<Option<OneName>, Failure> {
+    let named = one_name(rt, word)?;
+    if named.is_none() {
         *remark = Some(remarks::of_name(word));
         refuse_names(writer)?;
     }
-    Ok(name)
+    Ok(named)
 }
 
 /// Does something to a file, and says what a refusal means, `new` being the name that it gets.

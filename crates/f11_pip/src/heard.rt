@@ -43,6 +43,17 @@ impl Beginning {
         Some(name)
     }
 
+    /// What the line says behind the name of a file that it begins with, where that refuses something: `no` and why.
+    fn refusal_of_file(&self) -> Option<&str> {
+        let line = str::from_utf8(self.bytes.get(..self.length)?).ok()?;
+        let (_, behind) = line.split_once(" ")?;
+        if behind.starts_with("no ") {
+            Some(behind)
+        } else {
+            None
+        }
+    }
+
     /// The line, where it refuses something: `bad line`, or `no` and why.
     fn refusal(&self) -> Option<&str> {
         let line = str::from_utf8(self.bytes.get(..self.length)?).ok()?;
@@ -100,6 +111,11 @@ impl<'w, 't, W: Write> Heard<'w, 't, W> {
     /// The last line, where it refuses something.
     pub fn refusal(&self) -> Option<&str> {
         self.last.refusal()
+    }
+
+    /// What the last line says behind the name of a file, where that refuses something.
+    pub fn refusal_of_file(&self) -> Option<&str> {
+        self.last.refusal_of_file()
     }
 
     /// Why the last action that is refused is so.

@@ -2,12 +2,6 @@
 use f11_words::Subcommand;
 use std::io::{self, Write};
 
-/// Commands that belong together, under a title.
-struct Group {
-    title: &'static str,
-    commands: &'static [Synopsis],
-}
-
 /// A command: which it is, its words, what it does, what there is to say of its words, a line each, and an example.
 struct Synopsis {
     command: Subcommand,
@@ -20,258 +14,281 @@ struct Synopsis {
 /// The program's name and version, and what it was built with.
 const VERSION: &str = "f11_pip 0.1, built with Rattle, logic dac8208d650f15bf";
 
-const GROUPS: [Group; 4] = [
-    Group {
-        title: "Files-11 volumes",
-        commands: &[
-            Synopsis {
-                command: Subcommand::Ls,
-                words: "f11_pip ls IMAGE [DIR]",
-                does: "lists all directories, or one",
-                about: &[
-                    "of a volume that has faults, too; a line a record: name, blocks, bytes, owner and protection word",
-                    "DIR: a UIC, octal, as 200,1, or a name, as [USERFILES]; 0,0 is the master file directory",
-                ],
-                example: "f11_pip ls pack.dsk 200,1",
-            },
-            Synopsis {
-                command: Subcommand::Get,
-                words: "f11_pip get [--mode M|--blocks] IMAGE DIR NAME HOST | get --all IMAGE FOLDER",
-                does: "takes out a file, or all files",
-                about: &[
-                    "of a volume that has faults, too; HOST and FOLDER are made, and mustn't be there; NAME: without a version the highest",
-                    "--mode M: image, as where none is given, all bytes as they are, or text: records become lines",
-                    "--blocks: all its blocks, those behind its end, too",
-                    "--all: each file, as it is, into a folder of FOLDER for its directory, as [200,001]; those that none names into FOLDER/lost",
-                    "DIR: a UIC, octal, as 200,1, or a name, as [USERFILES]; 0,0 is the master file directory",
-                ],
-                example: "f11_pip get --mode text pack.dsk 200,1 'LOGIN.CMD;1' login.cmd",
-            },
-            Synopsis {
-                command: Subcommand::Put,
-                words: "f11_pip put [--mode M] IMAGE DIR NAME HOST",
-                does: "makes a file of one of the host",
-                about: &[
-                    "of a volume that is accepted",
-                    "--mode M: image, as where none is given, all bytes as they are, or text: lines, ended by LF or CR LF, become records",
-                    "text: bytes of 0 are dropped, and the last line gets an end",
-                    "DIR: a UIC, octal, as 200,1, or a name, as [USERFILES]; 0,0 is the master file directory",
-                ],
-                example: "f11_pip put --mode text pack.dsk 200,1 'LOGIN.CMD;1' login.cmd",
-            },
-            Synopsis {
-                command: Subcommand::Mkdir,
-                words: "f11_pip mkdir IMAGE DIR",
-                does: "makes a directory",
-                about: &[
-                    "on a volume that is accepted; its owner is the UIC, or [1,1] where it has a name; its protection word is that of the home block",
-                    "DIR: a UIC, octal, as 200,1, or a name, as [USERFILES]",
-                ],
-                example: "f11_pip mkdir pack.dsk 200,1",
-            },
-            Synopsis {
-                command: Subcommand::Del,
-                words: "f11_pip del IMAGE DIR NAME",
-                does: "deletes a file, or those that a pattern means",
-                about: &[
-                    "of a volume that is accepted; no directory, and none of the volume's own files",
-                    "NAME: with its version, or without one the highest; * stands for any characters and % for one, as *.TXT;*",
-                    "DIR: a UIC, octal, as 200,1, or a name, as [USERFILES]; 0,0 is the master file directory",
-                ],
-                example: "f11_pip del pack.dsk 200,1 'LOGIN.CMD;1'",
-            },
-            Synopsis {
-                command: Subcommand::Ren,
-                words: "f11_pip ren IMAGE DIR NAME NEW",
-                does: "gives a file another name",
-                about: &[
-                    "of a volume that is accepted; NAME: with its version, or without one the highest; none of the volume's own files",
-                    "NEW: a name with a version that isn't there yet, in the same directory, or DIR/NAME, in that one",
-                    "DIR: a UIC, octal, as 200,1, or a name, as [USERFILES]; 0,0 is the master file directory",
-                ],
-                example: "f11_pip ren pack.dsk 200,1 'LOGIN.CMD;1' 'LOGIN.OLD;1'",
-            },
-            Synopsis {
-                command: Subcommand::Prot,
-                words: "f11_pip prot IMAGE DIR NAME WORD",
-                does: "gives a file a protection word, or those that a pattern means",
-                about: &[
-                    "of a volume that is accepted; none of the volume's own files",
-                    "NAME: with its version, or without one the highest; * stands for any characters and % for one, as *.TXT;*",
-                    "WORD: octal, as ls and rights have it: a bit that is set denies a right",
-                    "DIR: a UIC, octal, as 200,1, or a name, as [USERFILES]; 0,0 is the master file directory",
-                ],
-                example: "f11_pip prot pack.dsk 200,1 'LOGIN.CMD;1' 177400",
-            },
-            Synopsis {
-                command: Subcommand::Trunc,
-                words: "f11_pip trunc IMAGE DIR NAME",
-                does: "gives back the blocks behind a file's end",
-                about: &[
-                    "of a volume that is accepted; none of the volume's own files",
-                    "NAME: with its version, or without one the highest; * stands for any characters and % for one, as *.TXT;*",
-                    "the end is that which ls shows in bytes; a file that states none, or that was open when the system stopped, isn't cut",
-                    "DIR: a UIC, octal, as 200,1, or a name, as [USERFILES]; 0,0 is the master file directory",
-                ],
-                example: "f11_pip trunc pack.dsk 200,1 'LOGIN.CMD;1'",
-            },
-            Synopsis {
-                command: Subcommand::Vfy,
-                words: "f11_pip vfy [--update] IMAGE",
-                does: "verifies a volume: a line a fault or note, and whether it is accepted",
-                about: &[
-                    "--update: gives back what is lost, where the volume is accepted",
-                    "docs/VFY.md tells what each line means, and what to type then",
-                ],
-                example: "f11_pip vfy pack.dsk",
-            },
-            Synopsis {
-                command: Subcommand::Run,
-                words: "f11_pip run [--quiet] IMAGE SCRIPT",
-                does: "serves the requests of a script on a volume that is accepted",
-                about: &[
-                    "SCRIPT: a file, a request a line, as `0 [1,1] FIND 4,4 LOGIN.CMD;1`; docs/FORMATS.md tells its language",
-                    "docs/RECIPES.md has a script that deletes a directory",
-                    "--quiet: standard error doesn't tell which lines are bad or refused; the status is 0 where some are, too",
-                ],
-                example: "f11_pip run pack.dsk requests",
-            },
-            Synopsis {
-                command: Subcommand::Init,
-                words: "f11_pip init --blocks N --slots N --label L [--max N] IMAGE",
-                does: "makes an image with a fresh volume",
-                about: &[
-                    "--blocks: of 512 bytes, at most 516096",
-                    "--slots: of file headers at first, 16 to 16000; a file takes one, a long one more; docs/RECIPES.md tells how many",
-                    "--label: 1 to 12 of A to Z and 0 to 9",
-                    "--max: of slots at most, as many as --slots to 65500; 4000 where it isn't given",
-                ],
-                example: "f11_pip init --blocks 4800 --slots 160 --label MYPACK pack.dsk",
-            },
-            Synopsis {
-                command: Subcommand::Home,
-                words: "f11_pip home IMAGE",
-                does: "shows the home block",
-                about: &[],
-                example: "f11_pip home pack.dsk",
-            },
-            Synopsis {
-                command: Subcommand::Dump,
-                words: "f11_pip dump IMAGE NUMBER",
-                does: "shows a file header and its retrieval pointers",
-                about: &["NUMBER: the file's, decimal"],
-                example: "f11_pip dump pack.dsk 4",
-            },
+/// The commands on Files-11 volumes.
+const FILES: [Synopsis; 14] = [
+    Synopsis {
+        command: Subcommand::Ls,
+        words: "f11_pip ls IMAGE [DIR]",
+        does: "lists all directories, or one",
+        about: &[
+            "of a volume that has faults, too; a line a record: name, blocks, bytes, owner and protection word",
+            "DIR: a UIC, octal, as 200,1, or a name, as [USERFILES]; 0,0 is the master file directory",
         ],
+        example: "f11_pip ls pack.dsk 200,1",
     },
-    Group {
-        title: "RT-11 volumes",
-        commands: &[
-            Synopsis {
-                command: Subcommand::RtLs,
-                words: "f11_pip rt-ls RT",
-                does: "lists the files",
-                about: &["of a volume that has faults, too"],
-                example: "f11_pip rt-ls rt.dsk",
-            },
-            Synopsis {
-                command: Subcommand::RtGet,
-                words: "f11_pip rt-get RT NAME HOST | rt-get --all RT FOLDER",
-                does: "takes out a file, or all files, as they are",
-                about: &[
-                    "of a volume that has faults, too; HOST and FOLDER are made, and mustn't be there; NAME: without a version the highest",
-                ],
-                example: "f11_pip rt-get rt.dsk SWAP.SYS swap.sys",
-            },
-            Synopsis {
-                command: Subcommand::RtPut,
-                words: "f11_pip rt-put RT NAME HOST",
-                does: "makes a file of one of the host, filled up with zeros to whole blocks",
-                about: &[
-                    "of a volume that is accepted",
-                    "RT-11 ends the lines of a text by CR LF, which its copies to Files-11 look for: LF alone is put as it is",
-                ],
-                example: "f11_pip rt-put rt.dsk LOGIN.COM login.com",
-            },
-            Synopsis {
-                command: Subcommand::RtDel,
-                words: "f11_pip rt-del RT NAME",
-                does: "deletes a file",
-                about: &["of a volume that is accepted"],
-                example: "f11_pip rt-del rt.dsk OLD.BAK",
-            },
-            Synopsis {
-                command: Subcommand::RtVfy,
-                words: "f11_pip rt-vfy IMAGE",
-                does: "verifies a volume: a line a fault or note, and whether it is accepted",
-                about: &[],
-                example: "f11_pip rt-vfy rt.dsk",
-            },
-            Synopsis {
-                command: Subcommand::RtList,
-                words: "f11_pip rt-list IMAGE",
-                does: "lists the areas of a volume that is accepted",
-                about: &[],
-                example: "f11_pip rt-list rt.dsk",
-            },
-            Synopsis {
-                command: Subcommand::RtInit,
-                words: "f11_pip rt-init --blocks N --segments N IMAGE",
-                does: "makes an image with a fresh volume",
-                about: &[
-                    "--blocks: of 512 bytes, at most 65535",
-                    "--segments: of the directory, 1 to 31, each for some 70 files",
-                ],
-                example: "f11_pip rt-init --blocks 4800 --segments 4 rt.dsk",
-            },
+    Synopsis {
+        command: Subcommand::Get,
+        words: "f11_pip get [--mode M|--blocks] IMAGE DIR NAME HOST | get --all IMAGE FOLDER",
+        does: "takes out a file, or all files",
+        about: &[
+            "of a volume that has faults, too; HOST and FOLDER are made, and mustn't be there; NAME: without a version the highest",
+            "NAME may be a pattern, as '*.TXT;*': its files go into the folder HOST, which is made where it isn't there",
+            "--mode M: image, as where none is given, all bytes as they are, or text: records become lines",
+            "--blocks: all its blocks, those behind its end, too",
+            "--all: each file, as it is, into a folder of FOLDER for its directory, as [200,001]; those that none names into FOLDER/lost",
+            "DIR: a UIC, octal, as 200,1, or a name, as [USERFILES]; 0,0 is the master file directory",
         ],
+        example: "f11_pip get --mode text pack.dsk 200,1 'LOGIN.CMD;1' login.cmd",
     },
-    Group {
-        title: "Copies between the two",
-        commands: &[
-            Synopsis {
-                command: Subcommand::FlxToRt,
-                words: "f11_pip flx-to-rt --mode M IMAGE UIC NAME RT RTNAME",
-                does: "copies a file of a Files-11 volume to an RT-11 one",
-                about: &[
-                    "--mode M: image, all bytes as they are, or text: records become lines ended by CR LF",
-                    "UIC: of its directory, octal, as 200,1; 0,0 is the master file directory",
-                ],
-                example: "f11_pip flx-to-rt --mode text pack.dsk 200,1 'LOGIN.CMD;1' rt.dsk LOGIN.CMD",
-            },
-            Synopsis {
-                command: Subcommand::FlxFromRt,
-                words: "f11_pip flx-from-rt --mode M RT RTNAME IMAGE UIC NAME",
-                does: "copies a file of an RT-11 volume to a Files-11 one",
-                about: &[
-                    "--mode M: image, all bytes as they are, or text: lines, ended by CR LF, become records",
-                    "UIC: of its directory, octal, as 200,1; 0,0 is the master file directory",
-                ],
-                example: "f11_pip flx-from-rt --mode text rt.dsk LOGIN.CMD pack.dsk 200,1 'LOGIN.CMD;1'",
-            },
+    Synopsis {
+        command: Subcommand::Put,
+        words: "f11_pip put [--mode M] IMAGE DIR NAME HOST | put --each [--mode M] IMAGE DIR HOST..",
+        does: "makes a file of one of the host, or of each of some",
+        about: &[
+            "of a volume that is accepted; NAME: without a version the next one",
+            "--each: each HOST under the last part of its path, as the next version where that has none; a line each, and counts",
+            "--mode M: image, as where none is given, all bytes as they are, or text: lines, ended by LF or CR LF, become records",
+            "text: bytes of 0 are dropped, and the last line gets an end",
+            "DIR: a UIC, octal, as 200,1, or a name, as [USERFILES]; 0,0 is the master file directory",
         ],
+        example: "f11_pip put --mode text pack.dsk 200,1 'LOGIN.CMD;1' login.cmd",
     },
-    Group {
-        title: "Words and rights",
-        commands: &[
-            Synopsis {
-                command: Subcommand::Name,
-                words: "f11_pip name TEXT",
-                does: "shows the five words of a file's name",
-                about: &[],
-                example: "f11_pip name 'LOGIN.CMD;1'",
-            },
-            Synopsis {
-                command: Subcommand::Rights,
-                words: "f11_pip rights UIC OWNER WORD",
-                does: "shows a caller's rights to a file of an owner with a protection word",
-                about: &[
-                    "UIC, OWNER: octal, as 200,1",
-                    "WORD: octal, a bit that is 1 denies: four each, from the right, for system, owner, group and world",
-                ],
-                example: "f11_pip rights 200,2 200,1 160000",
-            },
+    Synopsis {
+        command: Subcommand::Mkdir,
+        words: "f11_pip mkdir IMAGE DIR",
+        does: "makes a directory",
+        about: &[
+            "on a volume that is accepted; its owner is the UIC, or [1,1] where it has a name; its protection word is that of the home block",
+            "DIR: a UIC, octal, as 200,1, or a name, as [USERFILES]",
         ],
+        example: "f11_pip mkdir pack.dsk 200,1",
+    },
+    Synopsis {
+        command: Subcommand::Del,
+        words: "f11_pip del IMAGE DIR NAME",
+        does: "deletes a file, or those that a pattern means",
+        about: &[
+            "of a volume that is accepted; a directory by its name in 0,0, where it has no files; none of the volume's own files",
+            "NAME: with its version, or without one the highest; * stands for any characters and % for one, as *.TXT;*",
+            "DIR: a UIC, octal, as 200,1, or a name, as [USERFILES]; 0,0 is the master file directory",
+        ],
+        example: "f11_pip del pack.dsk 200,1 'LOGIN.CMD;1'",
+    },
+    Synopsis {
+        command: Subcommand::Ren,
+        words: "f11_pip ren IMAGE DIR NAME NEW",
+        does: "gives a file another name",
+        about: &[
+            "of a volume that is accepted; NAME: with its version, or without one the highest; none of the volume's own files",
+            "NEW: a name that isn't there yet, or without a version the next, in the same directory, or DIR/NAME, in that one",
+            "DIR: a UIC, octal, as 200,1, or a name, as [USERFILES]; 0,0 is the master file directory",
+        ],
+        example: "f11_pip ren pack.dsk 200,1 'LOGIN.CMD;1' 'LOGIN.OLD;1'",
+    },
+    Synopsis {
+        command: Subcommand::Prot,
+        words: "f11_pip prot IMAGE DIR NAME WORD",
+        does: "gives a file a protection word, or those that a pattern means",
+        about: &[
+            "of a volume that is accepted; none of the volume's own files",
+            "NAME: with its version, or without one the highest; * stands for any characters and % for one, as *.TXT;*",
+            "WORD: octal, as ls and rights have it: a bit that is set denies a right; or as '[RWED,RWED,RWED,R]'",
+            "DIR: a UIC, octal, as 200,1, or a name, as [USERFILES]; 0,0 is the master file directory",
+        ],
+        example: "f11_pip prot pack.dsk 200,1 'LOGIN.CMD;1' 177400",
+    },
+    Synopsis {
+        command: Subcommand::Purge,
+        words: "f11_pip purge IMAGE DIR [NAME]",
+        does: "deletes the versions of files but the highest",
+        about: &[
+            "of a volume that is accepted; no directory, and none of the volume's own files",
+            "where the highest version's record leads to no file they stay; one that leads to its file is removed, and the file stays",
+            "NAME: without a version; * stands for any characters and % for one, as *.TXT; where it isn't given, *.*",
+            "DIR: a UIC, octal, as 200,1, or a name, as [USERFILES]; 0,0 is the master file directory",
+        ],
+        example: "f11_pip purge pack.dsk 200,1 '*.TXT'",
+    },
+    Synopsis {
+        command: Subcommand::Trunc,
+        words: "f11_pip trunc IMAGE DIR NAME",
+        does: "gives back the blocks behind a file's end",
+        about: &[
+            "of a volume that is accepted; none of the volume's own files",
+            "NAME: with its version, or without one the highest; * stands for any characters and % for one, as *.TXT;*",
+            "the end is that which ls shows in bytes; a file that states none, or that was open when the system stopped, isn't cut",
+            "DIR: a UIC, octal, as 200,1, or a name, as [USERFILES]; 0,0 is the master file directory",
+        ],
+        example: "f11_pip trunc pack.dsk 200,1 'LOGIN.CMD;1'",
+    },
+    Synopsis {
+        command: Subcommand::Vfy,
+        words: "f11_pip vfy [--update] IMAGE",
+        does: "verifies a volume: a line a fault or note, and whether it is accepted",
+        about: &[
+            "--update: gives back what is lost, where the volume is accepted",
+            "docs/VFY.md tells what each line means, and what to type then",
+        ],
+        example: "f11_pip vfy pack.dsk",
+    },
+    Synopsis {
+        command: Subcommand::Run,
+        words: "f11_pip run [--quiet] IMAGE SCRIPT",
+        does: "serves the requests of a script on a volume that is accepted",
+        about: &[
+            "SCRIPT: a file, a request a line, as `0 [1,1] FIND 4,4 LOGIN.CMD;1`; docs/FORMATS.md tells its language",
+            "docs/RECIPES.md has scripts",
+            "--quiet: standard error doesn't tell which lines are bad or refused; the status is 0 where some are, too",
+        ],
+        example: "f11_pip run pack.dsk requests",
+    },
+    Synopsis {
+        command: Subcommand::Init,
+        words: "f11_pip init --blocks N --slots N --label L [--max N] IMAGE",
+        does: "makes an image with a fresh volume",
+        about: &[
+            "--blocks: of 512 bytes, at most 516096",
+            "--slots: of file headers at first, 16 to 16000; a file takes one, a long one more; docs/RECIPES.md tells how many",
+            "--label: 1 to 12 of A to Z and 0 to 9",
+            "--max: of slots at most, as many as --slots to 65500; 4000 where it isn't given",
+        ],
+        example: "f11_pip init --blocks 4800 --slots 160 --label MYPACK pack.dsk",
+    },
+    Synopsis {
+        command: Subcommand::Home,
+        words: "f11_pip home IMAGE",
+        does: "shows the home block",
+        about: &[],
+        example: "f11_pip home pack.dsk",
+    },
+    Synopsis {
+        command: Subcommand::Dump,
+        words: "f11_pip dump IMAGE NUMBER",
+        does: "shows a file header and its retrieval pointers",
+        about: &["NUMBER: the file's, decimal"],
+        example: "f11_pip dump pack.dsk 4",
+    },
+];
+
+/// Those on RT-11 volumes.
+const RT11: [Synopsis; 9] = [
+    Synopsis {
+        command: Subcommand::RtLs,
+        words: "f11_pip rt-ls RT",
+        does: "lists the files",
+        about: &["of a volume that has faults, too"],
+        example: "f11_pip rt-ls rt.dsk",
+    },
+    Synopsis {
+        command: Subcommand::RtGet,
+        words: "f11_pip rt-get RT NAME HOST | rt-get --all RT FOLDER",
+        does: "takes out a file, or all files, as they are",
+        about: &[
+            "of a volume that has faults, too; HOST and FOLDER are made, and mustn't be there",
+        ],
+        example: "f11_pip rt-get rt.dsk SWAP.SYS swap.sys",
+    },
+    Synopsis {
+        command: Subcommand::RtPut,
+        words: "f11_pip rt-put RT NAME HOST",
+        does: "makes a file of one of the host, filled up with zeros to whole blocks",
+        about: &[
+            "of a volume that is accepted",
+            "RT-11 ends the lines of a text by CR LF, which its copies to Files-11 look for: LF alone is put as it is",
+        ],
+        example: "f11_pip rt-put rt.dsk LOGIN.COM login.com",
+    },
+    Synopsis {
+        command: Subcommand::RtDel,
+        words: "f11_pip rt-del RT NAME",
+        does: "deletes a file",
+        about: &["of a volume that is accepted"],
+        example: "f11_pip rt-del rt.dsk OLD.BAK",
+    },
+    Synopsis {
+        command: Subcommand::RtRen,
+        words: "f11_pip rt-ren RT NAME NEW",
+        does: "renames a file",
+        about: &[
+            "of a volume that is accepted; no file has the name NEW; the date and the protection stay",
+        ],
+        example: "f11_pip rt-ren rt.dsk DRAFT.TXT LETTER.TXT",
+    },
+    Synopsis {
+        command: Subcommand::RtProt,
+        words: "f11_pip rt-prot [--off] RT NAME",
+        does: "protects a file, so that it isn't deleted",
+        about: &["of a volume that is accepted; --off: has it protected no more"],
+        example: "f11_pip rt-prot rt.dsk SWAP.SYS",
+    },
+    Synopsis {
+        command: Subcommand::RtVfy,
+        words: "f11_pip rt-vfy IMAGE",
+        does: "verifies a volume: a line a fault or note, and whether it is accepted",
+        about: &[],
+        example: "f11_pip rt-vfy rt.dsk",
+    },
+    Synopsis {
+        command: Subcommand::RtList,
+        words: "f11_pip rt-list IMAGE",
+        does: "lists the areas of a volume that is accepted",
+        about: &[],
+        example: "f11_pip rt-list rt.dsk",
+    },
+    Synopsis {
+        command: Subcommand::RtInit,
+        words: "f11_pip rt-init --blocks N --segments N IMAGE",
+        does: "makes an image with a fresh volume",
+        about: &[
+            "--blocks: of 512 bytes, at most 65535",
+            "--segments: of the directory, 1 to 31, each for some 70 files",
+        ],
+        example: "f11_pip rt-init --blocks 4800 --segments 4 rt.dsk",
+    },
+];
+
+/// Those that copy between the two.
+const COPIES: [Synopsis; 2] = [
+    Synopsis {
+        command: Subcommand::FlxToRt,
+        words: "f11_pip flx-to-rt --mode M IMAGE UIC NAME RT RTNAME",
+        does: "copies a file of a Files-11 volume to an RT-11 one",
+        about: &[
+            "--mode M: image, all bytes as they are, or text: records become lines ended by CR LF",
+            "UIC: of its directory, octal, as 200,1; 0,0 is the master file directory",
+        ],
+        example: "f11_pip flx-to-rt --mode text pack.dsk 200,1 'LOGIN.CMD;1' rt.dsk LOGIN.CMD",
+    },
+    Synopsis {
+        command: Subcommand::FlxFromRt,
+        words: "f11_pip flx-from-rt --mode M RT RTNAME IMAGE UIC NAME",
+        does: "copies a file of an RT-11 volume to a Files-11 one",
+        about: &[
+            "--mode M: image, all bytes as they are, or text: lines, ended by CR LF, become records",
+            "UIC: of its directory, octal, as 200,1; 0,0 is the master file directory",
+        ],
+        example: "f11_pip flx-from-rt --mode text rt.dsk LOGIN.CMD pack.dsk 200,1 'LOGIN.CMD;1'",
+    },
+];
+
+/// Those that need no volume.
+const WORDS: [Synopsis; 2] = [
+    Synopsis {
+        command: Subcommand::Name,
+        words: "f11_pip name TEXT",
+        does: "shows the five words of a file's name",
+        about: &[],
+        example: "f11_pip name 'LOGIN.CMD;1'",
+    },
+    Synopsis {
+        command: Subcommand::Rights,
+        words: "f11_pip rights UIC OWNER WORD",
+        does: "shows a caller's rights to a file of an owner with a protection word",
+        about: &[
+            "UIC, OWNER: octal, as 200,1",
+            "WORD: octal, a bit that is 1 denies: four each, from the right, for system, owner, group and world",
+        ],
+        example: "f11_pip rights 200,2 200,1 160000",
     },
 ];
 
@@ -344,14 +361,41 @@ pub fn asked_for(words: &[String]) -> Option<&String> {
     Some(word)
 }
 
-/// The command of this name, if there is one.
+/// The command of this name, if there is one. Each of the tables is looked at by a function of its own: all of them are too much for one.
 fn command_of(name: &String) -> Option<&'static Synopsis> {
     let named = Subcommand::named(name.as_str())?;
-    for group in &GROUPS {
-        for command in group.commands {
-            if command.command == named {
-                return Some(command);
-            }
+    if let Some(command) = of_files(named) {
+        return Some(command);
+    }
+    if let Some(command) = of_rt11(named) {
+        return Some(command);
+    }
+    if let Some(command) = of_copies(named) {
+        return Some(command);
+    }
+    of_words(named)
+}
+
+fn of_files(named: Subcommand) -> Option<&'static Synopsis> {
+    found_in(&FILES, named)
+}
+
+fn of_rt11(named: Subcommand) -> Option<&'static Synopsis> {
+    found_in(&RT11, named)
+}
+
+fn of_copies(named: Subcommand) -> Option<&'static Synopsis> {
+    found_in(&COPIES, named)
+}
+
+fn of_words(named: Subcommand) -> Option<&'static Synopsis> {
+    found_in(&WORDS, named)
+}
+
+fn found_in(commands: &'static [Synopsis], named: Subcommand) -> Option<&'static Synopsis> {
+    for command in commands {
+        if command.command == named {
+            return Some(command);
         }
     }
     None
@@ -366,16 +410,45 @@ fn write_one<W: Write>(command: &Synopsis, writer: &mut W) -> io::Result<()> {
 }
 
 fn write_all<W: Write>(writer: &mut W) -> io::Result<()> {
-    for group in &GROUPS {
-        writeln!(writer, "{}", group.title)?;
-        for command in group.commands {
-            writeln!(writer, "  {}: {}", command.command.name(), command.does)?;
-        }
-    }
+    write_files(writer)?;
+    write_rt11(writer)?;
+    write_copies(writer)?;
+    write_words(writer)?;
     writeln!(
         writer,
         "f11_pip help COMMAND tells a command's words, with an example"
     )
+}
+
+fn write_files<W: Write>(writer: &mut W) -> io::Result<()> {
+    write_group("Files-11 volumes", &FILES, writer)
+}
+
+fn write_rt11<W: Write>(writer: &mut W) -> io::Result<()> {
+    write_group("RT-11 volumes", &RT11, writer)
+}
+
+fn write_copies<W: Write>(writer: &mut W) -> io::Result<()> {
+    write_group("Copies between the two", &COPIES, writer)
+}
+
+fn write_words<W: Write>(writer: &mut W) -> io::Result<()> {
+    write_group("Words and rights", &WORDS, writer)
+}
+
+/// Writes a line for each of some commands, under a title.
+fn write_group<W: Write>(title: &str, commands: &[Synopsis], writer: &mut W) -> io::Result<()> {
+    writeln!(writer, "{title}")?;
+    for command in commands {
+        write_line(command, writer)?;
+    }
+    Ok(())
+}
+
+fn write_line<W: Write>(command: &Synopsis, writer: &mut W) -> io::Result<()> {
+    let name = command.command.name();
+    let does = command.does;
+    writeln!(writer, "  {name}: {does}")
 }
 
 /// The words of the command that was meant, where the first word behind the program's name is a command.

@@ -1,22 +1,23 @@
 //! The commands on files of the host: which files they open, and how.
-use crate::chosen::{found_in, one_name};
+use crate::chosen::{OneName, found_in, next_in, one_name};
 use crate::heard::Heard;
-use crate::host_file::{HostFile, PIECE};
+use crate::host_file::HostFile;
 use crate::image::{
     ReadImage, image_of, opened_to_read, opened_to_write, tell_fault, tell_read_fault,
 };
+use crate::meant::get_meant;
 use crate::outcome::Failure;
 use crate::refusals::{self, NO_SUCH_ENTRY, of_finding, of_making};
 use crate::remarks::{self, Remark, Why, opened};
+use crate::sources::Source;
 use crate::volumes::judged;
-use f11_commands::f11_flx::{CopyMode, LONGEST_LINE};
+use f11_commands::f11_flx::CopyMode;
 use f11_commands::f11_rad50::Name;
 use f11_commands::{
-    Answer, FileAnswer, FoundFile, PutFailure, Putting, Served, print_ls, print_put, read_name,
-    refuse_names, seek_file, to_last_block, write_file,
+    Answer, FileAnswer, FoundFile, PutFailure, Putting, Served, print_ls, print_put, refuse_names,
+    seek_file, to_last_block, write_file,
 };
-use std::fs::{self, File};
-use std::io::{self, BufReader, Read, Write};
+use std::io::{self, Write};
 
 /// A file of a volume, as the words name it: its image, its directory, and its name.
 #[derive(Clone, Copy)]
@@ -35,7 +36,8 @@ pub struct Taking {
     pub all_blocks: bool,
 }
 
-/// Takes a file out of a volume. A file of the host is made for it, where none is yet, once it is found.
+/// Takes a file out of a volume. A file of the host is made for it, where none is yet, once it is found. Where the name is a pattern that may
+/// mean several, HOST is a folder.
 pub fn get<'a, W: Write>(
     rt: &HostRuntime,
     file: &Named<'a>,
@@ -45,8 +47,7 @@ pub fn get<'a, W: Write>(
     remark: &mut Option<Remark<'a>>,
 ) -> Result<Answer, Failure> {
     let Some(named) = one_name(rt, file.name)? else {
-        *remark = Some(remarks::of_name(file.name));
-        return Ok(refuse_names(writer)?);
+        return get_meant(rt, file, taking, host, writer, remark);
     };
     let mut device = opened_to_read(rt, file.image, remark)?;
     let name = match found_in(rt, &mut device, &file.directory, &named, file.name) {
@@ -58,12 +59,7 @@ pub fn get<'a, W: Write>(
     };
     let served = match seek(rt, file, &name, device, writer) {
         Ok(Ok(found)) => {
-            if !found.is_in_use() {
-                remarks::tell(rt, file.image, Why::UNUSED);
-            }
-            if found.was_left_open() && !taking.all_blocks {
-                remarks::tell(rt, file.image, Why::LEFT_OPEN);
-            }
+            tell_found(rt, file.image, &found, taking);
             let lacks_lines = taking.mode == CopyMode::Text && !found.has_lines();
             let found = as_far_as(rt, file.image, found, taking.all_blocks)?;
             let served = take_out(rt, found, file, taking.mode, host, writer, remark)?;
@@ -81,8 +77,18 @@ pub fn get<'a, W: Write>(
     Ok(judged(rt, file.image, served, remark))
 }
 
+/// Says of a file that was found whether its slot is out of use, and whether it states no end since it was open when the system stopped.
+pub fn tell_found(rt: &HostRuntime, word: &str, found: &FoundFile<ReadImage>, taking: Taking) {
+    if !found.is_in_use() {
+        remarks::tell(rt, word, Why::UNUSED);
+    }
+    if found.was_left_open() && !taking.all_blocks {
+        remarks::tell(rt, word, Why::LEFT_OPEN);
+    }
+}
+
 /// The file of a volume that was found, or why none was, which is told.
-type Sought = Result<
+pub type Sought = Result<
     Result<FoundFile<ReadImage>, (ReadImage, Served)>,
     (ReadImage, f11_commands::Failure),
 >;
@@ -110,7 +116,7 @@ fn seek<W: Write>(
 }
 
 /// The file up to the end that it states, or up to its last block.
-fn as_far_as(
+pub fn as_far_as(
     rt: &HostRuntime,
     image: &str,
     found: FoundFile<ReadImage>,
@@ -139,7 +145,7 @@ fn take_out<'a, W: Write>(
     remark: &mut Option<Remark<'a>>,
 ) -> Result<Served, Failure> {
     let mut file = made(rt, host, remark)?;
-    let (device, served) = write_file(found, mode, &mut file, writer);
+    let (device, served) = write_file(found, None, mode, &mut file, writer);
     tell_read_fault(rt, from.image, device);
     if !matches!(
         served,
@@ -148,11 +154,10 @@ fn take_out<'a, W: Write>(
             ..
         },)
     ) {
-        let _ = file.end();
-        if let Some(error) = file.failure() {
+        let (stays, failure) = given_up(rt, file, host);
+        if let Some(error) = failure {
             *remark = Some(remarks::of_unwritten(host, error));
         }
-        let stays = file.give_up(rt, host);
         if served.is_ok() && mode == CopyMode::Text {
             remarks::tell(rt, from.name, Why::NO_RECORDS);
             if stays {
@@ -161,6 +166,15 @@ fn take_out<'a, W: Write>(
         }
     }
     Ok(served?)
+}
+
+/// Gives up a file of the host of which not all was written: where it has no byte it is removed again. Whether it stays, and why it took no
+/// more, if it didn't.
+pub fn given_up(rt: &HostRuntime, file: HostFile, path: &str) -> (bool, Option<io::Error>) {
+    let mut file = file;
+    let _ = file.end();
+    let failure = file.failure();
+    (file.give_up(rt, path), failure)
 }
 
 /// A file of the host that is made for one of a volume.
@@ -176,27 +190,8 @@ pub fn made<'a>(
     )
 }
 
-/// A file of the host that is read for one of a volume, and counts the bytes of 0 in it.
-#[derive(Drop)]
-struct Counted {
-    file: BufReader<File>,
-    nuls: u64,
-}
-
-impl Read for Counted {
-    fn read(&mut self, piece: &mut [u8]) -> io::Result<usize> {
-        let count = self.file.read(piece)?;
-        for byte in &piece[..count] {
-            if *byte == 0 {
-                self.nuls = self.nuls.saturating_add(1);
-            }
-        }
-        Ok(count)
-    }
-}
-
 /// Makes a file on a volume with the bytes or the lines of a file of the host, which is opened first, twice: a text is read to its end before
-/// the file is made.
+/// the file is made. Of a name without a version it is the next one of those that the directory has, which is told.
 pub fn put<'a, W: Write>(
     rt: &HostRuntime,
     file: &Named<'a>,
@@ -205,84 +200,68 @@ pub fn put<'a, W: Write>(
     writer: &mut W,
     remark: &mut Option<Remark<'a>>,
 ) -> Result<Answer, Failure> {
-    let Some(name) = read_name(rt.alloc(), file.name)? else {
+    let Some(named) = one_name(rt, file.name)? else {
         *remark = Some(remarks::of_name(file.name));
         return Ok(refuse_names(writer)?);
     };
-    let (first, bytes) = opened_host(rt, host, remark)?;
+    let mut source = Source::open(rt, mode, host, remark)?;
+    let mut device = opened_to_write(rt, file.image, remark)?;
+    let name = match next_in(rt, &mut device, &file.directory, &named) {
+        Ok(name) => name,
+        Err(failure) => {
+            tell_fault(rt, file.image, device);
+            return Err(failure);
+        }
+    };
     let putting = Putting {
         directory: file.directory,
         name,
         mode,
-        blocks: most_blocks(rt, mode, bytes, host)?,
+        blocks: source.blocks,
     };
-    let again = opened(
-        File::open(rt, host).map_err(remarks::unopened),
-        host,
-        remark,
-    )?;
-    let (mut first, mut again) = (with_count(rt, first)?, with_count(rt, again)?);
-    let device = opened_to_write(rt, file.image, remark)?;
     let mut heard = Heard::new(writer, None);
     let (device, told) = print_put(
         rt.alloc(),
         device,
         &putting,
-        &mut first,
-        &mut again,
-        bytes,
+        &mut source.first,
+        &mut source.again,
+        source.bytes,
         &mut heard,
     );
     tell_fault(rt, file.image, device);
-    if told == Ok(FileAnswer::Done) && mode == CopyMode::Text && first.nuls != 0 {
-        remarks::tell(rt, host, Why::NulsDropped(first.nuls));
+    if told == Ok(FileAnswer::Done) {
+        if let OneName::Highest(_) = named {
+            tell_next(rt, file.name, &name);
+        }
+        tell_nuls(rt, mode, host, &source);
     }
     if let Some(line) = heard.refusal() {
-        tell_unmade(rt, file, mode, host, bytes, line);
+        if is_last(&named, line) {
+            remarks::tell(rt, file.name, Why::LAST_VERSION);
+        } else {
+            tell_unmade(rt, file, mode, host, source.bytes, line);
+        }
     }
     put_answer(rt, file.image, host, told, remark)
 }
 
-/// How many blocks a file of the host with so many bytes takes at most on a volume: as it is, or as the records of its lines. So many that no
-/// file has them where it is a text that can't be read, or has a line that is too long.
-fn most_blocks(rt: &HostRuntime, mode: CopyMode, bytes: u64, host: &str) -> Result<u64, Failure> {
-    if mode == CopyMode::Image {
-        return Ok(bytes.div_ceil(512));
-    }
-    let Ok(file) = File::open(rt, host) else {
-        return Ok(u64::MAX);
-    };
-    let mut text = in_pieces(rt, file)?;
-    match lines_of(&mut text, bytes) {
-        Some(lines) => Ok(bytes.saturating_add(lines.saturating_mul(2)).div_ceil(512)),
-        None => Ok(u64::MAX),
+/// Says which name a file got that was put under a word without a version.
+fn tell_next(rt: &HostRuntime, word: &str, name: &Name) {
+    let _ = eprintln!(rt; "{word}: put as {name}");
+}
+
+/// Says how many bytes of 0 a file of the host has, of which a text was made.
+pub fn tell_nuls(rt: &HostRuntime, mode: CopyMode, host: &str, source: &Source) {
+    let nuls = source.first.nuls;
+    if mode == CopyMode::Text && nuls != 0 {
+        remarks::tell(rt, host, Why::NulsDropped(nuls));
     }
 }
 
-/// How many lines a text of so many bytes has, with the last, which may lack its end: none where it can't be read, or a line has over 2,048
-/// bytes, those of 0 and a CR before its end left out.
-fn lines_of<R: Read>(text: &mut R, bytes: u64) -> Option<u64> {
-    let longest = LONGEST_LINE as u64;
-    let (mut lines, mut length, mut last) = (1_u64, 0_u64, 0);
-    let mut byte = [0];
-    for _ in 0..bytes {
-        match text.read(&mut byte) {
-            Ok(0) => break,
-            Ok(_) => {}
-            Err(_) => return None,
-        }
-        match byte[0] {
-            0 => {}
-            b'\n' => {
-                if length > longest + u64::from(last == b'\r') {
-                    return None;
-                }
-                (lines, length, last) = (lines.saturating_add(1), 0, 0);
-            }
-            other => (length, last) = (length.saturating_add(1), other),
-        }
-    }
-    if length > longest { None } else { Some(lines) }
+/// Whether a name of which no version is given was refused, by this line, since there is none behind the last.
+fn is_last(named: &OneName, line: &str) -> bool {
+    line == "no DuplicateName" && matches!(named, OneName::Highest(_))
 }
 
 /// Says why no file was made of one of the host with so many bytes, by the line that was written.
@@ -294,23 +273,28 @@ fn tell_unmade(
     bytes: u64,
     line: &str,
 ) {
-    if line == "no NoHeader" && mode == CopyMode::Image {
-        let headers = headers_of(bytes);
-        let slots = headers.saturating_add(OTHER_SLOTS).max(16);
-        remarks::tell(rt, file.image, Why::FewHeaders(headers, slots));
-    } else if !is_directory_missing(rt, file, line) {
-        refusals::tell(rt, of_making(line, file.image, file.name, host));
+    if !is_directory_missing(rt, file, line) {
+        tell_why(rt, file.image, file.name, mode, host, bytes, line);
     }
 }
 
-fn with_count(rt: &HostRuntime, file: File) -> Result<Counted, Failure> {
-    let file = in_pieces(rt, file)?;
-    Ok(Counted { file, nuls: 0 })
-}
-
-/// A file of the host that is read in pieces.
-pub fn in_pieces(rt: &HostRuntime, file: File) -> Result<BufReader<File>, Failure> {
-    BufReader::with_capacity(rt.alloc(), PIECE, file).map_err(|_| Failure::NoMemory)
+/// The same, where the directory is there.
+pub fn tell_why(
+    rt: &HostRuntime,
+    image: &str,
+    name: &str,
+    mode: CopyMode,
+    host: &str,
+    bytes: u64,
+    line: &str,
+) {
+    if line == "no NoHeader" && mode == CopyMode::Image {
+        let headers = headers_of(bytes);
+        let slots = headers.saturating_add(OTHER_SLOTS).max(16);
+        remarks::tell(rt, image, Why::FewHeaders(headers, slots));
+    } else {
+        refusals::tell(rt, of_making(line, image, name, host));
+    }
 }
 
 /// How many slots beside those of a file a fresh volume has to have: the volume's own five, and one of a directory that grows.
@@ -322,7 +306,7 @@ fn headers_of(bytes: u64) -> u64 {
 }
 
 /// Whether it is the directory of a file that wasn't found where this line was written: then it says so.
-fn is_directory_missing(rt: &HostRuntime, file: &Named<'_>, line: &str) -> bool {
+pub fn is_directory_missing(rt: &HostRuntime, file: &Named<'_>, line: &str) -> bool {
     let is_missing = line == NO_SUCH_ENTRY && lacks_directory(rt, file.image, file.directory);
     if is_missing {
         tell_no_directory(rt, file.directory);
@@ -366,37 +350,6 @@ pub fn put_answer<'a>(
             Err(failure.into())
         }
     }
-}
-
-/// The most bytes that are counted of a file that says that it has none: one more than the largest volume has.
-const MOST_COUNTED: u64 = 264_241_153;
-
-/// A file of the host under a word, to be read, and how many bytes it has; and where it can't be, a remark why. What is no file isn't opened,
-/// since opening a pipe may wait.
-pub fn opened_host<'a>(
-    rt: &HostRuntime,
-    host: &'a str,
-    remark: &mut Option<Remark<'a>>,
-) -> Result<(File, u64), Failure> {
-    let file = match fs::metadata(rt, host) {
-        Ok(metadata) if !metadata.is_file() => Err(Why::NO_FILE),
-        Ok(_) => with_length(rt, host),
-        Err(error) => Err(remarks::unopened(error)),
-    };
-    opened(file, host, remark)
-}
-
-/// A file of the host, to be read, and how many bytes it has. One that says that it has none, as the files of /proc do, is read to its end to
-/// count them, and opened again.
-fn with_length(rt: &HostRuntime, path: &str) -> Result<(File, u64), Why> {
-    let file = File::open(rt, path).map_err(remarks::unopened)?;
-    let stated = file.metadata().map_err(remarks::unopened)?.len();
-    if stated > 0 {
-        return Ok((file, stated));
-    }
-    let counted = io::copy(&mut file.take(MOST_COUNTED), &mut io::sink()).map_err(|_| Why::UNREAD)?;
-    let again = File::open(rt, path).map_err(remarks::unopened)?;
-    Ok((again, counted))
 }
 
 /// The answer of a command on a file of a volume, and a remark on its image where there is one.

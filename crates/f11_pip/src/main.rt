@@ -8,6 +8,7 @@ mod chosen;
 mod commands;
 mod copies;
 mod directory;
+mod each;
 mod files;
 mod folder;
 mod heard;
@@ -15,6 +16,7 @@ mod help;
 mod host_file;
 mod host_files;
 mod image;
+mod meant;
 mod outcome;
 mod refusals;
 mod remarks;
@@ -22,11 +24,12 @@ mod rt_files;
 mod rt_folder;
 mod rt_volumes;
 mod script;
+mod sources;
 mod volumes;
 
 use commands::run;
 use f11_commands::Answer;
-use f11_words::{misread, parse, refusal};
+use f11_words::{misread, parse, refusal, split_hosts};
 use outcome::{Failure, status};
 use remarks::{Remark, Why};
 use std::env;
@@ -98,17 +101,29 @@ fn tell_usage(rt: &HostRuntime, words: &[String]) {
         }
     } else if let Some(meant) = help::meant(words) {
         let _ = eprintln!(rt; "{meant}");
-        match misread(rt.alloc(), words) {
+        let (front, others) = split_hosts(words);
+        if let Some(word) = misplaced(others) {
+            let _ = eprintln!(rt;
+                "{word}: options stand before IMAGE; a file of this name is ./{word}"
+            );
+            return;
+        }
+        match misread(rt.alloc(), front) {
             Some(unread) => {
                 let _ = eprintln!(rt; "{unread}");
             }
-            None => tell_refused(rt, words),
+            None => tell_refused(rt, front),
         }
     } else if let Some(remark) = remarks::of_command(words) {
         let _ = eprintln!(rt; "{remark}");
     } else {
         let _ = eprintln!(rt; "f11_pip help lists the commands");
     }
+}
+
+/// The first of the files of the host behind the first one of `put --each` that is an option.
+fn misplaced(others: &[String]) -> Option<&String> {
+    others.iter().find(|word| word.as_str().starts_with('-'))
 }
 
 /// Says on standard error why words aren't taken that don't parse, where it is `clap` that doesn't take them: what stands before the first
@@ -119,6 +134,10 @@ fn tell_refused(rt: &HostRuntime, words: &[String]) {
         let lacks_words = all.starts_with("error: the following required arguments");
         if lacks_words && words.iter().any(|word| word.as_str() == "--all") {
             let _ = eprintln!(rt; "FOLDER: missing");
+            return;
+        }
+        if lacks_words && words.iter().any(|word| word.as_str() == "--each") {
+            let _ = eprintln!(rt; "HOST: missing");
             return;
         }
         let first = match all.split_once("\n\n") {
@@ -146,9 +165,14 @@ fn answer<'a>(
             .map_err(Failure::from)
             .and(Ok(Answer::Done))
     } else {
-        match parse(rt.alloc(), words) {
-            Ok(asked) => run(rt, &asked, &mut writer, remark),
-            Err(failure) => Err(Failure::from(failure)),
+        let (front, others) = split_hosts(words);
+        if misplaced(others).is_some() {
+            Err(Failure::Usage)
+        } else {
+            match parse(rt.alloc(), front) {
+                Ok(asked) => run(rt, &asked, others, &mut writer, remark),
+                Err(failure) => Err(Failure::from(failure)),
+            }
         }
     };
     let written = writer.flush();

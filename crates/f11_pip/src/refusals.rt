@@ -35,10 +35,14 @@ pub fn of_finding<'a>(line: &str, name: &'a str) -> Option<Remark<'a>> {
 }
 
 /// What there is to say where this pattern means nothing that something can be done to.
-pub fn of_none<'a>(line: &str, pattern: &'a str) -> Option<Remark<'a>> {
+pub fn of_none<'a>(line: &str, change: Change, pattern: &'a str) -> Option<Remark<'a>> {
     if line == NO_SUCH_ENTRY {
-        let why =
-            "it means no file of that directory, or only directories, which del doesn't delete, or there is no such directory; ls lists them";
+        let why = match change {
+            Change::Delete => {
+                "it means no file of that directory, or only directories, which a pattern leaves out, or there is no such directory; ls lists them"
+            }
+            _ => "it means no file of that directory, or there is no such directory; ls lists them",
+        };
         return Some(refused(pattern, why));
     }
     of_finding(line, pattern)
@@ -115,6 +119,22 @@ pub fn of_change<'a>(
 ) -> Option<Remark<'a>> {
     match (refusal, change) {
         ("BadArgument", Change::Truncate) => Some(refused(word, NO_END)),
+        ("Marked", Change::Purge) => {
+            Some(refused(
+                word,
+                "the file of its highest version, or the directory, is marked for delete, so this one stays; del deletes it",
+            ))
+        }
+        ("BadArgument", Change::Purge) => {
+            Some(refused(
+                word,
+                "its highest version was open when the system stopped, so this one stays; or a record names a file of another volume of a set",
+            ))
+        }
+        ("NoSuchFile", Change::Purge) => Some(refused(
+            word,
+            "the record of its highest version, or of the directory, leads to no file, so this one stays; del removes such a name",
+        )),
         _ => of_any(refusal, image, word, word),
     }
 }
@@ -136,6 +156,10 @@ fn of_any<'a>(refusal: &str, image: &'a str, name: &'a str, new: &'a str) -> Opt
         ),
         "SystemFile" => (name, "files 1 to 5 are the volume's own"),
         "BadArgument" => (name, "its record names a file of another volume of a set"),
+        "NotEmpty" => (
+            name,
+            "it is a directory that has records, and the files that these name would be in none then",
+        ),
         "Marked" => (
             name,
             "it, or its directory, is marked for delete; del deletes it",
@@ -184,7 +208,10 @@ pub fn of_rt<'a>(line: &str, image: &'a str, name: &'a str) -> Option<Remark<'a>
             "no file of that name; rt-ls lists those that there are",
         ),
         "no DuplicateName" => (name, "the volume has a file of that name"),
-        "no Protected" => (name, "protected, so that it isn't deleted"),
+        "no Protected" => (
+            name,
+            "protected, so that it isn't deleted; rt-prot --off has it protected no more",
+        ),
         "no NoSpace" => (
             image,
             "no empty area is as long as the file; rt-list lists them",
@@ -196,6 +223,21 @@ pub fn of_rt<'a>(line: &str, image: &'a str, name: &'a str) -> Option<Remark<'a>
         _ => return None,
     };
     Some(refused(word, why))
+}
+
+/// The same where it was to get another name.
+pub fn of_rt_renaming<'a>(
+    line: &str,
+    image: &'a str,
+    name: &'a str,
+    new: &'a str,
+) -> Option<Remark<'a>> {
+    let word = if line == "no DuplicateName" {
+        new
+    } else {
+        name
+    };
+    of_rt(line, image, word)
 }
 
 /// What it means that a line of a script is answered so.

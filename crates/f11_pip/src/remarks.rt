@@ -119,6 +119,10 @@ impl Why {
     pub const NO_PATTERN: Why = Why::Said(
         "no name; one is as LOGIN.CMD;1: up to 9 of A to Z, 0 to 9 and $, a dot, up to 3 more, at least one of all these, and an octal version, 1 to 77777; without a version the highest is meant; * stands for any characters and % for one, and ;* for each version, as *.TXT;*",
     );
+    /// It is no pattern of names without a version.
+    pub const VERSION: Why = Why::Said(
+        "no pattern of names without a version, as *.TXT or LOGIN.CMD; purge deletes all versions but the highest",
+    );
     /// It is the name of no file on an RT-11 volume.
     pub const NO_RT_NAME: Why = Why::Said(
         "no name; one is in capitals, as LOGIN.CMD: 1 to 6 of A to Z, 0 to 9 and $, a dot and up to 3 more",
@@ -179,6 +183,10 @@ impl Why {
     );
     /// The directory of the volume that was meant has no file of this name.
     pub const NOT_THERE: Why = Why::Said("no such file in that directory; ls lists those that are");
+    /// The directory of the volume that was meant has no file whose name is one that this pattern means.
+    pub const NONE_MEANT: Why = Why::Said(
+        "it means no file of that directory; ls lists those that are",
+    );
     /// It is a directory, a pipe, a device or the like, where a file is to be read.
     pub const NO_FILE: Why = Why::Said("no regular file");
     /// The folder of its file isn't there.
@@ -189,9 +197,9 @@ impl Why {
     pub const TWICE: Why = Why::Said(
         "named twice: a copy goes from one image to another; get and put go by a file",
     );
-    /// It is the name of a directory.
-    pub const DIRECTORY: Why = Why::Said(
-        "a directory isn't deleted, since its files would be in none then",
+    /// A new file was to get the next version of it.
+    pub const LAST_VERSION: Why = Why::Said(
+        "the directory has a record of its version 77777, the last that there is",
     );
     /// It is none of a directory.
     pub const NO_DIRECTORY_NAME: Why = Why::Said(
@@ -533,9 +541,9 @@ pub fn of_pattern(word: &str) -> Remark<'_> {
     Remark::of(word, Why::NO_PATTERN)
 }
 
-/// That a word names a directory, which isn't deleted.
-pub fn of_directory(word: &str) -> Remark<'_> {
-    Remark::of(word, Why::DIRECTORY)
+/// That a word is no pattern of names without a version.
+pub fn of_purge(word: &str) -> Remark<'_> {
+    Remark::of(word, Why::VERSION)
 }
 
 /// That a directory is to have a name that is none of a directory.

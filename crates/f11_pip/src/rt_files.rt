@@ -1,13 +1,14 @@
 //! The commands on files of an RT-11 volume: which files they open, and how.
 use crate::heard::Heard;
-use crate::host_files::{ended, in_pieces, made, opened_host, put_answer};
+use crate::host_files::{ended, made, put_answer};
 use crate::image::{opened_to_read, opened_to_write, tell_fault, tell_read_fault};
 use crate::outcome::Failure;
-use crate::refusals::{self, of_rt};
+use crate::refusals::{self, of_rt, of_rt_renaming};
 use crate::remarks::{self, Remark};
+use crate::sources::{in_pieces, opened_host};
 use f11_commands::{
-    Answer, FileAnswer, RtServed, RtState, find_rt_file, print_rt_delete, print_rt_put,
-    read_rt_name, refuse_names, write_rt_file,
+    Answer, FileAnswer, RtServed, RtState, find_rt_file, print_rt_delete, print_rt_protect,
+    print_rt_put, print_rt_rename, read_rt_name, refuse_names, write_rt_file,
 };
 use std::io::Write;
 
@@ -111,6 +112,54 @@ pub fn delete<'a, W: Write>(
     let device = opened_to_write(rt, image, remark)?;
     let mut heard = Heard::new(writer, None);
     let (device, told) = print_rt_delete(rt.alloc(), device, &name, &mut heard);
+    tell_fault(rt, image, device);
+    tell_refused(rt, &heard, image, word);
+    Ok(ended(rt, image, told?, remark))
+}
+
+/// Gives a file of an RT-11 volume another name.
+pub fn rename<'a, W: Write>(
+    rt: &HostRuntime,
+    image: &'a str,
+    word: &'a str,
+    new: &'a str,
+    writer: &mut W,
+    remark: &mut Option<Remark<'a>>,
+) -> Result<Answer, Failure> {
+    let Some(name) = read_rt_name(word) else {
+        *remark = Some(remarks::of_rt_name(word));
+        return Ok(refuse_names(writer)?);
+    };
+    let Some(other) = read_rt_name(new) else {
+        *remark = Some(remarks::of_rt_name(new));
+        return Ok(refuse_names(writer)?);
+    };
+    let device = opened_to_write(rt, image, remark)?;
+    let mut heard = Heard::new(writer, None);
+    let (device, told) = print_rt_rename(rt.alloc(), device, &name, &other, &mut heard);
+    tell_fault(rt, image, device);
+    if let Some(line) = heard.refusal() {
+        refusals::tell(rt, of_rt_renaming(line, image, word, new));
+    }
+    Ok(ended(rt, image, told?, remark))
+}
+
+/// Protects a file of an RT-11 volume, or has it protected no more.
+pub fn protect<'a, W: Write>(
+    rt: &HostRuntime,
+    image: &'a str,
+    word: &'a str,
+    on: bool,
+    writer: &mut W,
+    remark: &mut Option<Remark<'a>>,
+) -> Result<Answer, Failure> {
+    let Some(name) = read_rt_name(word) else {
+        *remark = Some(remarks::of_rt_name(word));
+        return Ok(refuse_names(writer)?);
+    };
+    let device = opened_to_write(rt, image, remark)?;
+    let mut heard = Heard::new(writer, None);
+    let (device, told) = print_rt_protect(rt.alloc(), device, &name, on, &mut heard);
     tell_fault(rt, image, device);
     tell_refused(rt, &heard, image, word);
     Ok(ended(rt, image, told?, remark))

@@ -55,7 +55,7 @@ fn a_file_is_taken_out(rt: HostRuntime) -> Result<(), Fail> {
     let Ok(Ok(found)) = sought(rt.alloc(), device, &mut told, &name) else {
         return Err(DeviceFault)?;
     };
-    let (_, served) = write_file(found, CopyMode::Image, &mut host, &mut told);
+    let (_, served) = write_file(found, None, CopyMode::Image, &mut host, &mut told);
     let wanted = Served {
         answer: Answer::Done,
         faulty: false,
