@@ -1,4 +1,3 @@
-pub mod CrsLemmas
 pub mod FillLemmas
 pub mod HostLemmas
 pub mod HostTextLemmas

@@ -17,7 +17,8 @@ use Rattle.f11_host.specs.Filling.{HostFile, host_file}
 use Rattle.f11_host.specs.TextFilling.{BreaksFillingText, CopiesAgain, FailsToCopyAgain, FailsToFillFromText, FillsFromText}
 use Rattle.f11_host.specs.TextFilling.{as_unread}
 use Rattle.f11_host.specs.TextPasses.{FailsToCopyText, HasNoCopy}
-use Rattle.f11_host.specs.Texts.{IsCopiedText, copied_text, crs_behind}
+use Rattle.f11_host.specs.Texts.{IsCopiedText, copied_text}
+use Rattle.rt11_text.specs.Crs.{crs_behind}
 use Rattle.f11_host.proofs.FillLemmas.{same-text}
 use Rattle.f11_host.proofs.TextLemmas.{same-copies}
 

@@ -32,8 +32,9 @@ use Rattle.f11_flx.proofs.Texts.PourLemmas.{whole-length}
 use Rattle.f11_flx.proofs.Texts.WritingLemmas.{is-whole, writes-start}
 use Rattle.f11_host.specs.Pieces.{ReadsPiece}
 use Rattle.f11_host.specs.TextPasses.{CopiesText, FailsToCopyText, FailsToPlanText, FailsToReadText, LacksText, PlansText, ReadsText}
-use Rattle.f11_host.specs.Texts.{IsCopiedText, copied_text, crs_behind, ends_in_cr, with_crs}
-use Rattle.f11_host.proofs.CrsLemmas.{crs-append, crs-few, ends-append}
+use Rattle.f11_host.specs.Texts.{IsCopiedText, copied_text}
+use Rattle.rt11_text.specs.Crs.{crs_behind, ends_in_cr, with_crs}
+use Rattle.rt11_text.proofs.CrsLemmas.{crs-append, crs-few, ends-append}
 
 -- All but so many bytes were read, and the blocks of their lines that are full were written.
 pub record Reading {V : Type 0} (S : FilesService V) (who : Who) (lun bytes left : ℕ) (cr : Bool) (s t : ToRecords) (o p : Out)

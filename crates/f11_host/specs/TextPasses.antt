@@ -10,7 +10,8 @@ use Rattle.f11_flx.specs.declared.refusal.FlxRefusal.{FlxRefusal}
 use Rattle.f11_flx.specs.declared.refusal.FlxRefusal.TheVariants as refusal
 use Rattle.f11_flx.specs.declared.to_records.ToRecords.{ToRecords}
 use Rattle.f11_host.specs.Filling.{OfEachText}
-use Rattle.f11_host.specs.Texts.{IsCopiedText, copied_text, with_crs}
+use Rattle.f11_host.specs.Texts.{IsCopiedText, copied_text}
+use Rattle.rt11_text.specs.Crs.{with_crs}
 
 -- All of the text was read, and the blocks of its lines that are full were written.
 pub record ReadsText {V : Type 0} (S : FilesService V) (who : Who) (lun bytes : ℕ) (taken : List ℕ) (s s' : ToRecords) (o o' : Out)

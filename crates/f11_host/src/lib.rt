@@ -5,7 +5,6 @@
 #![tactic(auto)]
 
 mod copy;
-mod crs;
 mod filling;
 mod finishing;
 mod making;

@@ -5,11 +5,11 @@ ghost use Rattle.f11_flx.specs.Filling.{out_of};
 ghost use Rattle.f11_flx.specs.Passes.{BeginsLines};
 ghost use Rattle.f11_host.specs.TextPasses.{CopiesText, FailsToCopyText, FailsToPlanText, FailsToReadText, PlansText, ReadsText};
 
-use crate::crs::{Expanded, expand};
 use crate::piece::read_piece;
 use f11_bytes::BLOCK_SIZE;
 use f11_flx::{Dry, Extent, Filling, FlxRefusal, ToRecords, end_lines, write_lines};
 use f11_making::{Asked, Asker};
+use rt11_text::{Expanded, expand};
 use std::io::Read;
 
 /// Reads so many bytes that the host gives, and writes the blocks of their lines that are full.

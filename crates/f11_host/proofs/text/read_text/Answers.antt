@@ -3,7 +3,7 @@ use Rattle.std.proofs.lemmas.Result.{err_from_is_err_and}
 use Rattle.f11_making.specs.Asking.{Who, who_asks}
 use Rattle.f11_flx.specs.Filling.{out_of}
 use Rattle.f11_host.proofs.TextLemmas.{reading-all, reading-fails, reading-few, reading-lacks, reading-more, reading-none}
-use Rattle.f11_host.specs.Texts.{crs_behind}
+use Rattle.rt11_text.specs.Crs.{crs_behind}
 use Rattle.f11_host.proofs.text.read_text.Goals as goal
 
 pub loop-left-init : goal.loop-left-init

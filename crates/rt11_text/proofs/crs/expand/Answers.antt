@@ -1,6 +1,6 @@
 use Rattle.std.proofs.Common.{arith, refl}
-use Rattle.f11_host.proofs.CrsLemmas.{expands-more, expands-none}
-use Rattle.f11_host.proofs.crs.expand.Goals as goal
+use Rattle.rt11_text.proofs.CrsLemmas.{expands-more, expands-none}
+use Rattle.rt11_text.proofs.crs.expand.Goals as goal
 
 pub loop-at-init : goal.loop-at-init
 loop-at-init c = expands-none c.args.source.now c.args.cr c.clear.new.self.items c.clear.ensures

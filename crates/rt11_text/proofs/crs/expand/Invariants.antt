@@ -1,5 +1,5 @@
-use Rattle.f11_host.proofs.CrsLemmas.{Expands}
-use Rattle.f11_host.proofs.crs.expand.Given as goal
+use Rattle.rt11_text.proofs.CrsLemmas.{Expands}
+use Rattle.rt11_text.proofs.crs.expand.Given as goal
 
 -- so many bytes were gone over
 abbrev pub invariant-loop-at : goal.invariant-loop-at

@@ -4,7 +4,7 @@ use Rattle.std.proofs.Common.{sym}
 use Rattle.std.proofs.Common.{if◌then◌else◌, ap, ◌∙◌, append_assoc, length-append, arith}
 use Rattle.std.proofs.Math.Seq.{take-suc}
 use Rattle.std.specs.Prelude.{get_or}
-use Rattle.f11_host.specs.Texts.{crs_behind, ends_in_cr, missing_cr}
+use Rattle.rt11_text.specs.Crs.{crs_behind, ends_in_cr, missing_cr}
 
 -- a text and then more of it
 pub crs-append : (cr : Bool) (a b : List ℕ) → crs_behind cr (a ++ b) ≡ crs_behind cr a ++ crs_behind (ends_in_cr cr a) b

@@ -1,6 +1,6 @@
 //! The lines of a text of the host, ended by CR LF.
 ghost use Rattle.std.specs.Prelude.{◌≡◌, ◌≤◌, ◌==◌, ◌&&◌, ◌++◌, ◌∷◌, [], not, length, take};
-ghost use Rattle.f11_host.specs.Texts.{crs_behind, ends_in_cr, missing_cr};
+ghost use Rattle.rt11_text.specs.Crs.{crs_behind, ends_in_cr, missing_cr};
 
 use arrayvec::ArrayVec;
 use f11_bytes::Block;

@@ -1,0 +1,7 @@
+pub mod Kept
+pub mod Blocks
+pub mod Copying
+pub mod Replacing
+pub mod Moving
+pub mod Squeezing
+pub mod Telling

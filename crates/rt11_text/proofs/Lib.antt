@@ -1,0 +1,4 @@
+-- Laws of texts.
+pub mod CrsLemmas
+pub mod FromHostLemmas
+pub mod TextLemmas
