@@ -8,3 +8,4 @@ pub mod PatternLemmas
 pub mod PlainLemmas
 pub mod Worked
 pub mod NextLemmas
+pub mod NamingLemmas

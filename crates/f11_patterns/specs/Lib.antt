@@ -2,6 +2,7 @@
 pub mod Chosen
 pub mod Like
 pub mod Meant
+pub mod Naming
 pub mod Next
 pub mod Parts
 pub mod Lent

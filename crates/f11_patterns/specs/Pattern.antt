@@ -59,6 +59,15 @@ pub record IsOne (parts : Parts) : Type 0 where
   pub kind : All IsPlain parts.kind
   pub version : parts.versions ≢ Each
 
+-- A pattern means all names: `*.*`.
+pub record IsAll (parts : Parts) : Type 0 where
+  pub name : parts.name ≡ 42 ∷ []
+  pub kind : parts.kind ≡ 42 ∷ []
+
+-- No name fits a pattern.
+abbrev pub FitsNone : Parts → List (List ℕ) → Type 0
+FitsNone parts names = All (λ name. ¬ Fits parts name) names
+
 -- A text is a pattern, and the name that another text spells fits it.
 pub record TextFits (pattern name : List ℕ) : Type 0 where
   pub parts : Parts

@@ -1,11 +1,13 @@
 //! The pattern of a file's name: read from its text, and decided against a name.
-ghost use Rattle.std.specs.Prelude.{◌≡◌, ◌↔◌, ℕ, ◌+◌, ◌<◌, ◌≤◌, List, ◌∷◌, length, All, IsTrue, IfOk, IsOkAnd, IfSome, IsSomeAnd};
+ghost use Rattle.std.specs.Prelude.{◌≡◌, ◌↔◌, ℕ, ◌+◌, ◌<◌, ◌≤◌, List, [], ◌∷◌, length, All, IsTrue, IfOk, IsOkAnd, IfSome, IsSomeAnd};
 ghost use Rattle.f11_patterns.specs.Parts.{Parts, AreParts, AreVersions, AreVersions-prop};
-ghost use Rattle.f11_patterns.specs.Pattern.{IsPattern, Fits, IsPlain, IsOne, with_versions};
+ghost use Rattle.f11_patterns.specs.Naming.{FitsWith};
+ghost use Rattle.f11_patterns.specs.Pattern.{IsPattern, Fits, FitsNone, IsAll, IsPlain, IsOne, with_versions};
 
 use crate::errors::BadPattern;
 use crate::like::is_like;
 use crate::name_parts::name_and_type;
+use crate::naming::name_of_parts;
 use crate::split::split;
 use crate::versions::{Versions, asked_behind, is_among};
 use f11_rad50::Name;
@@ -57,6 +59,13 @@ fn are_plain(characters: &[u8]) -> bool
     ensures { IsTrue result ↔ All IsPlain characters.now }
 {
     characters.iter().all(|c| is_plain(*c))
+}
+
+/// Whether characters are a `*` alone.
+fn is_star(characters: &[u8]) -> bool
+    ensures { IsTrue result ↔ (characters.now ≡ 42 ∷ []) }
+{
+    matches!(characters, [b'*'])
 }
 
 impl<'a> Pattern<'a> {
@@ -119,6 +128,20 @@ impl<'a> Pattern<'a> {
         is_like(self.name, front) && is_like(self.kind, kind)
     }
 
+    /// Whether none of these names fits.
+    pub fn fits_none(&self, names: &[Name]) -> bool
+        ensures none { IsTrue result ↔ FitsNone (parts_of self.now) names.now }
+    {
+        names.iter().all(|name| !self.fits(name))
+    }
+
+    /// Whether it is `*.*`, of whatever versions.
+    pub fn is_all(&self) -> bool
+        ensures all { IsTrue result ↔ IsAll (parts_of self.now) }
+    {
+        is_star(self.name) && is_star(self.kind)
+    }
+
     /// Which versions of the names that fit are asked for.
     pub fn versions(&self) -> Versions
         ensures value { result ≡ (parts_of self.now).versions }
@@ -133,5 +156,14 @@ impl<'a> Pattern<'a> {
         ensures one { IsTrue result ↔ IsOne (parts_of self.now) }
     {
         are_plain(self.name) && are_plain(self.kind) && self.versions != Versions::Each
+    }
+
+    /// The name that fits a pattern which means one, with this version.
+    pub(crate) fn name_with(&self, version: u16) -> Option<Name>
+        requires one { IsOne (parts_of self.now) }
+        requires version { (0 < version) × (version < 32768) }
+        ensures { IsSomeAnd result (λ name. FitsWith (parts_of self.now) version name) }
+    {
+        name_of_parts(self.name, self.kind, version)
     }
 }
