@@ -4,7 +4,7 @@ use Rattle.std.proofs.Common.{None}
 use Rattle.std.proofs.Common.{Result, Ok, Err, ◌<◌, suc, length, get_or, take, drop, refl, sym, ap, subst, ◌∙◌, arith, if◌then◌else◌}
 use Rattle.std.specs.Io.KnownBytes.{Appends}
 use Rattle.std.proofs.lemmas.List.{append-nil, length-append, length-take-le, take-append-drop, take_all}
-use Rattle.std.proofs.Math.Seq.{drop-cons, take-length, take-suc}
+use Rattle.std.proofs.Math.Seq.{drop-cons, take-suc}
 use Rattle.f11_dev.specs.Disk.{Disk, with_transfer}
 use Rattle.f11_dev.specs.Image.{IsImage}
 use Rattle.f11_dev.specs.declared.device.Device.{Ghosts}
@@ -34,13 +34,17 @@ use Rattle.f11_commands.specs.Output.{WriterTakes}
 use Rattle.f11_commands.specs.declared.outcome.Failure.{Failure}
 use Rattle.f11_commands.specs.declared.outcome.Failure.TheVariants.{CannotWrite}
 use Rattle.f11_commands.specs.declared.outcome.FileAnswer.{FileAnswer}
-use Rattle.f11_actions.specs.Command.{ActsOnImage, BeginsOnImage, BreaksOff, BreaksOne, DoesAll, DoesOne, EndsAccepted, Kept, EndsActions}
+use Rattle.f11_actions.specs.Command.{ActsOnImage, BeginsOnImage, BreaksOff, BreaksOne, DoesAll, DoesEach, DoesOne, EndsAccepted, Kept}
+use Rattle.f11_actions.specs.Command.{EndsActions}
 use Rattle.f11_actions.specs.Command.{TellsActions}
 use Rattle.f11_actions.specs.Command.{TellsAll}
 use Rattle.f11_actions.specs.Command.{all_done, ended, ending, failure_of, unkept, unwritten}
 use Rattle.f11_actions.specs.Lines.{action_line, all_line, lines_of, refused_in, refused_one}
 use Rattle.f11_actions.specs.Plans.{Acted, actions_in, all_of, goes_on, is_last}
+use Rattle.f11_actions.specs.Tried.{is_stopped}
+use Rattle.f11_actions.specs.declared.behind.Behind.{Behind}
 use Rattle.f11_actions.proofs.AllLemmas.{acted, acted-are, lines-more, one-ends, one-more, refused-more, tidy-all}
+use Rattle.f11_actions.proofs.TriedLemmas.{all-tried, length-acted, on-none, so-far, so-far-more, tried-first, tried-stopped}
 
 -- a refusal that ends them, and one that doesn't
 record IsEnding (r : Result (Unit {0}) Refusal) (f : Failure) : Type 0 where
@@ -99,17 +103,20 @@ pub takes-none : (o : Option (List ℕ)) → Appends o o []
 takes-none None = tt
 takes-none (Some xs) = sym (append-nil xs)
 
--- So many actions were done, and so many of them refused.
-pub record Began {D W : Type 0} {met : Ghosts D} (actions : List Action) (i refused : ℕ) (v w : Volume D met)
+-- So many actions were tried, of which so many were refused, and the next one is to be.
+pub record Began {D W : Type 0} {met : Ghosts D} (how : Behind) (actions : List Action) (i done refused : ℕ) (v w : Volume D met)
     (contents : W → Option (List ℕ)) (before after : W) : Type 0 where
-  pub does : DoesAll (take i actions) refused v w contents before after
-  pub few : refused ≤ i
+  pub does : DoesEach (take i actions) refused v w contents before after
+  pub count : done + refused ≡ length (take i actions)
+  pub on : is_stopped how refused ≡ false
 
-module _ {D W : Type 0} {met : Ghosts D} (actions : List Action) (contents : W → Option (List ℕ)) (v : Volume D met) (before : W) where
-  pub begins : WriterTakes contents before before [] → Began actions 0 0 v v contents before before
+module _ {D W : Type 0} {met : Ghosts D} (how : Behind) (actions : List Action) (contents : W → Option (List ℕ)) (v : Volume D met)
+    (before : W) where
+  pub begins : WriterTakes contents before before [] → Began how actions 0 0 0 v v contents before before
   begins takes = record {
     does = record { acted = []; refused_is = refl; few = omega arith; carried = (refl, refl); lines = takes };
-    few = omega arith;
+    count = refl;
+    on = on-none how;
   }
 
   pub one-refused : (a : Action) (n : ℕ) (u w : Volume D met) (now after : W) → DoesOne a n u w contents now after → n ≤ 1
@@ -119,41 +126,90 @@ module _ {D W : Type 0} {met : Ghosts D} (actions : List Action) (contents : W �
       by (Ok x) is = omega (arith, is)
       by (Err e) is = omega (arith, is)
 
-  pub goes-further : (i refused n : ℕ) (d : Action) (u w : Volume D met) (now after : W) → i < length actions
-      → Began actions i refused v u contents before now → DoesOne (get_or actions i d) n u w contents now after
-      → Began actions (i + 1) (refused + n) v w contents before after
-  goes-further i refused n d u w now after some began one =
-      let a : Action = get_or actions i d in
-      let more : take (suc i) actions ≡ take i actions ++ a ∷ [] = take-suc actions i d some in
-      let next : i + 1 ≡ suc i = omega arith in
-      let few = began.few in
-      let at-most = one-refused a n u w now after one in
-      let shown : List Acted = began.does.acted ++ acted a one.result ∷ [] in
-      subst (λ k. Began actions k (refused + n) v w contents before after) (sym next) (record {
-        does = subst (λ xs. DoesAll xs (refused + n) v w contents before after) (sym more) (record {
-          acted = shown;
-          refused_is =
-              let was = began.does.refused_is in
-              let is = one.refused_is in
-              let sum = refused-more began.does.acted a one.result in omega (arith, was, is, sum);
-          few =
-              let size = length-append (take i actions) (a ∷ []) in
-              let begun = length-take-le i actions (omega (arith, some)) in omega (arith, few, at-most, size, begun);
-          carried =
-              one-more of_volume operator 0 master_directory (take i actions) a began.does.acted one.result v u w began.does.carried
-              one.carried one.on;
-          lines =
-              subst (λ t. WriterTakes contents before after t) (sym (lines-more began.does.acted a one.result))
-              (appends-then (contents before) (contents now) (contents after) (lines_of began.does.acted) (action_line a one.result)
-              began.does.lines one.line);
-        });
-        few = omega (arith, few, at-most);
-      })
+  -- so many were tried, and no more than there are
+  pub few-tried : (i done refused : ℕ) (u : Volume D met) (now : W) → i < length actions
+      → Began how actions i done refused v u contents before now → done + refused ≡ i
+  few-tried i done refused u now some began =
+      let count = began.count in
+      let size = length-take-le i actions (omega (arith, some)) in omega (arith, count, size)
 
-  pub breaks-off : (i refused : ℕ) (d : Action) (failure : Failure) (u w : Volume D met) (now after : W) → i < length actions
-      → Began actions i refused v u contents before now → BreaksOne (get_or actions i d) failure u w now after
-      → BreaksOff actions failure v w contents before after
-  breaks-off i refused d failure u w now after some began (inl e) =
+  -- the next one was tried
+  module _ (i done refused n : ℕ) (d : Action) (u w : Volume D met) (now after : W) (some : i < length actions)
+      (began : Began how actions i done refused v u contents before now)
+      (one : DoesOne (get_or actions i d) n u w contents now after) where
+    abbrev shown : List Acted
+    shown = began.does.acted ++ acted (get_or actions i d) one.result ∷ []
+
+    abbrev tried : List Action
+    tried = take i actions ++ get_or actions i d ∷ []
+
+    more : take (suc i) actions ≡ tried
+    more = take-suc actions i d some
+
+    refused-is : refused + n ≡ refused_in shown
+    refused-is =
+        let was = began.does.refused_is in
+        let is = one.refused_is in
+        let sum = refused-more began.does.acted (get_or actions i d) one.result in omega (arith, was, is, sum)
+
+    few : refused + n ≤ length tried
+    few =
+        let was = began.does.few in
+        let at-most = one-refused (get_or actions i d) n u w now after one in
+        let size = length-append (take i actions) (get_or actions i d ∷ []) in omega (arith, was, at-most, size)
+
+    carried-all : Carried of_volume operator (all_of 0 master_directory tried) (Ok shown) v w
+    carried-all =
+        one-more of_volume operator 0 master_directory (take i actions) (get_or actions i d) began.does.acted one.result v u w
+        began.does.carried one.carried one.on
+
+    lines : WriterTakes contents before after (lines_of shown)
+    lines =
+        subst (λ t. WriterTakes contents before after t) (sym (lines-more began.does.acted (get_or actions i d) one.result))
+        (appends-then (contents before) (contents now) (contents after) (lines_of began.does.acted)
+        (action_line (get_or actions i d) one.result)
+        began.does.lines one.line)
+
+    count : (done + (1 - n)) + (refused + n) ≡ length tried
+    count =
+        let was = began.count in
+        let at-most = one-refused (get_or actions i d) n u w now after one in
+        let size = length-append (take i actions) (get_or actions i d ∷ []) in omega (arith, was, at-most, size)
+
+    on-so-far : is_stopped how (refused_in began.does.acted) ≡ false
+    on-so-far = sym (ap (is_stopped how) began.does.refused_is) ∙ began.on
+
+    pub goes-further : is_stopped how (refused + n) ≡ false
+        → Began how actions (i + 1) (done + (1 - n)) (refused + n) v w contents before after
+    goes-further on =
+        let next : i + 1 ≡ suc i = omega arith in
+        subst (λ k. Began how actions k (done + (1 - n)) (refused + n) v w contents before after) (sym next) (record {
+          does = subst (λ xs. DoesEach xs (refused + n) v w contents before after) (sym more)
+              (record { acted = shown; refused_is = refused-is; few = few; carried = carried-all; lines = lines });
+          count = count ∙ ap length (sym more);
+          on = on;
+        })
+
+    -- and none behind it is
+    pub stops : is_stopped how (refused + n) ≡ true
+        → DoesAll how actions (done + (1 - n)) (refused + n) v w contents before after
+    stops stopped =
+        let are = acted-are of_volume operator 0 master_directory tried shown v w carried-all in
+        record {
+          first = tried;
+          does = record { acted = shown; refused_is = refused-is; few = few; carried = carried-all; lines = lines };
+          tried = tried-stopped how actions (drop (suc i) actions) began.does.acted (acted (get_or actions i d) one.result) on-so-far
+              (sym (ap (is_stopped how) refused-is) ∙ stopped)
+              (sym (take-append-drop (suc i) actions) ∙ ap (λ (xs : List Action). xs ++ drop (suc i) actions) (more ∙ sym are));
+          done_is =
+              let size = length-acted shown ∙ ap length are in
+              let all = count in omega (arith, size, all);
+        }
+
+  pub breaks-off : (i done refused : ℕ) (d : Action) (failure : Failure) (u w : Volume D met) (now after : W) → i < length actions
+      → Began how actions i done refused v u contents before now → BreaksOne (get_or actions i d) failure u w now after
+      → BreaksOff how actions failure v w contents before after
+  breaks-off i done refused d failure u w now after some began (inl e) =
       let a : Action = get_or actions i d in
       let whole : take i actions ++ a ∷ drop (suc i) actions ≡ actions =
       ap (λ xs. take i actions ++ xs) (sym (drop-cons actions i d some)) ∙ take-append-drop i actions in
@@ -174,8 +230,9 @@ module _ {D W : Type 0} {met : Ghosts D} (actions : List Action) (contents : W �
         };
         between = u;
         begun = began.does.carried;
+        on = sym (ap (is_stopped how) began.does.refused_is) ∙ began.on;
       })
-  breaks-off i refused d failure u w now after some began (inr l) =
+  breaks-off i done refused d failure u w now after some began (inr l) =
       let a : Action = get_or actions i d in
       inr (record {
         told_is = l.told_is;
@@ -187,12 +244,22 @@ module _ {D W : Type 0} {met : Ghosts D} (actions : List Action) (contents : W �
             (sym (take-suc actions i d some))
             (one-more of_volume operator 0 master_directory (take i actions) a began.does.acted l.result v u w began.does.carried l.carried
             l.on);
+        so_far = so-far-more how began.does.acted (acted a l.result) (sym (ap (is_stopped how) began.does.refused_is) ∙ began.on);
       })
 
-  pub did-all : (i refused : ℕ) (u : Volume D met) (now : W) → length actions ≤ i → Began actions i refused v u contents before now
-      → DoesAll actions refused v u contents before now
-  did-all i refused u now all began =
-      subst (λ xs. DoesAll xs refused v u contents before now) (take_all i actions all) began.does
+  pub did-all : (i done refused : ℕ) (u : Volume D met) (now : W) → length actions ≤ i
+      → Began how actions i done refused v u contents before now → DoesAll how actions done refused v u contents before now
+  did-all i done refused u now all began =
+      let are = acted-are of_volume operator 0 master_directory (take i actions) began.does.acted v u began.does.carried in
+      record {
+        first = take i actions;
+        does = began.does;
+        tried = all-tried how actions began.does.acted (are ∙ take_all i actions all)
+            (sym (ap (is_stopped how) began.does.refused_is) ∙ began.on);
+        done_is =
+            let size = length-acted began.does.acted ∙ ap length are in
+            let count = began.count in omega (arith, size, count);
+      }
 
 -- where no more transfers failed it was no device fault
 no-fault : (b : Bool) (m n : ℕ) → n ≡ m + (if b then 1 else 0) → n ≡ m → b ≡ false
@@ -263,60 +330,73 @@ module _ {D : Type 0} {met : Ghosts D} (old : Disk) (first last : Volume D met) 
   }
 
   -- how all of them are told
-  pub told-all : {W : Type 0} (actions : List Action) (refused : ℕ) (told : Result FileAnswer Failure) (kept new : Disk)
+  pub told-all : {W : Type 0} (how : Behind) (actions : List Action) (done refused : ℕ) (told : Result FileAnswer Failure) (kept new : Disk)
       (contents : W → Option (List ℕ)) (before between after : W) → kept ≡ (state_in last).disk
-      → DoesAll actions refused first last contents before between → TellsAll (length actions) refused told kept new contents between after
-      → TellsActions actions told old new contents before after
-  told-all {W} actions refused told kept new contents before between after at does tells =
-      by (subst (λ k. TellsAll (length actions) k told kept new contents between after) does.refused_is tells)
+      → DoesAll how actions done refused first last contents before between → TellsAll done refused told kept new contents between after
+      → TellsActions how actions told old new contents before after
+  told-all {W} how actions done refused told kept new contents before between after at all tells =
+      by (subst (λ k. TellsAll m k told kept new contents between after) all.does.refused_is
+      (subst (λ k. TellsAll k refused told kept new contents between after) done-is tells))
     where
+      xs : List Acted
+      xs = all.does.acted
+
       n : ℕ
-      n = refused_in does.acted
+      n = refused_in xs
+
+      m : ℕ
+      m = length xs - n
+
+      done-is : done ≡ m
+      done-is = all.done_is ∙ ap (λ (k : ℕ). length xs - k) all.does.refused_is
 
       Told : Disk → Type 0
-      Told d = TellsActions actions told old d contents before after
+      Told d = TellsActions how actions told old d contents before after
 
-      are : actions_in does.acted ≡ actions
-      are = acted-are of_volume operator 0 master_directory actions does.acted first last does.carried
+      are : actions_in xs ≡ all.first
+      are = acted-are of_volume operator 0 master_directory all.first xs first last all.does.carried
 
-      acts : ActsOnImage actions (Ok does.acted) old (state_in last).disk
-      acts = acts-on-image actions (Ok does.acted) does.carried
+      acts : ActsOnImage (actions_in xs) (Ok xs) old (state_in last).disk
+      acts = subst (λ ys. ActsOnImage ys (Ok xs) old (state_in last).disk) (sym are) (acts-on-image all.first (Ok xs) all.does.carried)
 
-      by : TellsAll (length actions) n told kept new contents between after → Told new
+      by : TellsAll m n told kept new contents between after → Told new
       by (inl (same, inl (is, takes))) =
           subst Told (sym (same ∙ at))
-          (all_done does.acted are acts is
-          (appends-then (contents before) (contents between) (contents after) (lines_of does.acted) (all_line (length actions - n) n)
-          does.lines takes))
+          (all_done xs all.tried acts is
+          (appends-then (contents before) (contents between) (contents after) (lines_of xs) (all_line m n) all.does.lines takes))
       by (inl (same, inr is)) =
-          unwritten (length actions) does.acted (state_in last).disk (omega arith)
-          (subst (λ xs. ActsOnImage xs (Ok does.acted) old (state_in last).disk) (sym (take-length actions)) acts) (inl (is, same ∙ at))
+          let t = tried-first how actions xs all.tried in
+          unwritten (length (actions_in xs)) xs (state_in last).disk t.0
+          (subst (λ ys. ActsOnImage ys (Ok xs) old (state_in last).disk) (sym t.1) acts) (so-far how actions xs all.tried)
+          (inl (is, same ∙ at))
       by (inr (failed, is, same)) =
-          unkept does.acted (state_in last).disk are acts (failed ∙ ap (λ d. with_transfer false d) at) is
-          (subst (λ (x : W). WriterTakes contents before x (lines_of does.acted)) (sym same) does.lines)
+          unkept xs (state_in last).disk all.tried acts (failed ∙ ap (λ d. with_transfer false d) at) is
+          (subst (λ (x : W). WriterTakes contents before x (lines_of xs)) (sym same) all.does.lines)
 
   -- and how it is told where they broke off
-  pub told-broken : {W : Type 0} (actions : List Action) (failure : Failure) (told : Result FileAnswer Failure) (kept new : Disk)
+  pub told-broken : {W : Type 0} (how : Behind) (actions : List Action) (failure : Failure) (told : Result FileAnswer Failure)
+      (kept new : Disk)
       (contents : W → Option (List ℕ)) (before after : W) → kept ≡ (state_in last).disk → Kept failure told kept new
-      → BreaksOff actions failure first last contents before after → TellsActions actions told old new contents before after
-  told-broken actions failure told kept new contents before after at keeps (inl e) =
+      → BreaksOff how actions failure first last contents before after → TellsActions how actions told old new contents before after
+  told-broken how actions failure told kept new contents before after at keeps (inl e) =
       ended e.refusal failure (state_in last).disk (acts-on-image actions (Err e.refusal) e.carried) e.told_is
       (subst (λ (d : Disk). Kept failure told d new) at keeps) e.among
       (begins-on-image e.among.first e.among.acted e.between
       (carried operator (all_of 0 master_directory actions) (Err e.refusal) first last (tidy-all 0 master_directory actions)
       e.carried).fares.home
-      e.begun)
-  told-broken actions failure told kept new contents before after at keeps (inr l) =
+      e.begun) e.on
+  told-broken how actions failure told kept new contents before after at keeps (inr l) =
       unwritten l.n l.acted (state_in last).disk l.few (acts-on-image (take l.n actions) (Ok l.acted) l.carried)
+      l.so_far
       (subst (λ (d : Disk). Kept CannotWrite told d new) at (subst (λ (f : Failure). Kept f told kept new) l.told_is keeps))
 
 -- behind a verified image
-pub ends-actions : {W : Type 0} (actions : List Action) (told : Result FileAnswer Failure) (contents : W → Option (List ℕ))
+pub ends-actions : {W : Type 0} (how : Behind) (actions : List Action) (told : Result FileAnswer Failure) (contents : W → Option (List ℕ))
     (before now after : W) (image read new : Disk) → VerifiesFiles image read × (now ≡ before)
-    → EndsAccepted actions told read new contents now after → EndsActions actions told image new contents before after
-ends-actions {W} actions told contents before now after image read new verified ends =
+    → EndsAccepted how actions told read new contents now after → EndsActions how actions told image new contents before after
+ends-actions {W} how actions told contents before now after image read new verified ends =
     inr (record {
       read = read;
       verified = verified.0;
-      ends = subst (λ (x : W). EndsAccepted actions told read new contents x after) verified.1 ends;
+      ends = subst (λ (x : W). EndsAccepted how actions told read new contents x after) verified.1 ends;
     })

@@ -1,3 +1,5 @@
 pub mod AllLemmas
 pub mod ChangeLemmas
 pub mod CommandLemmas
+pub mod TriedLemmas
+pub mod WouldLemmas

@@ -28,6 +28,8 @@ use Rattle.f11_store.specs.declared.refusals.Refusal.TheVariants as refusal
 use Rattle.f11_volume.specs.Verdict.{IsAccepted}
 use Rattle.f11_actions.specs.Lines.{action_line, all_line, lines_of, refused_in, refused_one}
 use Rattle.f11_actions.specs.Plans.{Acted, actions_in, all_of, goes_on, is_last}
+use Rattle.f11_actions.specs.Tried.{AreTried, AreTriedSoFar, is_stopped}
+use Rattle.f11_actions.specs.declared.behind.Behind.{Behind}
 
 -- Actions were done on the volume of an image that has no fault. Where the disk is honest, unless a transfer failed, they went over the
 -- plain store, from that of the image, in which nobody holds an access; the image has no fault then, nor has any that stood meanwhile, and
@@ -84,40 +86,45 @@ pub record EndsAmong {W : Type 0} (actions : List Action) (contents : W → Opti
 abbrev pub Kept : Failure → Result FileAnswer Failure → Disk → Disk → Type 0
 Kept f told done new = ((told ≡ Err f) × (new ≡ done)) ⊎ ((told ≡ Err DeviceFault) × (new ≡ with_transfer false done))
 
--- How it is told: all were done, or refused, each has its line, and so have they all, once what was written is kept; or it isn't kept; or a
--- refusal ended them; or it is told that the writer took no more, behind so many of them.
-pub data TellsActions {W : Type 0} (actions : List Action) (told : Result FileAnswer Failure) (old new : Disk)
+-- How it is told: all that were tried were done, or refused, each has its line, and so have they all, once what was written is kept; or it
+-- isn't kept; or a refusal ended them; or it is told that the writer took no more, behind so many of them.
+pub data TellsActions {W : Type 0} (how : Behind) (actions : List Action) (told : Result FileAnswer Failure) (old new : Disk)
     (contents : W → Option (List ℕ))
     (before after : W) : Type 0 where
-  all_done : (acted : List Acted) → actions_in acted ≡ actions → ActsOnImage actions (Ok acted) old new → told ≡ Ok (answer_of acted)
-      → WriterTakes contents before after (lines_of acted ++ all_line (length actions - refused_in acted) (refused_in acted))
-      → TellsActions actions told old new contents before after
-  unkept : (acted : List Acted) (done : Disk) → actions_in acted ≡ actions → ActsOnImage actions (Ok acted) old done
+  all_done : (acted : List Acted) → AreTried how actions acted → ActsOnImage (actions_in acted) (Ok acted) old new
+      → told ≡ Ok (answer_of acted)
+      → WriterTakes contents before after (lines_of acted ++ all_line (length acted - refused_in acted) (refused_in acted))
+      → TellsActions how actions told old new contents before after
+  unkept : (acted : List Acted) (done : Disk) → AreTried how actions acted → ActsOnImage (actions_in acted) (Ok acted) old done
       → new ≡ with_transfer false done
       → told ≡ Err DeviceFault → WriterTakes contents before after (lines_of acted)
-      → TellsActions actions told old new contents before after
+      → TellsActions how actions told old new contents before after
   ended : (e : Refusal) (f : Failure) (done : Disk) → ActsOnImage actions (Err e) old done → ending (Err e) ≡ Some f
       → Kept f told done new → (among : EndsAmong actions contents before after) → BeginsOnImage among.first among.acted old
-      → TellsActions actions told old new contents before after
+      → is_stopped how (refused_in among.acted) ≡ false
+      → TellsActions how actions told old new contents before after
   unwritten : (n : ℕ) (acted : List Acted) (done : Disk) → n ≤ length actions → ActsOnImage (take n actions) (Ok acted) old done
-      → Kept CannotWrite told done new → TellsActions actions told old new contents before after
+      → AreTriedSoFar how acted
+      → Kept CannotWrite told done new → TellsActions how actions told old new contents before after
 
 -- with an accepted volume: they were done, or it couldn't be mounted
-abbrev pub EndsAccepted : {W : Type 0} → List Action → Result FileAnswer Failure → Disk → Disk → (W → Option (List ℕ)) → W → W → Type 0
-EndsAccepted actions told old new contents before after =
-    (TellsActions actions told old new contents before after) ⊎ (FailsToMount told old new contents before after)
+abbrev pub EndsAccepted : {W : Type 0} → Behind → List Action → Result FileAnswer Failure → Disk → Disk → (W → Option (List ℕ)) → W → W
+    → Type 0
+EndsAccepted how actions told old new contents before after =
+    (TellsActions how actions told old new contents before after) ⊎ (FailsToMount told old new contents before after)
 
 -- An image was verified and has no fault, and then it ended so.
-pub record EndsVerified {W : Type 0} (actions : List Action) (told : Result FileAnswer Failure) (old new : Disk)
+pub record EndsVerified {W : Type 0} (how : Behind) (actions : List Action) (told : Result FileAnswer Failure) (old new : Disk)
     (contents : W → Option (List ℕ)) (before after : W) : Type 0 where
   pub read : Disk
   pub verified : VerifiesFiles old read
-  pub ends : EndsAccepted actions told read new contents before after
+  pub ends : EndsAccepted how actions told read new contents before after
 
 -- how the command ends: the image isn't accepted, or it was verified
-abbrev pub EndsActions : {W : Type 0} → List Action → Result FileAnswer Failure → Disk → Disk → (W → Option (List ℕ)) → W → W → Type 0
-EndsActions actions told old new contents before after =
-    (EndsFiles told old new contents before after) ⊎ (EndsVerified actions told old new contents before after)
+abbrev pub EndsActions : {W : Type 0} → Behind → List Action → Result FileAnswer Failure → Disk → Disk → (W → Option (List ℕ)) → W → W
+    → Type 0
+EndsActions how actions told old new contents before after =
+    (EndsFiles told old new contents before after) ⊎ (EndsVerified how actions told old new contents before after)
 
 -- What was asked of a mounted volume for one action: it was carried out, or refused without ending them, and its line written.
 pub record DoesOne {D W : Type 0} {met : Ghosts D} (a : Action) (refused : ℕ) (v w : Volume D met) (contents : W → Option (List ℕ))
@@ -146,7 +153,7 @@ abbrev pub BreaksOne : {D W : Type 0} {met : Ghosts D} → Action → Failure �
 BreaksOne a told v w before after = (EndsOne a told v w before after) ⊎ (LosesLine a told v w)
 
 -- Each action was done in its turn, and has its line.
-pub record DoesAll {D W : Type 0} {met : Ghosts D} (actions : List Action) (refused : ℕ) (v w : Volume D met)
+pub record DoesEach {D W : Type 0} {met : Ghosts D} (actions : List Action) (refused : ℕ) (v w : Volume D met)
     (contents : W → Option (List ℕ)) (before after : W) : Type 0 where
   pub acted : List Acted
   pub refused_is : refused ≡ refused_in acted
@@ -154,8 +161,16 @@ pub record DoesAll {D W : Type 0} {met : Ghosts D} (actions : List Action) (refu
   pub carried : Carried of_volume operator (all_of 0 master_directory actions) (Ok acted) v w
   pub lines : WriterTakes contents before after (lines_of acted)
 
+-- Each of those that are tried was; so many weren't refused.
+pub record DoesAll {D W : Type 0} {met : Ghosts D} (how : Behind) (actions : List Action) (done refused : ℕ) (v w : Volume D met)
+    (contents : W → Option (List ℕ)) (before after : W) : Type 0 where
+  pub first : List Action
+  pub does : DoesEach first refused v w contents before after
+  pub tried : AreTried how actions does.acted
+  pub done_is : done ≡ length does.acted - refused
+
 -- One of them was refused, and ended them.
-pub record EndsAll {D W : Type 0} {met : Ghosts D} (actions : List Action) (told : Failure) (v w : Volume D met)
+pub record EndsAll {D W : Type 0} {met : Ghosts D} (how : Behind) (actions : List Action) (told : Failure) (v w : Volume D met)
     (contents : W → Option (List ℕ)) (before after : W) : Type 0 where
   pub refusal : Refusal
   pub told_is : ending (Err refusal) ≡ Some told
@@ -163,18 +178,22 @@ pub record EndsAll {D W : Type 0} {met : Ghosts D} (actions : List Action) (told
   pub among : EndsAmong actions contents before after
   pub between : Volume D met
   pub begun : Carried of_volume operator (all_of 0 master_directory among.first) (Ok among.acted) v between
+  pub on : is_stopped how (refused_in among.acted) ≡ false
 
 -- It is told that the writer took no more, behind so many of them.
-pub record LosesLines {D : Type 0} {met : Ghosts D} (actions : List Action) (told : Failure) (v w : Volume D met) : Type 0 where
+pub record LosesLines {D : Type 0} {met : Ghosts D} (how : Behind) (actions : List Action) (told : Failure) (v w : Volume D met)
+    : Type 0 where
   pub told_is : told ≡ CannotWrite
   pub n : ℕ
   pub few : n ≤ length actions
   pub acted : List Acted
   pub carried : Carried of_volume operator (all_of 0 master_directory (take n actions)) (Ok acted) v w
+  pub so_far : AreTriedSoFar how acted
 
-abbrev pub BreaksOff : {D W : Type 0} {met : Ghosts D} → List Action → Failure → Volume D met → Volume D met → (W → Option (List ℕ)) →
-    W → W → Type 0
-BreaksOff actions told v w contents before after = (EndsAll actions told v w contents before after) ⊎ (LosesLines actions told v w)
+abbrev pub BreaksOff : {D W : Type 0} {met : Ghosts D} → Behind → List Action → Failure → Volume D met → Volume D met
+    → (W → Option (List ℕ)) → W → W → Type 0
+BreaksOff how actions told v w contents before after =
+    (EndsAll how actions told v w contents before after) ⊎ (LosesLines how actions told v w)
 
 -- how the last line is told: the writer took it, or doesn't
 abbrev pub TellsCount : {W : Type 0} → ℕ → ℕ → Result FileAnswer Failure → (W → Option (List ℕ)) → W → W → Type 0
@@ -183,6 +202,6 @@ TellsCount done refused told contents before after =
 
 -- and behind a sync, which may fail
 abbrev pub TellsAll : {W : Type 0} → ℕ → ℕ → Result FileAnswer Failure → Disk → Disk → (W → Option (List ℕ)) → W → W → Type 0
-TellsAll count refused told old new contents before after =
-    ((new ≡ old) × TellsCount (count - refused) refused told contents before after)
+TellsAll done refused told old new contents before after =
+    ((new ≡ old) × TellsCount done refused told contents before after)
     ⊎ ((new ≡ with_transfer false old) × (told ≡ Err DeviceFault) × (after ≡ before))

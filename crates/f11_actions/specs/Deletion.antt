@@ -9,6 +9,7 @@ use Rattle.f11_commands.specs.declared.outcome.FileAnswer.{FileAnswer}
 use Rattle.f11_making.specs.declared.action.Action.TheVariants as action
 use Rattle.f11_store.specs.declared.refusals.Refusal.TheVariants.{NotEmpty}
 use Rattle.f11_actions.specs.Command.{EndsActions}
+use Rattle.f11_actions.specs.declared.behind.Behind.TheVariants.{GoesOn}
 use Rattle.f11_actions.specs.Lines.{action_line, all_line}
 use Rattle.f11_actions.specs.Undone.{EndsUndone}
 
@@ -25,7 +26,7 @@ kept_lines directory name = action_line (action.Delete directory name) (Err NotE
 pub data EndsDeletion {W : Type 0} (directory name : List ℕ) (told : Result FileAnswer Failure) (old new : Disk)
     (contents : W → Option (List ℕ)) (before after : W) : Type 0 where
   deletes : (read : Disk) → LeadsToNone directory name old read
-      → EndsActions (action.Delete directory name ∷ []) told read new contents before after
+      → EndsActions GoesOn (action.Delete directory name ∷ []) told read new contents before after
       → EndsDeletion directory name told old new contents before after
   kept : (read : Disk) → FindsRecords directory name (Ok true) old read
       → EndsUndone (kept_lines directory name) told read new contents before after

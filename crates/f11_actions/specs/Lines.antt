@@ -1,5 +1,5 @@
 -- What is written of actions (profile).
-use Rattle.std.specs.Prelude.{ℕ, ◌+◌, List, [], ◌∷◌, ◌++◌, Result, Ok, Err, codes}
+use Rattle.std.specs.Prelude.{ℕ, ◌+◌, List, [], ◌∷◌, ◌++◌, length, map, Result, Ok, Err, codes}
 use Rattle.std.specs.Fmt.{decimal}
 use Rattle.std.specs.List.{concat}
 use Rattle.f11_rad50.specs.Name.{name_text}
@@ -49,3 +49,29 @@ refused_in (a ∷ more) = refused_one a.result + refused_in more
 -- the last line: how many were done, and how many weren't
 abbrev pub all_line : ℕ → ℕ → List ℕ
 all_line done refused = concat (codes "all " ∷ decimal done ∷ codes " done, " ∷ decimal refused ∷ codes " not done" ∷ (10 ∷ []) ∷ [])
+
+-- what would be done to the file: a purge deletes it
+abbrev pub would_text : Action → List ℕ
+would_text (action.Purge directory name highest) = codes "deleted"
+would_text a = done_text a
+
+-- the line of a file to which this would be done
+abbrev pub would_be_line : List ℕ → List ℕ → List ℕ
+would_be_line name text = concat (name_text name ∷ codes " would be " ∷ text ∷ (10 ∷ []) ∷ [])
+
+-- the last line: to how many this would be done
+abbrev pub all_would_line : ℕ → List ℕ → List ℕ
+all_would_line count text = concat (codes "all " ∷ decimal count ∷ codes " would be " ∷ text ∷ (10 ∷ []) ∷ [])
+
+-- the lines of actions that would be done, and of files that would be copied
+abbrev pub would_line : Action → List ℕ
+would_line a = would_be_line (name_in a) (would_text a)
+
+abbrev pub would_lines : List Action → List ℕ
+would_lines actions = concat (map would_line actions) ++ all_would_line (length actions) (codes "done")
+
+abbrev pub copy_line : List ℕ → List ℕ
+copy_line name = would_be_line name (codes "copied")
+
+abbrev pub copy_lines : List (List ℕ) → List ℕ
+copy_lines names = concat (map copy_line names) ++ all_would_line (length names) (codes "copied")

@@ -9,6 +9,7 @@ use Rattle.f11_commands.specs.declared.outcome.FileAnswer.{FileAnswer}
 use Rattle.f11_making.specs.declared.action.Action.TheVariants as action
 use Rattle.f11_store.specs.declared.callers.Uic.{Uic}
 use Rattle.f11_actions.specs.Command.{EndsActions}
+use Rattle.f11_actions.specs.declared.behind.Behind.TheVariants.{GoesOn}
 use Rattle.f11_actions.specs.Protection.{LooksInVain, TellsProtection}
 
 -- The volume's own protection was read, and the directory was made with it, as one action; or there is no home block, and none was done; or
@@ -16,8 +17,8 @@ use Rattle.f11_actions.specs.Protection.{LooksInVain, TellsProtection}
 pub data EndsMaking {W : Type 0} (name : List ℕ) (owner : Uic) (told : Result FileAnswer Failure) (old new : Disk)
     (contents : W → Option (List ℕ)) (before after : W) : Type 0 where
   protected : (read : Disk) (word : ℕ) → TellsProtection old read word
-      → EndsActions (action.MakeDirectory name owner word ∷ []) told read new contents before after
+      → EndsActions GoesOn (action.MakeDirectory name owner word ∷ []) told read new contents before after
       → EndsMaking name owner told old new contents before after
-  homeless : (read : Disk) → LooksInVain NoHome old read → EndsActions [] told read new contents before after
+  homeless : (read : Disk) → LooksInVain NoHome old read → EndsActions GoesOn [] told read new contents before after
       → EndsMaking name owner told old new contents before after
   unread : LooksInVain Fault old new → told ≡ Err DeviceFault → after ≡ before → EndsMaking name owner told old new contents before after

@@ -8,18 +8,27 @@ use Rattle.f11_commands.specs.declared.outcome.Failure.TheVariants.{CannotWrite}
 use Rattle.f11_commands.specs.declared.outcome.FileAnswer.{FileAnswer}
 use Rattle.f11_commands.specs.declared.outcome.FileAnswer.TheVariants.{Refused}
 
+-- these lines were written, with this answer, or the writer takes no more
+abbrev pub TellsLines : {W : Type 0} → FileAnswer → List ℕ → Result FileAnswer Failure → (W → Option (List ℕ)) → W → W → Type 0
+TellsLines answer lines told contents before after =
+    ((told ≡ Ok answer) × WriterTakes contents before after lines) ⊎ (told ≡ Err CannotWrite)
+
 -- why nothing is done was written, in these lines, or the writer takes no more
 abbrev pub TellsWhy : {W : Type 0} → List ℕ → Result FileAnswer Failure → (W → Option (List ℕ)) → W → W → Type 0
-TellsWhy lines told contents before after =
-    ((told ≡ Ok Refused) × WriterTakes contents before after lines) ⊎ (told ≡ Err CannotWrite)
+TellsWhy lines told contents before after = TellsLines Refused lines told contents before after
 
--- The image was verified and has no fault, and why nothing is done was told.
-pub record LeavesAccepted {W : Type 0} (lines : List ℕ) (told : Result FileAnswer Failure) (old new : Disk)
+-- The image was verified and has no fault, and these lines were told, with nothing done.
+pub record LeavesAccepted {W : Type 0} (answer : FileAnswer) (lines : List ℕ) (told : Result FileAnswer Failure) (old new : Disk)
     (contents : W → Option (List ℕ)) (before after : W) : Type 0 where
   pub verified : VerifiesFiles old new
-  pub tells : TellsWhy lines told contents before after
+  pub tells : TellsLines answer lines told contents before after
 
--- nothing is done, for which these lines say why: the image isn't accepted, and its own lines were written, or that failed; or it is
+-- nothing is done, and these lines say so: the image isn't accepted, and its own lines were written, or that failed; or it is
+abbrev pub EndsUntouched : {W : Type 0} → FileAnswer → List ℕ → Result FileAnswer Failure → Disk → Disk → (W → Option (List ℕ)) → W → W
+    → Type 0
+EndsUntouched answer lines told old new contents before after =
+    (EndsFiles told old new contents before after) ⊎ (LeavesAccepted answer lines told old new contents before after)
+
+-- nothing is done, for which these lines say why
 abbrev pub EndsUndone : {W : Type 0} → List ℕ → Result FileAnswer Failure → Disk → Disk → (W → Option (List ℕ)) → W → W → Type 0
-EndsUndone lines told old new contents before after =
-    (EndsFiles told old new contents before after) ⊎ (LeavesAccepted lines told old new contents before after)
+EndsUndone lines told old new contents before after = EndsUntouched Refused lines told old new contents before after

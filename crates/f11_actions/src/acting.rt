@@ -1,8 +1,10 @@
 //! Actions on a mounted volume.
 ghost use Rattle.std.specs.Prelude.{◌≡◌, IfErr, IfOk};
 ghost use Rattle.f11_actions.specs.Command.{BreaksOff, BreaksOne, DoesAll, DoesOne, ending};
+ghost use Rattle.f11_actions.specs.Tried.{is_stopped as stopped_behind};
 ghost use Rattle.f11_actions.specs.Lines.{refused_one};
 
+use crate::behind::Behind;
 use crate::line::write_line;
 use f11_commands::{Failure, MASTER_DIRECTORY, OPERATOR, first_lun, first_task};
 use f11_dev::Device;
@@ -10,6 +12,13 @@ use f11_fcp::Volume;
 use f11_making::{Action, Asker, carry_out};
 use f11_store::Refusal;
 use std::io::Write;
+
+/// How many actions were done, and how many were refused.
+#[derive(Clone, Copy, Debug, PartialEq, Eq)]
+pub(crate) struct Counts {
+    pub(crate) done: usize,
+    pub(crate) refused: usize,
+}
 
 /// As which failure an action is told behind which none is done; `None` where the others are.
 fn ending(came: &Result<(), Refusal>) -> Option<Failure>
@@ -58,20 +67,37 @@ fn act_one<D: Device, W: Write>(
     }
 }
 
-/// Does one action after another, and writes the line of each: how many were refused.
+/// Whether none is tried behind so many that were refused.
+fn is_stopped(behind: Behind, refused: usize) -> bool
+    ensures { result ≡ stopped_behind behind refused }
+{
+    match behind {
+        Behind::GoesOn => false,
+        Behind::Stops => refused != 0,
+    }
+}
+
+/// Does one action after another, and writes the line of each: how many were done, and how many refused.
 pub(crate) fn act_all<D: Device, W: Write>(
     volume: &mut Volume<D>,
     actions: &[Action],
+    behind: Behind,
     writer: &mut W,
-) -> Result<usize, Failure>
-    ensures does { IfOk result (λ refused. DoesAll actions.now refused volume.old volume.new
-        W.contents writer.old writer.new) }
-    ensures failed { IfErr result (λ failure. BreaksOff actions.now failure volume.old volume.new
+) -> Result<Counts, Failure>
+    ensures does { IfOk result (λ counts. DoesAll behind actions.now counts.done counts.refused
+        volume.old volume.new W.contents writer.old writer.new) }
+    ensures failed { IfErr result (λ failure. BreaksOff behind actions.now failure volume.old volume.new
         W.contents writer.old writer.new) }
 {
+    let mut done = 0;
     let mut refused = 0;
     for action in actions {
-        refused += act_one(volume, action, writer)?;
+        let one = act_one(volume, action, writer)?;
+        refused += one;
+        done += 1 - one;
+        if is_stopped(behind, refused) {
+            return Ok(Counts { done, refused });
+        }
     }
-    Ok(refused)
+    Ok(Counts { done, refused })
 }

@@ -1,12 +1,13 @@
 //! The command that does something to each file whose name a pattern chooses.
-ghost use Rattle.std.specs.Prelude.{◌≡◌, IfErr, IfOk};
-ghost use Rattle.f11_actions.specs.Chosen.{ActsOnChosen, ChoosesActions, EndsChosen, EndsNone, is_in_vain};
+ghost use Rattle.std.specs.Prelude.{◌↔◌, IfErr, IfOk, IsTrue};
+ghost use Rattle.f11_actions.specs.Chosen.{ChoosesActions, EndsChosen, EndsNone, HasNoActions, IsInVain};
 ghost use Rattle.f11_actions.specs.Undone.{TellsWhy};
 ghost use Rattle.f11_commands.specs.CopyCommand.{refused_line};
-ghost use Rattle.f11_commands.specs.DirectoryNames.{FailsToFindNames, HasNoNames};
+ghost use Rattle.f11_commands.specs.DirectoryNames.{FailsToFindNames};
 ghost use Rattle.f11_flx.specs.declared.refusal.FlxRefusal.TheVariants.{Files};
 ghost use Rattle.f11_patterns.specs.Lent.{parts_of};
 
+use crate::behind::Behind;
 use crate::change::Change;
 use crate::command::print_actions;
 use crate::meant::choose_names;
@@ -21,13 +22,13 @@ use std::alloc::Global;
 use std::io::Write;
 
 /// Does something to each file of a directory whose name a pattern means, or a purge deletes: which these are is decided by the names that the
-/// directory has before the first is done, and each is done once. The directory is the one that the master file directory has under its name. Then it goes
-/// on as [`print_actions`] does.
+/// directory has before the first is done, and each is done once. The directory is the one that the master file directory has under its name.
+/// Then it goes on as [`print_actions`] does.
 ///
-/// Where the pattern means no name, or none that it can be done to, it writes `no NoSuchEntry`, and where the directory can't be read
-/// `no NoSuchEntry`, `no NoSuchFile` or `no NotDirectory`, and answers [`FileAnswer::Refused`], with nothing done; a purge that finds no lower version has
-/// nothing to do, and writes the last line. Where the volume has faults it writes the lines of `vfy`, whatever the pattern means, and nothing
-/// is done.
+/// Where the pattern means no name, or none that it can be done to, or no name fits that of a purge, but `*.*`, it writes `no NoSuchEntry`, and
+/// where the directory can't be read `no NoSuchEntry`, `no NoSuchFile` or `no NotDirectory`, and answers [`FileAnswer::Refused`], with nothing
+/// done; a purge that finds no lower version has nothing to do, and writes the last line. Where the volume has faults it writes the lines of
+/// `vfy`, whatever the pattern means, and nothing is done.
 ///
 /// # Errors
 ///
@@ -38,15 +39,16 @@ pub fn print_chosen<D: Device, W: Write>(
     directory: Name,
     pattern: &Pattern,
     change: Change,
+    behind: Behind,
     writer: &mut W,
 ) -> (D, Result<FileAnswer, Failure>)
-    ensures ends { EndsChosen (parts_of pattern.now) change directory result.1
+    ensures ends { EndsChosen (parts_of pattern.now) change directory behind result.1
         (D.disk device) (D.disk result.0) W.contents writer.old writer.new }
 {
     match chosen_actions(alloc, &mut device, directory, pattern, change) {
-        Ok(Ok(actions)) => act_on_chosen(alloc, device, change.choice(), &actions, writer),
+        Ok(Ok(actions)) => print_actions(alloc, device, &actions, behind, writer),
         Ok(Err(NoNames::Refused(refusal))) => leave_all(alloc, device, refusal, writer),
-        Ok(Err(NoNames::Unreadable)) => print_actions(alloc, device, &[], writer),
+        Ok(Err(NoNames::Unreadable)) => print_actions(alloc, device, &[], behind, writer),
         Err(failure) => (device, Err(failure)),
     }
 }
@@ -55,9 +57,9 @@ pub fn print_chosen<D: Device, W: Write>(
 ///
 /// # Errors
 ///
-/// [`Failure::DeviceFault`] where a transfer failed, and [`Failure::NoMemory`] where there was no memory. Within: why the directory has no
-/// names.
-fn chosen_actions<D: Device>(
+/// [`Failure::DeviceFault`] where a transfer failed, and [`Failure::NoMemory`] where there was no memory. Within: why there is nothing to do, as
+/// the directory has no names, or nothing can be done, by `NoSuchEntry`.
+pub(crate) fn chosen_actions<D: Device>(
     alloc: Global,
     device: &mut D,
     directory: Name,
@@ -67,49 +69,40 @@ fn chosen_actions<D: Device>(
     ensures chosen { IfOk result (λ answer. IfOk answer (λ actions.
         ChoosesActions (parts_of pattern.now) change directory actions.items
         (D.disk device.old) (D.disk device.new))) }
-    ensures none { IfOk result (λ answer. IfErr answer (λ none.
-        HasNoNames none directory (D.disk device.old) (D.disk device.new))) }
+    ensures none { IfOk result (λ answer. IfErr answer (λ why.
+        HasNoActions why (parts_of pattern.now) change directory
+        (D.disk device.old) (D.disk device.new))) }
     ensures failed { IfErr result (λ failure.
         FailsToFindNames failure (D.disk device.old) (D.disk device.new)) }
 {
-    match choose_names(alloc, device, &directory, pattern, change.choice())? {
-        Ok((names, those)) => match change.actions(alloc, directory, &names, &those) {
-            Ok(actions) => Ok(Ok(actions)),
-            Err(NoMemory) => Err(Failure::NoMemory),
-        },
-        Err(none) => Ok(Err(none)),
+    let (names, those) = match choose_names(alloc, device, &directory, pattern, change.choice())? {
+        Ok((names, those)) => (names, those),
+        Err(none) => return Ok(Err(none)),
+    };
+    match change.actions(alloc, directory, &names, &those) {
+        Ok(actions) => {
+            if is_in_vain(pattern, change.choice(), &names, &actions) {
+                Ok(Err(NoNames::Refused(Refusal::NoSuchEntry)))
+            } else {
+                Ok(Ok(actions))
+            }
+        }
+        Err(NoMemory) => Err(Failure::NoMemory),
     }
 }
 
-/// Whether names that are meant are asked for, and nothing can be done to any.
-fn is_in_vain(choice: Choice, actions: &[Action]) -> bool
-    ensures { result ≡ is_in_vain choice actions.now }
+/// Whether nothing can be done, though names that are meant are asked for; or no name fits that of a purge, and not all are meant.
+fn is_in_vain(pattern: &Pattern, choice: Choice, names: &[Name], actions: &[Action]) -> bool
+    ensures { IsTrue result ↔ IsInVain choice (parts_of pattern.now) names.now actions.now }
 {
     match choice {
         Choice::Meant => actions.is_empty(),
-        Choice::Superseded => false,
+        Choice::Superseded => !pattern.is_all() && pattern.fits_none(names),
     }
-}
-
-/// Does the actions on the files that are chosen, or tells that there are none, where one was asked for.
-fn act_on_chosen<D: Device, W: Write>(
-    alloc: Global,
-    device: D,
-    choice: Choice,
-    actions: &[Action],
-    writer: &mut W,
-) -> (D, Result<FileAnswer, Failure>)
-    ensures ends { ActsOnChosen choice actions.now result.1 (D.disk device) (D.disk result.0)
-        W.contents writer.old writer.new }
-{
-    if is_in_vain(choice, actions) {
-        return leave_all(alloc, device, Refusal::NoSuchEntry, writer);
-    }
-    print_actions(alloc, device, actions, writer)
 }
 
 /// Verifies the volume on a device, and tells why nothing is done where it is accepted.
-fn leave_all<D: Device, W: Write>(
+pub(crate) fn leave_all<D: Device, W: Write>(
     alloc: Global,
     device: D,
     refusal: Refusal,

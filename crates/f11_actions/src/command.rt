@@ -1,9 +1,9 @@
 //! The commands that do something to files.
-ghost use Rattle.std.specs.Prelude.{◌≤◌};
 ghost use Rattle.f11_actions.specs.Command.{EndsAccepted, EndsActions, Kept, TellsAll, TellsCount};
 ghost use Rattle.f11_vfy.specs.Accepted.{device_of};
 
-use crate::acting::act_all;
+use crate::acting::{Counts, act_all};
+use crate::behind::Behind;
 use crate::line::write_all_line;
 use f11_commands::{Failure, FileAnswer, accept_files, dismount, synced};
 use f11_dev::Device;
@@ -19,8 +19,9 @@ use std::io::Write;
 ///
 /// It writes a line for each action but one that ends them, `NAME.TYP;V deleted`, `NAME.TYP;V renamed NEW.TYP;V`, `NAME.TYP;V protected`,
 /// `NAME.TYP;V truncated` or `NAME.TYP;V made`, or, where it is refused, the same with `not` before the word and the refusal's name behind it;
-/// and a last line, `all N done, K not done`. It answers [`FileAnswer::Refused`] where one was refused. Where the volume has faults it writes the
-/// lines of `vfy`, and nothing is done. The device comes back.
+/// and a last line, `all N done, K not done`. It answers [`FileAnswer::Refused`] where one was refused: the others are done behind it, or none is
+/// ([`Behind`]), and those that aren't tried aren't counted. Where the volume has faults it writes the lines of `vfy`, and nothing is done. The
+/// device comes back.
 ///
 /// # Errors
 ///
@@ -31,13 +32,14 @@ pub fn print_actions<D: Device, W: Write>(
     alloc: Global,
     device: D,
     actions: &[Action],
+    behind: Behind,
     writer: &mut W,
 ) -> (D, Result<FileAnswer, Failure>)
-    ensures ends { EndsActions actions.now result.1 (D.disk device) (D.disk result.0)
+    ensures ends { EndsActions behind actions.now result.1 (D.disk device) (D.disk result.0)
         W.contents writer.old writer.new }
 {
     match accept_files(alloc, device, writer) {
-        Ok(accepted) => act_on_accepted(alloc, accepted, actions, writer),
+        Ok(accepted) => act_on_accepted(alloc, accepted, actions, behind, writer),
         Err((device, told)) => (device, told),
     }
 }
@@ -47,14 +49,15 @@ fn act_on_accepted<D: Device, W: Write>(
     alloc: Global,
     accepted: Accepted<D>,
     actions: &[Action],
+    behind: Behind,
     writer: &mut W,
 ) -> (D, Result<FileAnswer, Failure>)
-    ensures ends { EndsAccepted actions.now result.1 (D.disk (device_of accepted)) (D.disk result.0)
+    ensures ends { EndsAccepted behind actions.now result.1 (D.disk (device_of accepted)) (D.disk result.0)
         W.contents writer.old writer.new }
 {
     match Volume::mount(alloc, accepted) {
-        Ok(mut volume) => match act_all(&mut volume, actions, writer) {
-            Ok(refused) => tell_all(dismount(volume), actions.len(), refused, writer),
+        Ok(mut volume) => match act_all(&mut volume, actions, behind, writer) {
+            Ok(counts) => tell_all(dismount(volume), counts, writer),
             Err(failure) => keep_broken(dismount(volume), failure),
         },
         Err(OpenFault::DeviceFault(device) | OpenFault::Damaged(device)) => {
@@ -80,16 +83,14 @@ fn keep_broken<D: Device>(device: D, failure: Failure) -> (D, Result<FileAnswer,
 /// Writes the last line, once what was written to the device is kept.
 fn tell_all<D: Device, W: Write>(
     device: D,
-    count: usize,
-    refused: usize,
+    counts: Counts,
     writer: &mut W,
 ) -> (D, Result<FileAnswer, Failure>)
-    requires few { refused ≤ count }
-    ensures tells { TellsAll count refused result.1 (D.disk device) (D.disk result.0)
+    ensures tells { TellsAll counts.done counts.refused result.1 (D.disk device) (D.disk result.0)
         W.contents writer.old writer.new }
 {
     match synced(device) {
-        Ok(device) => (device, tell_count(count - refused, refused, writer)),
+        Ok(device) => (device, tell_count(counts.done, counts.refused, writer)),
         Err(device) => (device, Err(Failure::DeviceFault)),
     }
 }

@@ -2,6 +2,7 @@
 ghost use Rattle.f11_actions.specs.Deletion.{EndsDeletion, kept_lines};
 ghost use Rattle.f11_actions.specs.Undone.{EndsUndone, TellsWhy};
 
+use crate::behind::Behind;
 use crate::command::print_actions;
 use crate::line::{write_all_line, write_line};
 use f11_commands::{Failure, FileAnswer, accept_files, leads_to_records};
@@ -33,8 +34,8 @@ pub fn print_deletion<D: Device, W: Write>(
     let action = Action::Delete { directory, name };
     match leads_to_records(alloc, &mut device, &directory, &name) {
         Ok(Ok(true)) => keep(alloc, device, directory, name, writer),
-        Ok(Ok(false)) => print_actions(alloc, device, &[action], writer),
-        Ok(Err(_)) => print_actions(alloc, device, &[action], writer),
+        Ok(Ok(false)) => print_actions(alloc, device, &[action], Behind::GoesOn, writer),
+        Ok(Err(_)) => print_actions(alloc, device, &[action], Behind::GoesOn, writer),
         Err(failure) => (device, Err(failure)),
     }
 }

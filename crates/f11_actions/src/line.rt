@@ -1,6 +1,7 @@
 //! The lines of actions.
 ghost use Rattle.std.specs.Prelude.{◌≡◌, OnOk};
-ghost use Rattle.f11_actions.specs.Lines.{action_line, all_line, name_in};
+ghost use Rattle.std.specs.Prelude.{codes};
+ghost use Rattle.f11_actions.specs.Lines.{action_line, all_line, all_would_line, copy_line, name_in, would_line};
 ghost use Rattle.f11_commands.specs.Output.{WriterTakes};
 
 use f11_making::Action;
@@ -28,6 +29,28 @@ impl fmt::Display for Done {
             Action::Protect { .. } => write!(f, "protected"),
             Action::Truncate { .. } => write!(f, "truncated"),
             Action::MakeDirectory { .. } => write!(f, "made"),
+        }
+    }
+}
+
+/// What an action would do, as its line says it.
+#[derive(Clone, Copy, Debug)]
+struct Would(Action);
+
+impl fmt::Display for Would {
+    ghost use Rattle.std.specs.Prelude.{Some};
+    ghost use Rattle.f11_actions.specs.Lines.{would_text};
+
+    ghost output = { λ would. Some (would_text would.0) };
+
+    /// Writes what is written of an action that is done, but `deleted` of a purge.
+    fn fmt<W: fmt::Write>(&self, f: &mut fmt::Formatter<W>) -> fmt::Result {
+        match self.0 {
+            Action::Purge { .. } => write!(f, "deleted"),
+            action => {
+                let done = Done(action);
+                write!(f, "{done}")
+            }
         }
     }
 }
@@ -71,4 +94,34 @@ pub(crate) fn write_all_line<W: Write>(
     ensures { OnOk result (WriterTakes W.contents writer.old writer.new (all_line done refused)) }
 {
     writeln!(writer, "all {done} done, {refused} not done")
+}
+
+/// Writes the line of an action that would be done.
+pub(crate) fn write_would_line<W: Write>(writer: &mut W, action: &Action) -> io::Result<()>
+    ensures { OnOk result (WriterTakes W.contents writer.old writer.new (would_line action.now)) }
+{
+    let name = name_of(action);
+    let would = Would(*action);
+    writeln!(writer, "{name} would be {would}")
+}
+
+/// Writes the last line of so many actions that would be done.
+pub(crate) fn write_all_would_line<W: Write>(writer: &mut W, count: usize) -> io::Result<()>
+    ensures { OnOk result (WriterTakes W.contents writer.old writer.new (all_would_line count (codes "done"))) }
+{
+    writeln!(writer, "all {count} would be done")
+}
+
+/// Writes the line of a file that would be copied, `NAME.TYP;V would be copied`.
+pub fn write_copy_line<W: Write>(writer: &mut W, name: &Name) -> io::Result<()>
+    ensures { OnOk result (WriterTakes W.contents writer.old writer.new (copy_line name.now)) }
+{
+    writeln!(writer, "{name} would be copied")
+}
+
+/// Writes the last line of so many files that would be copied, `all N would be copied`.
+pub fn write_all_copy_line<W: Write>(writer: &mut W, count: usize) -> io::Result<()>
+    ensures { OnOk result (WriterTakes W.contents writer.old writer.new (all_would_line count (codes "copied"))) }
+{
+    writeln!(writer, "all {count} would be copied")
 }

@@ -1,6 +1,7 @@
 //! The command that makes a directory.
 ghost use Rattle.f11_actions.specs.Making.{EndsMaking};
 
+use crate::behind::Behind;
 use crate::command::print_actions;
 use crate::protection::default_protection;
 use f11_commands::{Failure, FileAnswer};
@@ -37,10 +38,10 @@ pub fn print_making<D: Device, W: Write>(
                 owner,
                 protection,
             };
-            print_actions(alloc, device, &[action], writer)
+            print_actions(alloc, device, &[action], Behind::GoesOn, writer)
         }
         Err(fault) => match fault {
-            HomeFault::NoHome => print_actions(alloc, device, &[], writer),
+            HomeFault::NoHome => print_actions(alloc, device, &[], Behind::GoesOn, writer),
             HomeFault::DeviceFault => (device, Err(Failure::DeviceFault)),
         },
     }

@@ -13,7 +13,7 @@ use f11_home::{HomeFault, find};
 /// # Errors
 ///
 /// `NoHome` where the device has no home block, and `DeviceFault` where a transfer failed.
-pub(crate) fn default_protection<D: Device>(device: &mut D) -> Result<u16, HomeFault>
+pub fn default_protection<D: Device>(device: &mut D) -> Result<u16, HomeFault>
     ensures told { IfOk result (λ word. TellsProtection (D.disk device.old) (D.disk device.new) word) }
     ensures failed { IfErr result (λ fault. LooksInVain fault (D.disk device.old) (D.disk device.new)) }
 {

@@ -2,10 +2,12 @@
 ghost use Rattle.std.specs.Prelude.{◌≡◌, ◌<◌, IfErr, IfOk, length};
 ghost use Rattle.f11_actions.specs.Meant.{MeansNames};
 ghost use Rattle.f11_actions.specs.Taking.{BeginsTaking, HasNoneMeant, RefusesFiles, TakesNoneMeant};
+ghost use Rattle.f11_actions.specs.Would.{EndsTaking, TellsNames};
 ghost use Rattle.f11_patterns.specs.Lent.{parts_of};
 
+use crate::line::{write_all_copy_line, write_copy_line};
 use crate::meant::meant_names;
-use f11_commands::{Failure, NoNames, Served, print_ls, refuse_files};
+use f11_commands::{Answer, Failure, NoNames, Served, print_ls, refuse_files};
 use f11_dev::Device;
 use f11_patterns::Pattern;
 use f11_rad50::Name;
@@ -87,4 +89,40 @@ fn refuse<W: Write>(refusal: Refusal, faulty: bool, writer: &mut W) -> Result<Se
         Ok(answer) => Ok(Served { answer, faulty }),
         Err(failure) => Err(failure),
     }
+}
+
+/// Tells which files [`begin_taking`] would have taken out, of each `NAME.TYP;V would be copied`, and the last line, `all N would be copied`;
+/// or why none is, as that does. Nothing is written to the volume.
+///
+/// # Errors
+///
+/// As of [`begin_taking`].
+pub fn print_taking<D: Device, W: Write>(
+    alloc: Global,
+    device: D,
+    directory: &Name,
+    pattern: &Pattern,
+    writer: &mut W,
+) -> (D, Result<Served, Failure>)
+    ensures ends { EndsTaking (parts_of pattern.now) directory.now result.1
+        (D.disk device) (D.disk result.0) W.contents writer.old writer.new }
+{
+    match begin_taking(alloc, device, directory, pattern, writer) {
+        Ok((device, faulty, names)) => (device, tell_taking(faulty, &names, writer)),
+        Err((device, told)) => (device, told),
+    }
+}
+
+/// Writes the line of each, and the last one.
+fn tell_taking<W: Write>(faulty: bool, names: &[Name], writer: &mut W) -> Result<Served, Failure>
+    ensures tells { TellsNames faulty names.now result W.contents writer.old writer.new }
+{
+    for name in names {
+        write_copy_line(writer, name)?;
+    }
+    write_all_copy_line(writer, names.len())?;
+    Ok(Served {
+        answer: Answer::Done,
+        faulty,
+    })
 }

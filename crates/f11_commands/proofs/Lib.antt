@@ -22,9 +22,13 @@ mod LeavingLemmas
 mod WholeLemmas
 mod MomentsLemmas
 mod PutSlotsLemmas
+mod PutUnheldLemmas
+mod HeldPlanLemmas
+mod MadeLemmas
 mod PutLemmas
 mod RtAnyLemmas
 mod RtTakingLemmas
+mod RtTextLemmas
 mod RtFillLemmas
 mod RtPutLemmas
 mod RtChangeLemmas

@@ -22,6 +22,8 @@ pub mod DirectoryRecords
 pub mod PutSlots
 pub mod Stopping
 pub mod PutCommand
+pub mod Laws
+pub mod PutAll
 pub mod PutEach
 pub mod Report
 pub mod RtReport
@@ -43,6 +45,7 @@ pub mod RtPut
 pub mod RunCommand
 pub mod Several
 pub mod RtTaking
+pub mod RtText
 pub mod RtVolume
 pub mod Syncing
 pub mod TakingOut

@@ -5,6 +5,7 @@ ghost use Rattle.f11_commands.specs.PutCommand.{EndsAccepted, EndsPutting, HoldF
 ghost use Rattle.f11_commands.specs.PutCommand.{TellsKeptFile, TellsPutting, hosts};
 ghost use Rattle.f11_commands.specs.Stopping.{StopsInto, StopsPut, StopsPutting, WhereUnheld};
 
+pub mod directories;
 pub mod each;
 pub mod puts;
 mod slots;

@@ -60,7 +60,11 @@ pub(crate) fn first_past(first: u32, blocks: u16, size: u32) -> Option<u64>
 }
 
 /// Reads a block, zeros where it lies past the device's end.
-fn read_at<D: Device>(device: &mut D, lbn: u64, into: &mut Block) -> Result<(), DeviceFault>
+pub(crate) fn read_at<D: Device>(
+    device: &mut D,
+    lbn: u64,
+    into: &mut Block,
+) -> Result<(), DeviceFault>
     ensures reads { OnOk result
         (ReadsOrZeros lbn into.new (D.disk device.old) (D.disk device.new)) }
     ensures failed { OnErr result (Looked (D.disk device.old) (D.disk device.new) 1 1) }

@@ -1,6 +1,7 @@
 //! The command `rt-get`.
 
 pub(crate) mod found;
+pub(crate) mod text;
 
 ghost use Rattle.std.specs.Prelude.{◌≡◌, IfErr, IfOk, OnOk};
 ghost use Rattle.f11_commands.specs.Output.{WriterTakes};
@@ -97,7 +98,7 @@ pub fn write_rt_file<D: Device, H: Write, W: Write>(
 }
 
 /// What is answered where all is done.
-fn done(state: RtState) -> RtServed
+pub(crate) fn done(state: RtState) -> RtServed
     ensures { result ≡ done_so state }
 {
     RtServed {

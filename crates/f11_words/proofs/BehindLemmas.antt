@@ -23,6 +23,7 @@ use Rattle.f11_words.specs.Lines.{
   name_line,
   prot_line,
   purge_line,
+  put_all_line,
   put_each_line,
   put_line,
   quiet_run_line,
@@ -79,7 +80,8 @@ use Rattle.f11_words.specs.declared.usage.Subcommand.TheVariants.{
   Trunc,
   Vfy,
 }
-use Rattle.f11_words.proofs.WalkLemmas.{AreInOrder, ArePlain, TakesWords, are_taken, held_behind, passes-words, walk-words}
+use Rattle.f11_words.specs.declared.words.Manner.TheVariants.{GoesOn, Stops, Tells}
+use Rattle.f11_words.proofs.WalkLemmas.{AreInOrderFrom, ArePlain, TakesFirst, TakesWords, held_from, passes-all, taken_from, walk-all}
 
 -- a command as it is built, beside the others
 abbrev pub leaf : Subcommand → Shape
@@ -88,17 +90,20 @@ leaf command = built_leaf (command_app command).top
 -- how it takes its words
 takes-words : (command : Subcommand) → TakesWords (leaf command) 1 (words_of command)
 unfolding clap_on_literals
-takes-words Del = (λ h word. refl, (λ h word. refl, (λ h word. refl, tt)))
+takes-words Del = (tt, (λ h rest. (refl, refl), (λ h word. refl, (λ h word. refl, (λ h word. refl, tt)))))
 takes-words Dump = (λ h word. refl, (λ h word. refl, tt))
 takes-words FlxFromRt =
     (λ h word rest. (refl, refl, refl), (λ h word. refl, (λ h word. refl, (λ h word. refl, (λ h word. refl, (λ h word. refl, tt))))))
 takes-words FlxToRt =
     (λ h word rest. (refl, refl, refl), (λ h word. refl, (λ h word. refl, (λ h word. refl, (λ h word. refl, (λ h word. refl, tt))))))
 takes-words Get = (
-  λ h rest. (refl, refl),
+  tt,
   (
     λ h rest. (refl, refl),
-    (λ h word rest. (refl, refl, refl), (λ h word. refl, (λ h word. refl, (λ h word. refl, (λ h word. refl, tt))))),
+    (
+      λ h rest. (refl, refl),
+      (λ h word rest. (refl, refl, refl), (λ h word. refl, (λ h word. refl, (λ h word. refl, (λ h word. refl, tt))))),
+    ),
   ),
 )
 takes-words Home = (λ h word. refl, tt)
@@ -109,36 +114,77 @@ takes-words Init = (
 takes-words Ls = (λ h word. refl, (λ h word. refl, tt))
 takes-words Mkdir = (λ h word. refl, (λ h word. refl, tt))
 takes-words Name = (λ h word. refl, tt)
-takes-words Prot = (λ h word. refl, (λ h word. refl, (λ h word. refl, (λ h word. refl, tt))))
-takes-words Purge = (λ h word. refl, (λ h word. refl, (λ h word. refl, tt)))
+takes-words Prot = (tt, (λ h rest. (refl, refl), (λ h word. refl, (λ h word. refl, (λ h word. refl, (λ h word. refl, tt))))))
+takes-words Purge = (tt, (λ h rest. (refl, refl), (λ h word. refl, (λ h word. refl, (λ h word. refl, tt)))))
 takes-words Put = (
-  λ h rest. (refl, refl),
-  (λ h word rest. (refl, refl, refl), (λ h word. refl, (λ h word. refl, (λ h word. refl, (λ h word. refl, tt))))),
+  tt,
+  (
+    λ h rest. (refl, refl),
+    (
+      λ h rest. (refl, refl),
+      (
+        λ h rest. (refl, refl),
+        (λ h word rest. (refl, refl, refl), (λ h word. refl, (λ h word. refl, (λ h word. refl, (λ h word. refl, tt))))),
+      ),
+    ),
+  ),
 )
 takes-words Ren = (λ h word. refl, (λ h word. refl, (λ h word. refl, (λ h word. refl, tt))))
 takes-words Rights = (λ h word. refl, (λ h word. refl, (λ h word. refl, tt)))
 takes-words RtDel = (λ h word. refl, (λ h word. refl, tt))
-takes-words RtGet = (λ h rest. (refl, refl), (λ h word. refl, (λ h word. refl, (λ h word. refl, tt))))
+takes-words RtGet =
+    (λ h rest. (refl, refl), (λ h word rest. (refl, refl, refl), (λ h word. refl, (λ h word. refl, (λ h word. refl, tt)))))
 takes-words RtInit = (λ h word rest. (refl, refl, refl), (λ h word rest. (refl, refl, refl), (λ h word. refl, tt)))
 takes-words RtList = (λ h word. refl, tt)
 takes-words RtLs = (λ h word. refl, tt)
 takes-words RtProt = (λ h rest. (refl, refl), (λ h word. refl, (λ h word. refl, tt)))
-takes-words RtPut = (λ h word. refl, (λ h word. refl, (λ h word. refl, tt)))
+takes-words RtPut = (λ h word rest. (refl, refl, refl), (λ h word. refl, (λ h word. refl, (λ h word. refl, tt))))
 takes-words RtRen = (λ h word. refl, (λ h word. refl, (λ h word. refl, tt)))
 takes-words RtVfy = (λ h word. refl, tt)
 takes-words Run = (λ h rest. (refl, refl), (λ h word. refl, (λ h word. refl, tt)))
-takes-words Trunc = (λ h word. refl, (λ h word. refl, (λ h word. refl, tt)))
+takes-words Trunc = (tt, (λ h rest. (refl, refl), (λ h word. refl, (λ h word. refl, (λ h word. refl, tt)))))
 takes-words Vfy = (λ h rest. (refl, refl), (λ h word. refl, tt))
+
+-- and a letter, where it comes first
+takes-first : (command : Subcommand) → TakesFirst (leaf command) (words_of command)
+unfolding clap_on_literals
+takes-first Del = λ rest. (refl, refl)
+takes-first Dump = tt
+takes-first FlxFromRt = tt
+takes-first FlxToRt = tt
+takes-first Get = λ rest. (refl, refl)
+takes-first Home = tt
+takes-first Init = tt
+takes-first Ls = tt
+takes-first Mkdir = tt
+takes-first Name = tt
+takes-first Prot = λ rest. (refl, refl)
+takes-first Purge = λ rest. (refl, refl)
+takes-first Put = λ rest. (refl, refl)
+takes-first Ren = tt
+takes-first Rights = tt
+takes-first RtDel = tt
+takes-first RtGet = tt
+takes-first RtInit = tt
+takes-first RtList = tt
+takes-first RtLs = tt
+takes-first RtProt = tt
+takes-first RtPut = tt
+takes-first RtRen = tt
+takes-first RtVfy = tt
+takes-first Run = tt
+takes-first Trunc = λ rest. (refl, refl)
+takes-first Vfy = tt
 
 -- the words behind a command's name, and what is held behind them
 abbrev pub behind : CommandLine → List Text
 behind line = written (words_of (command_in line)) (given_in line)
 
 abbrev end_of : CommandLine → Held
-end_of line = held_behind (leaf (command_in line)) 1 (words_of (command_in line)) (given_in line) nothing_held
+end_of line = held_from (leaf (command_in line)) (words_of (command_in line)) (given_in line)
 
 abbrev is_taken : CommandLine → Bool
-is_taken line = are_taken (leaf (command_in line)) 1 (words_of (command_in line)) (given_in line) nothing_held
+is_taken line = taken_from (leaf (command_in line)) (words_of (command_in line)) (given_in line)
 
 -- the command takes them,
 abbrev passes_at : Shape → Bool → Held → Bool
@@ -149,16 +195,21 @@ passes_at s passes h = passes && (settle_passes s.rules s.args_override_self h &
 abbrev is_found : CommandLine → List (Option Text)
 is_found line = map (λ word. found word (finished (leaf (command_in line)).rules (end_of line))) (words_of (command_in line))
 
-line-met : (line : CommandLine) → AreInOrder (words_of (command_in line)) (given_in line)
+line-met : (line : CommandLine) → AreInOrderFrom (words_of (command_in line)) (given_in line)
     × (passes_at (leaf (command_in line)) (is_taken line) (end_of line) ≡ true) × (is_found line ≡ map as_found (given_in line))
 unfolding clap_on_literals
-line-met (del_line image dir name) = (tt, refl, refl)
+line-met (del_line GoesOn image dir name) = (tt, refl, refl)
+line-met (del_line Stops image dir name) = (tt, refl, refl)
+line-met (del_line Tells image dir name) = (tt, refl, refl)
 line-met (dump_line image number) = (tt, refl, refl)
 line-met (from_rt_line mode rt rt_name image uic name) = (tt, refl, refl)
 line-met (to_rt_line mode image uic name rt rt_name) = (tt, refl, refl)
-line-met (get_line None image dir name host) = (tt, refl, refl)
-line-met (get_line (Some mode) image dir name host) = (tt, refl, refl)
-line-met (get_blocks_line image dir name host) = (tt, refl, refl)
+line-met (get_line false None image dir name host) = (tt, refl, refl)
+line-met (get_line true None image dir name host) = (tt, refl, refl)
+line-met (get_line false (Some mode) image dir name host) = (tt, refl, refl)
+line-met (get_line true (Some mode) image dir name host) = (tt, refl, refl)
+line-met (get_blocks_line false image dir name host) = (tt, refl, refl)
+line-met (get_blocks_line true image dir name host) = (tt, refl, refl)
 line-met (get_all_line image folder) = (refl, refl, refl)
 line-met (home_line image) = (tt, refl, refl)
 line-met (init_line blocks slots label None image) = (tt, refl, refl)
@@ -167,29 +218,45 @@ line-met (ls_line image) = (refl, refl, refl)
 line-met (ls_in_line image dir) = (tt, refl, refl)
 line-met (mkdir_line image dir) = (tt, refl, refl)
 line-met (name_line word) = (tt, refl, refl)
-line-met (prot_line image dir name word) = (tt, refl, refl)
-line-met (purge_line image dir None) = (refl, refl, refl)
-line-met (purge_line image dir (Some name)) = (tt, refl, refl)
+line-met (prot_line GoesOn image dir name word) = (tt, refl, refl)
+line-met (prot_line Stops image dir name word) = (tt, refl, refl)
+line-met (prot_line Tells image dir name word) = (tt, refl, refl)
+line-met (purge_line GoesOn image dir None) = (refl, refl, refl)
+line-met (purge_line Stops image dir None) = (refl, refl, refl)
+line-met (purge_line Tells image dir None) = (refl, refl, refl)
+line-met (purge_line GoesOn image dir (Some name)) = (tt, refl, refl)
+line-met (purge_line Stops image dir (Some name)) = (tt, refl, refl)
+line-met (purge_line Tells image dir (Some name)) = (tt, refl, refl)
 line-met (put_line None image dir name host) = (tt, refl, refl)
 line-met (put_line (Some mode) image dir name host) = (tt, refl, refl)
-line-met (put_each_line None image dir host) = (refl, refl, refl)
-line-met (put_each_line (Some mode) image dir host) = (refl, refl, refl)
+line-met (put_each_line GoesOn None image dir host) = (refl, refl, refl)
+line-met (put_each_line Stops None image dir host) = (refl, refl, refl)
+line-met (put_each_line Tells None image dir host) = (refl, refl, refl)
+line-met (put_each_line GoesOn (Some mode) image dir host) = (refl, refl, refl)
+line-met (put_each_line Stops (Some mode) image dir host) = (refl, refl, refl)
+line-met (put_each_line Tells (Some mode) image dir host) = (refl, refl, refl)
+line-met (put_all_line None folder image) = (refl, refl, refl)
+line-met (put_all_line (Some mode) folder image) = (refl, refl, refl)
 line-met (ren_line image dir name new) = (tt, refl, refl)
 line-met (rights_line caller owner word) = (tt, refl, refl)
 line-met (rt_del_line rt name) = (tt, refl, refl)
-line-met (rt_get_line rt name host) = (tt, refl, refl)
+line-met (rt_get_line None rt name host) = (tt, refl, refl)
+line-met (rt_get_line (Some mode) rt name host) = (tt, refl, refl)
 line-met (rt_get_all_line rt folder) = (refl, refl, refl)
 line-met (rt_init_line blocks segments image) = (tt, refl, refl)
 line-met (rt_list_line image) = (tt, refl, refl)
 line-met (rt_ls_line rt) = (tt, refl, refl)
 line-met (rt_prot_line rt name) = (tt, refl, refl)
 line-met (rt_unprot_line rt name) = (tt, refl, refl)
-line-met (rt_put_line rt name host) = (tt, refl, refl)
+line-met (rt_put_line None rt name host) = (tt, refl, refl)
+line-met (rt_put_line (Some mode) rt name host) = (tt, refl, refl)
 line-met (rt_ren_line rt name new) = (tt, refl, refl)
 line-met (rt_vfy_line image) = (tt, refl, refl)
 line-met (run_line image script) = (tt, refl, refl)
 line-met (quiet_run_line image script) = (tt, refl, refl)
-line-met (trunc_line image dir name) = (tt, refl, refl)
+line-met (trunc_line GoesOn image dir name) = (tt, refl, refl)
+line-met (trunc_line Stops image dir name) = (tt, refl, refl)
+line-met (trunc_line Tells image dir name) = (tt, refl, refl)
 line-met (vfy_line image) = (tt, refl, refl)
 line-met (update_line image) = (tt, refl, refl)
 
@@ -198,9 +265,11 @@ pub takes-behind : (line : CommandLine) → ArePlain (texts_in (given_in line))
 takes-behind line plain =
     let s = leaf (command_in line) in
     ap (λ h. passes_at s (walk_passes s [] (walk_from nothing_held) (behind line)) h)
-    (walk-words s 1 (words_of (command_in line)) (given_in line) (takes-words (command_in line)) (line-met line).0 plain nothing_held)
+    (walk-all s (words_of (command_in line)) (given_in line) (takes-first (command_in line)) (takes-words (command_in line))
+    (line-met line).0 plain)
     ∙ ap (λ b. passes_at s b (end_of line))
-    (passes-words s 1 (words_of (command_in line)) (given_in line) (takes-words (command_in line)) (line-met line).0 plain nothing_held)
+    (passes-all s (words_of (command_in line)) (given_in line) (takes-first (command_in line)) (takes-words (command_in line))
+    (line-met line).0 plain)
     ∙ (line-met line).1
 
 -- and has of each word what the line gives for it
@@ -210,5 +279,6 @@ pub found-behind : (line : CommandLine) → ArePlain (texts_in (given_in line))
 found-behind line plain =
     let s = leaf (command_in line) in
     ap (λ h. map (λ word. found word (finished s.rules h)) (words_of (command_in line)))
-    (walk-words s 1 (words_of (command_in line)) (given_in line) (takes-words (command_in line)) (line-met line).0 plain nothing_held)
+    (walk-all s (words_of (command_in line)) (given_in line) (takes-first (command_in line)) (takes-words (command_in line))
+    (line-met line).0 plain)
     ∙ (line-met line).2

@@ -25,6 +25,7 @@ use Rattle.f11_words.specs.Lines.{
   name_line,
   prot_line,
   purge_line,
+  put_all_line,
   put_each_line,
   put_line,
   quiet_run_line,
@@ -49,7 +50,7 @@ use Rattle.f11_words.specs.Lines.{
   vfy_line,
 }
 use Rattle.f11_words.specs.Reading.{Has, HasAll, Meets, Reads, ReadsWords, as_found, found, met_words}
-use Rattle.f11_words.specs.Usage.{Given, Word, all_commands, flag, name_of, option, place, words_of}
+use Rattle.f11_words.specs.Usage.{Given, Word, all_commands, flag, letter, name_of, option, place, words_of}
 use Rattle.f11_words.specs.declared.usage.Subcommand.{Subcommand}
 use Rattle.f11_words.specs.declared.usage.Subcommand.TheVariants.{
   Del,
@@ -137,6 +138,7 @@ met-values words (Some met) rows name values its is =
 
 has : (matches : ArgMatches) (word : Word) (value : Option Text) → found word (rows_of (found_of matches)) ≡ value → Has word value matches
 has matches (flag name) value is = one_text-rows (found_of matches) name ∙ is
+has matches (letter name c) value is = one_text-rows (found_of matches) name ∙ is
 has matches (option name is_needed) value is = first_value-rows (found_of matches) name ∙ is
 has matches (place name is_needed) value is = first_value-rows (found_of matches) name ∙ is
 
@@ -152,12 +154,12 @@ has-all matches (word ∷ words) (value ∷ given) is = (
 -- what is read of each command line's words
 reads-line : (matches : ArgMatches) (result : Option Words) (line : CommandLine) → ReadsWords (command_in line) matches result
     → Reads line matches result
-reads-line matches result (del_line image dir name) reads = reads image dir name
+reads-line matches result (del_line manner image dir name) reads = reads manner image dir name
 reads-line matches result (dump_line image number) reads = reads image number
 reads-line matches result (from_rt_line mode rt rt_name image uic name) reads = reads mode rt rt_name image uic name
 reads-line matches result (to_rt_line mode image uic name rt rt_name) reads = reads mode image uic name rt rt_name
-reads-line matches result (get_line mode image dir name host) reads = reads.file mode image dir name host
-reads-line matches result (get_blocks_line image dir name host) reads = reads.blocks image dir name host
+reads-line matches result (get_line told mode image dir name host) reads = reads.file told mode image dir name host
+reads-line matches result (get_blocks_line told image dir name host) reads = reads.blocks told image dir name host
 reads-line matches result (get_all_line image folder) reads = reads.all image folder
 reads-line matches result (home_line image) reads = reads image
 reads-line matches result (init_line blocks slots label max image) reads = reads blocks slots label max image
@@ -165,26 +167,27 @@ reads-line matches result (ls_line image) reads = reads.all image
 reads-line matches result (ls_in_line image dir) reads = reads.one image dir
 reads-line matches result (mkdir_line image dir) reads = reads image dir
 reads-line matches result (name_line word) reads = reads word
-reads-line matches result (prot_line image dir name word) reads = reads image dir name word
-reads-line matches result (purge_line image dir name) reads = reads image dir name
+reads-line matches result (prot_line manner image dir name word) reads = reads manner image dir name word
+reads-line matches result (purge_line manner image dir name) reads = reads manner image dir name
 reads-line matches result (put_line mode image dir name host) reads = reads.file mode image dir name host
-reads-line matches result (put_each_line mode image dir host) reads = reads.each mode image dir host
+reads-line matches result (put_each_line manner mode image dir host) reads = reads.each manner mode image dir host
+reads-line matches result (put_all_line mode folder image) reads = reads.all mode folder image
 reads-line matches result (ren_line image dir name new) reads = reads image dir name new
 reads-line matches result (rights_line caller owner word) reads = reads caller owner word
 reads-line matches result (rt_del_line rt name) reads = reads rt name
-reads-line matches result (rt_get_line rt name host) reads = reads.file rt name host
+reads-line matches result (rt_get_line mode rt name host) reads = reads.file mode rt name host
 reads-line matches result (rt_get_all_line rt folder) reads = reads.all rt folder
 reads-line matches result (rt_init_line blocks segments image) reads = reads blocks segments image
 reads-line matches result (rt_list_line image) reads = reads image
 reads-line matches result (rt_ls_line rt) reads = reads rt
 reads-line matches result (rt_prot_line rt name) reads = reads.on rt name
 reads-line matches result (rt_unprot_line rt name) reads = reads.off rt name
-reads-line matches result (rt_put_line rt name host) reads = reads rt name host
+reads-line matches result (rt_put_line mode rt name host) reads = reads mode rt name host
 reads-line matches result (rt_ren_line rt name new) reads = reads rt name new
 reads-line matches result (rt_vfy_line image) reads = reads image
 reads-line matches result (run_line image script) reads = reads.told image script
 reads-line matches result (quiet_run_line image script) reads = reads.quiet image script
-reads-line matches result (trunc_line image dir name) reads = reads image dir name
+reads-line matches result (trunc_line manner image dir name) reads = reads manner image dir name
 reads-line matches result (vfy_line image) reads = reads.alone image
 reads-line matches result (update_line image) reads = reads.update image
 

@@ -4,7 +4,7 @@ use Rattle.std.proofs.lemmas.List.Elements.{All-head, All-tail}
 use Rattle.std.specs.Str.{bytes_eq}
 use Rattle.clap.specs.Lexer.{strip_byte}
 use Rattle.clap.specs.Simple.{Shape}
-use Rattle.clap.specs.Takes.{long_passes, step_passes, walk_passes}
+use Rattle.clap.specs.Takes.{bundle_passes, long_passes, step_passes, walk_passes}
 use Rattle.clap.specs.Walk.{
   Held,
   Rule,
@@ -14,8 +14,10 @@ use Rattle.clap.specs.Walk.{
   arg_by_id,
   arg_by_index,
   arg_by_long,
+  bundle,
   idle,
   long_met,
+  nothing_held,
   option_word,
   to_positional,
   value,
@@ -23,7 +25,7 @@ use Rattle.clap.specs.Walk.{
 }
 use Rattle.clap.specs.Walk.{option as waits}
 use Rattle.f11_words.specs.Lines.{is_option}
-use Rattle.f11_words.specs.Usage.{Given, Word, flag, is_there, option, place, says, texts_in, written}
+use Rattle.f11_words.specs.Usage.{Given, Word, flag, is_there, letter, option, place, says, texts_in, written}
 
 -- a word that is no option begins with no hyphen, and isn't two of them
 no_hyphens : (word : Text) → is_option word ≡ false → strip_byte 45 word ≡ None
@@ -98,6 +100,7 @@ TakesWord s p (flag name) = (h : Held) (rest : List Text) →
     (walked s.rules [] (standing idle h p) (long name) ≡ standing idle (long_held s name h) p)
     × (walk_passes s [] (standing idle h p) (long name ∷ rest)
     ≡ (long_taken s name h && walk_passes s [] (standing idle (long_held s name h) p) rest))
+TakesWord s p (letter name c) = Unit {0}
 TakesWord s p (option name is_needed) = (h : Held) (word : Text) (rest : List Text) →
     (walked s.rules [] (standing idle h p) (long name) ≡ standing (waits name) (long_held s name h) p)
     × (walk_passes s [] (standing idle h p) (long name ∷ rest)
@@ -114,10 +117,11 @@ abbrev pub TakesWords : Shape → ℕ → List Word → Type 0
 TakesWords s p [] = Unit {0}
 TakesWords s p (word ∷ words) = TakesWord s p word × TakesWords s (place_behind p word) words
 
--- each word is given what its kind takes, and where one by its place isn't there, none is behind it
+-- each word is given what its kind takes, none a letter, and where one by its place isn't there, none is behind it
 abbrev pub AreInOrder : List Word → List Given → Type 0
 AreInOrder [] [] = Unit {0}
 AreInOrder (flag name ∷ words) (is_there b ∷ given) = AreInOrder words given
+AreInOrder (letter name c ∷ words) (is_there false ∷ given) = AreInOrder words given
 AreInOrder (option name is_needed ∷ words) (says word ∷ given) = AreInOrder words given
 AreInOrder (place name is_needed ∷ words) (says (Some word) ∷ given) = AreInOrder words given
 AreInOrder (place name is_needed ∷ words) (says None ∷ given) = written words given ≡ []
@@ -149,6 +153,7 @@ pub walk-words : (s : Shape) (p : ℕ) (words : List Word) (given : List Given) 
 walk-words s p [] [] takes order plain h = refl
 walk-words s p [] (g ∷ given) takes order plain h = absurd order
 walk-words s p (flag name ∷ words) [] takes order plain h = absurd order
+walk-words s p (letter name c ∷ words) [] takes order plain h = absurd order
 walk-words s p (option name is_needed ∷ words) [] takes order plain h = absurd order
 walk-words s p (place name is_needed ∷ words) [] takes order plain h = absurd order
 walk-words s p (flag name ∷ words) (says word ∷ given) takes order plain h = absurd order
@@ -156,6 +161,9 @@ walk-words s p (flag name ∷ words) (is_there false ∷ given) takes order plai
 walk-words s p (flag name ∷ words) (is_there true ∷ given) takes order plain h =
     ap (λ (w : Walk). (fold (walked s.rules []) w (written words given)).held) (takes.0 h []).0
     ∙ walk-words s p words given takes.1 order plain (long_held s name h)
+walk-words s p (letter name c ∷ words) (says word ∷ given) takes order plain h = absurd order
+walk-words s p (letter name c ∷ words) (is_there true ∷ given) takes order plain h = absurd order
+walk-words s p (letter name c ∷ words) (is_there false ∷ given) takes order plain h = walk-words s p words given takes.1 order plain h
 walk-words s p (option name is_needed ∷ words) (is_there b ∷ given) takes order plain h = absurd order
 walk-words s p (option name is_needed ∷ words) (says None ∷ given) takes order plain h = walk-words s p words given takes.1 order plain h
 walk-words s p (option name is_needed ∷ words) (says (Some word) ∷ given) takes order plain h =
@@ -181,6 +189,7 @@ pub passes-words : (s : Shape) (p : ℕ) (words : List Word) (given : List Given
 passes-words s p [] [] takes order plain h = passes-none s (standing idle h p)
 passes-words s p [] (g ∷ given) takes order plain h = absurd order
 passes-words s p (flag name ∷ words) [] takes order plain h = absurd order
+passes-words s p (letter name c ∷ words) [] takes order plain h = absurd order
 passes-words s p (option name is_needed ∷ words) [] takes order plain h = absurd order
 passes-words s p (place name is_needed ∷ words) [] takes order plain h = absurd order
 passes-words s p (flag name ∷ words) (says word ∷ given) takes order plain h = absurd order
@@ -188,6 +197,9 @@ passes-words s p (flag name ∷ words) (is_there false ∷ given) takes order pl
 passes-words s p (flag name ∷ words) (is_there true ∷ given) takes order plain h =
     (takes.0 h (written words given)).1
     ∙ ap (λ b. long_taken s name h && b) (passes-words s p words given takes.1 order plain (long_held s name h))
+passes-words s p (letter name c ∷ words) (says word ∷ given) takes order plain h = absurd order
+passes-words s p (letter name c ∷ words) (is_there true ∷ given) takes order plain h = absurd order
+passes-words s p (letter name c ∷ words) (is_there false ∷ given) takes order plain h = passes-words s p words given takes.1 order plain h
 passes-words s p (option name is_needed ∷ words) (is_there b ∷ given) takes order plain h = absurd order
 passes-words s p (option name is_needed ∷ words) (says None ∷ given) takes order plain h =
     passes-words s p words given takes.1 order plain h
@@ -207,3 +219,70 @@ passes-words s p (place name is_needed ∷ words) (says (Some word) ∷ given) t
     ∙ ap (λ b. step_passes s p h value && b) (ap (λ w. walk_passes s [] w (written words given))
     (walked-plain s.rules h p word is_plain ∙ takes.0 h word)
     ∙ passes-words s (p + 1) words given takes.1 order (All-tail IsPlain word (texts_in given) plain) (place_held s p word h))
+
+-- a letter as it is written, and what is held behind it where it comes first
+abbrev pub hyphen : ℕ → Text
+hyphen c = 45 ∷ c ∷ []
+
+abbrev pub first_held : Shape → ℕ → Held
+first_held s c = (bundle s.rules (c ∷ []) nothing_held).0
+
+abbrev pub first_taken : Shape → ℕ → Bool
+first_taken s c = bundle_passes s.rules s.args_override_self (c ∷ []) nothing_held && true
+
+-- How a command takes a letter that comes first.
+abbrev pub TakesFirst : Shape → List Word → Type 0
+TakesFirst s (letter name c ∷ words) = (rest : List Text) →
+    (walked s.rules [] (standing idle nothing_held 1) (hyphen c) ≡ standing idle (first_held s c) 1)
+    × (walk_passes s [] (standing idle nothing_held 1) (hyphen c ∷ rest)
+    ≡ (first_taken s c && walk_passes s [] (standing idle (first_held s c) 1) rest))
+TakesFirst s _ = Unit {0}
+
+-- all words in order, what is held behind them, and whether they are taken, where a letter may come first
+abbrev pub AreInOrderFrom : List Word → List Given → Type 0
+AreInOrderFrom (letter name c ∷ words) (is_there true ∷ given) = AreInOrder words given
+AreInOrderFrom words given = AreInOrder words given
+
+abbrev pub held_from : Shape → List Word → List Given → Held
+held_from s (letter name c ∷ words) (is_there true ∷ given) = held_behind s 1 words given (first_held s c)
+held_from s words given = held_behind s 1 words given nothing_held
+
+abbrev pub taken_from : Shape → List Word → List Given → Bool
+taken_from s (letter name c ∷ words) (is_there true ∷ given) = first_taken s c && are_taken s 1 words given (first_held s c)
+taken_from s words given = are_taken s 1 words given nothing_held
+
+-- the walk over all of a command's words
+pub walk-all : (s : Shape) (words : List Word) (given : List Given) → TakesFirst s words → TakesWords s 1 words
+    → AreInOrderFrom words given → ArePlain (texts_in given)
+    → (fold (walked s.rules []) (standing idle nothing_held 1) (written words given)).held ≡ held_from s words given
+walk-all s (letter name c ∷ words) (is_there true ∷ given) first takes order plain =
+    ap (λ (w : Walk). (fold (walked s.rules []) w (written words given)).held) (first []).0
+    ∙ walk-words s 1 words given takes.1 order plain (first_held s c)
+walk-all s (letter name c ∷ words) (is_there false ∷ given) first takes order plain =
+    walk-words s 1 (letter name c ∷ words) (is_there false ∷ given) takes order plain nothing_held
+walk-all s (letter name c ∷ words) (says word ∷ given) first takes order plain = absurd order
+walk-all s (letter name c ∷ words) [] first takes order plain = absurd order
+walk-all s [] given first takes order plain = walk-words s 1 [] given takes order plain nothing_held
+walk-all s (flag name ∷ words) given first takes order plain = walk-words s 1 (flag name ∷ words) given takes order plain nothing_held
+walk-all s (option name is_needed ∷ words) given first takes order plain =
+    walk-words s 1 (option name is_needed ∷ words) given takes order plain nothing_held
+walk-all s (place name is_needed ∷ words) given first takes order plain =
+    walk-words s 1 (place name is_needed ∷ words) given takes order plain nothing_held
+
+-- and whether it passes
+pub passes-all : (s : Shape) (words : List Word) (given : List Given) → TakesFirst s words → TakesWords s 1 words
+    → AreInOrderFrom words given → ArePlain (texts_in given)
+    → walk_passes s [] (standing idle nothing_held 1) (written words given) ≡ taken_from s words given
+passes-all s (letter name c ∷ words) (is_there true ∷ given) first takes order plain =
+    (first (written words given)).1
+    ∙ ap (λ b. first_taken s c && b) (passes-words s 1 words given takes.1 order plain (first_held s c))
+passes-all s (letter name c ∷ words) (is_there false ∷ given) first takes order plain =
+    passes-words s 1 (letter name c ∷ words) (is_there false ∷ given) takes order plain nothing_held
+passes-all s (letter name c ∷ words) (says word ∷ given) first takes order plain = absurd order
+passes-all s (letter name c ∷ words) [] first takes order plain = absurd order
+passes-all s [] given first takes order plain = passes-words s 1 [] given takes order plain nothing_held
+passes-all s (flag name ∷ words) given first takes order plain = passes-words s 1 (flag name ∷ words) given takes order plain nothing_held
+passes-all s (option name is_needed ∷ words) given first takes order plain =
+    passes-words s 1 (option name is_needed ∷ words) given takes order plain nothing_held
+passes-all s (place name is_needed ∷ words) given first takes order plain =
+    passes-words s 1 (place name is_needed ∷ words) given takes order plain nothing_held

@@ -19,6 +19,7 @@ use Rattle.f11_words.specs.Lines.{
   name_line,
   prot_line,
   purge_line,
+  put_all_line,
   put_each_line,
   put_line,
   quiet_run_line,
@@ -44,9 +45,12 @@ use Rattle.f11_words.specs.Lines.{
 }
 use Rattle.f11_flx.specs.declared.mode.CopyMode.{CopyMode}
 use Rattle.f11_flx.specs.declared.mode.CopyMode.TheVariants.{Image, Text}
+use Rattle.f11_words.specs.declared.words.TakingMode.{TakingMode}
+use Rattle.f11_words.specs.declared.words.TakingMode.TheVariants.{Auto, Copy}
 use Rattle.f11_words.specs.declared.directory.Directory.{Directory}
 use Rattle.f11_words.specs.declared.reading.Failure.{Failure}
 use Rattle.f11_words.specs.declared.reading.Failure.TheVariants.{NoMemory, Usage}
+use Rattle.f11_words.specs.declared.words.Manner.{Manner}
 use Rattle.f11_words.specs.declared.words.Words.{Words}
 use Rattle.f11_words.specs.declared.words.Words.TheVariants.{
   Del,
@@ -64,6 +68,7 @@ use Rattle.f11_words.specs.declared.words.Words.TheVariants.{
   Prot,
   Purge,
   Put,
+  PutAll,
   PutEach,
   Ren,
   Rights,
@@ -90,21 +95,23 @@ SpellsWord text word = SpellsProtection text word ⊎ SpellsRights text word
 abbrev pub IsNoWord : List ℕ → Type 0
 IsNoWord text = (word : ℕ) → ¬ SpellsWord text word
 
--- the words ask that the file of this name in this directory of this image be deleted
-abbrev pub AsksDel : List ℕ → List ℕ → List ℕ → Words → Type 0
-AsksDel image dir name (Del from directory file) = (from.now ≡ image) × SpellsDirectory dir directory × (file.now ≡ name)
-AsksDel image dir name _ = ⊥
+-- the words ask that the file of this name in this directory of this image be deleted, or those of these names in this manner
+abbrev pub AsksDel : Manner → List ℕ → List ℕ → List ℕ → Words → Type 0
+AsksDel manner image dir name (Del how from directory file) =
+    (how ≡ manner) × (from.now ≡ image) × SpellsDirectory dir directory × (file.now ≡ name)
+AsksDel manner image dir name _ = ⊥
 
 -- that its blocks behind the end that it states be given back
-abbrev pub AsksTrunc : List ℕ → List ℕ → List ℕ → Words → Type 0
-AsksTrunc image dir name (Trunc from directory file) = (from.now ≡ image) × SpellsDirectory dir directory × (file.now ≡ name)
-AsksTrunc image dir name _ = ⊥
+abbrev pub AsksTrunc : Manner → List ℕ → List ℕ → List ℕ → Words → Type 0
+AsksTrunc manner image dir name (Trunc how from directory file) =
+    (how ≡ manner) × (from.now ≡ image) × SpellsDirectory dir directory × (file.now ≡ name)
+AsksTrunc manner image dir name _ = ⊥
 
 -- that it get this protection
-abbrev pub AsksProt : List ℕ → List ℕ → List ℕ → List ℕ → Words → Type 0
-AsksProt image dir name word (Prot from directory file protection) =
-    (from.now ≡ image) × SpellsDirectory dir directory × (file.now ≡ name) × SpellsWord word protection
-AsksProt image dir name word _ = ⊥
+abbrev pub AsksProt : Manner → List ℕ → List ℕ → List ℕ → List ℕ → Words → Type 0
+AsksProt manner image dir name word (Prot how from directory file protection) =
+    (how ≡ manner) × (from.now ≡ image) × SpellsDirectory dir directory × (file.now ≡ name) × SpellsWord word protection
+AsksProt manner image dir name word _ = ⊥
 
 -- and that it get the name, in this directory or the other, that this text spells
 abbrev pub AsksRen : List ℕ → List ℕ → List ℕ → List ℕ → Words → Type 0
@@ -113,10 +120,10 @@ AsksRen image dir name new (Ren from directory file to named) =
 AsksRen image dir name new _ = ⊥
 
 -- the words ask that the versions be deleted of which there is a higher one, of files with this name and type, and else of all
-abbrev pub AsksPurge : List ℕ → List ℕ → Option (List ℕ) → Words → Type 0
-AsksPurge image dir name (Purge from directory file) =
-    (from.now ≡ image) × SpellsDirectory dir directory × (file.now ≡ unwrap_or name (codes "*.*"))
-AsksPurge image dir name _ = ⊥
+abbrev pub AsksPurge : Manner → List ℕ → List ℕ → Option (List ℕ) → Words → Type 0
+AsksPurge manner image dir name (Purge how from directory file) =
+    (how ≡ manner) × (from.now ≡ image) × SpellsDirectory dir directory × (file.now ≡ unwrap_or name (codes "*.*"))
+AsksPurge manner image dir name _ = ⊥
 
 -- the words ask that this directory be made on this image
 abbrev pub AsksMkdir : List ℕ → List ℕ → Words → Type 0
@@ -154,13 +161,28 @@ abbrev pub SpellsModeOrNone : Option (List ℕ) → CopyMode → Type 0
 SpellsModeOrNone None mode = mode ≡ Image
 SpellsModeOrNone (Some text) mode = SpellsMode text mode
 
--- the words ask that the file of this name in this directory of this image become, in this mode, a file of the host under this name: up to
--- the end that it states, or up to its last block
-abbrev pub AsksGet : Bool → Option (List ℕ) → List ℕ → List ℕ → List ℕ → List ℕ → Words → Type 0
-AsksGet blocks mode image dir name host (Get in_mode all_blocks from directory file to) =
-    (all_blocks ≡ blocks) × SpellsModeOrNone mode in_mode × (from.now ≡ image) × SpellsDirectory dir directory × (file.now ≡ name)
+-- a mode of `get` is one of a copy, or `auto`,
+abbrev pub IsTakingMode : List ℕ → Type 0
+IsTakingMode text = (text ≡ codes "auto") ⊎ IsMode text
+
+-- a text spells this one,
+abbrev pub SpellsTakingMode : List ℕ → TakingMode → Type 0
+SpellsTakingMode text (Copy mode) = SpellsMode text mode
+SpellsTakingMode text Auto = text ≡ codes "auto"
+
+-- and that of an image where there is none
+abbrev pub SpellsTakingModeOrNone : Option (List ℕ) → TakingMode → Type 0
+SpellsTakingModeOrNone None mode = mode ≡ Copy Image
+SpellsTakingModeOrNone (Some text) mode = SpellsTakingMode text mode
+
+-- the words ask that the file of this name in this directory of this image become, in this mode, a file of the host under this name, or
+-- that it be told: up to the end that it states, or up to its last block
+abbrev pub AsksGet : Bool → Bool → Option (List ℕ) → List ℕ → List ℕ → List ℕ → List ℕ → Words → Type 0
+AsksGet told blocks mode image dir name host (Get is_told in_mode all_blocks from directory file to) =
+    (is_told ≡ told) × (all_blocks ≡ blocks) × SpellsTakingModeOrNone mode in_mode × (from.now ≡ image) × SpellsDirectory dir directory
+    × (file.now ≡ name)
     × (to.now ≡ host)
-AsksGet blocks mode image dir name host _ = ⊥
+AsksGet told blocks mode image dir name host _ = ⊥
 
 -- the words ask that all files of this image become files of the host in this folder
 abbrev pub AsksGetAll : List ℕ → List ℕ → Words → Type 0
@@ -174,10 +196,15 @@ AsksPut mode image dir name host (Put in_mode to directory file from) =
 AsksPut mode image dir name host _ = ⊥
 
 -- the words ask that this file of the host, the first of some, become in this mode one of its own name in this directory of this image
-abbrev pub AsksPutEach : Option (List ℕ) → List ℕ → List ℕ → List ℕ → Words → Type 0
-AsksPutEach mode image dir host (PutEach in_mode to directory first) =
-    SpellsModeOrNone mode in_mode × (to.now ≡ image) × SpellsDirectory dir directory × (first.now ≡ host)
-AsksPutEach mode image dir host _ = ⊥
+abbrev pub AsksPutEach : Manner → Option (List ℕ) → List ℕ → List ℕ → List ℕ → Words → Type 0
+AsksPutEach manner mode image dir host (PutEach how in_mode to directory first) =
+    (how ≡ manner) × SpellsModeOrNone mode in_mode × (to.now ≡ image) × SpellsDirectory dir directory × (first.now ≡ host)
+AsksPutEach manner mode image dir host _ = ⊥
+
+-- and the files of a folder of the host, made so on this volume
+abbrev pub AsksPutAll : Option (List ℕ) → List ℕ → List ℕ → Words → Type 0
+AsksPutAll mode text name (PutAll in_mode folder image) = SpellsModeOrNone mode in_mode × (folder.now ≡ text) × (image.now ≡ name)
+AsksPutAll mode text name _ = ⊥
 
 -- the words ask for the home block of this image
 abbrev pub AsksHome : List ℕ → Words → Type 0
@@ -210,10 +237,11 @@ abbrev pub AsksRtDel : List ℕ → List ℕ → Words → Type 0
 AsksRtDel image text (RtDel rt name) = (rt.now ≡ image) × (name.now ≡ text)
 AsksRtDel image text _ = ⊥
 
--- the words ask that this file of it be copied to this file of the host
-abbrev pub AsksRtGet : List ℕ → List ℕ → List ℕ → Words → Type 0
-AsksRtGet image text path (RtGet rt name host) = (rt.now ≡ image) × (name.now ≡ text) × (host.now ≡ path)
-AsksRtGet image text path _ = ⊥
+-- the words ask that this file of it become, in this mode, this file of the host
+abbrev pub AsksRtGet : Option (List ℕ) → List ℕ → List ℕ → List ℕ → Words → Type 0
+AsksRtGet mode image text path (RtGet in_mode rt name host) =
+    SpellsModeOrNone mode in_mode × (rt.now ≡ image) × (name.now ≡ text) × (host.now ≡ path)
+AsksRtGet mode image text path _ = ⊥
 
 -- the words ask that all files of the RT-11 volume in this image become files of the host in this folder
 abbrev pub AsksRtGetAll : List ℕ → List ℕ → Words → Type 0
@@ -225,10 +253,11 @@ abbrev pub AsksRtLs : List ℕ → Words → Type 0
 AsksRtLs image (RtLs rt) = rt.now ≡ image
 AsksRtLs image _ = ⊥
 
--- the words ask that this file of the host become a file of this name of the RT-11 volume in this image
-abbrev pub AsksRtPut : List ℕ → List ℕ → List ℕ → Words → Type 0
-AsksRtPut image text path (RtPut rt name host) = (rt.now ≡ image) × (name.now ≡ text) × (host.now ≡ path)
-AsksRtPut image text path _ = ⊥
+-- the words ask that this file of the host become, in this mode, a file of this name of the RT-11 volume in this image
+abbrev pub AsksRtPut : Option (List ℕ) → List ℕ → List ℕ → List ℕ → Words → Type 0
+AsksRtPut mode image text path (RtPut in_mode rt name host) =
+    SpellsModeOrNone mode in_mode × (rt.now ≡ image) × (name.now ≡ text) × (host.now ≡ path)
+AsksRtPut mode image text path _ = ⊥
 
 -- the words ask that this file of it be protected, or be so no more
 abbrev pub AsksRtProt : Bool → List ℕ → List ℕ → Words → Type 0
@@ -280,12 +309,12 @@ AsksRights caller owner word _ = ⊥
 
 -- the words ask what the command line says
 abbrev pub Asks : CommandLine → Words → Type 0
-Asks (del_line image dir name) words = AsksDel image dir name words
+Asks (del_line manner image dir name) words = AsksDel manner image dir name words
 Asks (dump_line image number) words = AsksDump image number words
 Asks (from_rt_line mode rt rt_name image uic name) words = AsksFromRt mode rt rt_name image uic name words
 Asks (to_rt_line mode image uic name rt rt_name) words = AsksToRt mode image uic name rt rt_name words
-Asks (get_line mode image dir name host) words = AsksGet false mode image dir name host words
-Asks (get_blocks_line image dir name host) words = AsksGet true None image dir name host words
+Asks (get_line told mode image dir name host) words = AsksGet told false mode image dir name host words
+Asks (get_blocks_line told image dir name host) words = AsksGet told true None image dir name host words
 Asks (get_all_line image folder) words = AsksGetAll image folder words
 Asks (home_line image) words = AsksHome image words
 Asks (init_line blocks slots label max image) words = AsksInit blocks slots label max image words
@@ -293,26 +322,27 @@ Asks (ls_line image) words = AsksLs image None words
 Asks (ls_in_line image dir) words = AsksLs image (Some dir) words
 Asks (mkdir_line image dir) words = AsksMkdir image dir words
 Asks (name_line text) words = AsksName text words
-Asks (prot_line image dir name word) words = AsksProt image dir name word words
-Asks (purge_line image dir name) words = AsksPurge image dir name words
+Asks (prot_line manner image dir name word) words = AsksProt manner image dir name word words
+Asks (purge_line manner image dir name) words = AsksPurge manner image dir name words
 Asks (put_line mode image dir name host) words = AsksPut mode image dir name host words
-Asks (put_each_line mode image dir host) words = AsksPutEach mode image dir host words
+Asks (put_each_line manner mode image dir host) words = AsksPutEach manner mode image dir host words
+Asks (put_all_line mode folder image) words = AsksPutAll mode folder image words
 Asks (ren_line image dir name new) words = AsksRen image dir name new words
 Asks (rights_line caller owner word) words = AsksRights caller owner word words
 Asks (rt_del_line rt name) words = AsksRtDel rt name words
-Asks (rt_get_line rt name host) words = AsksRtGet rt name host words
+Asks (rt_get_line mode rt name host) words = AsksRtGet mode rt name host words
 Asks (rt_get_all_line rt folder) words = AsksRtGetAll rt folder words
 Asks (rt_init_line blocks segments image) words = AsksRtInit blocks segments image words
 Asks (rt_list_line image) words = AsksRtList image words
 Asks (rt_ls_line rt) words = AsksRtLs rt words
 Asks (rt_prot_line rt name) words = AsksRtProt true rt name words
 Asks (rt_unprot_line rt name) words = AsksRtProt false rt name words
-Asks (rt_put_line rt name host) words = AsksRtPut rt name host words
+Asks (rt_put_line mode rt name host) words = AsksRtPut mode rt name host words
 Asks (rt_ren_line rt name new) words = AsksRtRen rt name new words
 Asks (rt_vfy_line image) words = AsksRtVfy image words
 Asks (run_line image script) words = AsksRun false image script words
 Asks (quiet_run_line image script) words = AsksRun true image script words
-Asks (trunc_line image dir name) words = AsksTrunc image dir name words
+Asks (trunc_line manner image dir name) words = AsksTrunc manner image dir name words
 Asks (vfy_line image) words = AsksVfy false image words
 Asks (update_line image) words = AsksVfy true image words
 
@@ -330,6 +360,15 @@ abbrev pub IsNoModeOrNone : Option (List ℕ) → Type 0
 IsNoModeOrNone None = ⊥
 IsNoModeOrNone (Some text) = ¬ IsMode text
 
+-- a text is there, and no mode of `get`
+abbrev pub IsNoTakingMode : Option (List ℕ) → Type 0
+IsNoTakingMode None = ⊥
+IsNoTakingMode (Some text) = ¬ IsTakingMode text
+
+-- one is there, or a text spells no directory
+abbrev pub IsNoGet : Option (List ℕ) → List ℕ → Type 0
+IsNoGet mode dir = IsNoTakingMode mode ⊎ IsNoDirectory dir
+
 -- a mode is there that isn't one, or a text spells no directory
 abbrev pub IsNoMove : Option (List ℕ) → List ℕ → Type 0
 IsNoMove mode dir = IsNoModeOrNone mode ⊎ IsNoDirectory dir
@@ -340,12 +379,12 @@ IsNoCopy mode uic = ¬ IsMode mode ⊎ IsNoUic uic
 
 -- one of its texts isn't as it has to be
 abbrev pub IsUnreadable : CommandLine → Type 0
-IsUnreadable (del_line image dir name) = IsNoDirectory dir
+IsUnreadable (del_line manner image dir name) = IsNoDirectory dir
 IsUnreadable (dump_line image number) = ¬ IsNumber number
 IsUnreadable (from_rt_line mode rt rt_name image uic name) = IsNoCopy mode uic
 IsUnreadable (to_rt_line mode image uic name rt rt_name) = IsNoCopy mode uic
-IsUnreadable (get_line mode image dir name host) = IsNoMove mode dir
-IsUnreadable (get_blocks_line image dir name host) = IsNoDirectory dir
+IsUnreadable (get_line told mode image dir name host) = IsNoGet mode dir
+IsUnreadable (get_blocks_line told image dir name host) = IsNoDirectory dir
 IsUnreadable (get_all_line image folder) = ⊥
 IsUnreadable (home_line image) = ⊥
 IsUnreadable (init_line blocks slots label max image) = IsNoInit blocks slots max
@@ -353,26 +392,27 @@ IsUnreadable (ls_line image) = ⊥
 IsUnreadable (ls_in_line image dir) = IsNoDirectory dir
 IsUnreadable (mkdir_line image dir) = IsNoDirectory dir
 IsUnreadable (name_line text) = ⊥
-IsUnreadable (prot_line image dir name word) = IsNoDirectory dir ⊎ IsNoWord word
-IsUnreadable (purge_line image dir name) = IsNoDirectory dir
+IsUnreadable (prot_line manner image dir name word) = IsNoDirectory dir ⊎ IsNoWord word
+IsUnreadable (purge_line manner image dir name) = IsNoDirectory dir
 IsUnreadable (put_line mode image dir name host) = IsNoMove mode dir
-IsUnreadable (put_each_line mode image dir host) = IsNoMove mode dir
+IsUnreadable (put_each_line manner mode image dir host) = IsNoMove mode dir
+IsUnreadable (put_all_line mode folder image) = IsNoModeOrNone mode
 IsUnreadable (ren_line image dir name new) = IsNoDirectory dir ⊎ IsNoTarget new
 IsUnreadable (rights_line caller owner word) = IsNoUic caller ⊎ (IsNoUic owner ⊎ ¬ IsProtection word)
 IsUnreadable (rt_del_line rt name) = ⊥
-IsUnreadable (rt_get_line rt name host) = ⊥
+IsUnreadable (rt_get_line mode rt name host) = IsNoModeOrNone mode
 IsUnreadable (rt_get_all_line rt folder) = ⊥
 IsUnreadable (rt_init_line blocks segments image) = ¬ IsNumber blocks ⊎ ¬ IsNumber segments
 IsUnreadable (rt_list_line image) = ⊥
 IsUnreadable (rt_ls_line rt) = ⊥
 IsUnreadable (rt_prot_line rt name) = ⊥
 IsUnreadable (rt_unprot_line rt name) = ⊥
-IsUnreadable (rt_put_line rt name host) = ⊥
+IsUnreadable (rt_put_line mode rt name host) = IsNoModeOrNone mode
 IsUnreadable (rt_ren_line rt name new) = ⊥
 IsUnreadable (rt_vfy_line image) = ⊥
 IsUnreadable (run_line image script) = ⊥
 IsUnreadable (quiet_run_line image script) = ⊥
-IsUnreadable (trunc_line image dir name) = IsNoDirectory dir
+IsUnreadable (trunc_line manner image dir name) = IsNoDirectory dir
 IsUnreadable (vfy_line image) = ⊥
 IsUnreadable (update_line image) = ⊥
 

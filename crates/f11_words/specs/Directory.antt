@@ -36,6 +36,12 @@ pub record SpellsDirectory (text : List ℕ) (directory : Directory) : Type 0 wh
   pub within : IsWithin text inner
   pub spells : SpellsBare inner directory
 
+-- A text in brackets, 91 and 93 in ASCII, spells a directory: so a folder of the host is called.
+pub record IsCalled (text : List ℕ) (directory : Directory) : Type 0 where
+  pub inner : List ℕ
+  pub within : text ≡ 91 ∷ (inner ++ (93 ∷ []))
+  pub spells : SpellsBare inner directory
+
 -- a text spells none
 abbrev pub IsNoDirectory : List ℕ → Type 0
 IsNoDirectory text = (directory : Directory) → ¬ SpellsDirectory text directory

@@ -4,6 +4,7 @@ use Rattle.std.specs.List.{list_any}
 use Rattle.std.specs.Str.{bytes_eq}
 use Rattle.f11_words.specs.Lines.{given_in, is_option, put_each_line, words_given}
 use Rattle.f11_words.specs.Usage.{texts_in}
+use Rattle.f11_words.specs.declared.words.Manner.{Manner}
 
 -- the words behind the options, and the mode behind one
 abbrev pub behind_options : List (List ℕ) → List (List ℕ)
@@ -30,6 +31,6 @@ other_hosts words = if is_each words then drop 3 (behind_options (drop 2 words))
 -- so it is of each command line
 abbrev pub HostsStandBehind : Type 0
 HostsStandBehind =
-    (program : List ℕ) (mode : Option (List ℕ)) (image dir host : List ℕ) (others : List (List ℕ)) →
-    All (λ word. is_option word ≡ false) (texts_in (given_in (put_each_line mode image dir host))) →
-    other_hosts (program ∷ (words_given (put_each_line mode image dir host) ++ others)) ≡ others
+    (program : List ℕ) (manner : Manner) (mode : Option (List ℕ)) (image dir host : List ℕ) (others : List (List ℕ)) →
+    All (λ word. is_option word ≡ false) (texts_in (given_in (put_each_line manner mode image dir host))) →
+    other_hosts (program ∷ (words_given (put_each_line manner mode image dir host) ++ others)) ≡ others

@@ -1,5 +1,5 @@
 -- What `clap` has of a command's words, and what is read of them (profile).
-use Rattle.std.specs.Prelude.{◌≡◌, true, false, List, ◌∷◌, Option, Some, MatchOption, codes, map, option_map}
+use Rattle.std.specs.Prelude.{◌≡◌, Bool, true, false, List, ◌∷◌, Option, Some, MatchOption, codes, map, option_map}
 use Rattle.clap.specs.Words.{Row, Text, first_of, first_value, found_of, one_of, one_text}
 use Rattle.clap.specs.declared.parser.matches.ArgMatches.{ArgMatches}
 use Rattle.f11_words.specs.Asking.{Asks, IsUnreadable}
@@ -20,6 +20,7 @@ use Rattle.f11_words.specs.Lines.{
   name_line,
   prot_line,
   purge_line,
+  put_all_line,
   put_each_line,
   put_line,
   quiet_run_line,
@@ -43,7 +44,7 @@ use Rattle.f11_words.specs.Lines.{
   ls_in_line,
   vfy_line,
 }
-use Rattle.f11_words.specs.Usage.{Given, Word, flag, is_there, name_of, option, place, says, words_of}
+use Rattle.f11_words.specs.Usage.{Given, Word, flag, is_there, letter, name_of, option, place, says, words_of}
 use Rattle.f11_words.specs.declared.usage.Subcommand.{Subcommand}
 use Rattle.f11_words.specs.declared.usage.Subcommand.TheVariants.{
   Del,
@@ -74,9 +75,10 @@ use Rattle.f11_words.specs.declared.usage.Subcommand.TheVariants.{
   Trunc,
   Vfy,
 }
+use Rattle.f11_words.specs.declared.words.Manner.{Manner}
 use Rattle.f11_words.specs.declared.words.Words.{Words}
 
--- what clap has of a word: of a flag, the text `true` or `false`
+-- what clap has of a word: of a flag or a letter, the text `true` or `false`
 abbrev pub as_found : Given → Option Text
 as_found (says text) = text
 as_found (is_there true) = Some (codes "true")
@@ -85,6 +87,7 @@ as_found (is_there false) = Some (codes "false")
 -- what it has of one among all,
 abbrev pub found : Word → List Row → Option Text
 found (flag name) rows = one_of name rows
+found (letter name c) rows = one_of name rows
 found (option name is_needed) rows = first_of name rows
 found (place name is_needed) rows = first_of name rows
 
@@ -99,12 +102,17 @@ Meets line met = met_words (words_of (command_in line)) met ≡ Some (name_of (c
 -- a command's words have this of one,
 abbrev pub Has : Word → Option Text → ArgMatches → Type 0
 Has (flag name) given matches = one_text (found_of matches) name ≡ given
+Has (letter name c) given matches = one_text (found_of matches) name ≡ given
 Has (option name is_needed) given matches = first_value (found_of matches) name ≡ given
 Has (place name is_needed) given matches = first_value (found_of matches) name ≡ given
 
 -- a text of this name,
 abbrev pub HasText : Text → Text → ArgMatches → Type 0
 HasText name text matches = first_value (found_of matches) name ≡ Some text
+
+-- a flag or a letter that is there or isn't,
+abbrev pub HasFlag : Text → Bool → ArgMatches → Type 0
+HasFlag name is matches = one_text (found_of matches) name ≡ as_found (is_there is)
 
 -- and this of all
 abbrev pub HasAll : List Word → List Given → ArgMatches → Type 0
@@ -118,18 +126,21 @@ Reads line matches result =
 
 -- What the words of `get` are read as: for one file up to the end that it states, or up to its last block, or for all files.
 pub record ReadsGet (matches : ArgMatches) (result : Option Words) : Type 0 where
-  pub file : (mode : Option Text) → (image dir name host : Text) → Reads (get_line mode image dir name host) matches result
-  pub blocks : (image dir name host : Text) → Reads (get_blocks_line image dir name host) matches result
+  pub file : (told : Bool) (mode : Option Text) → (image dir name host : Text)
+      → Reads (get_line told mode image dir name host) matches result
+  pub blocks : (told : Bool) (image dir name host : Text) → Reads (get_blocks_line told image dir name host) matches result
   pub all : (image folder : Text) → Reads (get_all_line image folder) matches result
 
--- What those of `put` are: for one file under a name, or for each of some under its own.
+-- What those of `put` are: for one file under a name, for each of some under its own, or for those of a folder.
 pub record ReadsPut (matches : ArgMatches) (result : Option Words) : Type 0 where
   pub file : (mode : Option Text) → (image dir name host : Text) → Reads (put_line mode image dir name host) matches result
-  pub each : (mode : Option Text) → (image dir host : Text) → Reads (put_each_line mode image dir host) matches result
+  pub each : (manner : Manner) (mode : Option Text) → (image dir host : Text)
+      → Reads (put_each_line manner mode image dir host) matches result
+  pub all : (mode : Option Text) → (folder image : Text) → Reads (put_all_line mode folder image) matches result
 
 -- What those of `rt-get` are: for one file, or for all files.
 pub record ReadsRtGet (matches : ArgMatches) (result : Option Words) : Type 0 where
-  pub file : (rt name host : Text) → Reads (rt_get_line rt name host) matches result
+  pub file : (mode : Option Text) → (rt name host : Text) → Reads (rt_get_line mode rt name host) matches result
   pub all : (rt folder : Text) → Reads (rt_get_all_line rt folder) matches result
 
 -- What those of `ls` are: for all directories, or for one.
@@ -154,7 +165,7 @@ pub record ReadsVfy (matches : ArgMatches) (result : Option Words) : Type 0 wher
 
 -- What a command's words are read as.
 abbrev pub ReadsWords : Subcommand → ArgMatches → Option Words → Type 0
-ReadsWords Del matches result = (image dir name : Text) → Reads (del_line image dir name) matches result
+ReadsWords Del matches result = (manner : Manner) (image dir name : Text) → Reads (del_line manner image dir name) matches result
 ReadsWords Dump matches result = (image number : Text) → Reads (dump_line image number) matches result
 ReadsWords FlxFromRt matches result =
     (mode rt rt_name image uic name : Text) → Reads (from_rt_line mode rt rt_name image uic name) matches result
@@ -167,8 +178,10 @@ ReadsWords Init matches result =
 ReadsWords Ls matches result = ReadsLs matches result
 ReadsWords Mkdir matches result = (image dir : Text) → Reads (mkdir_line image dir) matches result
 ReadsWords Name matches result = (word : Text) → Reads (name_line word) matches result
-ReadsWords Prot matches result = (image dir name word : Text) → Reads (prot_line image dir name word) matches result
-ReadsWords Purge matches result = (image dir : Text) → (name : Option Text) → Reads (purge_line image dir name) matches result
+ReadsWords Prot matches result =
+    (manner : Manner) (image dir name word : Text) → Reads (prot_line manner image dir name word) matches result
+ReadsWords Purge matches result =
+    (manner : Manner) (image dir : Text) → (name : Option Text) → Reads (purge_line manner image dir name) matches result
 ReadsWords Put matches result = ReadsPut matches result
 ReadsWords Ren matches result = (image dir name new : Text) → Reads (ren_line image dir name new) matches result
 ReadsWords Rights matches result = (caller owner word : Text) → Reads (rights_line caller owner word) matches result
@@ -178,9 +191,10 @@ ReadsWords RtInit matches result = (blocks segments image : Text) → Reads (rt_
 ReadsWords RtList matches result = (image : Text) → Reads (rt_list_line image) matches result
 ReadsWords RtLs matches result = (rt : Text) → Reads (rt_ls_line rt) matches result
 ReadsWords RtProt matches result = ReadsRtProt matches result
-ReadsWords RtPut matches result = (rt name host : Text) → Reads (rt_put_line rt name host) matches result
+ReadsWords RtPut matches result =
+    (mode : Option Text) → (rt name host : Text) → Reads (rt_put_line mode rt name host) matches result
 ReadsWords RtRen matches result = (rt name new : Text) → Reads (rt_ren_line rt name new) matches result
 ReadsWords RtVfy matches result = (image : Text) → Reads (rt_vfy_line image) matches result
 ReadsWords Run matches result = ReadsRun matches result
-ReadsWords Trunc matches result = (image dir name : Text) → Reads (trunc_line image dir name) matches result
+ReadsWords Trunc matches result = (manner : Manner) (image dir name : Text) → Reads (trunc_line manner image dir name) matches result
 ReadsWords Vfy matches result = ReadsVfy matches result

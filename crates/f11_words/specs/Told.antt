@@ -2,7 +2,7 @@
 use Rattle.std.specs.Prelude.{Some, codes, fold}
 use Rattle.clap.specs.Words.{App, Rule, new_app, new_rule, with_rule, with_subcommand}
 use Rattle.clap.specs.declared.builder.action.ArgAction.TheVariants.{Set, SetTrue}
-use Rattle.f11_words.specs.Usage.{Word, all_commands, flag, name_of, option, place, words_of}
+use Rattle.f11_words.specs.Usage.{Word, all_commands, flag, letter, name_of, option, place, words_of}
 use Rattle.f11_words.specs.declared.usage.Subcommand.{Subcommand}
 use Rattle.f11_words.specs.declared.usage.Word.{Word as TableWord}
 use Rattle.f11_words.specs.declared.usage.Word.TheVariants as table
@@ -10,12 +10,14 @@ use Rattle.f11_words.specs.declared.usage.Word.TheVariants as table
 -- a word of the table
 abbrev pub as_word : TableWord → Word
 as_word (table.Flag name) = flag name.now
+as_word (table.Letter name c) = letter name.now c
 as_word (table.Option name is_needed) = option name.now is_needed
 as_word (table.Place name is_needed) = place name.now is_needed
 
 -- how clap is told of a word,
 abbrev pub rule_for : Word → Rule
 rule_for (flag name) = record (new_rule name) { long = Some name; action = Some SetTrue }
+rule_for (letter name c) = record (new_rule name) { short = Some c; action = Some SetTrue }
 rule_for (option name is_needed) = record (new_rule name) { long = Some name; required = is_needed; action = Some Set }
 rule_for (place name is_needed) = record (new_rule name) { required = is_needed; action = Some Set }
 

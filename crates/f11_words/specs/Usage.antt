@@ -31,9 +31,11 @@ use Rattle.f11_words.specs.declared.usage.Subcommand.TheVariants.{
   Vfy,
 }
 
--- a word of a command, by its name: `--NAME`, which may be there; one behind `--NAME`, or one by its place, and whether it has to be there
+-- a word of a command, by its name: `--NAME`, which may be there; a hyphen and a letter, which may be, before all others; one behind
+-- `--NAME`, or one by its place, and whether it has to be there
 pub data Word : Type 0 where
   flag : List ℕ → Word
+  letter : List ℕ → ℕ → Word
   option : List ℕ → Bool → Word
   place : List ℕ → Bool → Word
 
@@ -84,14 +86,22 @@ file_words directory = needed (codes "image") ∷ needed directory ∷ needed (c
 abbrev pub rt_file_words : List Word
 rt_file_words = needed (codes "rt") ∷ needed (codes "rt-name") ∷ []
 
+-- the words that say how something is done to several files: `-n` (110), and `--stop`
+abbrev pub told_word : Word
+told_word = letter (codes "n") 110
+
+abbrev pub manner_words : List Word
+manner_words = told_word ∷ flag (codes "stop") ∷ []
+
 -- The words of a command. The folder of `get --all` stands in the directory's place, that of `rt-get --all` in the name's, and so does the
 -- first file of the host of `put --each`, behind which the others stand.
 abbrev pub words_of : Subcommand → List Word
-words_of Del = file_words (codes "dir")
+words_of Del = manner_words ++ file_words (codes "dir")
 words_of Dump = needed (codes "image") ∷ needed (codes "number") ∷ []
 words_of FlxFromRt = option (codes "mode") true ∷ (rt_file_words ++ file_words (codes "uic"))
 words_of FlxToRt = option (codes "mode") true ∷ (file_words (codes "uic") ++ rt_file_words)
-words_of Get = flag (codes "all") ∷ flag (codes "blocks") ∷ option (codes "mode") false ∷ needed (codes "image") ∷ needed (codes "dir")
+words_of Get =
+    told_word ∷ flag (codes "all") ∷ flag (codes "blocks") ∷ option (codes "mode") false ∷ needed (codes "image") ∷ needed (codes "dir")
     ∷ place (codes "name") false ∷ place (codes "host") false ∷ []
 words_of Home = needed (codes "image") ∷ []
 words_of Init = option (codes "blocks") true ∷ option (codes "slots") true ∷ option (codes "label") true ∷ option (codes "max") false
@@ -99,22 +109,25 @@ words_of Init = option (codes "blocks") true ∷ option (codes "slots") true ∷
 words_of Ls = needed (codes "image") ∷ place (codes "dir") false ∷ []
 words_of Mkdir = needed (codes "image") ∷ needed (codes "dir") ∷ []
 words_of Name = needed (codes "text") ∷ []
-words_of Prot = file_words (codes "dir") ++ needed (codes "word") ∷ []
-words_of Purge = needed (codes "image") ∷ needed (codes "dir") ∷ place (codes "name") false ∷ []
-words_of Put = flag (codes "each") ∷ option (codes "mode") false ∷ (file_words (codes "dir") ++ place (codes "host") false ∷ [])
+words_of Prot = manner_words ++ file_words (codes "dir") ++ needed (codes "word") ∷ []
+words_of Purge = manner_words ++ needed (codes "image") ∷ needed (codes "dir") ∷ place (codes "name") false ∷ []
+words_of Put =
+    manner_words ++ flag (codes "all") ∷ flag (codes "each") ∷ option (codes "mode") false ∷ needed (codes "image")
+    ∷ needed (codes "dir") ∷ place (codes "name") false ∷ place (codes "host") false ∷ []
 words_of Ren = file_words (codes "dir") ++ needed (codes "new") ∷ []
 words_of Rights = needed (codes "uic") ∷ needed (codes "owner") ∷ needed (codes "word") ∷ []
 words_of RtDel = needed (codes "rt") ∷ needed (codes "name") ∷ []
-words_of RtGet = flag (codes "all") ∷ needed (codes "rt") ∷ needed (codes "name") ∷ place (codes "host") false ∷ []
+words_of RtGet =
+    flag (codes "all") ∷ option (codes "mode") false ∷ needed (codes "rt") ∷ needed (codes "name") ∷ place (codes "host") false ∷ []
 words_of RtInit = option (codes "blocks") true ∷ option (codes "segments") true ∷ needed (codes "image") ∷ []
 words_of RtList = needed (codes "image") ∷ []
 words_of RtLs = needed (codes "rt") ∷ []
 words_of RtProt = flag (codes "off") ∷ needed (codes "rt") ∷ needed (codes "name") ∷ []
-words_of RtPut = needed (codes "rt") ∷ needed (codes "name") ∷ needed (codes "host") ∷ []
+words_of RtPut = option (codes "mode") false ∷ needed (codes "rt") ∷ needed (codes "name") ∷ needed (codes "host") ∷ []
 words_of RtRen = needed (codes "rt") ∷ needed (codes "name") ∷ needed (codes "new") ∷ []
 words_of RtVfy = needed (codes "image") ∷ []
 words_of Run = flag (codes "quiet") ∷ needed (codes "image") ∷ needed (codes "script") ∷ []
-words_of Trunc = file_words (codes "dir")
+words_of Trunc = manner_words ++ file_words (codes "dir")
 words_of Vfy = flag (codes "update") ∷ needed (codes "image") ∷ []
 
 -- what a user gives for a word: this text, or none; or, of a flag, whether it is there
@@ -129,6 +142,7 @@ text word = says (Some word)
 -- the words as they are written,
 abbrev pub written : List Word → List Given → List (List ℕ)
 written (flag name ∷ words) (is_there true ∷ given) = (codes "--" ++ name) ∷ written words given
+written (letter name c ∷ words) (is_there true ∷ given) = (45 ∷ c ∷ []) ∷ written words given
 written (option name is_needed ∷ words) (says (Some word) ∷ given) = (codes "--" ++ name) ∷ word ∷ written words given
 written (place name is_needed ∷ words) (says (Some word) ∷ given) = word ∷ written words given
 written (_ ∷ words) (_ ∷ given) = written words given

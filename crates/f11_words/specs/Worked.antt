@@ -1,32 +1,33 @@
 -- Worked examples: command lines, and their words as they are written.
-use Rattle.std.specs.Prelude.{◌≡◌, [], ◌∷◌, Some, None, codes}
+use Rattle.std.specs.Prelude.{◌≡◌, true, false, [], ◌∷◌, Some, None, codes}
 use Rattle.f11_words.specs.Lines.{from_rt_line, get_all_line, get_blocks_line, get_line, init_line, quiet_run_line, rt_get_all_line}
 use Rattle.f11_words.specs.Lines.{put_each_line, rt_init_line}
+use Rattle.f11_words.specs.declared.words.Manner.TheVariants.{Stops}
 use Rattle.f11_words.specs.Lines.{to_rt_line, update_line, words_given}
 
 -- a file is taken out as the records of a text,
 abbrev pub GetText : Type 0
-GetText = words_given (get_line (Some (codes "text")) (codes "a.dsk") (codes "1,2") (codes "A.B;1") (codes "a.b"))
+GetText = words_given (get_line false (Some (codes "text")) (codes "a.dsk") (codes "1,2") (codes "A.B;1") (codes "a.b"))
     ≡ codes "get" ∷ codes "--mode" ∷ codes "text" ∷ codes "a.dsk" ∷ codes "1,2" ∷ codes "A.B;1" ∷ codes "a.b" ∷ []
 
 -- as it is, where no mode is given,
 abbrev pub GetImage : Type 0
-GetImage = words_given (get_line None (codes "a.dsk") (codes "1,2") (codes "A.B;1") (codes "a.b"))
+GetImage = words_given (get_line false None (codes "a.dsk") (codes "1,2") (codes "A.B;1") (codes "a.b"))
     ≡ codes "get" ∷ codes "a.dsk" ∷ codes "1,2" ∷ codes "A.B;1" ∷ codes "a.b" ∷ []
 
--- with all its blocks,
+-- with all its blocks, which is only told,
 abbrev pub GetBlocks : Type 0
-GetBlocks = words_given (get_blocks_line (codes "a.dsk") (codes "1,2") (codes "A.B;1") (codes "a.b"))
-    ≡ codes "get" ∷ codes "--blocks" ∷ codes "a.dsk" ∷ codes "1,2" ∷ codes "A.B;1" ∷ codes "a.b" ∷ []
+GetBlocks = words_given (get_blocks_line true (codes "a.dsk") (codes "1,2") (codes "A.B;1") (codes "a.b"))
+    ≡ codes "get" ∷ codes "-n" ∷ codes "--blocks" ∷ codes "a.dsk" ∷ codes "1,2" ∷ codes "A.B;1" ∷ codes "a.b" ∷ []
 
 -- and with all others
 abbrev pub GetAll : Type 0
 GetAll = words_given (get_all_line (codes "a.dsk") (codes "out")) ≡ codes "get" ∷ codes "--all" ∷ codes "a.dsk" ∷ codes "out" ∷ []
 
--- files of the host are put under their own names, of which the first stands so
+-- files of the host are put under their own names, up to one that is refused, and the first stands so
 abbrev pub PutEach : Type 0
-PutEach = words_given (put_each_line (Some (codes "text")) (codes "a.dsk") (codes "1,2") (codes "a.b"))
-    ≡ codes "put" ∷ codes "--each" ∷ codes "--mode" ∷ codes "text" ∷ codes "a.dsk" ∷ codes "1,2" ∷ codes "a.b" ∷ []
+PutEach = words_given (put_each_line Stops (Some (codes "text")) (codes "a.dsk") (codes "1,2") (codes "a.b"))
+    ≡ codes "put" ∷ codes "--stop" ∷ codes "--each" ∷ codes "--mode" ∷ codes "text" ∷ codes "a.dsk" ∷ codes "1,2" ∷ codes "a.b" ∷ []
 
 -- a fresh volume, with a number of files and without one
 abbrev pub InitMax : Type 0

@@ -1,12 +1,16 @@
 //! The single words of a command, as they are read.
-ghost use Rattle.std.specs.Prelude.{◌≡◌, ℕ, List, Option, MatchOption, codes, is_some};
+ghost use Rattle.std.specs.Prelude.{◌≡◌, ℕ, Bool, List, Option, MatchOption, codes, is_some};
 ghost use Rattle.clap.specs.Words.{first_value, found_of};
 ghost use Rattle.f11_numbers.specs.Octal.{SpellsUic};
 ghost use Rattle.f11_words.specs.Asking.{IsMode, IsNoModeOrNone, IsNoWord, SpellsMode, SpellsModeOrNone, SpellsWord};
+ghost use Rattle.f11_words.specs.Asking.{IsNoTakingMode, IsTakingMode, SpellsTakingMode, SpellsTakingModeOrNone};
 ghost use Rattle.f11_words.specs.Directory.{IsNoDirectory, IsNoTarget, IsNoUic, SpellsDirectory, SpellsTarget};
-ghost use Rattle.f11_words.specs.Reading.{HasText};
+ghost use Rattle.f11_words.specs.Lines.{is_stopping, is_told as told_by, manner_from};
+ghost use Rattle.f11_words.specs.declared.words.Manner.{Manner as MannerWord};
+ghost use Rattle.f11_words.specs.Reading.{HasFlag, HasText};
 
 use crate::directory::{Directory, read_directory, read_target};
+use crate::words::{Manner, TakingMode};
 use clap::ArgMatches;
 use f11_flx::CopyMode;
 use f11_numbers::{read_protection, read_rights, read_uic};
@@ -17,6 +21,34 @@ pub fn has(given: &ArgMatches<'_>, name: &str) -> bool
     ensures { result ≡ is_some (first_value (found_of given.now) name.now) }
 {
     given.get_str(name).is_some()
+}
+
+/// Whether it is only told what would be done.
+pub fn is_told(given: &ArgMatches<'_>) -> bool
+    ensures { (told : Bool) → HasFlag (codes "n") told given.now → result ≡ told }
+{
+    given.get_flag("n")
+}
+
+/// How something is done to several files: where `-n` is there nothing is done, whether `--stop` is or not.
+fn manner_by(is_told: bool, is_stopping: bool) -> Manner
+    ensures { result ≡ manner_from is_told is_stopping }
+{
+    if is_told {
+        Manner::Tells
+    } else if is_stopping {
+        Manner::Stops
+    } else {
+        Manner::GoesOn
+    }
+}
+
+/// How something is done to several files.
+pub fn manner_of(given: &ArgMatches<'_>) -> Manner
+    ensures { (manner : MannerWord) → HasFlag (codes "n") (told_by manner) given.now
+        → HasFlag (codes "stop") (is_stopping manner) given.now → result ≡ manner }
+{
+    manner_by(given.get_flag("n"), given.get_flag("stop"))
 }
 
 /// The mode of a copy that a text spells.
@@ -38,6 +70,27 @@ pub fn mode_or_image(given: &ArgMatches<'_>) -> Option<CopyMode>
     match given.get_str("mode") {
         Some(text) => mode_in(text),
         None => Some(CopyMode::Image),
+    }
+}
+
+/// The mode of `get` that a text spells.
+pub fn taking_mode_in(text: &str) -> Option<TakingMode>
+    ensures { MatchOption result (¬ IsTakingMode text.now) (SpellsTakingMode text.now) }
+{
+    if text == "auto" {
+        return Some(TakingMode::Auto);
+    }
+    mode_in(text).map(TakingMode::Copy)
+}
+
+/// The mode of `get` among the words, and that of an image where none is there.
+pub fn taking_mode_or_image(given: &ArgMatches<'_>) -> Option<TakingMode>
+    ensures { (mode : Option (List ℕ)) → first_value (found_of given.now) (codes "mode") ≡ mode
+        → MatchOption result (IsNoTakingMode mode) (SpellsTakingModeOrNone mode) }
+{
+    match given.get_str("mode") {
+        Some(text) => taking_mode_in(text),
+        None => Some(TakingMode::Copy(CopyMode::Image)),
     }
 }
 

@@ -1,8 +1,8 @@
 //! How a command line names a directory.
-ghost use Rattle.std.specs.Prelude.{◌≡◌, ◌≤◌, ℕ, List, MatchOption, Some, IfSome, codes, length, map, take};
+ghost use Rattle.std.specs.Prelude.{◌≡◌, ◌≢◌, ◌≤◌, [], ◌∷◌, ◌++◌, ℕ, List, MatchOption, Some, IfNone, IfSome, codes, length, map, take};
 ghost use Rattle.std.specs.Char.{to_ascii_uppercase};
 ghost use Rattle.f11_rad50.specs.Name.{Spells};
-ghost use Rattle.f11_words.specs.Directory.{IsNoTarget, IsWithin, SpellsBare, SpellsDirectory, SpellsTarget, full_name};
+ghost use Rattle.f11_words.specs.Directory.{IsCalled, IsNoTarget, IsWithin, SpellsBare, SpellsDirectory, SpellsTarget, full_name};
 ghost use Rattle.f11_words.specs.declared.directory.Directory.{Directory as DirectoryOf};
 
 use f11_numbers::read_uic;
@@ -30,6 +30,30 @@ pub fn read_directory(text: &str) -> Option<Directory>
     ensures every { (directory : DirectoryOf) → SpellsDirectory text.now directory → result ≡ Some directory }
 {
     read_bare(unbracketed(text))
+}
+
+/// The directory as which a folder of the host is called: in brackets, as [`read_directory`] reads it (profile). `None` for any other text.
+pub fn read_folder(text: &str) -> Option<Directory>
+    ensures called { IfSome result (IsCalled text.now) }
+    ensures none { IfNone result ((directory : DirectoryOf) → ¬ IsCalled text.now directory) }
+{
+    match bracketed(text) {
+        Some(inner) => read_bare(inner),
+        None => None,
+    }
+}
+
+/// What stands in brackets.
+fn bracketed(text: &str) -> Option<&str>
+    ensures { MatchOption result ((t : List ℕ) → text.now ≢ 91 ∷ (t ++ (93 ∷ []))) (λ inner. text.now ≡ 91 ∷ (inner.now ++ (93 ∷ []))) }
+{
+    match text.strip_prefix('[') {
+        Some(rest) => match rest.strip_suffix(']') {
+            Some(inner) => Some(inner),
+            None => None,
+        },
+        None => None,
+    }
 }
 
 /// In which other directory a file gets a new name, and which: a text spells them as `DIR/NAME`, the directory as [`read_directory`] reads it,

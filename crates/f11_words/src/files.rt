@@ -2,7 +2,7 @@
 ghost use Rattle.f11_words.specs.Reading.{ReadsWords};
 ghost use Rattle.f11_words.specs.declared.usage.Subcommand.TheVariants as subcommand;
 
-use crate::args::{directory_of, target_of, word_of};
+use crate::args::{directory_of, manner_of, target_of, word_of};
 use crate::words::Words;
 use clap::ArgMatches;
 
@@ -10,6 +10,7 @@ pub fn del_of<'a>(given: &ArgMatches<'a>) -> Option<Words<'a>>
     ensures { ReadsWords subcommand.Del given.now result }
 {
     Some(Words::Del {
+        manner: manner_of(given),
         image: given.get_str("image")?,
         directory: directory_of(given)?,
         name: given.get_str("name")?,
@@ -29,6 +30,7 @@ pub fn prot_of<'a>(given: &ArgMatches<'a>) -> Option<Words<'a>>
     ensures { ReadsWords subcommand.Prot given.now result }
 {
     Some(Words::Prot {
+        manner: manner_of(given),
         image: given.get_str("image")?,
         directory: directory_of(given)?,
         name: given.get_str("name")?,
@@ -40,6 +42,7 @@ pub fn purge_of<'a>(given: &ArgMatches<'a>) -> Option<Words<'a>>
     ensures { ReadsWords subcommand.Purge given.now result }
 {
     Some(Words::Purge {
+        manner: manner_of(given),
         image: given.get_str("image")?,
         directory: directory_of(given)?,
         name: given.get_str("name").unwrap_or("*.*"),
@@ -68,6 +71,7 @@ pub fn trunc_of<'a>(given: &ArgMatches<'a>) -> Option<Words<'a>>
     ensures { ReadsWords subcommand.Trunc given.now result }
 {
     Some(Words::Trunc {
+        manner: manner_of(given),
         image: given.get_str("image")?,
         directory: directory_of(given)?,
         name: given.get_str("name")?,

@@ -21,9 +21,9 @@ mod volumes;
 mod words;
 pub mod worked;
 
-pub use directory::{Directory, read_directory};
+pub use directory::{Directory, read_directory, read_folder};
 pub use hosts::split_hosts;
 pub use reading::{Failure, parse};
 pub use unread::{Unread, Why, misread, refusal};
 pub use usage::Subcommand;
-pub use words::Words;
+pub use words::{Manner, TakingMode, Words};

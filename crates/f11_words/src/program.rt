@@ -36,6 +36,11 @@ fn arg<'a>(alloc: Global, word: Word) -> Arg<'a>
 {
     match word {
         Word::Flag(name) => Arg::new(alloc, name).long(name).action(ArgAction::SetTrue),
+        Word::Letter(name, letter) => {
+            Arg::new(alloc, name)
+                .short(letter)
+                .action(ArgAction::SetTrue)
+        }
         Word::Option(name, is_needed) => {
             Arg::new(alloc, name)
                 .long(name)

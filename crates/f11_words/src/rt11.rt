@@ -1,10 +1,10 @@
 //! The words of the commands on an RT-11 volume.
-ghost use Rattle.std.specs.Prelude.{ℕ, List};
+ghost use Rattle.std.specs.Prelude.{ℕ, List, Option};
 ghost use Rattle.f11_words.specs.Lines.{rt_get_all_line, rt_get_line};
 ghost use Rattle.f11_words.specs.Reading.{Reads, ReadsWords};
 ghost use Rattle.f11_words.specs.declared.usage.Subcommand.TheVariants as subcommand;
 
-use crate::args::has;
+use crate::args::{has, mode_or_image};
 use crate::words::Words;
 use clap::ArgMatches;
 use f11_numbers::read_number;
@@ -30,9 +30,11 @@ pub fn rt_get_of<'a>(given: &ArgMatches<'a>) -> Option<Words<'a>>
 
 /// The words of `rt-get` for one file.
 fn rt_get_file_of<'a>(given: &ArgMatches<'a>) -> Option<Words<'a>>
-    ensures { (rt name host : List ℕ) → Reads (rt_get_line rt name host) given.now result }
+    ensures { (mode : Option (List ℕ)) → (rt name host : List ℕ)
+        → Reads (rt_get_line mode rt name host) given.now result }
 {
     Some(Words::RtGet {
+        mode: mode_or_image(given)?,
         rt: given.get_str("rt")?,
         name: given.get_str("name")?,
         host: given.get_str("host")?,
@@ -43,7 +45,7 @@ fn rt_get_file_of<'a>(given: &ArgMatches<'a>) -> Option<Words<'a>>
 fn rt_get_all_of<'a>(given: &ArgMatches<'a>) -> Option<Words<'a>>
     ensures { (rt folder : List ℕ) → Reads (rt_get_all_line rt folder) given.now result }
 {
-    if has(given, "host") {
+    if has(given, "mode") || has(given, "host") {
         return None;
     }
     Some(Words::RtGetAll {
@@ -90,6 +92,7 @@ pub fn rt_put_of<'a>(given: &ArgMatches<'a>) -> Option<Words<'a>>
     ensures { ReadsWords subcommand.RtPut given.now result }
 {
     Some(Words::RtPut {
+        mode: mode_or_image(given)?,
         rt: given.get_str("rt")?,
         name: given.get_str("name")?,
         host: given.get_str("host")?,

@@ -1,6 +1,6 @@
 //! Which word of a command can't be read, and why.
 
-use crate::args::{mode_in, word_in};
+use crate::args::{mode_in, taking_mode_in, word_in};
 use crate::directory::read_directory;
 use crate::program::program;
 use crate::usage::Subcommand;
@@ -29,12 +29,18 @@ pub enum Why {
     /// It doesn't go with `--blocks`.
     #[error("doesn't go with --blocks, which takes whole blocks as they are")]
     BesideBlocks,
+    /// It goes with `--each` alone.
+    #[error("goes with --each alone, by which several files are put")]
+    WithoutEach,
     /// It isn't there.
     #[error("missing")]
     Missing,
     /// It is no mode of a copy.
     #[error("no mode; one is image or text")]
     NoMode,
+    /// It is no mode of `get`.
+    #[error("no mode; one is image, text or auto")]
+    NoTakingMode,
     /// It is no user's code.
     #[error("no user's code; one is two octal numbers of 0 to 377, as 200,1")]
     NoUser,
@@ -92,13 +98,13 @@ fn first_unread<'a>(command: Subcommand, given: &ArgMatches<'a>) -> Option<Unrea
             ))
         }
         Subcommand::RtGet => rt_get(given),
+        Subcommand::RtPut => mode(given),
         Subcommand::Home
         | Subcommand::Name
         | Subcommand::RtDel
         | Subcommand::RtList
         | Subcommand::RtLs
         | Subcommand::RtProt
-        | Subcommand::RtPut
         | Subcommand::RtRen
         | Subcommand::RtVfy
         | Subcommand::Run
@@ -110,10 +116,13 @@ fn get<'a>(given: &ArgMatches<'a>) -> Option<Unread<'a>> {
     let has_mode = given.get_str("mode").is_some();
     let has_blocks = given.get_flag("blocks");
     if given.get_flag("all") {
-        let is_alone = !has_mode && !has_blocks && given.get_str("name").is_none();
+        let is_alone = !has_mode
+            && !has_blocks
+            && !given.get_flag("n")
+            && given.get_str("name").is_none();
         return unless(is_alone, "--all", Why::Alone("IMAGE and FOLDER"));
     }
-    mode(given)
+    taking_mode(given)
         .or(directory(given))
         .or(there(given, "name", "NAME"))
         .or(there(given, "host", "HOST"))
@@ -121,22 +130,34 @@ fn get<'a>(given: &ArgMatches<'a>) -> Option<Unread<'a>> {
 }
 
 fn put<'a>(given: &ArgMatches<'a>) -> Option<Unread<'a>> {
+    if given.get_flag("all") {
+        let has_others = given.get_flag("each")
+            || given.get_flag("n")
+            || given.get_flag("stop")
+            || given.get_str("name").is_some()
+            || given.get_str("host").is_some();
+        return mode(given).or(unless(!has_others, "--all", Why::Alone("FOLDER, IMAGE and --mode")));
+    }
     let unread = mode(given).or(directory(given));
     if given.get_flag("each") {
-        return unread;
+        return unread.or(there(given, "name", "HOST"));
     }
-    unread.or(there(given, "host", "HOST"))
+    unread
+        .or(there(given, "name", "NAME"))
+        .or(there(given, "host", "HOST"))
+        .or(unless(!given.get_flag("n"), "-n", Why::WithoutEach))
+        .or(unless(!given.get_flag("stop"), "--stop", Why::WithoutEach))
 }
 
 fn rt_get<'a>(given: &ArgMatches<'a>) -> Option<Unread<'a>> {
     if given.get_flag("all") {
         return unless(
-            given.get_str("host").is_none(),
+            given.get_str("mode").is_none() && given.get_str("host").is_none(),
             "--all",
             Why::Alone("RT and FOLDER"),
         );
     }
-    there(given, "host", "HOST")
+    mode(given).or(there(given, "host", "HOST"))
 }
 
 /// That a word is missing, unless it is there.
@@ -182,6 +203,11 @@ fn target<'a>(given: &ArgMatches<'a>) -> Option<Unread<'a>> {
 fn mode<'a>(given: &ArgMatches<'a>) -> Option<Unread<'a>> {
     let text = given.get_str("mode")?;
     unless(mode_in(text).is_some(), text, Why::NoMode)
+}
+
+fn taking_mode<'a>(given: &ArgMatches<'a>) -> Option<Unread<'a>> {
+    let text = given.get_str("mode")?;
+    unless(taking_mode_in(text).is_some(), text, Why::NoTakingMode)
 }
 
 fn protection<'a>(given: &ArgMatches<'a>) -> Option<Unread<'a>> {

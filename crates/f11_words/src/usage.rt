@@ -40,6 +40,8 @@ pub enum Subcommand {
 pub(crate) enum Word {
     /// `--NAME`, which may be there.
     Flag(&'static str),
+    /// A hyphen and a letter, which may be there, before all others.
+    Letter(&'static str, char),
     /// One behind `--NAME`, and whether it has to be there.
     Option(&'static str, bool),
     /// One by its place, and whether it has to be there.
@@ -161,6 +163,8 @@ impl Subcommand {
         match self {
             Subcommand::Del | Subcommand::Trunc => {
                 &[
+                    Word::Letter("n", 'n'),
+                    Word::Flag("stop"),
                     Word::Place("image", true),
                     Word::Place("dir", true),
                     Word::Place("name", true),
@@ -189,6 +193,7 @@ impl Subcommand {
             }
             Subcommand::Get => {
                 &[
+                    Word::Letter("n", 'n'),
                     Word::Flag("all"),
                     Word::Flag("blocks"),
                     Word::Option("mode", false),
@@ -212,6 +217,8 @@ impl Subcommand {
             Subcommand::Name => &[Word::Place("text", true)],
             Subcommand::Prot => {
                 &[
+                    Word::Letter("n", 'n'),
+                    Word::Flag("stop"),
                     Word::Place("image", true),
                     Word::Place("dir", true),
                     Word::Place("name", true),
@@ -220,6 +227,8 @@ impl Subcommand {
             }
             Subcommand::Purge => {
                 &[
+                    Word::Letter("n", 'n'),
+                    Word::Flag("stop"),
                     Word::Place("image", true),
                     Word::Place("dir", true),
                     Word::Place("name", false),
@@ -227,11 +236,14 @@ impl Subcommand {
             }
             Subcommand::Put => {
                 &[
+                    Word::Letter("n", 'n'),
+                    Word::Flag("stop"),
+                    Word::Flag("all"),
                     Word::Flag("each"),
                     Word::Option("mode", false),
                     Word::Place("image", true),
                     Word::Place("dir", true),
-                    Word::Place("name", true),
+                    Word::Place("name", false),
                     Word::Place("host", false),
                 ]
             }
@@ -254,6 +266,7 @@ impl Subcommand {
             Subcommand::RtGet => {
                 &[
                     Word::Flag("all"),
+                    Word::Option("mode", false),
                     Word::Place("rt", true),
                     Word::Place("name", true),
                     Word::Place("host", false),
@@ -276,6 +289,7 @@ impl Subcommand {
             }
             Subcommand::RtPut => {
                 &[
+                    Word::Option("mode", false),
                     Word::Place("rt", true),
                     Word::Place("name", true),
                     Word::Place("host", true),

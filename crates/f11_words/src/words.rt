@@ -4,11 +4,32 @@ use crate::directory::Directory;
 use f11_flx::CopyMode;
 use f11_store::Uic;
 
+/// How a file that is taken out of a volume becomes one of the host.
+#[derive(Clone, Copy, Debug, PartialEq, Eq)]
+pub enum TakingMode {
+    /// As it is, or as the text of its records.
+    Copy(CopyMode),
+    /// As the text of its records where its header says that these are lines, and else as it is.
+    Auto,
+}
+
+/// How something is done to files one after another.
+#[derive(Clone, Copy, Debug, PartialEq, Eq)]
+pub enum Manner {
+    /// The others are done behind one that is refused.
+    GoesOn,
+    /// `--stop`: none is done behind one that is refused.
+    Stops,
+    /// `-n`: nothing is done, and it is told what would be.
+    Tells,
+}
+
 /// What the words of the command line ask for.
 #[derive(Clone, Copy, Debug, PartialEq, Eq)]
 pub enum Words<'a> {
-    /// `del IMAGE DIR NAME`: a file in a directory
+    /// `del [-n|--stop] IMAGE DIR NAME`: a file in a directory
     Del {
+        manner: Manner,
         image: &'a str,
         directory: Directory,
         name: &'a str,
@@ -36,10 +57,11 @@ pub enum Words<'a> {
         rt: &'a str,
         rt_name: &'a str,
     },
-    /// `get [--mode M|--blocks] IMAGE DIR NAME HOST`: how which file in which directory becomes a file of the host, and whether up to its
-    /// last block
+    /// `get [-n] [--mode M|--blocks] IMAGE DIR NAME HOST`: how which file in which directory becomes a file of the host, whether up to its
+    /// last block, and whether it is only told
     Get {
-        mode: CopyMode,
+        is_told: bool,
+        mode: TakingMode,
         all_blocks: bool,
         image: &'a str,
         directory: Directory,
@@ -82,16 +104,18 @@ pub enum Words<'a> {
     Name {
         text: &'a str,
     },
-    /// `prot IMAGE DIR NAME WORD`: a file in a directory, and the protection word that it gets
+    /// `prot [-n|--stop] IMAGE DIR NAME WORD`: a file in a directory, and the protection word that it gets
     Prot {
+        manner: Manner,
         image: &'a str,
         directory: Directory,
         name: &'a str,
         protection: u16,
     },
-    /// `purge IMAGE DIR [NAME]`: the versions of files in a directory of which there is a higher one, of those that a pattern means, and
+    /// `purge [-n|--stop] IMAGE DIR [NAME]`: the versions of files in a directory of which there is a higher one, of those that a pattern means, and
     /// else of all, `*.*`
     Purge {
+        manner: Manner,
         image: &'a str,
         directory: Directory,
         name: &'a str,
@@ -104,13 +128,20 @@ pub enum Words<'a> {
         name: &'a str,
         host: &'a str,
     },
-    /// `put --each [--mode M] IMAGE DIR HOST`: how files are made in which directory under their own names, and the first one of the host;
+    /// `put [-n|--stop] --each [--mode M] IMAGE DIR HOST`: how files are made in which directory under their own names, and the first one of the host;
     /// the words of the others stand behind ([`split_hosts`](crate::split_hosts))
     PutEach {
+        manner: Manner,
         mode: CopyMode,
         image: &'a str,
         directory: Directory,
         host: &'a str,
+    },
+    /// `put --all [--mode M] FOLDER IMAGE`: how files are made, of a folder of the host, on which image
+    PutAll {
+        mode: CopyMode,
+        folder: &'a str,
+        image: &'a str,
     },
     /// `ren IMAGE DIR NAME NEW`: a file in a directory, its new name, and in which other directory it gets that
     Ren {
@@ -131,8 +162,9 @@ pub enum Words<'a> {
         rt: &'a str,
         name: &'a str,
     },
-    /// `rt-get RT NAME HOST`: a file of an RT-11 volume, and one of the host that is made
+    /// `rt-get [--mode M] RT NAME HOST`: how a file of an RT-11 volume becomes one of the host that is made
     RtGet {
+        mode: CopyMode,
         rt: &'a str,
         name: &'a str,
         host: &'a str,
@@ -162,8 +194,9 @@ pub enum Words<'a> {
         name: &'a str,
         on: bool,
     },
-    /// `rt-put RT NAME HOST`: a file of an RT-11 volume that is made, and one of the host
+    /// `rt-put [--mode M] RT NAME HOST`: how a file of an RT-11 volume is made of one of the host
     RtPut {
+        mode: CopyMode,
         rt: &'a str,
         name: &'a str,
         host: &'a str,
@@ -184,8 +217,9 @@ pub enum Words<'a> {
         script: &'a str,
         is_quiet: bool,
     },
-    /// `trunc IMAGE DIR NAME`: a file in a directory, whose blocks behind the end that it states are given back
+    /// `trunc [-n|--stop] IMAGE DIR NAME`: a file in a directory, whose blocks behind the end that it states are given back
     Trunc {
+        manner: Manner,
         image: &'a str,
         directory: Directory,
         name: &'a str,

@@ -1,11 +1,12 @@
 //! A file that was found, on its device.
 ghost use Rattle.std.specs.Prelude.{◌≡◌, length};
-ghost use Rattle.f11_commands.specs.OpenEnd.{has_lines as is_of_lines, has_open_end as is_left_open};
+ghost use Rattle.f11_commands.specs.OpenEnd.{has_lines as is_of_lines, has_open_end as is_left_open, mode_of as mode_by_header};
 ghost use Rattle.f11_index.specs.Kept.{index_kept, IndexLiesWithin};
 ghost use Rattle.f11_reader.specs.Reading.{IsReading};
 
-use crate::get::open::{has_lines, has_open_end};
+use crate::get::open::{has_lines, has_open_end, mode_of};
 use f11_dev::Device;
+use f11_flx::CopyMode;
 use f11_index::IndexFile;
 use f11_reader::FileReader;
 
@@ -62,5 +63,13 @@ impl<D: Device> FoundFile<D> {
         ensures { result ≡ is_of_lines self.now.file }
     {
         has_lines(&self.file)
+    }
+
+    /// As what it is copied where its header decides (Files-11 On-Disk Structure Level 1, "File Attributes"): as [`CopyMode::Text`] where its
+    /// records are of variable length (R.VAR) and a carriage return stands behind each (FD.CR), and else as [`CopyMode::Image`].
+    pub fn mode(&self) -> CopyMode
+        ensures { result ≡ mode_by_header self.now.file }
+    {
+        mode_of(&self.file)
     }
 }

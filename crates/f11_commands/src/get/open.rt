@@ -7,11 +7,12 @@ ghost use Rattle.f11_reader.specs.Reading.{header_in_hand};
 ghost use Rattle.f11_store.specs.File.{stated_end};
 ghost use Rattle.f11_commands.specs.GetCommand.{LacksSought, OpensSought};
 ghost use Rattle.f11_commands.specs.GetCommand.{file_identified};
-ghost use Rattle.f11_commands.specs.OpenEnd.{has_lines, has_open_end};
+ghost use Rattle.f11_commands.specs.OpenEnd.{has_lines, has_open_end, mode_of};
 
 use crate::get::sought::Sought;
 use f11_catalog::stated_end;
 use f11_dev::{Device, DeviceFault};
+use f11_flx::CopyMode;
 use f11_header::Header;
 use f11_index::IndexFile;
 use f11_reader::FileReader;
@@ -62,6 +63,12 @@ pub(crate) fn has_open_end(file: &FileReader) -> bool
     stated_end(&header.attributes()) == 0 && header.characteristics() >> 6 & 1 == 1
 }
 
+/// The byte of the record type (F.RTYP).
+const RECORD_TYPE: usize = 0;
+
+/// The type of records of variable length (R.VAR).
+const VARIABLE: u8 = 2;
+
 /// The byte of record attributes (F.RATT).
 const RECORD_ATTRIBUTES: usize = 1;
 
@@ -71,4 +78,17 @@ pub(crate) fn has_lines(file: &FileReader) -> bool
 {
     let attributes = Header::new(file.header()).attributes();
     attributes[RECORD_ATTRIBUTES] % 8 != 0
+}
+
+/// As what a file is copied where its header decides: as text where its records are of variable length, and a carriage return stands behind
+/// each.
+pub(crate) fn mode_of(file: &FileReader) -> CopyMode
+    ensures { result ≡ mode_of file.now }
+{
+    let attributes = Header::new(file.header()).attributes();
+    if attributes[RECORD_TYPE] == VARIABLE && attributes[RECORD_ATTRIBUTES] >> 1 & 1 == 1 {
+        CopyMode::Text
+    } else {
+        CopyMode::Image
+    }
 }

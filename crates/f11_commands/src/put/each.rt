@@ -48,7 +48,7 @@ impl fmt::Display for Unput {
 
 impl PutCounts {
     /// One more file was made, or wasn't.
-    fn add(&mut self, is_made: bool)
+    pub(crate) fn add(&mut self, is_made: bool)
         ensures { self.new ≡ counted is_made self.old }
     {
         *self = PutCounts {
@@ -93,7 +93,7 @@ pub fn begin_puts<D: Device, W: Write>(
 }
 
 /// As which failure it is told behind which no other file is made; `None` where the others are.
-fn ending(made: &Result<u32, HostRefusal>) -> Option<Failure>
+pub(crate) fn ending(made: &Result<u32, HostRefusal>) -> Option<Failure>
     ensures { result ≡ ending made.now }
 {
     match made {
@@ -108,7 +108,7 @@ fn ending(made: &Result<u32, HostRefusal>) -> Option<Failure>
 }
 
 /// As which refusal of a copy one is told.
-fn refusal_of(refusal: HostRefusal) -> FlxRefusal
+pub(crate) fn refusal_of(refusal: HostRefusal) -> FlxRefusal
     ensures { result ≡ refusal_of refusal }
 {
     match refusal {
@@ -172,7 +172,7 @@ fn tell_counts<W: Write>(counts: PutCounts, writer: &mut W) -> Result<FileAnswer
 
 impl<D: Device> Puts<D> {
     ghost use Rattle.f11_commands.specs.PutCommand.{hosts};
-    ghost use Rattle.f11_commands.specs.PutEach.{EndsPuts, KeepsBroken, LeavesOut, PutsOne};
+    ghost use Rattle.f11_commands.specs.PutEach.{EndsPuts, KeepsBroken, LeavesOut, PutsOne, has_refused};
 
     /// Makes a file of so many bytes that `host` gives, as [`print_put`](crate::print_put) does, and writes its line: `NAME.TYP;V copied N`, N
     /// being how many blocks the file has, or `NAME.TYP;V no` and the refusal's name, `Unread` where `host` or `again` couldn't be read to that
@@ -217,6 +217,13 @@ impl<D: Device> Puts<D> {
         self.counts.add(false);
         writeln!(writer, "{host} no {why}")?;
         Ok(())
+    }
+
+    /// Whether one of the files wasn't made.
+    pub fn has_refused(&self) -> bool
+        ensures { result ≡ has_refused self.now }
+    {
+        self.counts.refused != 0
     }
 
     /// Gives the volume up, syncs its device, and writes the last line: `all N copied, K not copied`. It answers [`FileAnswer::Refused`] where

@@ -2,6 +2,6 @@ use Rattle.f11_words.proofs.ReadingLemmas.{at-none}
 use Rattle.f11_words.proofs.files.trunc_of.Goals as goal
 
 pub returns-in_err-directory_of : goal.returns-in_err-directory_of
-returns-in_err-directory_of c image dir name has =
+returns-in_err-directory_of c manner image dir name has =
     at-none _ c.from_residual-in_err-directory_of.result c.from_residual-in_err-directory_of.ensures
-    (c.in_err-directory_of.ensures dir has.1.0)
+    (c.in_err-directory_of.ensures dir has.1.1.1.0)
