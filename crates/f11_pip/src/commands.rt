@@ -4,9 +4,11 @@ use crate::directory::{OPERATOR, name_of};
 use crate::each::{Each, put_each};
 use crate::folder::get_all;
 use crate::host_files::{self, Named, Taking};
+use crate::meant::tell_meant;
 use crate::outcome::Failure;
 use crate::remarks::{self, Remark};
 use crate::script::serve;
+use crate::tree::{All, put_all};
 use crate::{files, rt_files, rt_folder, rt_volumes, volumes};
 use f11_commands::f11_vfy::InitParams;
 use f11_commands::{Answer, Direction, print_name, print_rights};
@@ -23,10 +25,11 @@ pub fn run<'a, W: Write>(
 ) -> Result<Answer, Failure> {
     match *words {
         Words::Del {
+            manner,
             image,
             directory,
             name,
-        } => files::delete(rt, &named(image, directory, name), writer, remark),
+        } => files::delete(rt, &named(image, directory, name), manner, writer, remark),
         Words::Dump { image, number } => volumes::dump(rt, image, number, writer, remark),
         Words::FlxFromRt {
             mode,
@@ -67,6 +70,14 @@ pub fn run<'a, W: Write>(
             copy(rt, &asked, writer, remark)
         }
         Words::Get {
+            is_told: true,
+            image,
+            directory,
+            name,
+            ..
+        } => tell_meant(rt, &named(image, directory, name), writer, remark),
+        Words::Get {
+            is_told: false,
             mode,
             all_blocks,
             image,
@@ -117,19 +128,21 @@ pub fn run<'a, W: Write>(
             Ok(answer)
         }
         Words::Prot {
+            manner,
             image,
             directory,
             name,
             protection,
         } => {
             let file = named(image, directory, name);
-            files::protect(rt, &file, protection, writer, remark)
+            files::protect(rt, &file, protection, manner, writer, remark)
         }
         Words::Purge {
+            manner,
             image,
             directory,
             name,
-        } => files::purge(rt, &named(image, directory, name), writer, remark),
+        } => files::purge(rt, &named(image, directory, name), manner, writer, remark),
         Words::Put {
             mode,
             image,
@@ -141,12 +154,14 @@ pub fn run<'a, W: Write>(
             host_files::put(rt, &file, mode, host, writer, remark)
         }
         Words::PutEach {
+            manner,
             mode,
             image,
             directory,
             host,
         } => {
             let each = Each {
+                manner,
                 mode,
                 image,
                 directory: name_of(directory),
@@ -154,6 +169,18 @@ pub fn run<'a, W: Write>(
                 others,
             };
             put_each(rt, &each, writer, remark)
+        }
+        Words::PutAll {
+            mode,
+            folder,
+            image,
+        } => {
+            let all = All {
+                mode,
+                folder,
+                image,
+            };
+            put_all(rt, &all, writer, remark)
         }
         Words::Ren {
             image,
@@ -172,10 +199,11 @@ pub fn run<'a, W: Write>(
         } => Ok(print_rights(caller, owner, protection, writer)?),
         Words::RtDel { rt: image, name } => rt_files::delete(rt, image, name, writer, remark),
         Words::RtGet {
+            mode,
             rt: image,
             name,
             host,
-        } => rt_files::get(rt, image, name, host, writer, remark),
+        } => rt_files::get(rt, mode, image, name, host, writer, remark),
         Words::RtGetAll { rt: image, folder } => rt_folder::get_all(
             rt, image, folder, writer, remark,
         ),
@@ -192,10 +220,11 @@ pub fn run<'a, W: Write>(
             on,
         } => rt_files::protect(rt, image, name, on, writer, remark),
         Words::RtPut {
+            mode,
             rt: image,
             name,
             host,
-        } => rt_files::put(rt, image, name, host, writer, remark),
+        } => rt_files::put(rt, mode, image, name, host, writer, remark),
         Words::RtRen {
             rt: image,
             name,
@@ -208,10 +237,11 @@ pub fn run<'a, W: Write>(
             is_quiet,
         } => serve(rt, image, script, is_quiet, writer, remark),
         Words::Trunc {
+            manner,
             image,
             directory,
             name,
-        } => files::truncate(rt, &named(image, directory, name), writer, remark),
+        } => files::truncate(rt, &named(image, directory, name), manner, writer, remark),
         Words::Vfy { image, update } => volumes::vfy(rt, image, update, writer, remark),
     }
 }

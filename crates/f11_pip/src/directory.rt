@@ -32,3 +32,11 @@ pub fn owner_of(directory: Directory) -> Uic
         Directory::Named(_) => OPERATOR,
     }
 }
+
+/// Under which name the master file directory has a directory, and who owns it where it is made.
+pub fn place_of(directory: &Directory) -> (Name, Uic) {
+    match directory {
+        Directory::Of(user) => (directory_name(*user), *user),
+        Directory::Named(name) => (*name, OPERATOR),
+    }
+}

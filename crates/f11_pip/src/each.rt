@@ -1,25 +1,27 @@
 //! The command `put --each`: files of the host that are put on a volume, each under its own name.
-use crate::chosen::{next_among, one_name};
 use crate::heard::Heard;
 use crate::host_files::{ended, tell_no_directory, tell_nuls, tell_why};
-use crate::image::{opened_to_write, tell_fault};
+use crate::image::{opened_to_read, opened_to_write, tell_fault, tell_read_fault};
 use crate::outcome::Failure;
 use crate::refusals::NO_SUCH_ENTRY;
 use crate::remarks::{self, Remark, Why};
 use crate::sources::Source;
+use f11_actions::{new_names, write_all_copy_line, write_copy_line};
+use f11_commands::f11_catalog::DirectoryName;
 use f11_commands::f11_flx::CopyMode;
 use f11_commands::f11_rad50::Name;
-use f11_commands::{
-    Answer, FileAnswer, NoNames, Puts, Putting, Unput, begin_puts, directory_names,
-};
-use f11_dev::{Device, FileImage, NoMemory};
+use f11_commands::{Answer, FileAnswer, NoNames, Puts, Putting, Unput, accept_files, begin_puts};
+use f11_dev::{Device, FileImage};
 use f11_store::Refusal;
+use f11_words::Manner;
 use std::fs::File;
 use std::io::Write;
 
 /// Files of the host that are put on a volume.
 #[derive(Clone, Copy)]
 pub struct Each<'a> {
+    /// What is done behind one that is refused, or whether it is only told what would be.
+    pub manner: Manner,
     pub mode: CopyMode,
     pub image: &'a str,
     /// Under which name the master file directory has the directory that they get to stand in.
@@ -39,16 +41,31 @@ impl<'a> Each<'a> {
             None => self.first,
         }
     }
+
+    /// All of them, in order.
+    fn paths(&self, rt: &HostRuntime) -> Result<Vec<&'a str>, Failure> {
+        let mut paths = Vec::new(rt.alloc());
+        for at in 0..self.others.len() + 1 {
+            if paths.push(self.host(at)).is_err() {
+                return Err(Failure::NoMemory);
+            }
+        }
+        Ok(paths)
+    }
 }
 
 /// Makes a file on a volume of each of these files of the host, which are opened one after another: under the last part of its path, with the
-/// next version of those that the directory has where that has none. What a refusal means is said as it is met; the others go on behind one.
+/// next version of those that the directory has where that has none. What a refusal means is said as it is met; the others go on behind one, or
+/// none does. Or it is told which would be made.
 pub fn put_each<'a, W: Write>(
     rt: &HostRuntime,
     each: &Each<'a>,
     writer: &mut W,
     remark: &mut Option<Remark<'a>>,
 ) -> Result<Answer, Failure> {
+    if each.manner == Manner::Tells {
+        return tell_each(rt, each, writer, remark);
+    }
     let mut device = opened_to_write(rt, each.image, remark)?;
     let names = match names_of(rt, &mut device, each) {
         Ok(names) => names,
@@ -64,15 +81,28 @@ pub fn put_each<'a, W: Write>(
             return Ok(ended(rt, each.image, told?, remark));
         }
     };
-    match put_all(rt, each, &names, &mut puts, writer) {
+    let came = put_all(rt, each, &names, &mut puts, writer);
+    ended_puts(rt, each.image, puts, came, writer, remark)
+}
+
+/// Ends the files that were put, or tells why they broke off.
+pub fn ended_puts<'a, W: Write>(
+    rt: &HostRuntime,
+    image: &'a str,
+    puts: Puts<FileImage<File>>,
+    came: Result<(), f11_commands::Failure>,
+    writer: &mut W,
+    remark: &mut Option<Remark<'a>>,
+) -> Result<Answer, Failure> {
+    match came {
         Ok(()) => {
             let (device, told) = puts.end(writer);
-            tell_fault(rt, each.image, device);
-            Ok(ended(rt, each.image, told?, remark))
+            tell_fault(rt, image, device);
+            Ok(ended(rt, image, told?, remark))
         }
         Err(failure) => {
             let (device, failure) = puts.break_off(failure);
-            tell_fault(rt, each.image, device);
+            tell_fault(rt, image, device);
             Err(Failure::from(failure))
         }
     }
@@ -85,50 +115,15 @@ fn names_of<D: Device>(
     device: &mut D,
     each: &Each<'_>,
 ) -> Result<Vec<Option<Name>>, Failure> {
-    let mut there = match directory_names(rt.alloc(), device, &each.directory)? {
-        Ok(names) => names,
-        Err(none) => {
-            if none == NoNames::Refused(Refusal::NoSuchEntry) {
-                tell_no_directory(rt, each.directory);
-            }
-            Vec::new(rt.alloc())
-        }
-    };
-    let mut names = Vec::new(rt.alloc());
-    for at in 0..each.others.len() + 1 {
-        let name = match one_name(rt, last_part(each.host(at)))? {
-            Some(named) => Some(next_among(&there, &named)),
-            None => None,
-        };
-        add(&mut names, &mut there, name)?;
+    let paths = each.paths(rt)?;
+    let (names, why) = new_names(rt.alloc(), device, &each.directory, &paths)?;
+    if why == Some(NoNames::Refused(Refusal::NoSuchEntry)) {
+        tell_no_directory(rt, each.directory);
     }
     Ok(names)
 }
 
-/// Adds a name to those of the files, and to those that are there.
-fn add(
-    names: &mut Vec<Option<Name>>,
-    there: &mut Vec<Name>,
-    name: Option<Name>,
-) -> Result<(), NoMemory> {
-    if let Some(name) = name {
-        there.push(name)?;
-    }
-    match names.push(name) {
-        Ok(()) => Ok(()),
-        Err(_) => Err(NoMemory),
-    }
-}
-
-/// What stands behind the last slash of a path.
-fn last_part(path: &str) -> &str {
-    match path.rsplit_once('/') {
-        Some((_, last)) => last,
-        None => path,
-    }
-}
-
-/// Puts one file after another.
+/// Puts one file after another, but none behind one that is refused where that is asked for.
 fn put_all<W: Write>(
     rt: &HostRuntime,
     each: &Each<'_>,
@@ -139,20 +134,24 @@ fn put_all<W: Write>(
     for (at, name) in names.iter().enumerate() {
         let host = each.host(at);
         match name {
-            Some(name) => put_one(rt, each, host, *name, puts, writer)?,
+            Some(name) => put_one(rt, each, None, host, *name, puts, writer)?,
             None => {
                 remarks::tell(rt, host, Why::NO_NAME);
                 puts.leave_out(host, Unput::BadName, writer)?;
             }
         }
+        if each.manner == Manner::Stops && puts.has_refused() {
+            break;
+        }
     }
     Ok(())
 }
 
-/// Puts one file, or tells that it can't be opened.
-fn put_one<W: Write>(
+/// Puts one file, or tells that it can't be opened; its line has the place in front where one is given.
+pub fn put_one<W: Write>(
     rt: &HostRuntime,
     each: &Each<'_>,
+    place: Option<&DirectoryName>,
     host: &str,
     name: Name,
     puts: &mut Puts<FileImage<File>>,
@@ -176,13 +175,12 @@ fn put_one<W: Write>(
         blocks: source.blocks,
     };
     let mut heard = Heard::new(writer, None);
-    let told = puts.put(
-        &putting,
-        &mut source.first,
-        &mut source.again,
-        source.bytes,
-        &mut heard,
-    )?;
+    let bytes = source.bytes;
+    let (first, again) = (&mut source.first, &mut source.again);
+    let told = match place {
+        Some(place) => puts.put_in(place, &putting, first, again, bytes, &mut heard)?,
+        None => puts.put(&putting, first, again, bytes, &mut heard)?,
+    };
     if told == FileAnswer::Done {
         tell_nuls(rt, each.mode, host, &source);
     } else if let Some(line) = heard.refusal_of_file() {
@@ -207,5 +205,58 @@ fn tell_refused(
         if let Ok(name) = name.text(rt.alloc()) {
             tell_why(rt, each.image, name.as_str(), each.mode, host, bytes, line);
         }
+    }
+}
+
+/// Tells under which names the files would be put, of a volume that is accepted. Nothing is opened but the image.
+fn tell_each<'a, W: Write>(
+    rt: &HostRuntime,
+    each: &Each<'a>,
+    writer: &mut W,
+    remark: &mut Option<Remark<'a>>,
+) -> Result<Answer, Failure> {
+    let mut device = opened_to_read(rt, each.image, remark)?;
+    let names = match names_of(rt, &mut device, each) {
+        Ok(names) => names,
+        Err(failure) => {
+            tell_read_fault(rt, each.image, device);
+            return Err(failure);
+        }
+    };
+    let (device, told) = match accept_files(rt.alloc(), device, writer) {
+        Ok(accepted) => (accepted.device(), tell_names(rt, each, &names, writer)),
+        Err((device, told)) => (device, told),
+    };
+    tell_read_fault(rt, each.image, device);
+    Ok(ended(rt, each.image, told?, remark))
+}
+
+/// Writes the line of each, and the last one.
+fn tell_names<W: Write>(
+    rt: &HostRuntime,
+    each: &Each<'_>,
+    names: &[Option<Name>],
+    writer: &mut W,
+) -> Result<FileAnswer, f11_commands::Failure> {
+    let mut count: usize = 0;
+    for (at, name) in names.iter().enumerate() {
+        let host = each.host(at);
+        match name {
+            Some(name) => {
+                write_copy_line(writer, name)?;
+                count = count.saturating_add(1);
+            }
+            None => {
+                remarks::tell(rt, host, Why::NO_NAME);
+                let why = Unput::BadName;
+                writeln!(writer, "{host} no {why}")?;
+            }
+        }
+    }
+    write_all_copy_line(writer, count)?;
+    if count == names.len() {
+        Ok(FileAnswer::Done)
+    } else {
+        Ok(FileAnswer::Refused)
     }
 }

@@ -1,34 +1,64 @@
 //! The commands that do something to files of a volume by their names: which image they open, and what is said of a refusal.
-use crate::chosen::{OneName, change, found_in, next_in, one_name};
+use crate::chosen::change;
 use crate::directory::{name_of, owner_of};
 use crate::heard::Heard;
 use crate::host_files::{Named, ended};
-use crate::image::{opened_to_write, tell_fault};
+use crate::image::{opened_to_read, opened_to_write, tell_fault, tell_read_fault};
 use crate::outcome::Failure;
 use crate::refusals::{self, of_action, of_making_directory};
 use crate::remarks::{self, Remark};
 use f11_actions::{
-    Action, Change, is_directory_name, print_actions, print_deletion, print_making, renaming,
+    Action, Behind, Change, found_name, is_directory_name, next_name, print_actions,
+    print_deletion, print_making, print_would_act, renaming,
 };
 use f11_commands::f11_rad50::Name;
 use f11_commands::{Answer, read_name, refuse_names};
 use f11_dev::FileImage;
-use f11_patterns::{Pattern, Versions};
-use f11_words::Directory;
+use f11_patterns::{OneName, Pattern, Versions};
+use f11_words::{Directory, Manner};
 use std::fs::File;
 use std::io::Write;
 
-/// Deletes a file, unless it is a directory that has records, or those that a pattern means.
+/// Deletes a file, unless it is a directory that has records, or those that a pattern means; or tells that it would be.
 pub fn delete<'a, W: Write>(
     rt: &HostRuntime,
     file: &Named<'a>,
+    manner: Manner,
     writer: &mut W,
     remark: &mut Option<Remark<'a>>,
 ) -> Result<Answer, Failure> {
-    match one_name(rt, file.name)? {
-        Some(named) => delete_one(rt, file, &named, writer, remark),
-        None => change(rt, file, Change::Delete, writer, remark),
+    match (OneName::of(file.name.as_bytes()), manner) {
+        (Some(named), Manner::GoesOn | Manner::Stops) => {
+            delete_one(rt, file, &named, writer, remark)
+        }
+        (Some(named), Manner::Tells) if is_directory_name(&first_of(&named)) => {
+            tell_directory(rt, file, &named, writer, remark)
+        }
+        _ => change(rt, file, Change::Delete, manner, writer, remark),
     }
+}
+
+/// Tells that a directory would be deleted, which a pattern leaves out.
+fn tell_directory<'a, W: Write>(
+    rt: &HostRuntime,
+    file: &Named<'a>,
+    named: &OneName,
+    writer: &mut W,
+    remark: &mut Option<Remark<'a>>,
+) -> Result<Answer, Failure> {
+    let mut device = opened_to_read(rt, file.image, remark)?;
+    let directory = file.directory;
+    let name = match found_name(rt.alloc(), &mut device, &directory, named) {
+        Ok(name) => name,
+        Err(failure) => {
+            tell_read_fault(rt, file.image, device);
+            return Err(Failure::from(failure));
+        }
+    };
+    let action = Action::Delete { directory, name };
+    let (device, told) = print_would_act(rt.alloc(), device, &[action], writer);
+    tell_read_fault(rt, file.image, device);
+    Ok(ended(rt, file.image, told?, remark))
 }
 
 /// Deletes one file.
@@ -41,11 +71,11 @@ fn delete_one<'a, W: Write>(
 ) -> Result<Answer, Failure> {
     let mut device = opened_to_write(rt, file.image, remark)?;
     let directory = file.directory;
-    let name = match found_in(rt, &mut device, &directory, named, file.name) {
+    let name = match found_name(rt.alloc(), &mut device, &directory, named) {
         Ok(name) => name,
         Err(failure) => {
             tell_fault(rt, file.image, device);
-            return Err(failure);
+            return Err(Failure::from(failure));
         }
     };
     let mut heard = Heard::new(writer, None);
@@ -65,12 +95,13 @@ fn delete_one<'a, W: Write>(
 pub fn purge<'a, W: Write>(
     rt: &HostRuntime,
     file: &Named<'a>,
+    manner: Manner,
     writer: &mut W,
     remark: &mut Option<Remark<'a>>,
 ) -> Result<Answer, Failure> {
     match Pattern::parse(file.name.as_bytes()) {
         Ok(pattern) if pattern.versions() == Versions::Highest => {
-            change(rt, file, Change::Purge, writer, remark)
+            change(rt, file, Change::Purge, manner, writer, remark)
         }
         _ => {
             *remark = Some(remarks::of_purge(file.name));
@@ -130,12 +161,12 @@ fn both_names(
     to: &Name,
     new_named: &OneName,
 ) -> Result<(Name, Name), Failure> {
-    let name = found_in(rt, device, &file.directory, named, file.name)?;
+    let name = found_name(rt.alloc(), device, &file.directory, named)?;
     let new = first_of(new_named);
     if is_directory_name(&new) {
         return Ok((name, new));
     }
-    Ok((name, next_in(rt, device, to, new_named)?))
+    Ok((name, next_name(rt.alloc(), device, to, new_named)?))
 }
 
 /// Gives a file a protection word, or those that a pattern means.
@@ -143,11 +174,19 @@ pub fn protect<'a, W: Write>(
     rt: &HostRuntime,
     file: &Named<'a>,
     protection: u16,
+    manner: Manner,
     writer: &mut W,
     remark: &mut Option<Remark<'a>>,
 ) -> Result<Answer, Failure> {
-    let Some(name) = read_name(rt.alloc(), file.name)? else {
-        return change(rt, file, Change::Protect(protection), writer, remark);
+    let Some(name) = name_to_act_on(rt, file.name, manner)? else {
+        return change(
+            rt,
+            file,
+            Change::Protect(protection),
+            manner,
+            writer,
+            remark,
+        );
     };
     let action = Action::Protect {
         directory: file.directory,
@@ -162,11 +201,12 @@ pub fn protect<'a, W: Write>(
 pub fn truncate<'a, W: Write>(
     rt: &HostRuntime,
     file: &Named<'a>,
+    manner: Manner,
     writer: &mut W,
     remark: &mut Option<Remark<'a>>,
 ) -> Result<Answer, Failure> {
-    let Some(name) = read_name(rt.alloc(), file.name)? else {
-        return change(rt, file, Change::Truncate, writer, remark);
+    let Some(name) = name_to_act_on(rt, file.name, manner)? else {
+        return change(rt, file, Change::Truncate, manner, writer, remark);
     };
     let action = Action::Truncate {
         directory: file.directory,
@@ -174,6 +214,14 @@ pub fn truncate<'a, W: Write>(
     };
     let device = opened_to_write(rt, file.image, remark)?;
     act(rt, device, file, file.name, &action, writer, remark)
+}
+
+/// The name of the one file to which something is done; `None` where the word is none, or it is told what would be, as of a pattern.
+fn name_to_act_on(rt: &HostRuntime, word: &str, manner: Manner) -> Result<Option<Name>, Failure> {
+    match manner {
+        Manner::GoesOn | Manner::Stops => Ok(read_name(rt.alloc(), word)?),
+        Manner::Tells => Ok(None),
+    }
 }
 
 /// Whether a name has a type alone, and no character before the dot.
@@ -212,7 +260,7 @@ fn name_in<'a, W: Write>(
     writer: &mut W,
     remark: &mut Option<Remark<'a>>,
 ) -> Result<Option<OneName>, Failure> {
-    let named = one_name(rt, word)?;
+    let named = OneName::of(word.as_bytes());
     if named.is_none() {
         *remark = Some(remarks::of_name(word));
         refuse_names(writer)?;
@@ -231,7 +279,7 @@ fn act<'a, W: Write>(
     remark: &mut Option<Remark<'a>>,
 ) -> Result<Answer, Failure> {
     let mut heard = Heard::new(writer, None);
-    let (device, told) = print_actions(rt.alloc(), device, &[*action], &mut heard);
+    let (device, told) = print_actions(rt.alloc(), device, &[*action], Behind::GoesOn, &mut heard);
     tell_fault(rt, file.image, device);
     if let Some(refusal) = heard.refused_action() {
         refusals::tell(rt, of_action(refusal, action, file.image, file.name, new));

@@ -43,10 +43,16 @@ impl Beginning {
         Some(name)
     }
 
-    /// What the line says behind the name of a file that it begins with, where that refuses something: `no` and why.
+    /// What the line says behind the name of a file that it begins with, or that stands behind its directory, where that refuses something: `no`
+    /// and why.
     fn refusal_of_file(&self) -> Option<&str> {
         let line = str::from_utf8(self.bytes.get(..self.length)?).ok()?;
-        let (_, behind) = line.split_once(" ")?;
+        let (first, rest) = line.split_once(" ")?;
+        let behind = if first.starts_with("[") {
+            rest.split_once(" ")?.1
+        } else {
+            rest
+        };
         if behind.starts_with("no ") {
             Some(behind)
         } else {

@@ -1,5 +1,4 @@
 //! The commands on files of the host: which files they open, and how.
-use crate::chosen::{OneName, found_in, next_in, one_name};
 use crate::heard::Heard;
 use crate::host_file::HostFile;
 use crate::image::{
@@ -11,12 +10,15 @@ use crate::refusals::{self, NO_SUCH_ENTRY, of_finding, of_making};
 use crate::remarks::{self, Remark, Why, opened};
 use crate::sources::Source;
 use crate::volumes::judged;
+use f11_actions::{found_name, next_name};
 use f11_commands::f11_flx::CopyMode;
 use f11_commands::f11_rad50::Name;
 use f11_commands::{
     Answer, FileAnswer, FoundFile, PutFailure, Putting, Served, print_ls, print_put, refuse_names,
     seek_file, to_last_block, write_file,
 };
+use f11_patterns::OneName;
+use f11_words::TakingMode;
 use std::io::{self, Write};
 
 /// A file of a volume, as the words name it: its image, its directory, and its name.
@@ -31,9 +33,19 @@ pub struct Named<'a> {
 /// How a file is taken out.
 #[derive(Clone, Copy)]
 pub struct Taking {
-    pub mode: CopyMode,
+    pub mode: TakingMode,
     /// Up to its last block, whatever end it states.
     pub all_blocks: bool,
+}
+
+impl Taking {
+    /// As what a file that was found is copied.
+    pub fn mode_of(self, found: &FoundFile<ReadImage>) -> CopyMode {
+        match self.mode {
+            TakingMode::Copy(mode) => mode,
+            TakingMode::Auto => found.mode(),
+        }
+    }
 }
 
 /// Takes a file out of a volume. A file of the host is made for it, where none is yet, once it is found. Where the name is a pattern that may
@@ -46,23 +58,24 @@ pub fn get<'a, W: Write>(
     writer: &mut W,
     remark: &mut Option<Remark<'a>>,
 ) -> Result<Answer, Failure> {
-    let Some(named) = one_name(rt, file.name)? else {
+    let Some(named) = OneName::of(file.name.as_bytes()) else {
         return get_meant(rt, file, taking, host, writer, remark);
     };
     let mut device = opened_to_read(rt, file.image, remark)?;
-    let name = match found_in(rt, &mut device, &file.directory, &named, file.name) {
+    let name = match found_name(rt.alloc(), &mut device, &file.directory, &named) {
         Ok(name) => name,
         Err(failure) => {
             tell_read_fault(rt, file.image, device);
-            return Err(failure);
+            return Err(Failure::from(failure));
         }
     };
     let served = match seek(rt, file, &name, device, writer) {
         Ok(Ok(found)) => {
             tell_found(rt, file.image, &found, taking);
-            let lacks_lines = taking.mode == CopyMode::Text && !found.has_lines();
+            let mode = taking.mode_of(&found);
+            let lacks_lines = mode == CopyMode::Text && !found.has_lines();
             let found = as_far_as(rt, file.image, found, taking.all_blocks)?;
-            let served = take_out(rt, found, file, taking.mode, host, writer, remark)?;
+            let served = take_out(rt, found, file, mode, host, writer, remark)?;
             if lacks_lines && served.answer == Answer::Done {
                 remarks::tell(rt, file.name, Why::NO_LINES);
             }
@@ -200,17 +213,17 @@ pub fn put<'a, W: Write>(
     writer: &mut W,
     remark: &mut Option<Remark<'a>>,
 ) -> Result<Answer, Failure> {
-    let Some(named) = one_name(rt, file.name)? else {
+    let Some(named) = OneName::of(file.name.as_bytes()) else {
         *remark = Some(remarks::of_name(file.name));
         return Ok(refuse_names(writer)?);
     };
     let mut source = Source::open(rt, mode, host, remark)?;
     let mut device = opened_to_write(rt, file.image, remark)?;
-    let name = match next_in(rt, &mut device, &file.directory, &named) {
+    let name = match next_name(rt.alloc(), &mut device, &file.directory, &named) {
         Ok(name) => name,
         Err(failure) => {
             tell_fault(rt, file.image, device);
-            return Err(failure);
+            return Err(Failure::from(failure));
         }
     };
     let putting = Putting {

@@ -25,6 +25,7 @@ mod rt_folder;
 mod rt_volumes;
 mod script;
 mod sources;
+mod tree;
 mod volumes;
 
 use commands::run;
@@ -133,7 +134,9 @@ fn tell_refused(rt: &HostRuntime, words: &[String]) {
         let all = text.as_str();
         let lacks_words = all.starts_with("error: the following required arguments");
         if lacks_words && words.iter().any(|word| word.as_str() == "--all") {
-            let _ = eprintln!(rt; "FOLDER: missing");
+            let is_put = words.iter().any(|word| word.as_str() == "put");
+            let word = if is_put { "IMAGE" } else { "FOLDER" };
+            let _ = eprintln!(rt; "{word}: missing");
             return;
         }
         if lacks_words && words.iter().any(|word| word.as_str() == "--each") {

@@ -9,7 +9,7 @@ use crate::outcome::Failure;
 use crate::refusals::{self, NO_SUCH_ENTRY, of_finding};
 use crate::remarks::{self, Remark, Why, opened};
 use crate::volumes::judged;
-use f11_actions::begin_taking;
+use f11_actions::{begin_taking, print_taking};
 use f11_commands::f11_flx::CopyMode;
 use f11_commands::f11_rad50::Name;
 use f11_commands::{
@@ -86,7 +86,13 @@ fn begun<W: Write>(
 ) -> Begun {
     let mut heard = Heard::new(writer, None);
     let begun = begin_taking(rt.alloc(), device, &file.directory, pattern, &mut heard);
-    if let Some(line) = heard.refusal() {
+    tell_none(rt, file, heard.refusal());
+    begun
+}
+
+/// Says why none is taken out, by what its line says.
+fn tell_none(rt: &HostRuntime, file: &Named<'_>, line: Option<&str>) {
+    if let Some(line) = line {
         if !is_directory_missing(rt, file, line) {
             if line == NO_SUCH_ENTRY {
                 remarks::tell(rt, file.name, Why::NONE_MEANT);
@@ -95,7 +101,25 @@ fn begun<W: Write>(
             }
         }
     }
-    begun
+}
+
+/// Tells which files would be taken out of a volume that a pattern means, with nothing taken out.
+pub fn tell_meant<'a, W: Write>(
+    rt: &HostRuntime,
+    file: &Named<'a>,
+    writer: &mut W,
+    remark: &mut Option<Remark<'a>>,
+) -> Result<Answer, Failure> {
+    let Ok(pattern) = Pattern::parse(file.name.as_bytes()) else {
+        *remark = Some(remarks::of_pattern(file.name));
+        return Ok(refuse_names(writer)?);
+    };
+    let device = opened_to_read(rt, file.image, remark)?;
+    let mut heard = Heard::new(writer, None);
+    let (device, told) = print_taking(rt.alloc(), device, &file.directory, &pattern, &mut heard);
+    tell_none(rt, file, heard.refusal());
+    tell_read_fault(rt, file.image, device);
+    Ok(judged(rt, file.image, told?, remark))
 }
 
 /// The folder of the host, which is made where there is none; or why there is none.
@@ -107,7 +131,8 @@ fn folder_made(rt: &HostRuntime, folder: &str) -> Result<(), Why> {
     }
 }
 
-fn is_folder(rt: &HostRuntime, path: &str) -> bool {
+/// Whether a folder stands under a path.
+pub fn is_folder(rt: &HostRuntime, path: &str) -> bool {
     match fs::metadata(rt, path) {
         Ok(metadata) => metadata.is_dir(),
         Err(_) => false,
@@ -202,6 +227,7 @@ fn take_one<W: Write>(
         }
     };
     tell_found(rt, word.as_str(), &found, into.taking);
+    let mode = into.taking.mode_of(&found);
     let found = as_far_as(rt, into.image, found, into.taking.all_blocks)?;
     let folder = into.folder;
     let path = format!(in rt.alloc(); "{folder}/{word}")?;
@@ -209,6 +235,7 @@ fn take_one<W: Write>(
         Ok(made) => write(
             rt,
             into,
+            mode,
             name,
             word.as_str(),
             found,
@@ -253,6 +280,7 @@ fn seek<W: Write>(
 fn write<W: Write>(
     rt: &HostRuntime,
     into: &Into<'_>,
+    mode: CopyMode,
     name: Name,
     word: &str,
     found: FoundFile<ReadImage>,
@@ -260,7 +288,6 @@ fn write<W: Write>(
     path: &str,
     writer: &mut W,
 ) -> Result<(ReadImage, Came), Failure> {
-    let mode = into.taking.mode;
     let lacks_lines = mode == CopyMode::Text && !found.has_lines();
     let mut made = made;
     let (device, served) = write_file(found, Some(name), mode, &mut made, writer);

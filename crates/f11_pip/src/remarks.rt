@@ -115,6 +115,10 @@ impl Why {
     pub const NO_NAME: Why = Why::Said(
         "no name; one is in capitals, as LOGIN.CMD;1: up to 9 of A to Z, 0 to 9 and $, a dot, up to 3 more, at least one of all these, and an octal version, 1 to 77777",
     );
+    /// It is no folder that is called as a directory.
+    pub const NO_FOLDER_NAME: Why = Why::Said(
+        "no folder that is called as a directory, [ggg,mmm] or [NAME]",
+    );
     /// It is neither the name of a file on a Files-11 volume nor a pattern of such names.
     pub const NO_PATTERN: Why = Why::Said(
         "no name; one is as LOGIN.CMD;1: up to 9 of A to Z, 0 to 9 and $, a dot, up to 3 more, at least one of all these, and an octal version, 1 to 77777; without a version the highest is meant; * stands for any characters and % for one, and ;* for each version, as *.TXT;*",

@@ -5,11 +5,13 @@ use crate::image::{opened_to_read, opened_to_write, tell_fault, tell_read_fault}
 use crate::outcome::Failure;
 use crate::refusals::{self, of_rt, of_rt_renaming};
 use crate::remarks::{self, Remark};
-use crate::sources::{in_pieces, opened_host};
+use crate::sources::{in_pieces, lines_length, opened_host};
+use f11_commands::f11_flx::CopyMode;
 use f11_commands::{
     Answer, FileAnswer, RtServed, RtState, find_rt_file, print_rt_delete, print_rt_protect,
-    print_rt_put, print_rt_rename, read_rt_name, refuse_names, write_rt_file,
+    print_rt_put, print_rt_rename, read_rt_name, refuse_names, write_rt_file, write_rt_text,
 };
+use rt11_text::FromHost;
 use std::io::Write;
 
 /// The answer of a command that serves any RT-11 volume, and what there is to say of its image. Where the report of a directory that can't be
@@ -35,6 +37,7 @@ pub fn judged<'a>(
 /// found. Where the copy fails, what was made stays, unless nothing was written to it.
 pub fn get<'a, W: Write>(
     rt: &HostRuntime,
+    mode: CopyMode,
     image: &'a str,
     word: &'a str,
     host: &'a str,
@@ -56,7 +59,10 @@ pub fn get<'a, W: Write>(
         }
     };
     let mut made = made(rt, host, remark)?;
-    let (device, served) = write_rt_file(file, &mut made, &mut heard);
+    let (device, served) = match mode {
+        CopyMode::Image => write_rt_file(file, &mut made, &mut heard),
+        CopyMode::Text => write_rt_text(file, &mut made, &mut heard),
+    };
     tell_read_fault(rt, image, device);
     if !matches!(
         served,
@@ -74,9 +80,11 @@ pub fn get<'a, W: Write>(
     Ok(judged(rt, image, served?, remark))
 }
 
-/// Makes a file on an RT-11 volume with the bytes of a file of the host, which is opened first.
+/// Makes a file on an RT-11 volume with the bytes or the lines of a file of the host, which is opened first. A text is read to its end before
+/// the file is made, to count its bytes there.
 pub fn put<'a, W: Write>(
     rt: &HostRuntime,
+    mode: CopyMode,
     image: &'a str,
     word: &'a str,
     host: &'a str,
@@ -88,10 +96,20 @@ pub fn put<'a, W: Write>(
         return Ok(refuse_names(writer)?);
     };
     let (file, bytes) = opened_host(rt, host, remark)?;
+    let bytes = match mode {
+        CopyMode::Image => bytes,
+        CopyMode::Text => lines_length(rt, host, remark)?,
+    };
     let mut file = in_pieces(rt, file)?;
     let device = opened_to_write(rt, image, remark)?;
     let mut heard = Heard::new(writer, None);
-    let (device, told) = print_rt_put(rt.alloc(), device, &name, &mut file, bytes, &mut heard);
+    let (device, told) = match mode {
+        CopyMode::Image => print_rt_put(rt.alloc(), device, &name, &mut file, bytes, &mut heard),
+        CopyMode::Text => {
+            let mut text = FromHost::new(file);
+            print_rt_put(rt.alloc(), device, &name, &mut text, bytes, &mut heard)
+        }
+    };
     tell_fault(rt, image, device);
     tell_refused(rt, &heard, image, word);
     put_answer(rt, image, host, told, remark)

@@ -3,6 +3,7 @@ use crate::host_file::PIECE;
 use crate::outcome::Failure;
 use crate::remarks::{self, Remark, Why, opened};
 use f11_commands::f11_flx::{CopyMode, LONGEST_LINE};
+use rt11_text::FromHost;
 use std::fs::{self, File};
 use std::io::{self, BufReader, Read};
 
@@ -110,6 +111,22 @@ fn with_count(rt: &HostRuntime, file: File) -> Result<Counted, Failure> {
 /// A file of the host that is read in pieces.
 pub fn in_pieces(rt: &HostRuntime, file: File) -> Result<BufReader<File>, Failure> {
     BufReader::with_capacity(rt.alloc(), PIECE, file).map_err(|_| Failure::NoMemory)
+}
+
+/// How many bytes the text of a file of the host has, each of whose lines ends in CR LF.
+pub fn lines_length<'a>(
+    rt: &HostRuntime,
+    host: &'a str,
+    remark: &mut Option<Remark<'a>>,
+) -> Result<u64, Failure> {
+    let file = opened(
+        File::open(rt, host).map_err(remarks::unopened),
+        host,
+        remark,
+    )?;
+    let text = FromHost::new(in_pieces(rt, file)?);
+    let counted = io::copy(&mut text.take(MOST_COUNTED), &mut io::sink()).map_err(|_| Why::UNREAD);
+    opened(counted, host, remark)
 }
 
 /// The most bytes that are counted of a file that says that it has none: one more than the largest volume has.

@@ -1,7 +1,7 @@
 //! Files of the host put on a volume.
 use crate::taking_out::{master_directory, named};
 use f11_commands::f11_flx::CopyMode;
-use f11_commands::{Failure, FileAnswer, PutFailure, Putting, print_put};
+use f11_commands::{Failure, FileAnswer, PutFailure, Puts, Putting, begin_puts, print_put};
 use f11_dev::{DeviceFault, Memory};
 use f11_fixtures::{Lines, has_words, lines, text_of, volumes};
 use std::alloc::Global;
@@ -57,5 +57,27 @@ fn a_text_is_put(rt: HostRuntime) -> Result<(), Fail> {
     assert_eq!(rt; answer, Ok(FileAnswer::Done));
     assert!(rt; text_of(&told) == b"copied 1\n".as_slice());
     assert!(rt; has_words(&mut device, 22, &[(0, 5), (8, 0), (10, 2)])?);
+    Ok(())
+}
+
+/// The volume on which files are put one after another, or how that ends.
+type Begun = Result<Puts<Memory>, (Memory, Result<FileAnswer, Failure>)>;
+
+fn begin(alloc: Global, device: Memory, lines: &mut Lines) -> Begun {
+    begin_puts(alloc, device, lines)
+}
+
+#[test]
+fn files_are_put_one_after_another(rt: HostRuntime) -> Result<(), Fail> {
+    let device = volumes::fresh(rt.alloc(), volumes::BLOCKS)?;
+    let mut told = lines();
+    let begun = match begin(rt.alloc(), device, &mut told) {
+        Err((device, Err(Failure::NoMemory))) => begin(rt.alloc(), device, &mut told),
+        done => done,
+    };
+    let Ok(puts) = begun else {
+        return Err(DeviceFault)?;
+    };
+    assert_eq!(rt; (puts.has_refused(), told.position()), (false, 0));
     Ok(())
 }

@@ -1,6 +1,6 @@
 //! Several actions in one call: one that is refused doesn't end the others, and a transfer that fails does.
 use crate::copies::volumes::{ask, mounted};
-use f11_actions::{Action, print_actions};
+use f11_actions::{Action, Behind, print_actions};
 use f11_commands::{Failure, FileAnswer, directory_name};
 use f11_dev::{DeviceFault, FailOnce, Memory};
 use f11_fixtures::volumes::fresh;
@@ -81,7 +81,7 @@ fn actions() -> Result<[Action; 6], Fail> {
 fn a_refusal_does_not_end_the_others(rt: HostRuntime) -> Result<(), Fail> {
     let mut text = lines();
     let device = with_file(rt.alloc())?;
-    let (_, told) = print_actions(rt.alloc(), device, &actions()?, &mut text);
+    let (_, told) = print_actions(rt.alloc(), device, &actions()?, Behind::GoesOn, &mut text);
     assert_eq!(rt; told, Ok(FileAnswer::Refused));
     assert_eq!(rt; text_of(&text), ALL);
     Ok(())
@@ -91,7 +91,7 @@ fn a_refusal_does_not_end_the_others(rt: HostRuntime) -> Result<(), Fail> {
 fn acted(alloc: Global, at: u64) -> Result<(Result<FileAnswer, Failure>, Lines), Fail> {
     let device = FailOnce::new(with_file(alloc)?, at, false);
     let mut text = lines();
-    let (_, told) = print_actions(alloc, device, &actions()?, &mut text);
+    let (_, told) = print_actions(alloc, device, &actions()?, Behind::GoesOn, &mut text);
     Ok((told, text))
 }
 
