@@ -13,16 +13,15 @@ use Rattle.f11_store.specs.declared.requests.Reply.{Reply}
 use Rattle.f11_store.specs.declared.requests.Request.{Request}
 use Rattle.f11_store.specs.declared.requests.Request.TheVariants as request
 use Rattle.f11_store.proofs.SlotsFirst.{gained-is-ready}
-use Rattle.f11_serving.specs.files.Answers.{is_fatal}
 use Rattle.f11_making.specs.Asking.{Fails, Who, plain}
-use Rattle.f11_making.specs.FilesPlan.{AnswerOf, Asks, AsksFile, Carried, FilesPlan, Question, done, for_user}
+use Rattle.f11_making.specs.FilesPlan.{AnswerOf, Asks, AsksFile, Carried, Question, done, for_user}
 use Rattle.f11_making.specs.FilesPlan.{names, names_file, names_for, one, or_undone}
 use Rattle.f11_making.specs.Plan.{gives}
 use Rattle.f11_making.specs.Plans.{enters, is_absent, makes_directory, makes_empty, on_absent, directory_attributes}
 use Rattle.f11_making.specs.Telling.{AddsUp, IsTidy, bare, is_whole}
 use Rattle.f11_making.proofs.GainedLemmas.{enters-from}
 use Rattle.f11_making.proofs.PlanLemmas.{clean-if, clean-one, clean-then, goes-adds}
-use Rattle.f11_making.proofs.PlansLemmas.{tidy-entering}
+use Rattle.f11_making.proofs.PlansLemmas.{absent-ends, tidy-entering}
 use Rattle.f11_commands.specs.Stopping.{IsUnheld}
 
 -- what tasks hold is as it was
@@ -104,13 +103,6 @@ tidy-makes owner dir name protection attr =
     tidy-entering AsksApart dir name protection id tt (λ x. tt) tt)
 
 -- the look for a name that isn't to be there is tidy, too
-absent-ends : (p : FilesPlan (Result (Unit {0}) Refusal)) (e : Refusal) → is_fatal e ≡ true → on_absent p (Err e) ≡ gives (Err e)
-absent-ends p e fatal = ap (λ b. if b then p else gives (Err e)) (by e fatal)
-  where
-    by : (e : Refusal) → is_fatal e ≡ true → is_absent e ≡ false
-    by refusal.NoSuchEntry fatal = absurd (let never : false ≡ true = fatal in cc)
-    by _ fatal = refl
-
 tidy-directory : (owner : Uic) (master : FileId) (name : List ℕ) (protection : ℕ)
     → IsTidy AsksApart (makes_directory owner master name protection)
 tidy-directory owner master name protection =

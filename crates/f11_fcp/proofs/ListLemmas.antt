@@ -115,7 +115,7 @@ not-fatal (Err Damaged) none undamaged = absurd (cc)
 not-fatal (Err _) none undamaged = refl
 
 -- what is held is an access to a file that is there
-accessed : (t : AccessTable) (s : Store) → HasAccessed t s → AccessesStand (held_in t s)
+pub accessed : (t : AccessTable) (s : Store) → HasAccessed t s → AccessesStand (held_in t s)
 accessed t s kept task lun low small = by_entry (t task lun) (kept task lun low small)
   where
     by_entry : (o : Option Entry) → mark_there s o ≡ mark_kept o → is_lost (held_in t s) (option_map access_of o) ≡ false

@@ -195,7 +195,7 @@ clean-makes owner dir name protection attr =
     tidy-entering IsFitting dir name protection id tt (λ x. tt) tt)
 
 -- a look for a name that isn't to be there, and then this
-absent-ends : (p : FilesPlan (Result (Unit {0}) Refusal)) (e : Refusal) → is_fatal e ≡ true → on_absent p (Err e) ≡ gives (Err e)
+pub absent-ends : (p : FilesPlan (Result (Unit {0}) Refusal)) (e : Refusal) → is_fatal e ≡ true → on_absent p (Err e) ≡ gives (Err e)
 absent-ends p e fatal = ap (λ b. if b then p else gives (Err e)) (by e fatal)
   where
     by : (e : Refusal) → is_fatal e ≡ true → is_absent e ≡ false

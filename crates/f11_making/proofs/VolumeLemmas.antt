@@ -1,25 +1,23 @@
 -- A volume that is asked, seen as the plain store, and what its answers tell of its device.
-use Rattle.std.proofs.Common.{◌≡◌, ℕ, ◌+◌, ◌<◌, ◌&&◌, ◌||◌, not, Bool, true, false, IsTrue, if◌then◌else◌, [], ◌∷◌, Option, Some, None}
-use Rattle.std.proofs.Common.{Result, Ok, Err, is_none, option_map, refl, sym, ap, ◌∙◌, subst, arith}
+use Rattle.std.proofs.Common.{◌≡◌, ℕ, ◌+◌, ◌<◌, ◌&&◌, ◌||◌, not, Bool, true, false, IsTrue, if◌then◌else◌, [], ◌∷◌, Some}
+use Rattle.std.proofs.Common.{Result, Ok, Err, refl, sym, ap, ◌∙◌, subst, arith}
 use Rattle.f11_dev.specs.declared.device.Device.{Ghosts}
 use Rattle.f11_dev.proofs.LookedLemmas.{looked_none}
-use Rattle.f11_store.specs.Accesses.{FreeIsEmpty, mark_of}
-use Rattle.f11_store.specs.Causes.{◌⇐◌, first_of, holds_none, is_missing}
-use Rattle.f11_store.specs.File.{File, is_marked}
+use Rattle.f11_store.specs.Accesses.{FreeIsEmpty}
+use Rattle.f11_store.specs.Causes.{◌⇐◌, first_of, holds_none}
 use Rattle.f11_store.specs.Run.{Answer, Call}
-use Rattle.f11_store.specs.Store.{Store, file_of}
-use Rattle.f11_store.specs.declared.files.FileId.{FileId}
 use Rattle.f11_store.specs.declared.refusals.Refusal.{Refusal}
 use Rattle.f11_store.specs.declared.refusals.Refusal.TheVariants.{Damaged, DeviceFault, NoSuchAccess, VolumeFailed}
 use Rattle.f11_store.specs.declared.requests.Reply.{Reply}
 use Rattle.f11_runs.specs.Each.{Steps}
-use Rattle.f11_runs.specs.Standing.{AccessesStand, is_lost}
+use Rattle.f11_runs.specs.Standing.{AccessesStand}
 use Rattle.f11_runs.proofs.AccessLemmas.{true-false}
 use Rattle.f11_fcp.specs.files.Answers.{is_cause, is_fatal, is_fault, is_refused}
 use Rattle.f11_fcp.specs.files.Open.{store_in}
 use Rattle.f11_fcp.proofs.image_store.StoreLemmas.{unused-is-empty}
+use Rattle.f11_fcp.proofs.ListLemmas.{accessed}
 use Rattle.f11_fcp.specs.image_store.StoreOf.{store_of}
-use Rattle.f11_fcp.specs.Accesses.{Entry, HasAccessed, AccessTable, access_of, held_in, mark_kept, mark_there}
+use Rattle.f11_fcp.specs.Accesses.{held_in}
 use Rattle.f11_fcp.specs.Handles.{State, faults_in}
 use Rattle.f11_fcp.specs.Lengths.{AnswersLength, Measures}
 use Rattle.f11_fcp.specs.Lists.{ServesCall, failures_of, is_sound, store_of_volume}
@@ -43,21 +41,6 @@ pub parts-sound : (honest spent : Bool) → honest ≡ true → spent ≡ false 
 parts-sound true false h k = refl
 parts-sound true true h k = absurd (true-false k)
 parts-sound false spent h k = absurd (true-false (sym h))
-
-there-marked : (s : Store) (id : FileId) (m : Bool) → mark_of s id ≡ Some m → is_missing s id ≡ false
-there-marked s id m is = by_file (file_of s id) is
-  where
-    by_file : (o : Option File) → option_map (λ f. is_marked f) o ≡ Some m → is_none o ≡ false
-    by_file None h = absurd (cc)
-    by_file (Some f) h = refl
-
--- what tasks hold of a sound volume is there
-accessed : (t : AccessTable) (s : Store) → HasAccessed t s → AccessesStand (held_in t s)
-accessed t s kept task lun low small = by_entry (t task lun) (kept task lun low small)
-  where
-    by_entry : (o : Option Entry) → mark_there s o ≡ mark_kept o → is_lost (held_in t s) (option_map access_of o) ≡ false
-    by_entry None h = refl
-    by_entry (Some e) h = there-marked s e.file e.marked h
 
 plus-none : (n : ℕ) → n ≡ n + 0
 plus-none n = omega arith

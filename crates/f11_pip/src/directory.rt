@@ -34,7 +34,10 @@ pub fn owner_of(directory: Directory) -> Uic
 }
 
 /// Under which name the master file directory has a directory, and who owns it where it is made.
-pub fn place_of(directory: &Directory) -> (Name, Uic) {
+pub fn place_of(directory: &Directory) -> (Name, Uic)
+    ensures name { result.0 ≡ entry_name directory.now }
+    ensures owner { result.1 ≡ owner_in directory.now }
+{
     match directory {
         Directory::Of(user) => (directory_name(*user), *user),
         Directory::Named(name) => (*name, OPERATOR),

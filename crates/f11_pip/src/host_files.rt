@@ -1,4 +1,9 @@
 //! The commands on files of the host: which files they open, and how.
+ghost use Rattle.std.specs.Prelude.{◌≡◌};
+ghost use Rattle.f11_commands.specs.FoundFile.{reader_of};
+ghost use Rattle.f11_commands.specs.OpenEnd.{mode_of as mode_by_header};
+ghost use Rattle.f11_pip.specs.Taking.{mode_taken};
+
 use crate::heard::Heard;
 use crate::host_file::HostFile;
 use crate::image::{
@@ -40,7 +45,9 @@ pub struct Taking {
 
 impl Taking {
     /// As what a file that was found is copied.
-    pub fn mode_of(self, found: &FoundFile<ReadImage>) -> CopyMode {
+    pub fn mode_of(self, found: &FoundFile<ReadImage>) -> CopyMode
+        ensures { result ≡ mode_taken self.mode (mode_by_header (reader_of found.now)) }
+    {
         match self.mode {
             TakingMode::Copy(mode) => mode,
             TakingMode::Auto => found.mode(),

@@ -1,5 +1,5 @@
 -- What is told of the files of an accepted volume.
-use Rattle.std.proofs.Common.{◌≡◌, ◌≢◌, ℕ, zero, suc, ◌+◌, ◌-◌, ◌*◌, ◌<◌, ◌≤◌, ◌==◌, ◌&&◌, Bool, true, false, not, if◌then◌else◌, nat_le}
+use Rattle.std.proofs.Common.{◌≡◌, ℕ, zero, suc, ◌+◌, ◌-◌, ◌*◌, ◌<◌, ◌≤◌, ◌&&◌, Bool, true, false, if◌then◌else◌, nat_le}
 use Rattle.std.proofs.Common.{IsTrue}
 use Rattle.std.proofs.Common.{List, [], ◌∷◌, ◌++◌, length, map, filter, flat_map, get_or, take, Option, Some, None, refl, sym, ap, ◌∙◌}
 use Rattle.std.proofs.Common.{subst}
@@ -11,7 +11,7 @@ use Rattle.rt11_volume.specs.Files.{faults_in}
 use Rattle.rt11_volume.specs.declared.refusal.RtRefusal.{RtRefusal}
 use Rattle.std.specs.Int.{bit_at}
 use Rattle.std.specs.List.{All, range_with_len, slice_get}
-use Rattle.std.proofs.lemmas.Bool.{and_parts, eq-eqb, eqb-true, ne_eqb}
+use Rattle.std.proofs.lemmas.Bool.{eqb-true}
 use Rattle.std.proofs.lemmas.Bool.Decides.{nat_tests}
 use Rattle.std.proofs.lemmas.List.{append-nil, take_all, take_more}
 use Rattle.std.proofs.lemmas.List.Elements.{All-append, All-nil, filter_more}
@@ -20,7 +20,6 @@ use Rattle.std.proofs.lemmas.Option.{get_or_from_slice_get, slice_get-get_or, sl
 use Rattle.f11_dev.specs.Disk.{Disk}
 use Rattle.f11_dev.specs.Image.{Image}
 use Rattle.f11_dev.specs.Looked.{Looked}
-use Rattle.f11_rad50.specs.Name.{is_name}
 use Rattle.rt11_volume.specs.AnyDirectory.{directory_entries, entries_in, entries_told, entry_of_segment, has_name, is_file_area}
 use Rattle.rt11_volume.specs.AnyDirectory.{is_sound_file_named, name_if_any}
 use Rattle.rt11_volume.specs.Directory.{segment_of, visited}
@@ -32,10 +31,10 @@ use Rattle.rt11_volume.specs.Segment.{Segment, area_start, extra_bytes, segment_
 use Rattle.rt11_volume.specs.Store.{rt_store_of}
 use Rattle.rt11_volume.specs.Verifying.Verdict.{IsRtAccepted, IsSoundDisk}
 use Rattle.rt11_volume.specs.declared.any_entries.RtEntry.{RtEntry}
-use Rattle.rt11_volume.specs.declared.area.RtKind.TheVariants.{Tentative, Empty, Permanent}
 use Rattle.rt11_volume.proofs.Named.Placing.{at_start, placed-append, placed-more, placed-nil, segments-more, segments-nil}
 use Rattle.rt11_volume.proofs.Rewriting.Entries.{entry-read}
 use Rattle.rt11_volume.proofs.Searching.File.{area-ends}
+use Rattle.rt11_volume.proofs.SurveyFiles.{kind-file, name-same}
 use Rattle.rt11_volume.proofs.Verifying.Sound.{IsSoundImage, sound_from}
 use Rattle.rt11_squeeze.specs.Squeezing.{AreTold, IsTold}
 use Rattle.rt11_squeeze.specs.Telling.{TellsAll, TellsFile, TellsFiles, as_list, date_in, date_told}
@@ -90,44 +89,6 @@ like-none S _ AreAlike.none = refl
 like-one : (S : RtEntry → Placed → Type 0) (e : RtEntry) (ps : List Placed) → AreAlike S (e ∷ []) ps → IsLikeOne S e ps
 like-one S e _ (AreAlike.more _ p _ ps one rest) =
     record { p = p; one = ap (λ (qs : List Placed). p ∷ qs) (like-none S ps rest); like = one }
-
--- a status of one kind is that of a file where its bit says so
-kind-file : (a b c : ℕ) → a + b + c ≡ 1
-    → is_file_area (Some (if a == 1 then Tentative else (if b == 1 then Empty else Permanent))) ≡ (c == 1)
-kind-file a b c one = by (a == 1) (b == 1) refl refl
-  where
-    by : (p q : Bool) → (a == 1) ≡ p → (b == 1) ≡ q
-        → is_file_area (Some (if a == 1 then Tentative else (if b == 1 then Empty else Permanent))) ≡ (c == 1)
-    by true q is also =
-        let none : (c == 1) ≡ false = ne_eqb c 1 (λ same. omega (arith, one, eqb-true a 1 is, same)) in
-        rw is (sym none)
-    by false true is also =
-        let none : (c == 1) ≡ false = ne_eqb c 1 (λ same. omega (arith, one, eqb-true b 1 also, same)) in
-        rw (is, also) (sym none)
-    by false false is also =
-        let low : a ≢ 1 = λ same. let clash : true ≡ false = sym (eq-eqb a 1 same) ∙ is in absurd (cc) in
-        let lower : b ≢ 1 = λ same. let clash : true ≡ false = sym (eq-eqb b 1 same) ∙ also in absurd (cc) in
-        let all : (c == 1) ≡ true = eq-eqb c 1 (omega (arith, one, low, lower)) in
-        rw (is, also) (sym all)
-
--- a name is that of an entry where their words are the same
-name-same : (name words : List ℕ) → is_rt_name name ≡ true → has_name name (name_if_any words) ≡ is_same_name words name
-name-same name words proper = by (is_rt_name words) (is_same_name words name) refl refl
-  where
-    by : (b c : Bool) → is_rt_name words ≡ b → is_same_name words name ≡ c → has_name name (name_if_any words) ≡ is_same_name words name
-    by true c is same = rw is refl
-    by false false is same = rw (is, same) refl
-    by false true is same =
-        let first = and_parts (get_or words 0 0 == get_or name 0 0)
-        (get_or words 1 0 == get_or name 1 0 && get_or words 2 0 == get_or name 2 0) same in
-        let rest = and_parts (get_or words 1 0 == get_or name 1 0) (get_or words 2 0 == get_or name 2 0) first.1 in
-        let one = eqb-true (get_or words 0 0) (get_or name 0 0) first.0 in
-        let two = eqb-true (get_or words 1 0) (get_or name 1 0) rest.0 in
-        let three = eqb-true (get_or words 2 0) (get_or name 2 0) rest.1 in
-        let alike : is_rt_name words ≡ is_rt_name name = λ t.
-        not (one t == 0) && is_name (one t ∷ two t ∷ 0 ∷ three t ∷ 1 ∷ []) in
-        let clash : true ≡ false = sym proper ∙ sym alike ∙ is in
-        absurd (cc)
 
 -- an entry of an accepted image, and where it is placed
 entry-tells : (image : Image) (name : List ℕ) (place k i : ℕ) → IsSoundImage image → is_rt_name name ≡ true

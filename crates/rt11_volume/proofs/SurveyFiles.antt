@@ -96,7 +96,7 @@ blocks-same image start n behind on =
     ∙ sym (ap (λ (b : Bool). if b then image_block image (start + i) else []) high))
 
 -- a status of one kind is that of a file where its bit says so
-kind-file : (a b c : ℕ) → a + b + c ≡ 1
+pub kind-file : (a b c : ℕ) → a + b + c ≡ 1
     → is_file_area (Some (if a == 1 then Tentative else (if b == 1 then Empty else Permanent))) ≡ (c == 1)
 kind-file a b c one = by (a == 1) (b == 1) refl refl
   where
@@ -115,7 +115,7 @@ kind-file a b c one = by (a == 1) (b == 1) refl refl
         rw (is, also) (sym all)
 
 -- a name is that of an entry where their words are the same
-name-same : (name words : List ℕ) → is_rt_name name ≡ true → has_name name (name_if_any words) ≡ is_same_name words name
+pub name-same : (name words : List ℕ) → is_rt_name name ≡ true → has_name name (name_if_any words) ≡ is_same_name words name
 name-same name words proper = by (is_rt_name words) (is_same_name words name) refl refl
   where
     by : (b c : Bool) → is_rt_name words ≡ b → is_same_name words name ≡ c → has_name name (name_if_any words) ≡ is_same_name words name
