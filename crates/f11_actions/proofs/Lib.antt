@@ -1,5 +1,6 @@
 pub mod AllLemmas
 pub mod ChangeLemmas
 pub mod CommandLemmas
+pub mod RtNamedLemmas
 pub mod TriedLemmas
 pub mod WouldLemmas

@@ -11,6 +11,7 @@ pub mod Meant
 pub mod Named
 pub mod Plans
 pub mod Protection
+pub mod RtNamed
 pub mod Taking
 pub mod Tried
 pub mod Would

@@ -3,6 +3,7 @@ use Rattle.std.specs.Prelude.{ℕ, ◌+◌, List, [], ◌∷◌, ◌++◌, lengt
 use Rattle.std.specs.Fmt.{decimal}
 use Rattle.std.specs.List.{concat}
 use Rattle.f11_rad50.specs.Name.{name_text}
+use Rattle.rt11_volume.specs.RtName.{rt_name_text}
 use Rattle.f11_store.specs.Refusal.{refusal_name}
 use Rattle.f11_store.specs.declared.refusals.Refusal.{Refusal}
 use Rattle.f11_making.specs.declared.action.Action.{Action}
@@ -72,6 +73,10 @@ would_lines actions = concat (map would_line actions) ++ all_would_line (length 
 
 abbrev pub copy_line : List ℕ → List ℕ
 copy_line name = would_be_line name (codes "copied")
+
+-- that of a file of an RT-11 volume
+abbrev pub rt_copy_line : List ℕ → List ℕ
+rt_copy_line name = concat (rt_name_text name ∷ codes " would be copied" ∷ (10 ∷ []) ∷ [])
 
 abbrev pub copy_lines : List (List ℕ) → List ℕ
 copy_lines names = concat (map copy_line names) ++ all_would_line (length names) (codes "copied")

@@ -4,6 +4,7 @@ use Rattle.f11_dev.specs.Disk.{Disk}
 use Rattle.f11_commands.specs.DirectoryNames.{FindsNames, HasNoNames}
 use Rattle.f11_commands.specs.declared.name_list.NoNames.{NoNames}
 use Rattle.f11_patterns.specs.Naming.{GetNames, IsFound, IsNextName}
+use Rattle.f11_patterns.specs.declared.names.HostNames.{HostNames}
 use Rattle.f11_patterns.specs.declared.naming.OneName.{OneName}
 use Rattle.f11_patterns.specs.declared.naming.OneName.TheVariants as one
 
@@ -32,8 +33,8 @@ abbrev pub TellsNext : List ℕ → OneName → List ℕ → Disk → Disk → T
 TellsNext directory named name old new = TellsName IsNextName directory named name old new
 
 -- Files of the host with these paths get these names in a directory, one behind another, beside those that are there.
-pub record TellsNew (directory : List ℕ) (paths : List (List ℕ)) (names : List (Option (List ℕ))) (why : Option NoNames) (old new : Disk)
-    : Type 0 where
+pub record TellsNew (fitting : HostNames) (directory : List ℕ) (paths : List (List ℕ)) (names : List (Option (List ℕ)))
+    (why : Option NoNames) (old new : Disk) : Type 0 where
   pub there : List (List ℕ)
   pub are : ThereAre why directory there old new
-  pub get : GetNames there paths names
+  pub get : GetNames fitting there paths names

@@ -1,12 +1,13 @@
 //! The lines of actions.
 ghost use Rattle.std.specs.Prelude.{◌≡◌, OnOk};
 ghost use Rattle.std.specs.Prelude.{codes};
-ghost use Rattle.f11_actions.specs.Lines.{action_line, all_line, all_would_line, copy_line, name_in, would_line};
+ghost use Rattle.f11_actions.specs.Lines.{action_line, all_line, all_would_line, copy_line, name_in, rt_copy_line, would_line};
 ghost use Rattle.f11_commands.specs.Output.{WriterTakes};
 
 use f11_making::Action;
 use f11_rad50::Name;
 use f11_store::Refusal;
+use rt11_volume::RtName;
 use std::fmt;
 use std::io::{self, Write};
 
@@ -115,6 +116,13 @@ pub(crate) fn write_all_would_line<W: Write>(writer: &mut W, count: usize) -> io
 /// Writes the line of a file that would be copied, `NAME.TYP;V would be copied`.
 pub fn write_copy_line<W: Write>(writer: &mut W, name: &Name) -> io::Result<()>
     ensures { OnOk result (WriterTakes W.contents writer.old writer.new (copy_line name.now)) }
+{
+    writeln!(writer, "{name} would be copied")
+}
+
+/// Writes the line of a file of an RT-11 volume that would be copied, `NAME.TYP would be copied`.
+pub fn write_rt_copy_line<W: Write>(writer: &mut W, name: &RtName) -> io::Result<()>
+    ensures { OnOk result (WriterTakes W.contents writer.old writer.new (rt_copy_line name.now)) }
 {
     writeln!(writer, "{name} would be copied")
 }

@@ -5,7 +5,7 @@ ghost use Rattle.f11_commands.specs.DirectoryNames.{FailsToFindNames};
 
 use f11_commands::{Failure, NoNames, directory_names};
 use f11_dev::Device;
-use f11_patterns::{OneName, names_of};
+use f11_patterns::{HostNames, OneName, names_of};
 use f11_rad50::Name;
 use std::alloc::Global;
 
@@ -81,8 +81,8 @@ pub fn next_name<D: Device>(
 }
 
 /// The names that files of the host with these paths get in such a directory, one behind another, by the last parts of their paths
-/// ([`names_of`]), beside those that the directory has, and why it has none where it can't be read. `None` is for one whose last part names no
-/// file. Nothing is written to the volume.
+/// ([`names_of`]), beside those that the directory has, and why it has none where it can't be read. One whose last part names no file gets
+/// `None`, or, where names are fitted, a fitted one, and `None` where no character of it stays. Nothing is written to the volume.
 ///
 /// # Errors
 ///
@@ -92,15 +92,16 @@ pub fn new_names<D: Device>(
     device: &mut D,
     directory: &Name,
     paths: &[&str],
+    fitting: HostNames,
 ) -> Result<(Vec<Option<Name>>, Option<NoNames>), Failure>
     ensures names { IfOk result (λ answer.
-        TellsNew directory.now (map (λ path. path.now) paths.now) answer.0.items answer.1
-        (D.disk device.old) (D.disk device.new)) }
+        TellsNew fitting directory.now (map (λ path. path.now) paths.now)
+        answer.0.items answer.1 (D.disk device.old) (D.disk device.new)) }
     ensures failed { IfErr result (λ failure.
         FailsToFindNames failure (D.disk device.old) (D.disk device.new)) }
 {
     let (there, why) = names_there(alloc, device, directory)?;
-    match names_of(alloc, there, paths) {
+    match names_of(alloc, there, paths, fitting) {
         Ok(names) => Ok((names, why)),
         Err(_) => Err(Failure::NoMemory),
     }

@@ -1,5 +1,7 @@
 -- What each step of taking out all files tells.
-use Rattle.std.proofs.Common.{◌≡◌, ℕ, Bool, IsTrue, List, Option, length, refl, sym, ap, subst, ◌∙◌}
+use Rattle.std.proofs.Common.{◌≡◌, ℕ, ◌+◌, ◌&&◌, min, Bool, true, false, IsTrue, List, Option, None, length, refl, sym, ap, subst, ◌∙◌}
+use Rattle.std.proofs.Common.{arith}
+use Rattle.std.specs.Prelude.{is_some, not, option_map}
 use Rattle.f11_catalog.proofs.ListingLemmas.{reads-then, said-later}
 use Rattle.f11_catalog.proofs.EnteredLemmas.{hand-on, master-on}
 use Rattle.f11_catalog.proofs.FilesLemmas.{files-later}
@@ -15,26 +17,39 @@ use Rattle.f11_catalog.specs.declared.walk.content.Content.TheVariants.{File, Mi
 use Rattle.f11_catalog.specs.declared.walk.place.FileAt.{FileAt}
 use Rattle.f11_catalog.specs.declared.walk.place.Place.{Place}
 use Rattle.f11_catalog.specs.declared.walk.state.AllFiles.{AllFiles}
+use Rattle.f11_dev.proofs.LookedLemmas.{looked_more, looked_within}
 use Rattle.f11_dev.specs.Disk.{Disk}
+use Rattle.f11_dev.specs.Looked.{Looked}
 use Rattle.f11_dev.specs.declared.device.Device.{Ghosts}
 use Rattle.f11_dev.specs.Image.{Image}
+use Rattle.f11_flx.specs.Lines.{text_with}
+use Rattle.f11_flx.specs.declared.line_end.LineEnd.TheVariants.{Lf}
+use Rattle.f11_header.specs.Fields.{attributes}
 use Rattle.f11_home.specs.Home.{HomeFields}
 use Rattle.f11_index.proofs.UsedLemmas.{all-lies-within}
 use Rattle.f11_index.specs.IndexFile.{Index, all_in_use, index_of}
 use Rattle.f11_index.specs.Table.{Table, table_in, table_of}
 use Rattle.f11_index.specs.Kept.{IndexLiesWithin}
+use Rattle.f11_reader.specs.Missing.{FindsMissing, missing_of}
+use Rattle.f11_reader.specs.Reading.{header_in_hand, headers_left}
 use Rattle.f11_reader.specs.declared.file.FileReader.{FileReader}
+use Rattle.f11_store.specs.File.{no_file, stated_end}
 use Rattle.f11_store.specs.declared.files.FileId.{FileId}
 use Rattle.f11_commands.specs.AllCommand.{LeavesOut, TakesNext}
 use Rattle.f11_commands.specs.AllCommand.{BeginsAll, BeginsWithEnd, CanBeRead, FailsToBeginAll, FailsWithEnd, TakesAtEnd, TakesFile}
 use Rattle.f11_commands.specs.AllCommand.{nothing, part, to_end, unsure}
 use Rattle.f11_commands.specs.AllCommand.{whole}
+use Rattle.f11_commands.specs.AllText.{FindsFileText, LooksThrough, TakesTextNext, TextsAreWhole, can_be_text, has_all_blocks}
+use Rattle.f11_commands.specs.AllText.{may_be_lines, states_end}
 use Rattle.f11_commands.specs.AnyVolume.{FindsVolume, IsReadable}
 use Rattle.f11_commands.specs.Copying.{master_directory}
 use Rattle.f11_commands.specs.Size.{volume_end, volume_end_on}
+use Rattle.f11_commands.specs.TakingOut.{blocks_before_end, lbns_to_come}
+use Rattle.f11_commands.specs.TakingText.{ReadsRecords, TellsRecords, has_all_records, lines_of_records}
 use Rattle.f11_commands.specs.declared.outcome.Failure.{Failure}
 use Rattle.f11_commands.specs.declared.outcome.Failure.TheVariants.{DeviceFault, NoMemory, CannotWrite}
 use Rattle.f11_commands.proofs.AnyVolumeLemmas.{hindered-behind, index-of-volume, said-of-volume}
+use Rattle.f11_commands.proofs.TakingOutLemmas.{contents-stay}
 use Rattle.f11_commands.specs.declared.get.all.left_out.LeftOut.TheVariants as left
 use Rattle.f11_commands.specs.declared.get.all.state.TakingAll.{TakingAll}
 use Rattle.f11_commands.specs.declared.get.all.taking.Taken.{Taken}
@@ -75,6 +90,92 @@ module _ {D : Type 0} {G : Ghosts D} {H W : Type 0} where
   leaves-next place content beside disk all later held host contents before after absence id is same leaves =
       subst (λ (t : Content). TakesNext place t beside disk all later held host host contents before after) (sym is)
       (refl, subst (λ (i : FileId). LeavesOut place (left.Missing i absence) all later contents before after) same leaves)
+
+  pub leaves-text : (place : Place) (content : Content) (beside : Option FileId) (disk : D → Disk) (all later : TakingAll D G)
+      (held : H → Option (List ℕ)) (host : H) (contents : W → Option (List ℕ)) (before after : W) (absence : Absence) (id : FileId)
+      → content ≡ Missing absence → id ≡ id_of place → LeavesOut place (left.Missing id absence) all later contents before after
+      → TakesTextNext place content beside disk all later held host host contents before after
+  leaves-text place content beside disk all later held host contents before after absence id is same leaves =
+      subst (λ (t : Content). TakesTextNext place t beside disk all later held host host contents before after) (sym is)
+      (refl, subst (λ (i : FileId). LeavesOut place (left.Missing i absence) all later contents before after) same leaves)
+
+-- a file was looked through: its headers alone, or its records behind them
+looks-headers : (file : FileReader) (old new : Disk) (faults : ℕ) → Looked old new (headers_left file + faults) faults
+    → LooksThrough file old new faults
+looks-headers file old new faults looked = record { blocks = 0; few = omega arith; looked = looked_within looked (omega arith) }
+
+pub looks-records : (index : Index) (file : FileReader) (old mid new : Disk) (faults : ℕ) → Looked old mid (headers_left file) 0
+    → ReadsRecords index file mid new faults → LooksThrough file old new faults
+looks-records index file old mid new faults looked reads = record {
+  blocks = reads.blocks;
+  few = reads.few;
+  looked = looked_within (looked_more looked reads.looked) (omega arith);
+}
+
+-- a device that was looked at has the same records of a file
+records-stay : (index : Index) (file : FileReader) (old mid : Disk) (most faults : ℕ) → Looked old mid most faults
+    → has_all_records index mid file ≡ has_all_records index old file
+records-stay index file old mid most faults looked =
+    ap (λ (bs : List (List ℕ)). is_some (lines_of_records (record no_file { attr = attributes (header_in_hand file); blocks = bs })))
+    (contents-stay index file old mid most faults looked)
+
+-- it was found whether each block before a file's end is there
+module _ (index : Index) (size : ℕ) (by_header : Bool) (file : FileReader) (old mid : Disk) (may : Bool) (there blocks : ℕ)
+    (may-is : may ≡ (states_end file && may_be_lines by_header file)) (may-be : may ≡ true) (there-is : there ≡ min size (length old.image))
+    (blocks-are : blocks ≡ blocks_before_end (stated_end (attributes (header_in_hand file)))) (missing : Option ℕ)
+    (finds : FindsMissing index file there blocks missing old mid) where
+  blocks-found : IsTrue old.honest → not (is_some missing) ≡ has_all_blocks index size old file
+  blocks-found honest =
+      ap (λ (m : Option ℕ). not (is_some m))
+      (finds.missing_is honest
+      ∙ ap (λ (n : ℕ). missing_of there n (lbns_to_come index old file)) blocks-are
+      ∙ ap (λ (n : ℕ). missing_of n (blocks_before_end (stated_end (attributes (header_in_hand file)))) (lbns_to_come index old file))
+      there-is)
+
+  judged : (answer : Bool) → IsTrue old.honest → answer ≡ (not (is_some missing) && has_all_records index old file)
+      → answer ≡ can_be_text index size by_header old file
+  judged answer honest is =
+      is
+      ∙ ap (λ (b : Bool). b && has_all_records index old file) (blocks-found honest)
+      ∙ ap (λ (b : Bool). b && (has_all_blocks index size old file && has_all_records index old file)) (sym may-be ∙ may-is)
+
+  -- one isn't, and the file is no text
+  pub finds-missing : is_some missing ≡ true → FindsFileText index size by_header file false old mid
+  finds-missing some = record {
+    answer_is = λ honest. judged false honest (ap (λ (b : Bool). not b && has_all_records index old file) (sym some));
+    looks = looks-headers file old mid 0 (looked_within finds.looked (omega arith));
+  }
+
+  -- or all are, and it is one where all its records can be read
+  pub finds-records : missing ≡ None → (answer : Bool) (new : Disk) → TellsRecords index file answer mid new
+      → FindsFileText index size by_header file answer old new
+  finds-records none answer new tells = record {
+    answer_is = λ honest.
+        judged answer honest
+        (tells.tells (finds.looked.honest ∙ honest)
+        ∙ records-stay index file old mid _ _ finds.looked
+        ∙ ap (λ (m : Option ℕ). not (is_some m) && has_all_records index old file) (sym none));
+    looks = looks-records index file old mid new 0 finds.looked tells.reads;
+  }
+
+-- a text is one whose records can all be read
+last-of : (a b c d : Bool) → ((a && b) && (c && d)) ≡ true → d ≡ true
+last-of true true true d is = is
+last-of true true false d is = absurd (cc)
+last-of true false c d is = absurd (cc)
+last-of false b c d is = absurd (cc)
+
+-- so none of them goes past its end
+pub texts-whole : TextsAreWhole
+texts-whole index size by_header file old mid text honest is looks good =
+    let all-records = last-of (states_end file) (may_be_lines by_header file) (has_all_blocks index size old file)
+    (has_all_records index old file) is in
+    let none : has_all_records index mid file ≡ false =
+    ap (λ (records : Option (List (List ℕ))). is_some (option_map (text_with Lf) records)) (good.bad (looks.looked.honest ∙ honest)) in
+    let same : has_all_records index mid file ≡ has_all_records index old file =
+    records-stay index file old mid _ _ looks.looked in
+    let never : false ≡ true = sym none ∙ same ∙ all-records in
+    absurd cc
 
 -- behind some reads the same directories are read, and the index file lies on the device
 pub walking-on : (index wide : Index) (files : AllFiles) (old new : Disk) (faults : ℕ) → Reads old new faults

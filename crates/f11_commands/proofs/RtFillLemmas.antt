@@ -1,5 +1,5 @@
 -- A file of an RT-11 volume that is filled block by block with bytes that are read.
-use Rattle.std.proofs.Common.{◌≡◌, ℕ, ◌+◌, ◌-◌, ◌*◌, ◌<◌, ◌≤◌, Bool, true, false, List, [], ◌∷◌, ◌++◌}
+use Rattle.std.proofs.Common.{◌≡◌, ℕ, ◌+◌, ◌||◌, ◌-◌, ◌*◌, ◌<◌, ◌≤◌, Bool, true, false, List, [], ◌∷◌, ◌++◌}
 use Rattle.std.proofs.Common.{min, Option, Err, refl, ap, ◌∙◌, subst, arith}
 use Rattle.std.specs.Prelude.{⊤}
 use Rattle.f11_dev.specs.Disk.{Disk}
@@ -83,6 +83,8 @@ module _ {E : Type 0} {met : Ghosts E} (disk : E → Disk) (name : List ℕ) (by
           → StopsFilling disk blocks e old new
       stops-filling blocks e new fresh file inside fails went = record {
         fresh = fails.refused.alive (still-fresh fresh);
+        next = fails.refused.fares.next
+            ∙ ap (λ (b : Bool). b || is_fault e) (puts-so-far.fares.next ∙ or-false (has_failed old));
         fault = λ s. by s (is_fault e) refl;
         front = λ s.
             front-then (rt_disk disk old) (rt_disk disk now) (rt_disk disk new) (puts-so-far.fares.front s)

@@ -1,5 +1,5 @@
 -- A file of an RT-11 volume that is made, filled, and undone.
-use Rattle.std.proofs.Common.{◌≡◌, inl, inr, ℕ, ◌<◌, Bool, true, false, List, Option, Err}
+use Rattle.std.proofs.Common.{◌≡◌, inl, inr, ℕ, ◌<◌, ◌||◌, Bool, true, false, List, Option, Err}
 use Rattle.std.proofs.Common.{[], if◌then◌else◌, refl, sym, ap, ◌∙◌, subst, arith}
 use Rattle.f11_dev.specs.Disk.{Disk}
 use Rattle.f11_dev.specs.declared.device.Device.{Ghosts}
@@ -17,7 +17,7 @@ use Rattle.f11_commands.specs.RtDelete.{delete_transfers}
 use Rattle.f11_commands.specs.RtFilling.{FillsNamed, LacksBytes, StopsFilling, UndoesStoring, stop_of}
 use Rattle.f11_host.specs.Pieces.{blocks_for}
 use Rattle.f11_commands.specs.RtPut.{IsNotStored, IsStored, IsUnstored, PutsFile}
-use Rattle.f11_commands.specs.RtPut.{put_transfers}
+use Rattle.f11_commands.specs.RtPut.{is_fault_of, put_transfers}
 use Rattle.f11_commands.specs.declared.rt_file.Stop.{Stop}
 use Rattle.f11_commands.specs.declared.rt_file.Stop.TheVariants.{Volume, Host}
 use Rattle.f11_flx.proofs.RtFiles.TargetLemmas.{transfers-within}
@@ -55,6 +55,16 @@ module _ {E : Type 0} {met : Ghosts E} (disk : E → Disk) (name : List ℕ) (by
         front = λ s. front-on (rt_disk disk new) (λ made-sound. fills.puts.fares.front made-sound) s;
         went = transfers-within (transfers-more went fills.went) (omega arith);
       }
+
+      -- no call on it has answered `DeviceFault` behind the last block
+      pub next-stored : (blocks : ℕ) (unread' : Option (List ℕ)) (new : RtAccepted E met)
+          → FillsNamed disk name bytes blocks unread unread' made new → has_failed new ≡ false
+      next-stored blocks unread' new fills = fills.puts.fares.next ∙ or-false (has_failed made) ∙ made-fresh
+
+      -- nor one that wasn't a fault
+      pub next-stopped : (e : RtRefusal) (new : RtAccepted E met) → StopsFilling disk (blocks_for bytes) e made new
+          → has_failed new ≡ is_fault e
+      next-stopped e new stops = stops.next ∙ ap (λ (b : Bool). b || is_fault e) made-fresh
 
       pub stopped : (e : RtRefusal) (new : RtAccepted E met) → StopsFilling disk (blocks_for bytes) e made new
           → IsNotStored name bytes e (rt_disk disk old) (rt_disk disk new)
@@ -102,15 +112,30 @@ module _ {E : Type 0} {met : Ghosts E} (disk : E → Disk) (name : List ℕ) (by
           went = all last;
         }
 
+        left-fresh : has_failed left ≡ false
+        left-fresh = lacks.puts.fares.next ∙ or-false (has_failed made) ∙ made-fresh
+
         -- on a sound disk it is deleted
         kept-never : (e : RtRefusal) → FailsDeleting disk name e left new → is_fault e ≡ false → IsSoundDisk (rt_disk disk old) → ⊥
         kept-never e refused none s =
             let m = makes.made s in
             let w = has-written name 0 lacks.pieces m.file [] (rt_store disk made) (rt_store disk left) m.one
             (lacks.puts.replaced (makes.sound s)) in
-            let alive : has_failed left ≡ false = lacks.puts.fares.next ∙ or-false (has_failed made) ∙ made-fresh in
-            never (sym (refused.protected (lacks.puts.sound (makes.sound s)) alive none (record m.file { contents = w.contents }) [] w.is)
+            never (sym (refused.protected (lacks.puts.sound (makes.sound s)) left-fresh none (record m.file { contents = w.contents }) []
+            w.is)
             ∙ m.unprotected)
+
+        -- nor behind the deletion
+        pub next-undone : (stop : Stop) → UndoesStoring disk name stop left new → has_failed new ≡ is_fault_of (Err stop)
+        next-undone stop (inl g) =
+            g.deleted.fares.next ∙ or-false (has_failed left) ∙ left-fresh ∙ ap (λ (x : Stop). is_fault_of (Err x)) (sym g.stop_is)
+        next-undone stop (inr g) =
+            g.refused.refused.fares.next ∙ ap (λ (b : Bool). b || is_fault g.e) left-fresh ∙ by (is_fault g.e) refl
+            ∙ ap (λ (x : Stop). is_fault_of (Err x)) (sym g.stop_is)
+          where
+            by : (b : Bool) → is_fault g.e ≡ b → b ≡ is_fault_of (Err (if b then Volume g.e else Host))
+            by true is = sym is
+            by false is = refl
 
         pub undone : (unread' : Option (List ℕ)) (stop : Stop) → UndoesStoring disk name stop left new
             → PutsFile name bytes (Err stop) unread unread' (rt_disk disk old) (rt_disk disk new)
@@ -127,7 +152,7 @@ module _ {E : Type 0} {met : Ghosts E} (disk : E → Disk) (name : List ℕ) (by
                 subst (λ (b : Bool). PutsFile name bytes (Err (if b then Volume g.e else Host)) unread unread' (rt_disk disk old)
                 (rt_disk disk new)) (sym is) (record {
                   fresh = g.refused.refused.alive
-                      (lacks.puts.fares.next ∙ or-false (has_failed made) ∙ made-fresh);
+                      (left-fresh);
                   why = λ none s. absurd (never (sym is ∙ none));
                   stays = λ none s. absurd (never (sym is ∙ none));
                   front = front-all (λ s. g.refused.refused.fares.front s);

@@ -1,7 +1,7 @@
 -- The text of a file's records, written block by block.
-use Rattle.std.proofs.Common.{◌≡◌, ℕ, ◌+◌, ◌-◌, ◌*◌, ◌<◌, ◌≤◌, min, false, IsTrue, List, [], ◌∷◌, ◌++◌, length, take, drop, map}
+use Rattle.std.proofs.Common.{◌≡◌, ℕ, ◌+◌, ◌-◌, ◌*◌, ◌<◌, ◌≤◌, min, Bool, false, true, IsTrue, List, [], ◌∷◌, ◌++◌, length, take, drop, map}
 use Rattle.std.proofs.Common.{Option, Some, None, refl, sym, ap, subst, ◌∙◌, inl, inr, arith, append_assoc, length-append, length-drop}
-use Rattle.std.specs.Prelude.{slice_range, option_and_then, option_map, unwrap_or}
+use Rattle.std.specs.Prelude.{is_some, slice_range, option_and_then, option_map, unwrap_or}
 use Rattle.std.specs.List.{concat}
 use Rattle.std.proofs.KnownBytes.{Appends-nil}
 use Rattle.std.proofs.Math.Seq.{drop-length, take-nil}
@@ -37,8 +37,8 @@ use Rattle.f11_store.specs.File.{File, end_of, length_of, stated_end}
 use Rattle.f11_volume.specs.Contents.{block_or_zeros}
 use Rattle.f11_commands.specs.TakingOut.{ReadsBefore}
 use Rattle.f11_commands.specs.TakingText.{BeginsText, BreaksOffText, FailsToPour, FailsToWriteText, GivesGoodText, GivesText}
-use Rattle.f11_commands.specs.TakingText.{IsGoodTextOf, IsTextBeforeBad, IsWholeText, PoursText, ReadsRecords, WritesGoodText}
-use Rattle.f11_commands.specs.TakingText.{CountsBefore, WritesText, all_to_come, blocks_until, file_until, good_lines}
+use Rattle.f11_commands.specs.TakingText.{IsGoodTextOf, IsTextBeforeBad, IsWholeText, PoursText, ReadsRecords, SkimsFile, WritesGoodText}
+use Rattle.f11_commands.specs.TakingText.{CountsBefore, WritesText, all_to_come, blocks_until, file_until, good_lines, lines_of_records}
 use Rattle.f11_commands.specs.declared.outcome.Failure.{Failure}
 use Rattle.f11_commands.specs.declared.outcome.Failure.TheVariants.{DeviceFault, NoMemory, CannotWrite}
 use Rattle.f11_commands.proofs.TakingOutLemmas.{Taken, contents-stay, taken-more}
@@ -259,6 +259,22 @@ module _ (index : Index) (file later : FileReader) (t : ToText) (left k : ℕ) (
     looked = looked_within (looked_more taken.looked fails.looked) (omega (arith, taken.forward, taken.near));
   }
 
+-- a text of all records is given, or none is, since a record goes past the end
+module _ (index : Index) (file : FileReader) (t : ToText) (old new : Disk) (text : List ℕ) where
+  pub skims-whole : (count : ℕ) → IsWholeText index file t count old text → ReadsBefore index file (rest_of t) old new 0
+      → SkimsFile index file t true old new
+  skims-whole count whole reads = record {
+    tells = λ honest long. sym (ap is_some (whole.is honest long));
+    reads = reads;
+  }
+
+  pub skims-bad : IsTextBeforeBad index file t old text → ReadsBefore index file (rest_of t) old new 0
+      → SkimsFile index file t false old new
+  skims-bad bad reads = record {
+    tells = λ honest long. sym (ap is_some (bad.is honest long all));
+    reads = reads;
+  }
+
 -- the next block was read, and converted up to the end
 pub taken-poured : (index : Index) (file later : FileReader) (t t' u : ToText) (k : ℕ) (bytes : List ℕ) (old now : Disk)
     → Taken index file later (rest_of t) (rest_of t') k bytes old now
@@ -372,6 +388,9 @@ module _ (index : Index) (file : FileReader) (broke : Option ℕ) (blocks : ℕ)
           (unwrap_or (option_map (λ layout. good_in layout (take (end_of come) (concat come.blocks))) l) [])) no-layout);
     }
 
+    pub no-lines : IsTrue old.honest → false ≡ is_some (lines_of_records come)
+    no-lines honest = sym (ap (λ (records : Option (List (List ℕ))). is_some (option_map (text_with Lf) records)) (no-records.bad honest))
+
     pub reads-counted : ReadsRecords index file old mid 0
     reads-counted = record {
       blocks = 0;
@@ -404,7 +423,12 @@ module _ (index : Index) (file : FileReader) (broke : Option ℕ) (blocks : ℕ)
         ap (λ (bs : List (List ℕ)). length (concat bs)) same in
         omega (arith, few honest, part, now)
 
-    reads-of : (faults : ℕ) (new : Disk) → ReadsBefore index file (rest_of t) mid new faults → ReadsRecords index file old new faults
+    pub skimmed : (answer : Bool) (new : Disk) → SkimsFile index file t answer mid new → IsTrue old.honest
+        → answer ≡ is_some (lines_of_records come)
+    skimmed answer new skims honest =
+        skims.tells (counts.looked.honest ∙ honest) (long honest) ∙ ap is_some (sym (started honest all))
+
+    pub reads-of : (faults : ℕ) (new : Disk) → ReadsBefore index file (rest_of t) mid new faults → ReadsRecords index file old new faults
     reads-of faults new reads =
         let end : stated_end attr ≡ stated_end (attributes (header_in_hand file)) = ap stated_end attr-is in
         record {
@@ -467,7 +491,17 @@ module _ (index : Index) (file : FileReader) (broke : Option ℕ) (blocks : ℕ)
       fails-to-write NoMemory pours = pours
       fails-to-write CannotWrite reads = reads-of 0 new reads
 
--- they couldn't be counted: nothing was written
+-- the blocks couldn't be counted
+pub reads-uncounted : (index : Index) (file : FileReader) (old new : Disk) → Looked old new (headers_left file) 1
+    → ReadsRecords index file old new 1
+reads-uncounted index file old new looked = record {
+  blocks = 0;
+  few = omega arith;
+  come = λ honest. omega arith;
+  looked = looked_within looked (omega arith);
+}
+
+-- nothing was written then
 pub uncounted : {W : Type 0} (index : Index) (file : FileReader) (broke : Option ℕ) (old new : Disk) (contents : W → Option (List ℕ))
     (w : W) → Looked old new (headers_left file) 1 → BreaksOffText index file broke old new contents w w
 uncounted index file broke old new contents w looked = record {
@@ -476,10 +510,5 @@ uncounted index file broke old new contents w looked = record {
     is = record { begins = λ honest. record { rest = good_lines (file_until index old file broke); is = refl } };
     takes = Appends-nil _;
   };
-  reads = record {
-    blocks = 0;
-    few = omega arith;
-    come = λ honest. omega arith;
-    looked = looked_within looked (omega arith);
-  };
+  reads = reads-uncounted index file old new looked;
 }

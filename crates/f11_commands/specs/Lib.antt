@@ -14,6 +14,7 @@ pub mod Name
 pub mod OpenEnd
 pub mod Output
 pub mod AllCommand
+pub mod AllText
 pub mod AnyVolume
 pub mod LsCommand
 pub mod Looking
@@ -42,6 +43,8 @@ pub mod RtGet
 pub mod RtList
 pub mod RtLs
 pub mod RtPut
+pub mod RtPutEach
+pub mod RtSqueeze
 pub mod RunCommand
 pub mod Several
 pub mod RtTaking

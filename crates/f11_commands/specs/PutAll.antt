@@ -18,7 +18,7 @@ use Rattle.f11_store.specs.declared.refusals.Refusal.{Refusal}
 use Rattle.f11_commands.specs.Copying.{master_directory, operator}
 use Rattle.f11_commands.specs.Output.{WriterTakes}
 use Rattle.f11_commands.specs.PutCommand.{HoldFor, Hosts, PutsByName, PutsNamed}
-use Rattle.f11_commands.specs.PutEach.{TellsBy, counts_of, ending, refusal_of, volume_of}
+use Rattle.f11_commands.specs.PutEach.{TellsBy, counts_of, ending, is_made, refusal_of, volume_of}
 use Rattle.f11_commands.specs.Stopping.{StopsPut, WhereUnheld}
 use Rattle.f11_commands.specs.declared.outcome.Failure.{Failure}
 use Rattle.f11_commands.specs.declared.outcome.Failure.TheVariants.{CannotWrite}
@@ -44,7 +44,7 @@ made_line place (Err e) = concat (directory_text place ∷ codes " not made " �
 abbrev pub TellsIn : {W : Type 0} → DirectoryName → List ℕ → Result ℕ HostRefusal → Result FileAnswer Failure → PutCounts → PutCounts →
     (W → Option (List ℕ)) → W → W → Type 0
 TellsIn place name result told counts counts' contents before after =
-    TellsBy (ending result) (line_in place name result) result told counts counts' contents before after
+    TellsBy (ending result) (line_in place name result) (is_made result) told counts counts' contents before after
 
 -- A file was to be made on the volume as it was, as by `put`, and what came of it was told with its directory.
 pub record PutsOneIn {D W : Type 0} {met : Ghosts D} (place : DirectoryName) (p : Putting) (bytes : ℕ) (told : Result FileAnswer Failure)

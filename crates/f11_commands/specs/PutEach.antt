@@ -90,20 +90,19 @@ counts_line counts =
     concat (codes "all " ∷ decimal counts.made ∷ codes " copied, " ∷ decimal counts.refused ∷ codes " not copied" ∷ (10 ∷ []) ∷ [])
 
 -- how a file is told and counted: by its line, which the writer takes or doesn't; or as the failure that ends the others
-abbrev pub TellsBy : {W : Type 0} → Option Failure → (line : List ℕ) → Result ℕ HostRefusal → Result FileAnswer Failure → PutCounts
-    → PutCounts →
+abbrev pub TellsBy : {W : Type 0} → Option Failure → (line : List ℕ) → (made : Bool) → Result FileAnswer Failure → PutCounts → PutCounts →
     (W → Option (List ℕ)) → W → W → Type 0
-TellsBy (Some failure) line result told counts counts' contents before after =
+TellsBy (Some failure) line made told counts counts' contents before after =
     (told ≡ Err failure) × (counts' ≡ counts) × (after ≡ before)
-TellsBy None line result told counts counts' contents before after =
-    (counts' ≡ counted (is_made result) counts)
-    × (((told ≡ Ok (if is_made result then Done else Refused)) × WriterTakes contents before after line)
+TellsBy None line made told counts counts' contents before after =
+    (counts' ≡ counted made counts)
+    × (((told ≡ Ok (if made then Done else Refused)) × WriterTakes contents before after line)
     ⊎ (told ≡ Err CannotWrite))
 
 abbrev pub TellsOne : {W : Type 0} → List ℕ → Result ℕ HostRefusal → Result FileAnswer Failure → PutCounts → PutCounts →
     (W → Option (List ℕ)) → W → W → Type 0
 TellsOne name result told counts counts' contents before after =
-    TellsBy (ending result) (one_line name result) result told counts counts' contents before after
+    TellsBy (ending result) (one_line name result) (is_made result) told counts counts' contents before after
 
 -- how the last line is told
 abbrev pub TellsCounts : {W : Type 0} → PutCounts → Result FileAnswer Failure → (W → Option (List ℕ)) → W → W → Type 0

@@ -1,11 +1,12 @@
 -- How a file of an RT-11 volume that was made is filled, and undone (profile).
-use Rattle.std.specs.Prelude.{◌≡◌, ◌≢◌, ◌⊎◌, ℕ, ◌*◌, true, List, length, Option, Err, ◌<◌, if◌then◌else◌}
+use Rattle.std.specs.Prelude.{◌≡◌, ◌≢◌, ◌⊎◌, ℕ, ◌*◌, ◌||◌, true, List, length, Option, Err, ◌<◌, if◌then◌else◌}
 use Rattle.std.specs.Io.KnownBytes.{Consumes}
 use Rattle.std.specs.List.{concat}
 use Rattle.f11_dev.specs.Disk.{Disk}
 use Rattle.f11_dev.specs.declared.device.Device.{Ghosts}
 use Rattle.f11_flx.specs.Target.{DeletesRtFile, FailsDeleting, MakesTransfers, Puts, SparesFront, rt_disk}
 use Rattle.f11_host.specs.Pieces.{filled_up}
+use Rattle.rt11_volume.specs.Calls.{has_failed}
 use Rattle.rt11_volume.specs.Files.{faults_in, is_fault}
 use Rattle.rt11_volume.specs.Verifying.Verdict.{IsSoundDisk}
 use Rattle.rt11_volume.specs.declared.refusal.RtRefusal.{RtRefusal}
@@ -32,6 +33,7 @@ pub record FillsNamed {E : Type 0} {met : Ghosts E} (disk : E → Disk) (name : 
 pub record StopsFilling {E : Type 0} {met : Ghosts E} (disk : E → Disk) (blocks : ℕ) (e : RtRefusal) (old new : RtAccepted E met)
     : Type 0 where
   pub fresh : e ≢ Failed
+  pub next : has_failed new ≡ (has_failed old || is_fault e)
   pub fault : IsSoundDisk (rt_disk disk old) → is_fault e ≡ true
   pub front : IsSoundDisk (rt_disk disk old) → SparesFront (rt_disk disk old) (rt_disk disk new)
   pub went : MakesTransfers (rt_disk disk old) (rt_disk disk new) (block_transfers * blocks) (faults_in {T = Unit} (Err e))

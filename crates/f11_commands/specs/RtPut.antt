@@ -1,5 +1,5 @@
 -- What `rt-put` does: a file of an RT-11 volume is made, and filled with the bytes of a file of the host (profile).
-use Rattle.std.specs.Prelude.{◌≡◌, ◌≢◌, ◌⊎◌, ℕ, ◌+◌, ◌*◌, ◌<◌, false, List, [], length, Option, Result, Ok}
+use Rattle.std.specs.Prelude.{◌≡◌, ◌≢◌, ◌⊎◌, ℕ, ◌+◌, ◌*◌, ◌<◌, false, List, [], length, Option, Result, Ok, Bool}
 use Rattle.std.specs.Prelude.{Err}
 use Rattle.std.specs.Io.KnownBytes.{Consumes, Keeps}
 use Rattle.f11_dev.specs.Disk.{Disk}
@@ -72,6 +72,12 @@ abbrev pub PutsFile : List ℕ → ℕ → Result ℕ Stop → Option (List ℕ)
 PutsFile name bytes (Ok blocks) unread unread' old new = IsStored name bytes blocks unread unread' old new
 PutsFile name bytes (Err (Volume e)) unread unread' old new = IsNotStored name bytes e old new
 PutsFile name bytes (Err Host) unread unread' old new = IsUnstored name bytes old new
+
+-- whether it was refused since a transfer failed
+abbrev pub is_fault_of : Result ℕ Stop → Bool
+is_fault_of (Ok blocks) = false
+is_fault_of (Err (Volume e)) = is_fault e
+is_fault_of (Err Host) = false
 
 -- as which answer one of a command is told
 abbrev pub put_told : Result FileAnswer Failure → Result FileAnswer PutFailure

@@ -1,5 +1,6 @@
 -- What taking out the text of a file's records tells (RSX-11M Utilities manual, FLX; profile: a line ends with LF, as a host's).
-use Rattle.std.specs.Prelude.{◌≡◌, ℕ, ◌+◌, ◌-◌, ◌*◌, ◌/◌, ◌≤◌, false, IsTrue, List, ◌++◌, length, take, Option, Some, None, option_map}
+use Rattle.std.specs.Prelude.{◌≡◌, ℕ, ◌+◌, ◌-◌, ◌*◌, ◌/◌, ◌≤◌, Bool, false, IsTrue, List, ◌++◌, length, take, Option, Some, None, is_some}
+use Rattle.std.specs.Prelude.{option_map}
 use Rattle.std.specs.List.{concat}
 use Rattle.f11_dev.specs.Disk.{Disk}
 use Rattle.f11_dev.specs.Looked.{Looked}
@@ -142,3 +143,25 @@ FailsToPour DeviceFault index file t old new contents before after =
     PoursText (BeginsText index file t old) index file t old new 1 contents before after
 FailsToPour NoMemory index file t old new contents before after = ⊥
 FailsToPour CannotWrite index file t old new contents before after = ReadsBefore index file (rest_of t) old new 0
+
+-- They were converted, and nothing was kept of it: either they gave a text, or a record that goes past the end was met in them.
+abbrev pub SkimsGood : ToText → ToText → List ℕ → Type 0
+SkimsGood old new bytes = (text : List ℕ) × GivesText old new bytes text
+
+abbrev pub SkimsBad : ToText → List ℕ → Type 0
+SkimsBad old bytes = (text : List ℕ) × GivesGoodText old bytes text
+
+-- It was found whether a conversion gives a text of all records of a file that has all its bytes to come.
+pub record SkimsFile (index : Index) (file : FileReader) (t : ToText) (answer : Bool) (old new : Disk) : Type 0 where
+  pub tells : IsTrue old.honest → rest_of t ≤ length (all_to_come index old file)
+      → answer ≡ is_some (text_by all t (all_to_come index old file))
+  pub reads : ReadsBefore index file (rest_of t) old new 0
+
+-- all records of a file can be read, and have lines
+abbrev pub has_all_records : Index → Disk → FileReader → Bool
+has_all_records index disk file = is_some (lines_of_records (file_to_come index disk file))
+
+-- It was found whether they can.
+pub record TellsRecords (index : Index) (file : FileReader) (answer : Bool) (old new : Disk) : Type 0 where
+  pub tells : IsTrue old.honest → answer ≡ has_all_records index old file
+  pub reads : ReadsRecords index file old new 0

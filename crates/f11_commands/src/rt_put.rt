@@ -1,9 +1,11 @@
 //! The command `rt-put`.
 
+pub(crate) mod each;
 pub(crate) mod filling;
+pub(crate) mod puts;
 
 ghost use Rattle.std.specs.Prelude.{◌≡◌, false};
-ghost use Rattle.f11_commands.specs.RtPut.{EndsPut, PutsFile, TellsPut, put_told};
+ghost use Rattle.f11_commands.specs.RtPut.{EndsPut, PutsFile, TellsPut, is_fault_of, put_told};
 ghost use Rattle.rt11_volume.specs.Calls.{has_failed, volume_device};
 
 use crate::outcome::{Failure, FileAnswer};
@@ -86,7 +88,7 @@ fn tell_put<W: Write>(put: Result<u16, Stop>, writer: &mut W) -> Result<FileAnsw
 }
 
 /// Makes the file and fills it: how many blocks it has.
-fn put<D: Device, R: Read>(
+pub(crate) fn put<D: Device, R: Read>(
     volume: &mut RtAccepted<D>,
     name: &RtName,
     bytes: u64,
@@ -95,6 +97,7 @@ fn put<D: Device, R: Read>(
     requires fresh { has_failed volume.old ≡ false }
     ensures puts { PutsFile name.now bytes result (R.remaining host.old) (R.remaining host.new)
         (D.disk (volume_device volume.old)) (D.disk (volume_device volume.new)) }
+    ensures next { has_failed volume.new ≡ is_fault_of result }
 {
     let blocks = match make_file(volume, name, bytes.div_ceil(BLOCK_SIZE as u64), 0) {
         Ok(blocks) => blocks,

@@ -51,7 +51,7 @@ pub(crate) fn write_text<D: Device, W: Write>(
 }
 
 /// How many blocks a file still has, before the one by which it breaks off, if it does.
-fn blocks_before<D: Device>(
+pub(crate) fn blocks_before<D: Device>(
     device: &mut D,
     index: &IndexFile,
     file: FileReader,

@@ -17,7 +17,7 @@ both-parts true true is = (refl, refl)
 both-parts true false is = absurd (false≢true is)
 both-parts false b is = absurd (false≢true is)
 
-same-words : (a b : List ℕ) → are_alike a b ≡ true
+pub same-words : (a b : List ℕ) → are_alike a b ≡ true
     → (word_at a 0 ≡ word_at b 0) × (word_at a 1 ≡ word_at b 1) × (word_at a 2 ≡ word_at b 2) × (word_at a 3 ≡ word_at b 3)
 same-words a b is =
     let one = both-parts (word_at a 0 == word_at b 0) _ is in

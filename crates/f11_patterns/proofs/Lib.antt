@@ -9,3 +9,5 @@ pub mod PlainLemmas
 pub mod Worked
 pub mod NextLemmas
 pub mod NamingLemmas
+pub mod FittingLemmas
+pub mod FreeLemmas

@@ -14,7 +14,7 @@ use Rattle.f11_rad50.specs.Radix50.{IsCharacter, radix50}
 use Rattle.f11_rad50.proofs.Padded.{IsName-from_named, named-from_IsName}
 use Rattle.f11_rad50.proofs.Words.{IsCharacter-place, name_of-words_of, type_of-words_of}
 use Rattle.f11_patterns.specs.Meant.{word_at}
-use Rattle.f11_patterns.specs.Naming.{FitsWith, GetNames, GetsName, IsLastPart, with_name}
+use Rattle.f11_patterns.specs.Naming.{FitsWith, GetInTurn, IsLastPart, with_name}
 use Rattle.f11_patterns.specs.Next.{with_version}
 use Rattle.f11_patterns.specs.Parts.{AreParts, Parts, is_pattern_character}
 use Rattle.f11_patterns.specs.Pattern.{IsOne, IsPlain}
@@ -112,44 +112,49 @@ last-made given name None same named h =
 last-made given name (Some made) same named h = h.1 ∙ ap (λ (ws : List ℕ). with_version ws 32767) same
 
 -- Names that were given go on behind one another: what the others get, they all get.
-abbrev pub GoOn : List (List ℕ) → List (List ℕ) → ℕ → List (List ℕ) → List (Option (List ℕ)) → Type 0
-GoOn there paths i all names = (rest : List (Option (List ℕ))) → GetNames all (drop i paths) rest → GetNames there paths (names ++ rest)
+abbrev pub Naming : Type 1
+Naming = List (List ℕ) → List ℕ → Option (List ℕ) → Type 0
 
-module _ (there paths : List (List ℕ)) (i : ℕ) (all : List (List ℕ)) (names : List (Option (List ℕ))) where
-  pub go-on : (name : Option (List ℕ)) → i < length paths → GetsName all (get_or paths i []) name → GoOn there paths i all names
-      → GoOn there paths (i + 1) (with_name all name) (names ++ name ∷ [])
+abbrev pub GoOn : Naming → List (List ℕ) → List (List ℕ) → ℕ → List (List ℕ) → List (Option (List ℕ)) → Type 0
+GoOn Gets there paths i all names =
+    (rest : List (Option (List ℕ))) → GetInTurn Gets all (drop i paths) rest → GetInTurn Gets there paths (names ++ rest)
+
+module _ (Gets : Naming) (there paths : List (List ℕ)) (i : ℕ) (all : List (List ℕ)) (names : List (Option (List ℕ))) where
+  pub go-on : (name : Option (List ℕ)) → i < length paths → Gets all (get_or paths i []) name → GoOn Gets there paths i all names
+      → GoOn Gets there paths (i + 1) (with_name all name) (names ++ name ∷ [])
   go-on name some gets old = λ rest is.
       let next : suc i ≡ i + 1 = omega arith in
       let cons : drop i paths ≡ get_or paths i [] ∷ drop (i + 1) paths =
       drop-cons paths i [] some ∙ ap (λ (n : ℕ). get_or paths i [] ∷ drop n paths) next in
-      let here : GetNames all (get_or paths i [] ∷ drop (i + 1) paths) (name ∷ rest) = (gets, is) in
-      subst (GetNames there paths) (sym (append_assoc names (name ∷ []) rest))
-      (old (name ∷ rest) (subst (λ (xs : List (List ℕ)). GetNames all xs (name ∷ rest)) (sym cons) here))
+      let here : GetInTurn Gets all (get_or paths i [] ∷ drop (i + 1) paths) (name ∷ rest) = (gets, is) in
+      subst (GetInTurn Gets there paths) (sym (append_assoc names (name ∷ []) rest))
+      (old (name ∷ rest) (subst (λ (xs : List (List ℕ)). GetInTurn Gets all xs (name ∷ rest)) (sym cons) here))
 
-  pub all-given : length paths ≤ i → GoOn there paths i all names → GetNames there paths names
+  pub all-given : length paths ≤ i → GoOn Gets there paths i all names → GetInTurn Gets there paths names
   all-given end old =
-      subst (GetNames there paths) (append-nil names)
-      (old [] (subst (λ (xs : List (List ℕ)). GetNames all xs []) (sym (drop_all i paths end)) tt))
+      subst (GetInTurn Gets there paths) (append-nil names)
+      (old [] (subst (λ (xs : List (List ℕ)). GetInTurn Gets all xs []) (sym (drop_all i paths end)) tt))
 
 -- the same of paths that are lent
 abbrev pub texts_of : List (Bor (List ℕ)) → List (List ℕ)
 texts_of paths = map (λ path. path.now) paths
 
-module _ (there : List (List ℕ)) (paths : List (Bor (List ℕ))) (i : ℕ) (all : List (List ℕ)) (names : List (Option (List ℕ))) where
+module _ (Gets : Naming) (there : List (List ℕ)) (paths : List (Bor (List ℕ))) (i : ℕ) (all : List (List ℕ))
+    (names : List (Option (List ℕ))) where
   pub go-on-lent : (d : Bor (List ℕ)) (name : Option (List ℕ)) (all' : List (List ℕ)) (names' : List (Option (List ℕ)))
-      → i < length paths → GetsName all (get_or paths i d).now name → all' ≡ with_name all name → names' ≡ names ++ name ∷ []
-      → GoOn there (texts_of paths) i all names → GoOn there (texts_of paths) (i + 1) all' names'
+      → i < length paths → Gets all (get_or paths i d).now name → all' ≡ with_name all name → names' ≡ names ++ name ∷ []
+      → GoOn Gets there (texts_of paths) i all names → GoOn Gets there (texts_of paths) (i + 1) all' names'
   go-on-lent d name all' names' some gets more_all more_names old =
       let same : get_or (texts_of paths) i [] ≡ (get_or paths i d).now = get_or-map (λ path. path.now) paths i d [] some in
       let within : i < length (texts_of paths) = omega (arith, some, length-map paths (λ path. path.now)) in
-      let next = go-on there (texts_of paths) i all names name within
-      (subst (λ (text : List ℕ). GetsName all text name) (sym same) gets) old in
-      subst (λ (xs : List (Option (List ℕ))). GoOn there (texts_of paths) (i + 1) all' xs) (sym more_names)
-      (subst (λ (xs : List (List ℕ)). GoOn there (texts_of paths) (i + 1) xs (names ++ name ∷ [])) (sym more_all) next)
+      let next = go-on Gets there (texts_of paths) i all names name within
+      (subst (λ (text : List ℕ). Gets all text name) (sym same) gets) old in
+      subst (λ (xs : List (Option (List ℕ))). GoOn Gets there (texts_of paths) (i + 1) all' xs) (sym more_names)
+      (subst (λ (xs : List (List ℕ)). GoOn Gets there (texts_of paths) (i + 1) xs (names ++ name ∷ [])) (sym more_all) next)
 
-  pub all-lent : length paths ≤ i → GoOn there (texts_of paths) i all names → GetNames there (texts_of paths) names
+  pub all-lent : length paths ≤ i → GoOn Gets there (texts_of paths) i all names → GetInTurn Gets there (texts_of paths) names
   all-lent end old =
-      all-given there (texts_of paths) i all names (omega (arith, end, length-map paths (λ path. path.now))) old
+      all-given Gets there (texts_of paths) i all names (omega (arith, end, length-map paths (λ path. path.now))) old
 
 -- the last part of more and more of a path
 pub record IsLastSoFar (path : List ℕ) (at start : ℕ) : Type 0 where

@@ -1,9 +1,10 @@
 -- Laws of patterns, which show that their definitions say what is meant (RSX-11M-PLUS MCR Operations Manual, wildcards), and worked
 -- values.
-use Rattle.std.specs.Prelude.{◌≡◌, ◌≢◌, ℕ, List, [], ◌∷◌, All, ◌↔◌, codes}
+use Rattle.std.specs.Prelude.{◌≡◌, ◌≢◌, ℕ, List, [], ◌∷◌, All, ◌↔◌, codes, true, ◌≤◌, length, IsSome}
 use Rattle.std.specs.Str.{str_to_ascii_uppercase}
 use Rattle.f11_rad50.specs.Name.{IsName, name_of, type_of}
 use Rattle.f11_patterns.specs.declared.versions.Versions.TheVariants.{Highest}
+use Rattle.f11_patterns.specs.Fitting.{fitted_among, fitted_text, has_some}
 use Rattle.f11_patterns.specs.Like.{IsLike}
 use Rattle.f11_patterns.specs.Parts.{Parts}
 use Rattle.f11_patterns.specs.Pattern.{IsPattern, Fits, IsPlain, IsOne, TextFits}
@@ -34,6 +35,11 @@ abbrev pub ExactlyMeansOne : Type 0
 ExactlyMeansOne =
     (parts : Parts) (a b : List ℕ) → IsName a → IsName b → IsOne parts → parts.versions ≢ Highest → Fits parts a → Fits parts b → a ≡ b
 
+-- beside fewer than 142,858 names there is a fitted one for each text of which something stays
+abbrev pub FittedIsThere : Type 0
+FittedIsThere =
+    (there : List (List ℕ)) (part : List ℕ) → has_some part ≡ true → length there ≤ 142857 → IsSome (fitted_among there part)
+
 -- A.TXT;7 fits `*.TXT;*`, A.TXX;7 doesn't
 abbrev pub StarWorks : Type 0
 StarWorks = TextFits (codes "*.TXT;*") (codes "A.TXT;7") × (¬ TextFits (codes "*.TXT;*") (codes "A.TXX;7"))
@@ -51,3 +57,11 @@ HighestWorks =
     TextFits (codes "login.cmd") (codes "LOGIN.CMD;3")
     × TextFits (codes "LOGIN.CMD;0") (codes "LOGIN.CMD;3")
     × (¬ TextFits (codes "LOGIN.CMD;1") (codes "LOGIN.CMD;3"))
+
+-- Fitted names: of what stands before the last dot and behind it those characters stay that a name may have, and a number stands behind as
+-- many of them as there is room for.
+abbrev pub FittedWorks : Type 0
+FittedWorks =
+    (fitted_text 9 0 (codes "my file.text") ≡ codes "MYFILE.TEX")
+    × ((fitted_text 9 12 (codes "read_me-1st.old.md") ≡ codes "README112.MD")
+    × ((fitted_text 6 1 (codes "letters") ≡ codes "LETTE1.") × (fitted_text 9 0 (codes ".profile") ≡ codes ".PRO")))

@@ -1,5 +1,6 @@
 -- The definitions that the contracts of patterns cite.
 pub mod Chosen
+pub mod Fitting
 pub mod Like
 pub mod Meant
 pub mod Naming

@@ -1,6 +1,9 @@
 -- Which one file a word names, and which name a new file gets by it (RSX-11M-PLUS MCR Operations Manual, file specifications; profile).
-use Rattle.std.specs.Prelude.{◌≡◌, ◌≢◌, ◌⊎◌, ℕ, ⊤, List, [], ◌∷◌, ◌++◌, All, Option, Some, None}
+use Rattle.std.specs.Prelude.{◌≡◌, ◌≢◌, ◌⊎◌, ℕ, ⊤, List, [], ◌∷◌, ◌++◌, All, Option, Some, None, IsSome}
 use Rattle.f11_rad50.specs.Name.{version_of}
+use Rattle.f11_patterns.specs.Fitting.{fitted_among}
+use Rattle.f11_patterns.specs.declared.names.HostNames.{HostNames}
+use Rattle.f11_patterns.specs.declared.names.HostNames.TheVariants as host
 use Rattle.f11_patterns.specs.declared.naming.OneName.{OneName}
 use Rattle.f11_patterns.specs.declared.naming.OneName.TheVariants as one
 use Rattle.f11_patterns.specs.declared.versions.Versions.TheVariants.{Highest}
@@ -57,20 +60,33 @@ abbrev pub GetsByWord : List (List ℕ) → Option (List ℕ) → List ℕ → T
 GetsByWord there (Some name) word = (named : OneName) × NamesOne word named × IsNextName there named name
 GetsByWord there None word = NamesNone word
 
+-- A part that names no file gets the fitted name, if there is one.
+abbrev pub GetsFitted : List (List ℕ) → Option (List ℕ) → List ℕ → Type 0
+GetsFitted there name part = NamesNone part × (name ≡ fitted_among there part)
+
+-- A part gets a name as a word does; or, where names are fitted, one that names a file gets it so, and any other gets the fitted one.
+abbrev pub GetsByPart : HostNames → List (List ℕ) → Option (List ℕ) → List ℕ → Type 0
+GetsByPart host.AsTheyAre there name part = GetsByWord there name part
+GetsByPart host.Fitted there name part = (IsSome name × GetsByWord there name part) ⊎ GetsFitted there name part
+
 -- A file of the host gets it by the last part of its path.
-pub record GetsName (there : List (List ℕ)) (path : List ℕ) (name : Option (List ℕ)) : Type 0 where
+pub record GetsName (fitting : HostNames) (there : List (List ℕ)) (path : List ℕ) (name : Option (List ℕ)) : Type 0 where
   pub part : List ℕ
   pub last : IsLastPart path part
-  pub gets : GetsByWord there name part
+  pub gets : GetsByPart fitting there name part
 
 -- these names, and one more, if it is one
 abbrev pub with_name : List (List ℕ) → Option (List ℕ) → List (List ℕ)
 with_name there (Some name) = there ++ name ∷ []
 with_name there None = there
 
--- Files get these names, one behind another: each beside those that are there, and those that the ones before it got.
-abbrev pub GetNames : List (List ℕ) → List (List ℕ) → List (Option (List ℕ)) → Type 0
-GetNames there [] [] = ⊤
-GetNames there [] (name ∷ names) = ⊥
-GetNames there (path ∷ paths) [] = ⊥
-GetNames there (path ∷ paths) (name ∷ names) = GetsName there path name × GetNames (with_name there name) paths names
+-- Files get such names, one behind another: each beside those that are there, and those that the ones before it got.
+abbrev pub GetInTurn : (List (List ℕ) → List ℕ → Option (List ℕ) → Type 0) → List (List ℕ) → List (List ℕ) → List (Option (List ℕ)) → Type 0
+GetInTurn Gets there [] [] = ⊤
+GetInTurn Gets there [] (name ∷ names) = ⊥
+GetInTurn Gets there (path ∷ paths) [] = ⊥
+GetInTurn Gets there (path ∷ paths) (name ∷ names) = Gets there path name × GetInTurn Gets (with_name there name) paths names
+
+-- Files of the host with these paths get these.
+abbrev pub GetNames : HostNames → List (List ℕ) → List (List ℕ) → List (Option (List ℕ)) → Type 0
+GetNames fitting there paths names = GetInTurn (GetsName fitting) there paths names

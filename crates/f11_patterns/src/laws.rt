@@ -10,6 +10,7 @@ pub fn laws()
     ensures dot { laws.NoDotIsNone }
     ensures one { laws.OneMeansOne }
     ensures exactly { laws.ExactlyMeansOne }
+    ensures fitted { laws.FittedIsThere }
 {}
 
 /// Worked values.
@@ -17,4 +18,5 @@ pub fn worked()
     ensures star { laws.StarWorks }
     ensures percent { laws.PercentWorks }
     ensures highest { laws.HighestWorks }
+    ensures fitted { laws.FittedWorks }
 {}

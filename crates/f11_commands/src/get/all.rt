@@ -6,4 +6,6 @@ pub mod left_out;
 pub(crate) mod line;
 pub mod next;
 pub mod state;
+pub(crate) mod taken_text;
 pub(crate) mod taking;
+pub mod texts;

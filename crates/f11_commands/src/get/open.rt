@@ -7,7 +7,7 @@ ghost use Rattle.f11_reader.specs.Reading.{header_in_hand};
 ghost use Rattle.f11_store.specs.File.{stated_end};
 ghost use Rattle.f11_commands.specs.GetCommand.{LacksSought, OpensSought};
 ghost use Rattle.f11_commands.specs.GetCommand.{file_identified};
-ghost use Rattle.f11_commands.specs.OpenEnd.{has_lines, has_open_end, mode_of};
+ghost use Rattle.f11_commands.specs.OpenEnd.{has_lines, has_open_end, is_text, mode_of};
 
 use crate::get::sought::Sought;
 use f11_catalog::stated_end;
@@ -80,13 +80,20 @@ pub(crate) fn has_lines(file: &FileReader) -> bool
     attributes[RECORD_ATTRIBUTES] % 8 != 0
 }
 
+/// Whether its records are of variable length, and a carriage return stands behind each.
+pub(crate) fn is_text(file: &FileReader) -> bool
+    ensures { result ≡ is_text file.now }
+{
+    let attributes = Header::new(file.header()).attributes();
+    attributes[RECORD_TYPE] == VARIABLE && attributes[RECORD_ATTRIBUTES] >> 1 & 1 == 1
+}
+
 /// As what a file is copied where its header decides: as text where its records are of variable length, and a carriage return stands behind
 /// each.
 pub(crate) fn mode_of(file: &FileReader) -> CopyMode
     ensures { result ≡ mode_of file.now }
 {
-    let attributes = Header::new(file.header()).attributes();
-    if attributes[RECORD_TYPE] == VARIABLE && attributes[RECORD_ATTRIBUTES] >> 1 & 1 == 1 {
+    if is_text(file) {
         CopyMode::Text
     } else {
         CopyMode::Image

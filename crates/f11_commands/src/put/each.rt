@@ -158,7 +158,10 @@ fn tell_one<W: Write>(
 }
 
 /// Writes the last line: how many were made, and how many weren't.
-fn tell_counts<W: Write>(counts: PutCounts, writer: &mut W) -> Result<FileAnswer, Failure>
+pub(crate) fn tell_counts<W: Write>(
+    counts: PutCounts,
+    writer: &mut W,
+) -> Result<FileAnswer, Failure>
     ensures tells { TellsCounts counts result W.contents writer.old writer.new }
 {
     let (made, refused) = (counts.made, counts.refused);

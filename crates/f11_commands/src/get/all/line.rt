@@ -2,9 +2,11 @@
 ghost use Rattle.std.specs.Prelude.{OnOk};
 ghost use Rattle.f11_commands.specs.Output.{WriterTakes};
 ghost use Rattle.f11_commands.specs.AllCommand.{all_line, left_out_line, taken_at_line};
+ghost use Rattle.f11_commands.specs.AllText.{text_at_line};
 
 use crate::get::all::counts::Counts;
 use crate::get::all::left_out::LeftOut;
+use crate::get::all::taken_text::TakenText;
 use crate::get::all::taking::Taken;
 use crate::get::missing::ShownMissing;
 use f11_catalog::Place;
@@ -26,6 +28,25 @@ impl fmt::Display for Beside {
         match self.0 {
             Some(id) => write!(f, " ({id})"),
             None => Ok(()),
+        }
+    }
+}
+
+/// Whether a file's slot isn't in use.
+#[derive(Clone, Copy)]
+struct Unused(bool);
+
+impl fmt::Display for Unused {
+    ghost use Rattle.std.specs.Prelude.{Some, not};
+    ghost use Rattle.f11_commands.specs.AllCommand.{use_text};
+
+    ghost output = { λ unused. Some (use_text (not unused.0)) };
+
+    fn fmt<W: fmt::Write>(&self, f: &mut fmt::Formatter<W>) -> fmt::Result {
+        if self.0 {
+            write!(f, " out of use")
+        } else {
+            Ok(())
         }
     }
 }
@@ -52,11 +73,28 @@ pub(crate) fn write_line<W: Write>(
     } = *taken;
     let missing = ShownMissing { zeros, broke };
     let open = if all_blocks { " open, all blocks" } else { "" };
-    let unused = if in_use { "" } else { " out of use" };
+    let unused = Unused(!in_use);
     writeln!(
         writer,
         "{place}{beside} copied {bytes} bytes{open}{unused}{missing}"
     )
+}
+
+/// Writes the line of a file whose text was taken out: its place, how many bytes were written, or that it was a beginning, and whether its
+/// slot is in use.
+pub(crate) fn write_text_line<W: Write>(
+    writer: &mut W,
+    place: &Place,
+    in_use: bool,
+    beside: Option<FileId>,
+    taken: &TakenText,
+) -> io::Result<()>
+    ensures { OnOk result (WriterTakes W.contents writer.old writer.new
+        (text_at_line place.now in_use beside taken.now)) }
+{
+    let beside = Beside(beside);
+    let unused = Unused(!in_use);
+    writeln!(writer, "{place}{beside} copied {taken} as text{unused}")
 }
 
 /// Writes the line of a file that isn't taken out.

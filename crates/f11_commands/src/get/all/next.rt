@@ -15,7 +15,7 @@ use f11_store::FileId;
 use std::io::Write;
 
 /// Whether a place is that of a file which no directory names.
-fn is_lost(place: &Place) -> bool
+pub(crate) fn is_lost(place: &Place) -> bool
     ensures { result ≡ place_is_lost place.now }
 {
     matches!(place, Place::Lost(_, _))
