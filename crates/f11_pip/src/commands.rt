@@ -4,18 +4,21 @@ use crate::directory::{OPERATOR, name_of};
 use crate::each::{Each, put_each};
 use crate::folder::get_all;
 use crate::host_files::{self, Named, Taking};
+use crate::hosts::Hosts;
 use crate::meant::tell_meant;
 use crate::outcome::Failure;
 use crate::remarks::{self, Remark};
+use crate::rt_each::{RtEach, put_rt_each};
 use crate::script::serve;
 use crate::tree::{All, put_all};
 use crate::{files, rt_files, rt_folder, rt_volumes, volumes};
 use f11_commands::f11_vfy::InitParams;
 use f11_commands::{Answer, Direction, print_name, print_rights};
+use f11_patterns::HostNames;
 use f11_words::{Directory, Words};
 use std::io::Write;
 
-/// Does what the words ask for, with the files that they name, and of `put --each` the others behind its first one.
+/// Does what the words ask for, with the files that they name, and of `put --each` and `rt-put --each` the others behind their first one.
 pub fn run<'a, W: Write>(
     rt: &HostRuntime,
     words: &Words<'a>,
@@ -95,7 +98,11 @@ pub fn run<'a, W: Write>(
                 remark,
             )
         }
-        Words::GetAll { image, folder } => get_all(rt, image, folder, writer, remark),
+        Words::GetAll {
+            mode,
+            image,
+            folder,
+        } => get_all(rt, mode, image, folder, writer, remark),
         Words::Home { image } => volumes::home(rt, image, writer, remark),
         Words::Init {
             image,
@@ -155,6 +162,7 @@ pub fn run<'a, W: Write>(
         }
         Words::PutEach {
             manner,
+            is_fitted,
             mode,
             image,
             directory,
@@ -165,8 +173,11 @@ pub fn run<'a, W: Write>(
                 mode,
                 image,
                 directory: name_of(directory),
-                first: host,
-                others,
+                hosts: Hosts {
+                    first: host,
+                    others,
+                },
+                fitting: fitting_of(is_fitted),
             };
             put_each(rt, &each, writer, remark)
         }
@@ -225,11 +236,31 @@ pub fn run<'a, W: Write>(
             name,
             host,
         } => rt_files::put(rt, mode, image, name, host, writer, remark),
+        Words::RtPutEach {
+            manner,
+            is_fitted,
+            mode,
+            rt: image,
+            host,
+        } => {
+            let each = RtEach {
+                manner,
+                mode,
+                image,
+                hosts: Hosts {
+                    first: host,
+                    others,
+                },
+                fitting: fitting_of(is_fitted),
+            };
+            put_rt_each(rt, &each, writer, remark)
+        }
         Words::RtRen {
             rt: image,
             name,
             new,
         } => rt_files::rename(rt, image, name, new, writer, remark),
+        Words::RtSqueeze { rt: image } => rt_files::squeeze(rt, image, writer, remark),
         Words::RtVfy { image } => rt_volumes::vfy(rt, image, writer, remark),
         Words::Run {
             image,
@@ -243,6 +274,15 @@ pub fn run<'a, W: Write>(
             name,
         } => files::truncate(rt, &named(image, directory, name), manner, writer, remark),
         Words::Vfy { image, update } => volumes::vfy(rt, image, update, writer, remark),
+    }
+}
+
+/// How names of the host are taken.
+fn fitting_of(is_fitted: bool) -> HostNames {
+    if is_fitted {
+        HostNames::Fitted
+    } else {
+        HostNames::AsTheyAre
     }
 }
 

@@ -1,6 +1,7 @@
 //! The command `put --each`: files of the host that are put on a volume, each under its own name.
 use crate::heard::Heard;
 use crate::host_files::{ended, tell_no_directory, tell_nuls, tell_why};
+use crate::hosts::Hosts;
 use crate::image::{opened_to_read, opened_to_write, tell_fault, tell_read_fault};
 use crate::outcome::Failure;
 use crate::refusals::NO_SUCH_ENTRY;
@@ -12,6 +13,7 @@ use f11_commands::f11_flx::CopyMode;
 use f11_commands::f11_rad50::Name;
 use f11_commands::{Answer, FileAnswer, NoNames, Puts, Putting, Unput, accept_files, begin_puts};
 use f11_dev::{Device, FileImage};
+use f11_patterns::{HostNames, OneName, last_part};
 use f11_store::Refusal;
 use f11_words::Manner;
 use std::fs::File;
@@ -26,32 +28,9 @@ pub struct Each<'a> {
     pub image: &'a str,
     /// Under which name the master file directory has the directory that they get to stand in.
     pub directory: Name,
-    pub first: &'a str,
-    pub others: &'a [String],
-}
-
-impl<'a> Each<'a> {
-    /// The file of the host in this place, from 0.
-    fn host(&self, at: usize) -> &'a str {
-        match at.checked_sub(1) {
-            Some(behind) => match self.others.get(behind) {
-                Some(word) => word.as_str(),
-                None => self.first,
-            },
-            None => self.first,
-        }
-    }
-
-    /// All of them, in order.
-    fn paths(&self, rt: &HostRuntime) -> Result<Vec<&'a str>, Failure> {
-        let mut paths = Vec::new(rt.alloc());
-        for at in 0..self.others.len() + 1 {
-            if paths.push(self.host(at)).is_err() {
-                return Err(Failure::NoMemory);
-            }
-        }
-        Ok(paths)
-    }
+    pub hosts: Hosts<'a>,
+    /// How names are taken that can't be those of files of the volume.
+    pub fitting: HostNames,
 }
 
 /// Makes a file on a volume of each of these files of the host, which are opened one after another: under the last part of its path, with the
@@ -115,8 +94,8 @@ fn names_of<D: Device>(
     device: &mut D,
     each: &Each<'_>,
 ) -> Result<Vec<Option<Name>>, Failure> {
-    let paths = each.paths(rt)?;
-    let (names, why) = new_names(rt.alloc(), device, &each.directory, &paths)?;
+    let paths = each.hosts.paths(rt)?;
+    let (names, why) = new_names(rt.alloc(), device, &each.directory, &paths, each.fitting)?;
     if why == Some(NoNames::Refused(Refusal::NoSuchEntry)) {
         tell_no_directory(rt, each.directory);
     }
@@ -132,7 +111,7 @@ fn put_all<W: Write>(
     writer: &mut W,
 ) -> Result<(), f11_commands::Failure> {
     for (at, name) in names.iter().enumerate() {
-        let host = each.host(at);
+        let host = each.hosts.at(at);
         match name {
             Some(name) => put_one(rt, each, None, host, *name, puts, writer)?,
             None => {
@@ -182,11 +161,19 @@ pub fn put_one<W: Write>(
         None => puts.put(&putting, first, again, bytes, &mut heard)?,
     };
     if told == FileAnswer::Done {
+        tell_fitted(rt, host, &name);
         tell_nuls(rt, each.mode, host, &source);
     } else if let Some(line) = heard.refusal_of_file() {
         tell_refused(rt, each, host, &name, source.bytes, line);
     }
     Ok(())
+}
+
+/// Says which name a file gets that is put under another than its own, since that can't be one.
+fn tell_fitted(rt: &HostRuntime, host: &str, name: &Name) {
+    if OneName::of(last_part(host.as_bytes())).is_none() {
+        let _ = eprintln!(rt; "{host}: put as {name}");
+    }
 }
 
 /// Says why no file of this name was made of one of the host with so many bytes, by what its line says. That there is no such directory is
@@ -240,9 +227,10 @@ fn tell_names<W: Write>(
 ) -> Result<FileAnswer, f11_commands::Failure> {
     let mut count: usize = 0;
     for (at, name) in names.iter().enumerate() {
-        let host = each.host(at);
+        let host = each.hosts.at(at);
         match name {
             Some(name) => {
+                tell_fitted(rt, host, name);
                 write_copy_line(writer, name)?;
                 count = count.saturating_add(1);
             }

@@ -1,13 +1,19 @@
 //! The command `get --all`: the files of the host that it makes, in a folder.
+ghost use Rattle.std.specs.Prelude.{◌≡◌, OnOk};
+ghost use Rattle.f11_commands.specs.AllCommand.{CanBeRead, device_of, files_of, index_of, wide_of};
+
 use crate::host_file::HostFile;
 use crate::image::{ReadImage, opened_to_read, tell_read_fault};
 use crate::outcome::Failure;
 use crate::remarks::{self, Remark, Why, opened};
 use crate::volumes::judged;
-use f11_commands::f11_catalog::{Content, DirectoryName, Place};
+use f11_commands::f11_catalog::{Content, DirectoryName, FileAt, Place};
+use f11_commands::f11_flx::CopyMode;
 use f11_commands::{Answer, LeftOut, TakingAll, begin_all};
+use f11_dev::Device;
 use f11_store::FileId;
 use f11_store::f11_rad50::Name;
+use f11_words::TakingMode;
 use std::fs;
 use std::io::{self, ErrorKind, Write};
 
@@ -23,6 +29,7 @@ use std::io::{self, ErrorKind, Write};
 /// is told on standard error. A transfer that failed is told before what the host refused.
 pub fn get_all<'a, W: Write>(
     rt: &HostRuntime,
+    mode: TakingMode,
     image: &'a str,
     folder: &'a str,
     writer: &mut W,
@@ -41,7 +48,7 @@ pub fn get_all<'a, W: Write>(
         folder,
         remark,
     )?;
-    let taken = take_all(rt, &mut all, folder, writer);
+    let taken = take_all(rt, &mut all, mode, folder, writer);
     // where it stopped the last line would count what was never tried as done
     let (device, served) = if taken.is_ok() {
         all.end(writer)
@@ -62,6 +69,7 @@ pub fn get_all<'a, W: Write>(
 fn take_all<W: Write>(
     rt: &HostRuntime,
     all: &mut TakingAll<ReadImage>,
+    mode: TakingMode,
     folder: &str,
     writer: &mut W,
 ) -> Result<bool, Failure> {
@@ -71,7 +79,7 @@ fn take_all<W: Write>(
             Content::Missing(_) => all.write(&found, None, &mut io::sink(), writer)?,
             _ => match host_of(rt, folder, &found.place)? {
                 Host::File(mut made) => {
-                    let written = all.write(&found, made.beside, &mut made.file, writer);
+                    let written = take_one(all, mode, &found, &mut made, writer);
                     let ended = made.file.end();
                     if written.is_err() || ended.is_err() {
                         tell_unwritten(rt, &found.place, &made, writer);
@@ -87,6 +95,31 @@ fn take_all<W: Write>(
         }
     }
     Ok(complete)
+}
+
+/// Takes out one file: as text where that is asked for, or its header says that its records are lines and that is to decide, and all its records
+/// can be read; else as it is.
+fn take_one<D: Device, W: Write>(
+    all: &mut TakingAll<D>,
+    mode: TakingMode,
+    found: &FileAt,
+    made: &mut Made,
+    writer: &mut W,
+) -> Result<(), f11_commands::Failure>
+    requires reading { CanBeRead (index_of all.old) (wide_of all.old) found.now.content
+        (D.disk (device_of all.old)) }
+    ensures files { OnOk result (files_of all.new ≡ files_of all.old) }
+{
+    let is_text = match mode {
+        TakingMode::Copy(CopyMode::Image) => false,
+        TakingMode::Copy(CopyMode::Text) => all.has_text(found, false),
+        TakingMode::Auto => all.has_text(found, true),
+    };
+    if is_text {
+        all.write_text(found, made.beside, &mut made.file, writer)
+    } else {
+        all.write(found, made.beside, &mut made.file, writer)
+    }
 }
 
 /// Tells of a file of the host that it took no more, and why, if it was that.

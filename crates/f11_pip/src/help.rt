@@ -28,7 +28,7 @@ const FILES: [Synopsis; 14] = [
     },
     Synopsis {
         command: Subcommand::Get,
-        words: "f11_pip get [-n] [--mode M|--blocks] IMAGE DIR NAME HOST | get --all IMAGE FOLDER",
+        words: "f11_pip get [-n] [--mode M|--blocks] IMAGE DIR NAME HOST | get --all [--mode M] IMAGE FOLDER",
         does: "takes out a file, or all files",
         about: &[
             "of a volume that has faults, too; HOST and FOLDER are made, and mustn't be there; NAME: without a version the highest",
@@ -36,19 +36,20 @@ const FILES: [Synopsis; 14] = [
             "-n: tells which files would be taken out, and takes out none",
             "--mode M: image, as where none is given, all bytes as they are; text: records become lines; auto: as text where they are lines",
             "--blocks: all its blocks, those behind its end, too",
-            "--all: each file, as it is, into a folder of FOLDER for its directory, as [200,001]; those that none names into FOLDER/lost",
+            "--all: each file into a folder of FOLDER for its directory, as [200,001]; those that none names into FOLDER/lost; what can't be text is as it is",
             "DIR: a UIC, octal, as 200,1, or a name, as [USERFILES]; 0,0 is the master file directory",
         ],
         example: "f11_pip get --mode text pack.dsk 200,1 'LOGIN.CMD;1' login.cmd",
     },
     Synopsis {
         command: Subcommand::Put,
-        words: "f11_pip put [--mode M] IMAGE DIR NAME HOST | put --each [-n|--stop] [--mode M] IMAGE DIR HOST.. | put --all [--mode M] FOLDER IMAGE",
+        words: "f11_pip put [--mode M] IMAGE DIR NAME HOST | put --each [-n|--stop] [--fit] [--mode M] IMAGE DIR HOST.. | put --all [--mode M] FOLDER IMAGE",
         does: "makes a file of one of the host, or of each of some",
         about: &[
             "of a volume that is accepted; NAME: without a version the next one",
             "--each: each HOST under the last part of its path, as the next version where that has none; a line each, and counts",
             "--all: what get --all makes of a volume: each file of a folder of FOLDER into the directory as which that is called, as [200,001], which is made where it isn't there",
+            "--fit: with --each, a HOST whose name can't be one gets the characters of it that may stand in one, and a number where that is there",
             "-n: with --each, tells which files would be made, and makes none; --stop: the first that is refused is the last that is tried",
             "--mode M: image, as where none is given, all bytes as they are, or text: lines, ended by LF or CR LF, become records",
             "text: bytes of 0 are dropped, and the last line gets an end",
@@ -178,7 +179,7 @@ const FILES: [Synopsis; 14] = [
 ];
 
 /// Those on RT-11 volumes.
-const RT11: [Synopsis; 9] = [
+const RT11: [Synopsis; 10] = [
     Synopsis {
         command: Subcommand::RtLs,
         words: "f11_pip rt-ls RT",
@@ -198,10 +199,13 @@ const RT11: [Synopsis; 9] = [
     },
     Synopsis {
         command: Subcommand::RtPut,
-        words: "f11_pip rt-put [--mode M] RT NAME HOST",
-        does: "makes a file of one of the host, filled up with zeros to whole blocks",
+        words: "f11_pip rt-put [--mode M] RT NAME HOST | rt-put --each [-n|--stop] [--fit] [--mode M] RT HOST..",
+        does: "makes a file of one of the host, or of each of some, filled up with zeros to whole blocks",
         about: &[
             "of a volume that is accepted",
+            "--each: each HOST under the last part of its path; a line each, and counts",
+            "--fit: with --each, a HOST whose name can't be one gets the characters of it that may stand in one, and a number where that is there",
+            "-n: with --each, tells which files would be made, and makes none; --stop: the first that is refused is the last that is tried",
             "--mode M: image, as where none is given, all bytes as they are, or text: lines, ended by LF or CR LF, end in CR LF",
         ],
         example: "f11_pip rt-put --mode text rt.dsk LOGIN.COM login.com",
@@ -228,6 +232,17 @@ const RT11: [Synopsis; 9] = [
         does: "protects a file, so that it isn't deleted",
         about: &["of a volume that is accepted; --off: has it protected no more"],
         example: "f11_pip rt-prot rt.dsk SWAP.SYS",
+    },
+    Synopsis {
+        command: Subcommand::RtSqueeze,
+        words: "f11_pip rt-squeeze RT",
+        does: "brings the files to lower blocks, and the empty areas together behind them",
+        about: &[
+            "of a volume that is accepted; a file is copied before its old place is given up, so it stays where no empty area that serves for that is as long",
+            "a copy has the type SQZ until the file is deleted: where it is stopped a file may be there twice, or so alone, and rt-ren gives it its name back",
+            "files of the type BAD, and those of a name that several have, stay, with no line; each other one that moves, or can't, has one, and counts",
+        ],
+        example: "f11_pip rt-squeeze rt.dsk",
     },
     Synopsis {
         command: Subcommand::RtVfy,

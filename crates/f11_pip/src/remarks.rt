@@ -115,6 +115,14 @@ impl Why {
     pub const NO_NAME: Why = Why::Said(
         "no name; one is in capitals, as LOGIN.CMD;1: up to 9 of A to Z, 0 to 9 and $, a dot, up to 3 more, at least one of all these, and an octal version, 1 to 77777",
     );
+    /// Files of an RT-11 volume stay before which an empty area lies.
+    pub const NOT_SQUEEZED: Why = Why::Said(
+        "some files stay, since a file is copied before its old place is given up, and no empty area that serves for it is as long; rt-get --all, rt-init and rt-put --each bring all together",
+    );
+    /// So do some since the name of their copies is that of files.
+    pub const COPY_THERE: Why = Why::Said(
+        "some files stay: the copy of a file has the type SQZ while it is moved, and a file has that name, maybe since an rt-squeeze was stopped; rt-ren gives it another name",
+    );
     /// It is no folder that is called as a directory.
     pub const NO_FOLDER_NAME: Why = Why::Said(
         "no folder that is called as a directory, [ggg,mmm] or [NAME]",

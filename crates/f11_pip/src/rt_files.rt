@@ -4,12 +4,13 @@ use crate::host_files::{ended, made, put_answer};
 use crate::image::{opened_to_read, opened_to_write, tell_fault, tell_read_fault};
 use crate::outcome::Failure;
 use crate::refusals::{self, of_rt, of_rt_renaming};
-use crate::remarks::{self, Remark};
+use crate::remarks::{self, Remark, Why};
 use crate::sources::{in_pieces, lines_length, opened_host};
 use f11_commands::f11_flx::CopyMode;
 use f11_commands::{
     Answer, FileAnswer, RtServed, RtState, find_rt_file, print_rt_delete, print_rt_protect,
-    print_rt_put, print_rt_rename, read_rt_name, refuse_names, write_rt_file, write_rt_text,
+    print_rt_put, print_rt_rename, print_rt_squeeze, read_rt_name, refuse_names, write_rt_file,
+    write_rt_text,
 };
 use rt11_text::FromHost;
 use std::io::Write;
@@ -181,6 +182,30 @@ pub fn protect<'a, W: Write>(
     tell_fault(rt, image, device);
     tell_refused(rt, &heard, image, word);
     Ok(ended(rt, image, told?, remark))
+}
+
+/// Brings the files of an RT-11 volume to lower blocks.
+pub fn squeeze<'a, W: Write>(
+    rt: &HostRuntime,
+    image: &'a str,
+    writer: &mut W,
+    remark: &mut Option<Remark<'a>>,
+) -> Result<Answer, Failure> {
+    let device = opened_to_write(rt, image, remark)?;
+    let mut heard = Heard::new(writer, None);
+    let (device, told) = print_rt_squeeze(rt.alloc(), device, &mut heard);
+    tell_fault(rt, image, device);
+    let told = told?;
+    if told == FileAnswer::Refused {
+        let is_copy_there = heard.refused_action() == Some("DuplicateName");
+        let why = if is_copy_there {
+            Why::COPY_THERE
+        } else {
+            Why::NOT_SQUEEZED
+        };
+        remarks::tell(rt, image, why);
+    }
+    Ok(ended(rt, image, told, remark))
 }
 
 /// Says what the last line means, where it refuses something that was asked of a file of this name.

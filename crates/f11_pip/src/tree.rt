@@ -1,6 +1,7 @@
 //! The command `put --all`: the files of a folder of the host that are put on a volume, each in the directory as which its folder is called.
 use crate::directory::place_of;
 use crate::each::{Each, ended_puts, put_one};
+use crate::hosts::Hosts;
 use crate::image::{opened_to_write, tell_fault};
 use crate::meant::is_folder;
 use crate::outcome::Failure;
@@ -11,6 +12,7 @@ use f11_commands::f11_flx::CopyMode;
 use f11_commands::f11_rad50::Name;
 use f11_commands::{Answer, NoNames, Puts, Unput, begin_puts, directory_name};
 use f11_dev::FileImage;
+use f11_patterns::HostNames;
 use f11_store::{Refusal, Uic};
 use f11_words::{Manner, read_folder};
 use std::fs::{self, File};
@@ -195,7 +197,7 @@ fn names_for(
             return Err(Failure::NoMemory);
         }
     }
-    Ok(new_names(rt.alloc(), device, directory, &words)?)
+    Ok(new_names(rt.alloc(), device, directory, &words, HostNames::AsTheyAre)?)
 }
 
 /// The paths of the files in a folder, but of those that the master file directory has already.
@@ -268,8 +270,11 @@ fn put_filled<W: Write>(
         mode: all.mode,
         image: all.image,
         directory: filled.name,
-        first: "",
-        others: &[],
+        hosts: Hosts {
+            first: "",
+            others: &[],
+        },
+        fitting: HostNames::AsTheyAre,
     };
     for (at, name) in filled.names.iter().enumerate() {
         let Some(path) = filled.paths.get(at) else {

@@ -36,8 +36,10 @@ use Rattle.f11_words.specs.Lines.{
   rt_list_line,
   rt_ls_line,
   rt_prot_line,
+  rt_put_each_line,
   rt_put_line,
   rt_ren_line,
+  rt_squeeze_line,
   rt_unprot_line,
   rt_vfy_line,
   run_line,
@@ -75,6 +77,7 @@ use Rattle.f11_words.specs.declared.usage.Subcommand.TheVariants.{
   RtProt,
   RtPut,
   RtRen,
+  RtSqueeze,
   RtVfy,
   Run,
   Trunc,
@@ -124,7 +127,10 @@ takes-words Put = (
       λ h rest. (refl, refl),
       (
         λ h rest. (refl, refl),
-        (λ h word rest. (refl, refl, refl), (λ h word. refl, (λ h word. refl, (λ h word. refl, (λ h word. refl, tt))))),
+        (
+          λ h rest. (refl, refl),
+          (λ h word rest. (refl, refl, refl), (λ h word. refl, (λ h word. refl, (λ h word. refl, (λ h word. refl, tt))))),
+        ),
       ),
     ),
   ),
@@ -138,8 +144,18 @@ takes-words RtInit = (λ h word rest. (refl, refl, refl), (λ h word rest. (refl
 takes-words RtList = (λ h word. refl, tt)
 takes-words RtLs = (λ h word. refl, tt)
 takes-words RtProt = (λ h rest. (refl, refl), (λ h word. refl, (λ h word. refl, tt)))
-takes-words RtPut = (λ h word rest. (refl, refl, refl), (λ h word. refl, (λ h word. refl, (λ h word. refl, tt))))
+takes-words RtPut = (
+  tt,
+  (
+    λ h rest. (refl, refl),
+    (
+      λ h rest. (refl, refl),
+      (λ h rest. (refl, refl), (λ h word rest. (refl, refl, refl), (λ h word. refl, (λ h word. refl, (λ h word. refl, tt))))),
+    ),
+  ),
+)
 takes-words RtRen = (λ h word. refl, (λ h word. refl, (λ h word. refl, tt)))
+takes-words RtSqueeze = (λ h word. refl, tt)
 takes-words RtVfy = (λ h word. refl, tt)
 takes-words Run = (λ h rest. (refl, refl), (λ h word. refl, (λ h word. refl, tt)))
 takes-words Trunc = (tt, (λ h rest. (refl, refl), (λ h word. refl, (λ h word. refl, (λ h word. refl, tt)))))
@@ -169,8 +185,9 @@ takes-first RtInit = tt
 takes-first RtList = tt
 takes-first RtLs = tt
 takes-first RtProt = tt
-takes-first RtPut = tt
+takes-first RtPut = λ rest. (refl, refl)
 takes-first RtRen = tt
+takes-first RtSqueeze = tt
 takes-first RtVfy = tt
 takes-first Run = tt
 takes-first Trunc = λ rest. (refl, refl)
@@ -210,7 +227,8 @@ line-met (get_line false (Some mode) image dir name host) = (tt, refl, refl)
 line-met (get_line true (Some mode) image dir name host) = (tt, refl, refl)
 line-met (get_blocks_line false image dir name host) = (tt, refl, refl)
 line-met (get_blocks_line true image dir name host) = (tt, refl, refl)
-line-met (get_all_line image folder) = (refl, refl, refl)
+line-met (get_all_line None image folder) = (refl, refl, refl)
+line-met (get_all_line (Some mode) image folder) = (refl, refl, refl)
 line-met (home_line image) = (tt, refl, refl)
 line-met (init_line blocks slots label None image) = (tt, refl, refl)
 line-met (init_line blocks slots label (Some max) image) = (tt, refl, refl)
@@ -229,12 +247,18 @@ line-met (purge_line Stops image dir (Some name)) = (tt, refl, refl)
 line-met (purge_line Tells image dir (Some name)) = (tt, refl, refl)
 line-met (put_line None image dir name host) = (tt, refl, refl)
 line-met (put_line (Some mode) image dir name host) = (tt, refl, refl)
-line-met (put_each_line GoesOn None image dir host) = (refl, refl, refl)
-line-met (put_each_line Stops None image dir host) = (refl, refl, refl)
-line-met (put_each_line Tells None image dir host) = (refl, refl, refl)
-line-met (put_each_line GoesOn (Some mode) image dir host) = (refl, refl, refl)
-line-met (put_each_line Stops (Some mode) image dir host) = (refl, refl, refl)
-line-met (put_each_line Tells (Some mode) image dir host) = (refl, refl, refl)
+line-met (put_each_line GoesOn false None image dir host) = (refl, refl, refl)
+line-met (put_each_line Stops false None image dir host) = (refl, refl, refl)
+line-met (put_each_line Tells false None image dir host) = (refl, refl, refl)
+line-met (put_each_line GoesOn true None image dir host) = (refl, refl, refl)
+line-met (put_each_line Stops true None image dir host) = (refl, refl, refl)
+line-met (put_each_line Tells true None image dir host) = (refl, refl, refl)
+line-met (put_each_line GoesOn false (Some mode) image dir host) = (refl, refl, refl)
+line-met (put_each_line Stops false (Some mode) image dir host) = (refl, refl, refl)
+line-met (put_each_line Tells false (Some mode) image dir host) = (refl, refl, refl)
+line-met (put_each_line GoesOn true (Some mode) image dir host) = (refl, refl, refl)
+line-met (put_each_line Stops true (Some mode) image dir host) = (refl, refl, refl)
+line-met (put_each_line Tells true (Some mode) image dir host) = (refl, refl, refl)
 line-met (put_all_line None folder image) = (refl, refl, refl)
 line-met (put_all_line (Some mode) folder image) = (refl, refl, refl)
 line-met (ren_line image dir name new) = (tt, refl, refl)
@@ -250,7 +274,20 @@ line-met (rt_prot_line rt name) = (tt, refl, refl)
 line-met (rt_unprot_line rt name) = (tt, refl, refl)
 line-met (rt_put_line None rt name host) = (tt, refl, refl)
 line-met (rt_put_line (Some mode) rt name host) = (tt, refl, refl)
+line-met (rt_put_each_line GoesOn false None rt host) = (refl, refl, refl)
+line-met (rt_put_each_line Stops false None rt host) = (refl, refl, refl)
+line-met (rt_put_each_line Tells false None rt host) = (refl, refl, refl)
+line-met (rt_put_each_line GoesOn true None rt host) = (refl, refl, refl)
+line-met (rt_put_each_line Stops true None rt host) = (refl, refl, refl)
+line-met (rt_put_each_line Tells true None rt host) = (refl, refl, refl)
+line-met (rt_put_each_line GoesOn false (Some mode) rt host) = (refl, refl, refl)
+line-met (rt_put_each_line Stops false (Some mode) rt host) = (refl, refl, refl)
+line-met (rt_put_each_line Tells false (Some mode) rt host) = (refl, refl, refl)
+line-met (rt_put_each_line GoesOn true (Some mode) rt host) = (refl, refl, refl)
+line-met (rt_put_each_line Stops true (Some mode) rt host) = (refl, refl, refl)
+line-met (rt_put_each_line Tells true (Some mode) rt host) = (refl, refl, refl)
 line-met (rt_ren_line rt name new) = (tt, refl, refl)
+line-met (rt_squeeze_line rt) = (tt, refl, refl)
 line-met (rt_vfy_line image) = (tt, refl, refl)
 line-met (run_line image script) = (tt, refl, refl)
 line-met (quiet_run_line image script) = (tt, refl, refl)

@@ -1,12 +1,15 @@
 -- The words behind options, as the end of all.
-use Rattle.std.proofs.Common.{◌≡◌, ℕ, ◌+◌, ◌-◌, ◌<◌, min, inl, inr, Bool, true, false, if◌then◌else◌, List, [], ◌∷◌, ◌++◌}
+use Rattle.std.proofs.Common.{◌≡◌, ℕ, ◌+◌, ◌-◌, ◌<◌, min, inl, inr, Bool, true, false, if◌then◌else◌, List, [], ◌∷◌, ◌++◌, Option, Some}
+use Rattle.std.proofs.Common.{None}
 use Rattle.std.proofs.Common.{length, take, drop, map, get_or, codes, refl, sym, ap, ◌∙◌, arith}
 use Rattle.std.proofs.lemmas.Bool.{cases_lt}
 use Rattle.std.proofs.lemmas.List.{append_assoc, drop-map, drop_all, length-append, length-map, take-append-drop}
 use Rattle.std.proofs.Math.Seq.{drop-append-add}
 use Rattle.std.specs.Str.{bytes_eq}
-use Rattle.f11_words.specs.Hosts.{behind_options, is_each, other_hosts}
-use Rattle.f11_words.specs.Lines.{is_option}
+use Rattle.f11_words.specs.Hosts.{HostsStandBehind, StandsBefore, behind_options, hosts_behind, other_hosts, places_in}
+use Rattle.f11_words.specs.Lines.{is_option, put_each_line, rt_put_each_line}
+use Rattle.f11_words.specs.declared.words.Manner.{Manner}
+use Rattle.f11_words.specs.declared.words.Manner.TheVariants.{GoesOn, Stops, Tells}
 
 -- behind a mode stands another word
 pub mode-behind : {X : Type 0} (f : X → List ℕ) (words : List X) (d : X) → 1 < length words
@@ -70,19 +73,88 @@ drop-drop : {X : Type 0} (xs : List X) → drop 1 (drop 1 xs) ≡ drop 2 xs
 drop-drop [] = refl
 drop-drop (x ∷ xs) = refl
 
--- of `put --each` the other files of the host are those,
-pub others-behind : {X : Type 0} (f : X → List ℕ) (words places : List X) → is_each (map f words) ≡ true
+-- of a command that takes several files of the host the others are those,
+pub others-behind : {X : Type 0} (f : X → List ℕ) (words places : List X) (n : ℕ) → places_in (map f words) ≡ Some n
     → map f places ≡ behind_options (map f (drop 1 (drop 1 words)))
-    → map f (drop (length words - min (length places - 3) (length words)) words) ≡ other_hosts (map f words)
-others-behind {X} f words places is at =
+    → map f (drop (length words - min (length places - n) (length words)) words) ≡ other_hosts (map f words)
+others-behind {X} f words places n is at =
     let here : map f places ≡ behind_options (drop 2 (map f words)) =
     at ∙ ap (λ (xs : List X). behind_options (map f xs)) (drop-drop words) ∙ ap behind_options (sym (drop-map f 2 words))
     in
     let count : length words ≡ length (map f words) = sym (length-map words f) in
     let few : length places ≡ length (behind_options (drop 2 (map f words))) = sym (length-map places f) ∙ ap length here in
-    sym (drop-map f (length words - min (length places - 3) (length words)) words)
-    ∙ ap (λ (n : ℕ). drop (n - min (length places - 3) n) (map f words)) count
-    ∙ ap (λ (n : ℕ). drop (length (map f words) - min (n - 3) (length (map f words))) (map f words)) few
-    ∙ end-drop (map f words) (behind_options (drop 2 (map f words))) 3
+    sym (drop-map f (length words - min (length places - n) (length words)) words)
+    ∙ ap (λ (m : ℕ). drop (m - min (length places - n) m) (map f words)) count
+    ∙ ap (λ (m : ℕ). drop (length (map f words) - min (m - n) (length (map f words))) (map f words)) few
+    ∙ end-drop (map f words) (behind_options (drop 2 (map f words))) n
     (drop-end (map f words) (behind_options (drop 2 (map f words))) 2 (behind-end (drop 2 (map f words))))
-    ∙ sym (ap (λ (b : Bool). if b then drop 3 (behind_options (drop 2 (map f words))) else []) is)
+    ∙ sym (ap (λ (o : Option ℕ). hosts_behind o (map f words)) is)
+
+-- a word that is no option isn't `--mode`,
+no-mode : (word : List ℕ) → is_option word ≡ false → bytes_eq word (codes "--mode") ≡ false
+no-mode [] plain = refl
+no-mode (b ∷ word) plain = rw plain refl
+
+-- and options end before it
+ends-before : (word next : List ℕ) (words : List (List ℕ)) → is_option word ≡ false
+    → behind_options (word ∷ next ∷ words) ≡ word ∷ next ∷ words
+ends-before word next words plain = rw (no-mode word plain, plain) refl
+
+-- so the other files stand behind each line of `put --each`
+put-before : (manner : Manner) (fitted : Bool) (mode : Option (List ℕ)) (image dir host : List ℕ)
+    → StandsBefore (put_each_line manner fitted mode image dir host)
+put-before GoesOn false None image dir host program others plain =
+    ap (drop 3) (ends-before image dir (host ∷ others) (plain 0 [] (omega arith)))
+put-before Stops false None image dir host program others plain =
+    ap (drop 3) (ends-before image dir (host ∷ others) (plain 0 [] (omega arith)))
+put-before Tells false None image dir host program others plain =
+    ap (drop 3) (ends-before image dir (host ∷ others) (plain 0 [] (omega arith)))
+put-before GoesOn true None image dir host program others plain =
+    ap (drop 3) (ends-before image dir (host ∷ others) (plain 0 [] (omega arith)))
+put-before Stops true None image dir host program others plain =
+    ap (drop 3) (ends-before image dir (host ∷ others) (plain 0 [] (omega arith)))
+put-before Tells true None image dir host program others plain =
+    ap (drop 3) (ends-before image dir (host ∷ others) (plain 0 [] (omega arith)))
+put-before GoesOn false (Some mode) image dir host program others plain =
+    ap (drop 3) (ends-before image dir (host ∷ others) (plain 1 [] (omega arith)))
+put-before Stops false (Some mode) image dir host program others plain =
+    ap (drop 3) (ends-before image dir (host ∷ others) (plain 1 [] (omega arith)))
+put-before Tells false (Some mode) image dir host program others plain =
+    ap (drop 3) (ends-before image dir (host ∷ others) (plain 1 [] (omega arith)))
+put-before GoesOn true (Some mode) image dir host program others plain =
+    ap (drop 3) (ends-before image dir (host ∷ others) (plain 1 [] (omega arith)))
+put-before Stops true (Some mode) image dir host program others plain =
+    ap (drop 3) (ends-before image dir (host ∷ others) (plain 1 [] (omega arith)))
+put-before Tells true (Some mode) image dir host program others plain =
+    ap (drop 3) (ends-before image dir (host ∷ others) (plain 1 [] (omega arith)))
+
+-- and each of `rt-put --each`
+rt-put-before : (manner : Manner) (fitted : Bool) (mode : Option (List ℕ)) (rt host : List ℕ)
+    → StandsBefore (rt_put_each_line manner fitted mode rt host)
+rt-put-before GoesOn false None rt host program others plain =
+    ap (drop 2) (ends-before rt host others (plain 0 [] (omega arith)))
+rt-put-before Stops false None rt host program others plain =
+    ap (drop 2) (ends-before rt host others (plain 0 [] (omega arith)))
+rt-put-before Tells false None rt host program others plain =
+    ap (drop 2) (ends-before rt host others (plain 0 [] (omega arith)))
+rt-put-before GoesOn true None rt host program others plain =
+    ap (drop 2) (ends-before rt host others (plain 0 [] (omega arith)))
+rt-put-before Stops true None rt host program others plain =
+    ap (drop 2) (ends-before rt host others (plain 0 [] (omega arith)))
+rt-put-before Tells true None rt host program others plain =
+    ap (drop 2) (ends-before rt host others (plain 0 [] (omega arith)))
+rt-put-before GoesOn false (Some mode) rt host program others plain =
+    ap (drop 2) (ends-before rt host others (plain 1 [] (omega arith)))
+rt-put-before Stops false (Some mode) rt host program others plain =
+    ap (drop 2) (ends-before rt host others (plain 1 [] (omega arith)))
+rt-put-before Tells false (Some mode) rt host program others plain =
+    ap (drop 2) (ends-before rt host others (plain 1 [] (omega arith)))
+rt-put-before GoesOn true (Some mode) rt host program others plain =
+    ap (drop 2) (ends-before rt host others (plain 1 [] (omega arith)))
+rt-put-before Stops true (Some mode) rt host program others plain =
+    ap (drop 2) (ends-before rt host others (plain 1 [] (omega arith)))
+rt-put-before Tells true (Some mode) rt host program others plain =
+    ap (drop 2) (ends-before rt host others (plain 1 [] (omega arith)))
+
+pub stand-behind : HostsStandBehind
+stand-behind = record { put = put-before; rt_put = rt-put-before }

@@ -40,6 +40,7 @@ use Rattle.f11_words.specs.declared.usage.Subcommand.TheVariants.{
   RtProt,
   RtPut,
   RtRen,
+  RtSqueeze,
   RtVfy,
   Run,
   Trunc,
@@ -124,6 +125,7 @@ command-met RtLs = (refl, refl, refl, refl)
 command-met RtProt = (refl, refl, refl, refl)
 command-met RtPut = (refl, refl, refl, refl)
 command-met RtRen = (refl, refl, refl, refl)
+command-met RtSqueeze = (refl, refl, refl, refl)
 command-met RtVfy = (refl, refl, refl, refl)
 command-met Run = (refl, refl, refl, refl)
 command-met Trunc = (refl, refl, refl, refl)

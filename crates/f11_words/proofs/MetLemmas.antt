@@ -38,8 +38,10 @@ use Rattle.f11_words.specs.Lines.{
   rt_list_line,
   rt_ls_line,
   rt_prot_line,
+  rt_put_each_line,
   rt_put_line,
   rt_ren_line,
+  rt_squeeze_line,
   rt_unprot_line,
   rt_vfy_line,
   run_line,
@@ -76,6 +78,7 @@ use Rattle.f11_words.specs.declared.usage.Subcommand.TheVariants.{
   RtProt,
   RtPut,
   RtRen,
+  RtSqueeze,
   RtVfy,
   Run,
   Trunc,
@@ -112,6 +115,7 @@ named-is RtLs = refl
 named-is RtProt = refl
 named-is RtPut = refl
 named-is RtRen = refl
+named-is RtSqueeze = refl
 named-is RtVfy = refl
 named-is Run = refl
 named-is Trunc = refl
@@ -160,7 +164,7 @@ reads-line matches result (from_rt_line mode rt rt_name image uic name) reads = 
 reads-line matches result (to_rt_line mode image uic name rt rt_name) reads = reads mode image uic name rt rt_name
 reads-line matches result (get_line told mode image dir name host) reads = reads.file told mode image dir name host
 reads-line matches result (get_blocks_line told image dir name host) reads = reads.blocks told image dir name host
-reads-line matches result (get_all_line image folder) reads = reads.all image folder
+reads-line matches result (get_all_line mode image folder) reads = reads.all mode image folder
 reads-line matches result (home_line image) reads = reads image
 reads-line matches result (init_line blocks slots label max image) reads = reads blocks slots label max image
 reads-line matches result (ls_line image) reads = reads.all image
@@ -170,7 +174,7 @@ reads-line matches result (name_line word) reads = reads word
 reads-line matches result (prot_line manner image dir name word) reads = reads manner image dir name word
 reads-line matches result (purge_line manner image dir name) reads = reads manner image dir name
 reads-line matches result (put_line mode image dir name host) reads = reads.file mode image dir name host
-reads-line matches result (put_each_line manner mode image dir host) reads = reads.each manner mode image dir host
+reads-line matches result (put_each_line manner fitted mode image dir host) reads = reads.each manner fitted mode image dir host
 reads-line matches result (put_all_line mode folder image) reads = reads.all mode folder image
 reads-line matches result (ren_line image dir name new) reads = reads image dir name new
 reads-line matches result (rights_line caller owner word) reads = reads caller owner word
@@ -182,8 +186,10 @@ reads-line matches result (rt_list_line image) reads = reads image
 reads-line matches result (rt_ls_line rt) reads = reads rt
 reads-line matches result (rt_prot_line rt name) reads = reads.on rt name
 reads-line matches result (rt_unprot_line rt name) reads = reads.off rt name
-reads-line matches result (rt_put_line mode rt name host) reads = reads mode rt name host
+reads-line matches result (rt_put_line mode rt name host) reads = reads.file mode rt name host
+reads-line matches result (rt_put_each_line manner fitted mode rt host) reads = reads.each manner fitted mode rt host
 reads-line matches result (rt_ren_line rt name new) reads = reads rt name new
+reads-line matches result (rt_squeeze_line rt) reads = reads rt
 reads-line matches result (rt_vfy_line image) reads = reads image
 reads-line matches result (run_line image script) reads = reads.told image script
 reads-line matches result (quiet_run_line image script) reads = reads.quiet image script

@@ -32,8 +32,10 @@ use Rattle.f11_words.specs.Lines.{
   rt_list_line,
   rt_ls_line,
   rt_prot_line,
+  rt_put_each_line,
   rt_put_line,
   rt_ren_line,
+  rt_squeeze_line,
   rt_unprot_line,
   rt_vfy_line,
   run_line,
@@ -80,7 +82,9 @@ use Rattle.f11_words.specs.declared.words.Words.TheVariants.{
   RtLs,
   RtProt,
   RtPut,
+  RtPutEach,
   RtRen,
+  RtSqueeze,
   RtVfy,
   Run,
   Trunc,
@@ -184,10 +188,11 @@ AsksGet told blocks mode image dir name host (Get is_told in_mode all_blocks fro
     × (to.now ≡ host)
 AsksGet told blocks mode image dir name host _ = ⊥
 
--- the words ask that all files of this image become files of the host in this folder
-abbrev pub AsksGetAll : List ℕ → List ℕ → Words → Type 0
-AsksGetAll name text (GetAll image folder) = (image.now ≡ name) × (folder.now ≡ text)
-AsksGetAll name text _ = ⊥
+-- the words ask that all files of this image become, in this mode, files of the host in this folder
+abbrev pub AsksGetAll : Option (List ℕ) → List ℕ → List ℕ → Words → Type 0
+AsksGetAll mode name text (GetAll in_mode image folder) =
+    SpellsTakingModeOrNone mode in_mode × (image.now ≡ name) × (folder.now ≡ text)
+AsksGetAll mode name text _ = ⊥
 
 -- the words ask that this file of the host become, in this mode, the file of this name in this directory of this image
 abbrev pub AsksPut : Option (List ℕ) → List ℕ → List ℕ → List ℕ → List ℕ → Words → Type 0
@@ -195,11 +200,12 @@ AsksPut mode image dir name host (Put in_mode to directory file from) =
     SpellsModeOrNone mode in_mode × (to.now ≡ image) × SpellsDirectory dir directory × (file.now ≡ name) × (from.now ≡ host)
 AsksPut mode image dir name host _ = ⊥
 
--- the words ask that this file of the host, the first of some, become in this mode one of its own name in this directory of this image
-abbrev pub AsksPutEach : Manner → Option (List ℕ) → List ℕ → List ℕ → List ℕ → Words → Type 0
-AsksPutEach manner mode image dir host (PutEach how in_mode to directory first) =
-    (how ≡ manner) × SpellsModeOrNone mode in_mode × (to.now ≡ image) × SpellsDirectory dir directory × (first.now ≡ host)
-AsksPutEach manner mode image dir host _ = ⊥
+-- the words ask that this file of the host, the first of some, become in this mode one of its own name in this directory of this image, or
+-- of one that is fitted
+abbrev pub AsksPutEach : Manner → Bool → Option (List ℕ) → List ℕ → List ℕ → List ℕ → Words → Type 0
+AsksPutEach manner fitted mode image dir host (PutEach how fits in_mode to directory first) =
+    (how ≡ manner) × (fits ≡ fitted) × SpellsModeOrNone mode in_mode × (to.now ≡ image) × SpellsDirectory dir directory × (first.now ≡ host)
+AsksPutEach manner fitted mode image dir host _ = ⊥
 
 -- and the files of a folder of the host, made so on this volume
 abbrev pub AsksPutAll : Option (List ℕ) → List ℕ → List ℕ → Words → Type 0
@@ -259,6 +265,18 @@ AsksRtPut mode image text path (RtPut in_mode rt name host) =
     SpellsModeOrNone mode in_mode × (rt.now ≡ image) × (name.now ≡ text) × (host.now ≡ path)
 AsksRtPut mode image text path _ = ⊥
 
+-- the words ask that this file of the host, the first of some, become in this mode one of its own name of this volume, or of one that is
+-- fitted
+abbrev pub AsksRtPutEach : Manner → Bool → Option (List ℕ) → List ℕ → List ℕ → Words → Type 0
+AsksRtPutEach manner fitted mode image path (RtPutEach how fits in_mode rt host) =
+    (how ≡ manner) × (fits ≡ fitted) × SpellsModeOrNone mode in_mode × (rt.now ≡ image) × (host.now ≡ path)
+AsksRtPutEach manner fitted mode image path _ = ⊥
+
+-- the words ask that the files of the RT-11 volume in this image be brought to lower blocks
+abbrev pub AsksRtSqueeze : List ℕ → Words → Type 0
+AsksRtSqueeze image (RtSqueeze rt) = rt.now ≡ image
+AsksRtSqueeze image _ = ⊥
+
 -- the words ask that this file of it be protected, or be so no more
 abbrev pub AsksRtProt : Bool → List ℕ → List ℕ → Words → Type 0
 AsksRtProt protected image text (RtProt rt name on) = (rt.now ≡ image) × (name.now ≡ text) × (on ≡ protected)
@@ -315,7 +333,7 @@ Asks (from_rt_line mode rt rt_name image uic name) words = AsksFromRt mode rt rt
 Asks (to_rt_line mode image uic name rt rt_name) words = AsksToRt mode image uic name rt rt_name words
 Asks (get_line told mode image dir name host) words = AsksGet told false mode image dir name host words
 Asks (get_blocks_line told image dir name host) words = AsksGet told true None image dir name host words
-Asks (get_all_line image folder) words = AsksGetAll image folder words
+Asks (get_all_line mode image folder) words = AsksGetAll mode image folder words
 Asks (home_line image) words = AsksHome image words
 Asks (init_line blocks slots label max image) words = AsksInit blocks slots label max image words
 Asks (ls_line image) words = AsksLs image None words
@@ -325,7 +343,7 @@ Asks (name_line text) words = AsksName text words
 Asks (prot_line manner image dir name word) words = AsksProt manner image dir name word words
 Asks (purge_line manner image dir name) words = AsksPurge manner image dir name words
 Asks (put_line mode image dir name host) words = AsksPut mode image dir name host words
-Asks (put_each_line manner mode image dir host) words = AsksPutEach manner mode image dir host words
+Asks (put_each_line manner fitted mode image dir host) words = AsksPutEach manner fitted mode image dir host words
 Asks (put_all_line mode folder image) words = AsksPutAll mode folder image words
 Asks (ren_line image dir name new) words = AsksRen image dir name new words
 Asks (rights_line caller owner word) words = AsksRights caller owner word words
@@ -338,7 +356,9 @@ Asks (rt_ls_line rt) words = AsksRtLs rt words
 Asks (rt_prot_line rt name) words = AsksRtProt true rt name words
 Asks (rt_unprot_line rt name) words = AsksRtProt false rt name words
 Asks (rt_put_line mode rt name host) words = AsksRtPut mode rt name host words
+Asks (rt_put_each_line manner fitted mode rt host) words = AsksRtPutEach manner fitted mode rt host words
 Asks (rt_ren_line rt name new) words = AsksRtRen rt name new words
+Asks (rt_squeeze_line rt) words = AsksRtSqueeze rt words
 Asks (rt_vfy_line image) words = AsksRtVfy image words
 Asks (run_line image script) words = AsksRun false image script words
 Asks (quiet_run_line image script) words = AsksRun true image script words
@@ -385,7 +405,7 @@ IsUnreadable (from_rt_line mode rt rt_name image uic name) = IsNoCopy mode uic
 IsUnreadable (to_rt_line mode image uic name rt rt_name) = IsNoCopy mode uic
 IsUnreadable (get_line told mode image dir name host) = IsNoGet mode dir
 IsUnreadable (get_blocks_line told image dir name host) = IsNoDirectory dir
-IsUnreadable (get_all_line image folder) = ⊥
+IsUnreadable (get_all_line mode image folder) = IsNoTakingMode mode
 IsUnreadable (home_line image) = ⊥
 IsUnreadable (init_line blocks slots label max image) = IsNoInit blocks slots max
 IsUnreadable (ls_line image) = ⊥
@@ -395,7 +415,7 @@ IsUnreadable (name_line text) = ⊥
 IsUnreadable (prot_line manner image dir name word) = IsNoDirectory dir ⊎ IsNoWord word
 IsUnreadable (purge_line manner image dir name) = IsNoDirectory dir
 IsUnreadable (put_line mode image dir name host) = IsNoMove mode dir
-IsUnreadable (put_each_line manner mode image dir host) = IsNoMove mode dir
+IsUnreadable (put_each_line manner fitted mode image dir host) = IsNoMove mode dir
 IsUnreadable (put_all_line mode folder image) = IsNoModeOrNone mode
 IsUnreadable (ren_line image dir name new) = IsNoDirectory dir ⊎ IsNoTarget new
 IsUnreadable (rights_line caller owner word) = IsNoUic caller ⊎ (IsNoUic owner ⊎ ¬ IsProtection word)
@@ -408,7 +428,9 @@ IsUnreadable (rt_ls_line rt) = ⊥
 IsUnreadable (rt_prot_line rt name) = ⊥
 IsUnreadable (rt_unprot_line rt name) = ⊥
 IsUnreadable (rt_put_line mode rt name host) = IsNoModeOrNone mode
+IsUnreadable (rt_put_each_line manner fitted mode rt host) = IsNoModeOrNone mode
 IsUnreadable (rt_ren_line rt name new) = ⊥
+IsUnreadable (rt_squeeze_line rt) = ⊥
 IsUnreadable (rt_vfy_line image) = ⊥
 IsUnreadable (run_line image script) = ⊥
 IsUnreadable (quiet_run_line image script) = ⊥

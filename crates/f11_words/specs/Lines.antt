@@ -26,6 +26,7 @@ use Rattle.f11_words.specs.declared.usage.Subcommand.TheVariants.{
   RtProt,
   RtPut,
   RtRen,
+  RtSqueeze,
   RtVfy,
   Run,
   Trunc,
@@ -61,7 +62,7 @@ pub data CommandLine : Type 0 where
   to_rt_line : (mode image uic name rt rt_name : List ℕ) → CommandLine
   get_line : (told : Bool) → (mode : Option (List ℕ)) → (image dir name host : List ℕ) → CommandLine
   get_blocks_line : (told : Bool) → (image dir name host : List ℕ) → CommandLine
-  get_all_line : (image folder : List ℕ) → CommandLine
+  get_all_line : (mode : Option (List ℕ)) → (image folder : List ℕ) → CommandLine
   home_line : (image : List ℕ) → CommandLine
   init_line : (blocks slots label : List ℕ) → (max : Option (List ℕ)) → (image : List ℕ) → CommandLine
   ls_line : (image : List ℕ) → CommandLine
@@ -71,7 +72,7 @@ pub data CommandLine : Type 0 where
   prot_line : Manner → (image dir name word : List ℕ) → CommandLine
   purge_line : Manner → (image dir : List ℕ) → (name : Option (List ℕ)) → CommandLine
   put_line : (mode : Option (List ℕ)) → (image dir name host : List ℕ) → CommandLine
-  put_each_line : Manner → (mode : Option (List ℕ)) → (image dir host : List ℕ) → CommandLine
+  put_each_line : Manner → (fitted : Bool) → (mode : Option (List ℕ)) → (image dir host : List ℕ) → CommandLine
   put_all_line : (mode : Option (List ℕ)) → (folder image : List ℕ) → CommandLine
   ren_line : (image dir name new : List ℕ) → CommandLine
   rights_line : (caller owner word : List ℕ) → CommandLine
@@ -84,7 +85,9 @@ pub data CommandLine : Type 0 where
   rt_prot_line : (rt name : List ℕ) → CommandLine
   rt_unprot_line : (rt name : List ℕ) → CommandLine
   rt_put_line : (mode : Option (List ℕ)) → (rt name host : List ℕ) → CommandLine
+  rt_put_each_line : Manner → (fitted : Bool) → (mode : Option (List ℕ)) → (rt host : List ℕ) → CommandLine
   rt_ren_line : (rt name new : List ℕ) → CommandLine
+  rt_squeeze_line : (rt : List ℕ) → CommandLine
   rt_vfy_line : (image : List ℕ) → CommandLine
   run_line : (image script : List ℕ) → CommandLine
   quiet_run_line : (image script : List ℕ) → CommandLine
@@ -100,7 +103,7 @@ command_in (from_rt_line mode rt rt_name image uic name) = FlxFromRt
 command_in (to_rt_line mode image uic name rt rt_name) = FlxToRt
 command_in (get_line told mode image dir name host) = Get
 command_in (get_blocks_line told image dir name host) = Get
-command_in (get_all_line image folder) = Get
+command_in (get_all_line mode image folder) = Get
 command_in (home_line image) = Home
 command_in (init_line blocks slots label max image) = Init
 command_in (ls_line image) = Ls
@@ -110,7 +113,7 @@ command_in (name_line word) = Name
 command_in (prot_line manner image dir name word) = Prot
 command_in (purge_line manner image dir name) = Purge
 command_in (put_line mode image dir name host) = Put
-command_in (put_each_line manner mode image dir host) = Put
+command_in (put_each_line manner fitted mode image dir host) = Put
 command_in (put_all_line mode folder image) = Put
 command_in (ren_line image dir name new) = Ren
 command_in (rights_line caller owner word) = Rights
@@ -123,7 +126,9 @@ command_in (rt_ls_line rt) = RtLs
 command_in (rt_prot_line rt name) = RtProt
 command_in (rt_unprot_line rt name) = RtProt
 command_in (rt_put_line mode rt name host) = RtPut
+command_in (rt_put_each_line manner fitted mode rt host) = RtPut
 command_in (rt_ren_line rt name new) = RtRen
+command_in (rt_squeeze_line rt) = RtSqueeze
 command_in (rt_vfy_line image) = RtVfy
 command_in (run_line image script) = Run
 command_in (quiet_run_line image script) = Run
@@ -141,8 +146,8 @@ given_in (get_line told mode image dir name host) =
     is_there told ∷ is_there false ∷ is_there false ∷ says mode ∷ text image ∷ text dir ∷ text name ∷ text host ∷ []
 given_in (get_blocks_line told image dir name host) =
     is_there told ∷ is_there false ∷ is_there true ∷ says None ∷ text image ∷ text dir ∷ text name ∷ text host ∷ []
-given_in (get_all_line image folder) =
-    is_there false ∷ is_there true ∷ is_there false ∷ says None ∷ text image ∷ text folder ∷ says None ∷ says None ∷ []
+given_in (get_all_line mode image folder) =
+    is_there false ∷ is_there true ∷ is_there false ∷ says mode ∷ text image ∷ text folder ∷ says None ∷ says None ∷ []
 given_in (home_line image) = text image ∷ []
 given_in (init_line blocks slots label max image) = text blocks ∷ text slots ∷ text label ∷ says max ∷ text image ∷ []
 given_in (ls_line image) = text image ∷ says None ∷ []
@@ -152,11 +157,12 @@ given_in (name_line word) = text word ∷ []
 given_in (prot_line manner image dir name word) = manner_given manner ++ text image ∷ text dir ∷ text name ∷ text word ∷ []
 given_in (purge_line manner image dir name) = manner_given manner ++ text image ∷ text dir ∷ says name ∷ []
 given_in (put_line mode image dir name host) =
-    manner_given GoesOn ++ is_there false ∷ is_there false ∷ says mode ∷ text image ∷ text dir ∷ text name ∷ text host ∷ []
-given_in (put_each_line manner mode image dir host) =
-    manner_given manner ++ is_there false ∷ is_there true ∷ says mode ∷ text image ∷ text dir ∷ text host ∷ says None ∷ []
+    manner_given GoesOn ++ is_there false ∷ is_there false ∷ is_there false ∷ says mode ∷ text image ∷ text dir ∷ text name ∷ text host ∷ []
+given_in (put_each_line manner fitted mode image dir host) =
+    manner_given manner ++ is_there false ∷ is_there true ∷ is_there fitted ∷ says mode ∷ text image ∷ text dir ∷ text host ∷ says None ∷ []
 given_in (put_all_line mode folder image) =
-    manner_given GoesOn ++ is_there true ∷ is_there false ∷ says mode ∷ text folder ∷ text image ∷ says None ∷ says None ∷ []
+    manner_given GoesOn ++ is_there true ∷ is_there false ∷ is_there false ∷ says mode ∷ text folder ∷ text image ∷ says None ∷ says None
+    ∷ []
 given_in (ren_line image dir name new) = text image ∷ text dir ∷ text name ∷ text new ∷ []
 given_in (rights_line caller owner word) = text caller ∷ text owner ∷ text word ∷ []
 given_in (rt_del_line rt name) = text rt ∷ text name ∷ []
@@ -167,8 +173,12 @@ given_in (rt_list_line image) = text image ∷ []
 given_in (rt_ls_line rt) = text rt ∷ []
 given_in (rt_prot_line rt name) = is_there false ∷ text rt ∷ text name ∷ []
 given_in (rt_unprot_line rt name) = is_there true ∷ text rt ∷ text name ∷ []
-given_in (rt_put_line mode rt name host) = says mode ∷ text rt ∷ text name ∷ text host ∷ []
+given_in (rt_put_line mode rt name host) =
+    manner_given GoesOn ++ is_there false ∷ is_there false ∷ says mode ∷ text rt ∷ text name ∷ text host ∷ []
+given_in (rt_put_each_line manner fitted mode rt host) =
+    manner_given manner ++ is_there true ∷ is_there fitted ∷ says mode ∷ text rt ∷ text host ∷ says None ∷ []
 given_in (rt_ren_line rt name new) = text rt ∷ text name ∷ text new ∷ []
+given_in (rt_squeeze_line rt) = text rt ∷ []
 given_in (rt_vfy_line image) = text image ∷ []
 given_in (run_line image script) = is_there false ∷ text image ∷ text script ∷ []
 given_in (quiet_run_line image script) = is_there true ∷ text image ∷ text script ∷ []

@@ -33,8 +33,10 @@ use Rattle.f11_words.specs.Lines.{
   rt_list_line,
   rt_ls_line,
   rt_prot_line,
+  rt_put_each_line,
   rt_put_line,
   rt_ren_line,
+  rt_squeeze_line,
   rt_unprot_line,
   rt_vfy_line,
   run_line,
@@ -70,6 +72,7 @@ use Rattle.f11_words.specs.declared.usage.Subcommand.TheVariants.{
   RtProt,
   RtPut,
   RtRen,
+  RtSqueeze,
   RtVfy,
   Run,
   Trunc,
@@ -129,19 +132,25 @@ pub record ReadsGet (matches : ArgMatches) (result : Option Words) : Type 0 wher
   pub file : (told : Bool) (mode : Option Text) → (image dir name host : Text)
       → Reads (get_line told mode image dir name host) matches result
   pub blocks : (told : Bool) (image dir name host : Text) → Reads (get_blocks_line told image dir name host) matches result
-  pub all : (image folder : Text) → Reads (get_all_line image folder) matches result
+  pub all : (mode : Option Text) → (image folder : Text) → Reads (get_all_line mode image folder) matches result
 
 -- What those of `put` are: for one file under a name, for each of some under its own, or for those of a folder.
 pub record ReadsPut (matches : ArgMatches) (result : Option Words) : Type 0 where
   pub file : (mode : Option Text) → (image dir name host : Text) → Reads (put_line mode image dir name host) matches result
-  pub each : (manner : Manner) (mode : Option Text) → (image dir host : Text)
-      → Reads (put_each_line manner mode image dir host) matches result
+  pub each : (manner : Manner) (fitted : Bool) (mode : Option Text) → (image dir host : Text)
+      → Reads (put_each_line manner fitted mode image dir host) matches result
   pub all : (mode : Option Text) → (folder image : Text) → Reads (put_all_line mode folder image) matches result
 
 -- What those of `rt-get` are: for one file, or for all files.
 pub record ReadsRtGet (matches : ArgMatches) (result : Option Words) : Type 0 where
   pub file : (mode : Option Text) → (rt name host : Text) → Reads (rt_get_line mode rt name host) matches result
   pub all : (rt folder : Text) → Reads (rt_get_all_line rt folder) matches result
+
+-- What those of `rt-put` are: for one file under a name, or for each of some under its own.
+pub record ReadsRtPut (matches : ArgMatches) (result : Option Words) : Type 0 where
+  pub file : (mode : Option Text) → (rt name host : Text) → Reads (rt_put_line mode rt name host) matches result
+  pub each : (manner : Manner) (fitted : Bool) (mode : Option Text) → (rt host : Text)
+      → Reads (rt_put_each_line manner fitted mode rt host) matches result
 
 -- What those of `ls` are: for all directories, or for one.
 pub record ReadsLs (matches : ArgMatches) (result : Option Words) : Type 0 where
@@ -191,9 +200,9 @@ ReadsWords RtInit matches result = (blocks segments image : Text) → Reads (rt_
 ReadsWords RtList matches result = (image : Text) → Reads (rt_list_line image) matches result
 ReadsWords RtLs matches result = (rt : Text) → Reads (rt_ls_line rt) matches result
 ReadsWords RtProt matches result = ReadsRtProt matches result
-ReadsWords RtPut matches result =
-    (mode : Option Text) → (rt name host : Text) → Reads (rt_put_line mode rt name host) matches result
+ReadsWords RtPut matches result = ReadsRtPut matches result
 ReadsWords RtRen matches result = (rt name new : Text) → Reads (rt_ren_line rt name new) matches result
+ReadsWords RtSqueeze matches result = (rt : Text) → Reads (rt_squeeze_line rt) matches result
 ReadsWords RtVfy matches result = (image : Text) → Reads (rt_vfy_line image) matches result
 ReadsWords Run matches result = ReadsRun matches result
 ReadsWords Trunc matches result = (manner : Manner) (image dir name : Text) → Reads (trunc_line manner image dir name) matches result

@@ -25,6 +25,7 @@ use Rattle.f11_words.specs.declared.usage.Subcommand.TheVariants.{
   RtProt,
   RtPut,
   RtRen,
+  RtSqueeze,
   RtVfy,
   Run,
   Trunc,
@@ -47,7 +48,7 @@ needed name = place name true
 abbrev pub all_commands : List Subcommand
 all_commands =
     Del ∷ Dump ∷ FlxFromRt ∷ FlxToRt ∷ Get ∷ Home ∷ Init ∷ Ls ∷ Mkdir ∷ Name ∷ Prot ∷ Purge ∷ Put ∷ Ren ∷ Rights ∷ RtDel ∷ RtGet ∷ RtInit
-    ∷ RtList ∷ RtLs ∷ RtProt ∷ RtPut ∷ RtRen ∷ RtVfy ∷ Run ∷ Trunc ∷ Vfy ∷ []
+    ∷ RtList ∷ RtLs ∷ RtProt ∷ RtPut ∷ RtRen ∷ RtSqueeze ∷ RtVfy ∷ Run ∷ Trunc ∷ Vfy ∷ []
 
 -- a command's name
 abbrev pub name_of : Subcommand → List ℕ
@@ -74,6 +75,7 @@ name_of RtLs = codes "rt-ls"
 name_of RtProt = codes "rt-prot"
 name_of RtPut = codes "rt-put"
 name_of RtRen = codes "rt-ren"
+name_of RtSqueeze = codes "rt-squeeze"
 name_of RtVfy = codes "rt-vfy"
 name_of Run = codes "run"
 name_of Trunc = codes "trunc"
@@ -94,7 +96,7 @@ abbrev pub manner_words : List Word
 manner_words = told_word ∷ flag (codes "stop") ∷ []
 
 -- The words of a command. The folder of `get --all` stands in the directory's place, that of `rt-get --all` in the name's, and so does the
--- first file of the host of `put --each`, behind which the others stand.
+-- first file of the host of `put --each` and `rt-put --each`, behind which the others stand.
 abbrev pub words_of : Subcommand → List Word
 words_of Del = manner_words ++ file_words (codes "dir")
 words_of Dump = needed (codes "image") ∷ needed (codes "number") ∷ []
@@ -112,7 +114,7 @@ words_of Name = needed (codes "text") ∷ []
 words_of Prot = manner_words ++ file_words (codes "dir") ++ needed (codes "word") ∷ []
 words_of Purge = manner_words ++ needed (codes "image") ∷ needed (codes "dir") ∷ place (codes "name") false ∷ []
 words_of Put =
-    manner_words ++ flag (codes "all") ∷ flag (codes "each") ∷ option (codes "mode") false ∷ needed (codes "image")
+    manner_words ++ flag (codes "all") ∷ flag (codes "each") ∷ flag (codes "fit") ∷ option (codes "mode") false ∷ needed (codes "image")
     ∷ needed (codes "dir") ∷ place (codes "name") false ∷ place (codes "host") false ∷ []
 words_of Ren = file_words (codes "dir") ++ needed (codes "new") ∷ []
 words_of Rights = needed (codes "uic") ∷ needed (codes "owner") ∷ needed (codes "word") ∷ []
@@ -123,8 +125,11 @@ words_of RtInit = option (codes "blocks") true ∷ option (codes "segments") tru
 words_of RtList = needed (codes "image") ∷ []
 words_of RtLs = needed (codes "rt") ∷ []
 words_of RtProt = flag (codes "off") ∷ needed (codes "rt") ∷ needed (codes "name") ∷ []
-words_of RtPut = option (codes "mode") false ∷ needed (codes "rt") ∷ needed (codes "name") ∷ needed (codes "host") ∷ []
+words_of RtPut =
+    manner_words ++ flag (codes "each") ∷ flag (codes "fit") ∷ option (codes "mode") false ∷ needed (codes "rt") ∷ needed (codes "name")
+    ∷ place (codes "host") false ∷ []
 words_of RtRen = needed (codes "rt") ∷ needed (codes "name") ∷ needed (codes "new") ∷ []
+words_of RtSqueeze = needed (codes "rt") ∷ []
 words_of RtVfy = needed (codes "image") ∷ []
 words_of Run = flag (codes "quiet") ∷ needed (codes "image") ∷ needed (codes "script") ∷ []
 words_of Trunc = manner_words ++ file_words (codes "dir")

@@ -22,11 +22,11 @@ GetBlocks = words_given (get_blocks_line true (codes "a.dsk") (codes "1,2") (cod
 
 -- and with all others
 abbrev pub GetAll : Type 0
-GetAll = words_given (get_all_line (codes "a.dsk") (codes "out")) ≡ codes "get" ∷ codes "--all" ∷ codes "a.dsk" ∷ codes "out" ∷ []
+GetAll = words_given (get_all_line None (codes "a.dsk") (codes "out")) ≡ codes "get" ∷ codes "--all" ∷ codes "a.dsk" ∷ codes "out" ∷ []
 
 -- files of the host are put under their own names, up to one that is refused, and the first stands so
 abbrev pub PutEach : Type 0
-PutEach = words_given (put_each_line Stops (Some (codes "text")) (codes "a.dsk") (codes "1,2") (codes "a.b"))
+PutEach = words_given (put_each_line Stops false (Some (codes "text")) (codes "a.dsk") (codes "1,2") (codes "a.b"))
     ≡ codes "put" ∷ codes "--stop" ∷ codes "--each" ∷ codes "--mode" ∷ codes "text" ∷ codes "a.dsk" ∷ codes "1,2" ∷ codes "a.b" ∷ []
 
 -- a fresh volume, with a number of files and without one

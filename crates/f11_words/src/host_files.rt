@@ -59,15 +59,17 @@ fn get_blocks_of<'a>(given: &ArgMatches<'a>) -> Option<Words<'a>>
 
 /// The words of `get` for all files, none of which is of one file alone.
 fn get_all_of<'a>(given: &ArgMatches<'a>) -> Option<Words<'a>>
-    ensures { (image folder : List ℕ) → Reads (get_all_line image folder) given.now result }
+    ensures { (mode : Option (List ℕ)) → (image folder : List ℕ)
+        → Reads (get_all_line mode image folder) given.now result }
 {
     if given.get_flag("n") || given.get_flag("blocks") {
         return None;
     }
-    if has(given, "mode") || has(given, "name") || has(given, "host") {
+    if has(given, "name") || has(given, "host") {
         return None;
     }
     Some(Words::GetAll {
+        mode: taking_mode_or_image(given)?,
         image: given.get_str("image")?,
         folder: given.get_str("dir")?,
     })
@@ -87,14 +89,15 @@ pub fn put_of<'a>(given: &ArgMatches<'a>) -> Option<Words<'a>>
 
 /// The words of `put --each`, among which is one file of the host.
 fn put_each_of<'a>(given: &ArgMatches<'a>) -> Option<Words<'a>>
-    ensures { (manner : Manner) (mode : Option (List ℕ)) → (image uic host : List ℕ)
-        → Reads (put_each_line manner mode image uic host) given.now result }
+    ensures { (manner : Manner) (fitted : Bool) (mode : Option (List ℕ)) → (image uic host : List ℕ)
+        → Reads (put_each_line manner fitted mode image uic host) given.now result }
 {
     if has(given, "host") {
         return None;
     }
     Some(Words::PutEach {
         manner: manner_of(given),
+        is_fitted: given.get_flag("fit"),
         mode: mode_or_image(given)?,
         image: given.get_str("image")?,
         directory: directory_of(given)?,
@@ -110,7 +113,10 @@ fn put_all_of<'a>(given: &ArgMatches<'a>) -> Option<Words<'a>>
     if given.get_flag("n") || given.get_flag("stop") {
         return None;
     }
-    if given.get_flag("each") || has(given, "name") || has(given, "host") {
+    if given.get_flag("each") || given.get_flag("fit") {
+        return None;
+    }
+    if has(given, "name") || has(given, "host") {
         return None;
     }
     Some(Words::PutAll {
@@ -125,7 +131,7 @@ fn put_file_of<'a>(given: &ArgMatches<'a>) -> Option<Words<'a>>
     ensures { (mode : Option (List ℕ)) → (image uic name host : List ℕ)
         → Reads (put_line mode image uic name host) given.now result }
 {
-    if given.get_flag("n") || given.get_flag("stop") {
+    if given.get_flag("n") || given.get_flag("stop") || given.get_flag("fit") {
         return None;
     }
     Some(Words::Put {

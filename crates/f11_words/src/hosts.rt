@@ -1,12 +1,9 @@
-//! The words of the files of the host that `put --each` has behind its first one.
+//! The words of the files of the host that `put --each` and `rt-put --each` have behind their first one.
 ghost use Rattle.std.specs.Prelude.{◌≡◌, ◌++◌, drop, map, string_bytes};
 ghost use Rattle.std.specs.List.{list_any};
 ghost use Rattle.std.specs.Str.{bytes_eq};
-ghost use Rattle.f11_words.specs.Hosts.{HostsStandBehind, behind_options, has_each, is_each, other_hosts};
+ghost use Rattle.f11_words.specs.Hosts.{HostsStandBehind, behind_options, has_each, other_hosts, places_in, places_of};
 ghost use Rattle.f11_words.specs.Lines.{is_option};
-
-/// How many words of `put --each` stand before the other files of the host: the image, the directory, and the first one.
-const PLACES: usize = 3;
 
 /// Whether a word begins with a hyphen.
 fn is_option(word: &str) -> bool
@@ -56,27 +53,45 @@ fn has_each(words: &[String]) -> bool
     }
 }
 
-/// Whether words are those of `put --each`.
-fn is_each(words: &[String]) -> bool
-    ensures { result ≡ is_each (map string_bytes words.now) }
+/// How many words stand before the other files of the host: of `put` the image, the directory, and the first one; of `rt-put` the volume and
+/// the first one; `None` of any other command.
+fn places_of(command: &str) -> Option<usize>
+    ensures { result ≡ places_of command.now }
+{
+    match command {
+        "put" => Some(3),
+        "rt-put" => Some(2),
+        _ => None,
+    }
+}
+
+/// The same of all words, where `--each` is among them.
+fn places_in(words: &[String]) -> Option<usize>
+    ensures { result ≡ places_in (map string_bytes words.now) }
 {
     match words {
-        [_, command, rest @ ..] => command.as_str() == "put" && has_each(rest),
-        _ => false,
+        [_, command, rest @ ..] => {
+            if has_each(rest) {
+                places_of(command.as_str())
+            } else {
+                None
+            }
+        }
+        _ => None,
     }
 }
 
 /// The words of a command line, of which the first is the program's name, as [`parse`](crate::parse) takes them, and the words of the files of
-/// the host behind the first one of `put --each`. The options of that stand before the other words, and any word behind these is a file.
+/// the host behind the first one of `put --each` or `rt-put --each`. The options of that stand before the other words, and any word behind these is a file.
 pub fn split_hosts(words: &[String]) -> (&[String], &[String])
     ensures whole { result.0.now ++ result.1.now ≡ words.now }
     ensures others { map string_bytes result.1.now ≡ other_hosts (map string_bytes words.now) }
     ensures behind { HostsStandBehind }
 {
-    if !is_each(words) {
+    let Some(before) = places_in(words) else {
         return words.split_at(words.len());
-    }
+    };
     let places = behind_options(without_first(without_first(words)));
-    let others = places.len().saturating_sub(PLACES);
+    let others = places.len().saturating_sub(before);
     words.split_at(words.len() - others.min(words.len()))
 }

@@ -12,7 +12,7 @@ use crate::host_files::{get_of, put_of};
 use crate::program::program;
 use crate::rt11::{
     rt_del_of, rt_get_of, rt_init_of, rt_list_of, rt_ls_of, rt_prot_of, rt_put_of, rt_ren_of,
-    rt_vfy_of,
+    rt_squeeze_of, rt_vfy_of,
 };
 use crate::spelled::{name_of, rights_of};
 use crate::usage::Subcommand;
@@ -122,6 +122,7 @@ fn words_of<'a>(command: Subcommand, given: &ArgMatches<'a>) -> Option<Words<'a>
         Subcommand::RtProt => rt_prot_of(given),
         Subcommand::RtPut => rt_put_of(given),
         Subcommand::RtRen => rt_ren_of(given),
+        Subcommand::RtSqueeze => rt_squeeze_of(given),
         Subcommand::RtVfy => rt_vfy_of(given),
         Subcommand::Run => run_of(given),
         Subcommand::Trunc => trunc_of(given),

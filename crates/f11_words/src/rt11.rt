@@ -1,10 +1,11 @@
 //! The words of the commands on an RT-11 volume.
-ghost use Rattle.std.specs.Prelude.{ℕ, List, Option};
-ghost use Rattle.f11_words.specs.Lines.{rt_get_all_line, rt_get_line};
+ghost use Rattle.std.specs.Prelude.{ℕ, Bool, List, Option};
+ghost use Rattle.f11_words.specs.Lines.{rt_get_all_line, rt_get_line, rt_put_each_line, rt_put_line};
 ghost use Rattle.f11_words.specs.Reading.{Reads, ReadsWords};
 ghost use Rattle.f11_words.specs.declared.usage.Subcommand.TheVariants as subcommand;
+ghost use Rattle.f11_words.specs.declared.words.Manner.{Manner};
 
-use crate::args::{has, mode_or_image};
+use crate::args::{has, manner_of, mode_or_image};
 use crate::words::Words;
 use clap::ArgMatches;
 use f11_numbers::read_number;
@@ -91,6 +92,38 @@ pub fn rt_prot_of<'a>(given: &ArgMatches<'a>) -> Option<Words<'a>>
 pub fn rt_put_of<'a>(given: &ArgMatches<'a>) -> Option<Words<'a>>
     ensures { ReadsWords subcommand.RtPut given.now result }
 {
+    if given.get_flag("each") {
+        rt_put_each_of(given)
+    } else {
+        rt_put_file_of(given)
+    }
+}
+
+/// The words of `rt-put --each`, among which is one file of the host.
+fn rt_put_each_of<'a>(given: &ArgMatches<'a>) -> Option<Words<'a>>
+    ensures { (manner : Manner) (fitted : Bool) (mode : Option (List ℕ)) → (rt host : List ℕ)
+        → Reads (rt_put_each_line manner fitted mode rt host) given.now result }
+{
+    if has(given, "host") {
+        return None;
+    }
+    Some(Words::RtPutEach {
+        manner: manner_of(given),
+        is_fitted: given.get_flag("fit"),
+        mode: mode_or_image(given)?,
+        rt: given.get_str("rt")?,
+        host: given.get_str("name")?,
+    })
+}
+
+/// The words of `rt-put` for one file, among which is nothing of several.
+fn rt_put_file_of<'a>(given: &ArgMatches<'a>) -> Option<Words<'a>>
+    ensures { (mode : Option (List ℕ)) → (rt name host : List ℕ)
+        → Reads (rt_put_line mode rt name host) given.now result }
+{
+    if given.get_flag("n") || given.get_flag("stop") || given.get_flag("fit") {
+        return None;
+    }
     Some(Words::RtPut {
         mode: mode_or_image(given)?,
         rt: given.get_str("rt")?,
@@ -107,6 +140,13 @@ pub fn rt_ren_of<'a>(given: &ArgMatches<'a>) -> Option<Words<'a>>
         name: given.get_str("name")?,
         new: given.get_str("new")?,
     })
+}
+
+pub fn rt_squeeze_of<'a>(given: &ArgMatches<'a>) -> Option<Words<'a>>
+    ensures { ReadsWords subcommand.RtSqueeze given.now result }
+{
+    let rt = given.get_str("rt")?;
+    Some(Words::RtSqueeze { rt })
 }
 
 pub fn rt_vfy_of<'a>(given: &ArgMatches<'a>) -> Option<Words<'a>>

@@ -98,7 +98,7 @@ fn first_unread<'a>(command: Subcommand, given: &ArgMatches<'a>) -> Option<Unrea
             ))
         }
         Subcommand::RtGet => rt_get(given),
-        Subcommand::RtPut => mode(given),
+        Subcommand::RtPut => rt_put(given),
         Subcommand::Home
         | Subcommand::Name
         | Subcommand::RtDel
@@ -106,6 +106,7 @@ fn first_unread<'a>(command: Subcommand, given: &ArgMatches<'a>) -> Option<Unrea
         | Subcommand::RtLs
         | Subcommand::RtProt
         | Subcommand::RtRen
+        | Subcommand::RtSqueeze
         | Subcommand::RtVfy
         | Subcommand::Run
         | Subcommand::Vfy => None,
@@ -116,11 +117,12 @@ fn get<'a>(given: &ArgMatches<'a>) -> Option<Unread<'a>> {
     let has_mode = given.get_str("mode").is_some();
     let has_blocks = given.get_flag("blocks");
     if given.get_flag("all") {
-        let is_alone = !has_mode
-            && !has_blocks
-            && !given.get_flag("n")
-            && given.get_str("name").is_none();
-        return unless(is_alone, "--all", Why::Alone("IMAGE and FOLDER"));
+        let has_others = has_blocks || given.get_flag("n") || given.get_str("name").is_some();
+        return taking_mode(given).or(unless(
+            !has_others,
+            "--all",
+            Why::Alone("IMAGE, FOLDER and --mode"),
+        ));
     }
     taking_mode(given)
         .or(directory(given))
@@ -132,6 +134,7 @@ fn get<'a>(given: &ArgMatches<'a>) -> Option<Unread<'a>> {
 fn put<'a>(given: &ArgMatches<'a>) -> Option<Unread<'a>> {
     if given.get_flag("all") {
         let has_others = given.get_flag("each")
+            || given.get_flag("fit")
             || given.get_flag("n")
             || given.get_flag("stop")
             || given.get_str("name").is_some()
@@ -145,8 +148,23 @@ fn put<'a>(given: &ArgMatches<'a>) -> Option<Unread<'a>> {
     unread
         .or(there(given, "name", "NAME"))
         .or(there(given, "host", "HOST"))
-        .or(unless(!given.get_flag("n"), "-n", Why::WithoutEach))
+        .or(without_each(given))
+}
+
+fn rt_put<'a>(given: &ArgMatches<'a>) -> Option<Unread<'a>> {
+    if given.get_flag("each") {
+        return mode(given);
+    }
+    mode(given)
+        .or(there(given, "host", "HOST"))
+        .or(without_each(given))
+}
+
+/// What goes with `--each` alone.
+fn without_each<'a>(given: &ArgMatches<'a>) -> Option<Unread<'a>> {
+    unless(!given.get_flag("n"), "-n", Why::WithoutEach)
         .or(unless(!given.get_flag("stop"), "--stop", Why::WithoutEach))
+        .or(unless(!given.get_flag("fit"), "--fit", Why::WithoutEach))
 }
 
 fn rt_get<'a>(given: &ArgMatches<'a>) -> Option<Unread<'a>> {

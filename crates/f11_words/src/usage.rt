@@ -29,6 +29,7 @@ pub enum Subcommand {
     RtProt,
     RtPut,
     RtRen,
+    RtSqueeze,
     RtVfy,
     Run,
     Trunc,
@@ -50,7 +51,7 @@ pub(crate) enum Word {
 
 impl Subcommand {
     /// All commands.
-    pub(crate) fn all() -> [Subcommand; 27]
+    pub(crate) fn all() -> [Subcommand; 28]
         ensures { result ≡ all_commands }
     {
         [
@@ -77,6 +78,7 @@ impl Subcommand {
             Subcommand::RtProt,
             Subcommand::RtPut,
             Subcommand::RtRen,
+            Subcommand::RtSqueeze,
             Subcommand::RtVfy,
             Subcommand::Run,
             Subcommand::Trunc,
@@ -113,6 +115,7 @@ impl Subcommand {
             "rt-prot" => Some(Subcommand::RtProt),
             "rt-put" => Some(Subcommand::RtPut),
             "rt-ren" => Some(Subcommand::RtRen),
+            "rt-squeeze" => Some(Subcommand::RtSqueeze),
             "rt-vfy" => Some(Subcommand::RtVfy),
             "run" => Some(Subcommand::Run),
             "trunc" => Some(Subcommand::Trunc),
@@ -149,6 +152,7 @@ impl Subcommand {
             Subcommand::RtProt => "rt-prot",
             Subcommand::RtPut => "rt-put",
             Subcommand::RtRen => "rt-ren",
+            Subcommand::RtSqueeze => "rt-squeeze",
             Subcommand::RtVfy => "rt-vfy",
             Subcommand::Run => "run",
             Subcommand::Trunc => "trunc",
@@ -240,6 +244,7 @@ impl Subcommand {
                     Word::Flag("stop"),
                     Word::Flag("all"),
                     Word::Flag("each"),
+                    Word::Flag("fit"),
                     Word::Option("mode", false),
                     Word::Place("image", true),
                     Word::Place("dir", true),
@@ -279,7 +284,7 @@ impl Subcommand {
                     Word::Place("image", true),
                 ]
             }
-            Subcommand::RtLs => &[Word::Place("rt", true)],
+            Subcommand::RtLs | Subcommand::RtSqueeze => &[Word::Place("rt", true)],
             Subcommand::RtProt => {
                 &[
                     Word::Flag("off"),
@@ -289,10 +294,14 @@ impl Subcommand {
             }
             Subcommand::RtPut => {
                 &[
+                    Word::Letter("n", 'n'),
+                    Word::Flag("stop"),
+                    Word::Flag("each"),
+                    Word::Flag("fit"),
                     Word::Option("mode", false),
                     Word::Place("rt", true),
                     Word::Place("name", true),
-                    Word::Place("host", true),
+                    Word::Place("host", false),
                 ]
             }
             Subcommand::RtRen => {

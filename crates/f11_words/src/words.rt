@@ -68,8 +68,9 @@ pub enum Words<'a> {
         name: &'a str,
         host: &'a str,
     },
-    /// `get --all IMAGE FOLDER`: the folder in which all files become files of the host
+    /// `get --all [--mode M] IMAGE FOLDER`: how all files become files of the host, and the folder for these
     GetAll {
+        mode: TakingMode,
         image: &'a str,
         folder: &'a str,
     },
@@ -128,10 +129,11 @@ pub enum Words<'a> {
         name: &'a str,
         host: &'a str,
     },
-    /// `put [-n|--stop] --each [--mode M] IMAGE DIR HOST`: how files are made in which directory under their own names, and the first one of the host;
-    /// the words of the others stand behind ([`split_hosts`](crate::split_hosts))
+    /// `put [-n|--stop] --each [--fit] [--mode M] IMAGE DIR HOST`: how files are made in which directory under their own names, whether a name
+    /// that can't be one is fitted, and the first one of the host; the words of the others stand behind ([`split_hosts`](crate::split_hosts))
     PutEach {
         manner: Manner,
+        is_fitted: bool,
         mode: CopyMode,
         image: &'a str,
         directory: Directory,
@@ -201,11 +203,23 @@ pub enum Words<'a> {
         name: &'a str,
         host: &'a str,
     },
+    /// `rt-put [-n|--stop] --each [--fit] [--mode M] RT HOST`: the same on an RT-11 volume; the words of the other files stand behind, too
+    RtPutEach {
+        manner: Manner,
+        is_fitted: bool,
+        mode: CopyMode,
+        rt: &'a str,
+        host: &'a str,
+    },
     /// `rt-ren RT NAME NEW`: a file of an RT-11 volume, and its new name
     RtRen {
         rt: &'a str,
         name: &'a str,
         new: &'a str,
+    },
+    /// `rt-squeeze RT`: an RT-11 volume whose files are brought to lower blocks
+    RtSqueeze {
+        rt: &'a str,
     },
     /// `rt-vfy IMAGE`
     RtVfy {
