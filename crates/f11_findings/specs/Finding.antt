@@ -31,6 +31,10 @@ pub record AddsFindings (old new more : List Finding) : Type 0 where
   pub no_others : (f : Finding) → Contains new f → Contains old f ⊎ Contains more f
   pub order : IsInOrder old → IsInOrder new
 
+-- no more of them are kept than so many
+abbrev pub KeepsWithin : ℕ → List Finding → List Finding → Type 0
+KeepsWithin most old new = length old ≤ most → length new ≤ most
+
 -- the finding, where the test holds
 abbrev pub if_so : Bool → Finding → List Finding
 if_so holds f = if holds then f ∷ [] else []

@@ -1,12 +1,15 @@
 //! Findings in their order.
-ghost use Rattle.std.specs.Prelude.{◌≡◌, ◌==◌, List, [], ◌∷◌, length, slice_get, OnOk, OnErr, MatchOption, Contains};
+ghost use Rattle.std.specs.Prelude.{◌≡◌, ◌≤◌, ◌==◌, List, [], ◌∷◌, length, slice_get, OnOk, OnErr, MatchOption, Contains};
 ghost use Rattle.f11_findings.specs.declared.finding.Finding.{Finding as OneFinding};
-ghost use Rattle.f11_findings.specs.Finding.{IsInOrder, AddsFindings, if_so, IsPlaceFor};
+ghost use Rattle.f11_findings.specs.Finding.{AddsFindings, IsPlaceFor, KeepsWithin, IsInOrder, if_so};
 
 use crate::Finding;
 use f11_bytes::NoMemory;
 use std::alloc::Global;
 use std::marker::Model;
+
+/// How many findings a list keeps at most, so that it takes at most 48 MiB: an image of less than a megabyte can have tens of millions.
+pub const MOST_FINDINGS: usize = 4_194_304;
 
 /// A growing list of findings, in their order, each once. Contracts see it as the list.
 #[derive(Drop)]
@@ -58,12 +61,16 @@ impl Findings {
     ///
     /// # Errors
     ///
-    /// `NoMemory` where there was no memory for it, and then nothing changes.
+    /// `NoMemory` where there was no memory for it, or there are [`MOST_FINDINGS`] already, and then nothing changes.
     pub fn add(&mut self, finding: Finding) -> Result<(), NoMemory>
         ensures adds { OnOk result (AddsFindings self.old self.new (finding ∷ [])) }
         ensures kept { OnErr result (self.new ≡ self.old) }
+        ensures few { KeepsWithin MOST_FINDINGS self.old self.new }
     {
         if let Some(at) = place_for(&self.list, &finding) {
+            if self.list.len() >= MOST_FINDINGS {
+                return Err(NoMemory);
+            }
             self.list.insert(at, finding)?;
         }
         Ok(())
@@ -73,10 +80,11 @@ impl Findings {
     ///
     /// # Errors
     ///
-    /// `NoMemory` where there was no memory for it, and then nothing changes.
+    /// Those of [`Findings::add`], and then nothing changes.
     pub fn add_if(&mut self, holds: bool, finding: Finding) -> Result<(), NoMemory>
         ensures adds { OnOk result (AddsFindings self.old self.new (if_so holds finding)) }
         ensures kept { OnErr result (self.new ≡ self.old) }
+        ensures few { KeepsWithin MOST_FINDINGS self.old self.new }
     {
         if holds {
             self.add(finding)?;

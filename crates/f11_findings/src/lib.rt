@@ -9,4 +9,4 @@ mod finding;
 mod findings;
 
 pub use finding::Finding;
-pub use findings::Findings;
+pub use findings::{Findings, MOST_FINDINGS};
