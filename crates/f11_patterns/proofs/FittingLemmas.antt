@@ -1,10 +1,10 @@
 -- Fitted names: their parts, their numbers, and the first that is free.
-use Rattle.std.proofs.Common.{◌≡◌, ◌≢◌, ◌==◌, ℕ, zero, suc, ◌+◌, ◌-◌, ◌/◌, ◌%◌, ◌^◌, ◌<◌, ◌≤◌, Bool, true, false, List, [], ◌∷◌}
-use Rattle.std.proofs.Common.{◌++◌, length, take, drop, get_or, map, filter, find, refl, sym, ap, subst, ◌∙◌, arith, Some, None}
+use Rattle.std.proofs.Common.{◌≡◌, ◌≢◌, ◌==◌, ℕ, zero, suc, ◌+◌, ◌-◌, ◌/◌, ◌%◌, ◌^◌, ◌<◌, ◌≤◌, true, false, List, [], ◌∷◌}
+use Rattle.std.proofs.Common.{◌++◌, length, take, drop, get_or, map, filter, refl, sym, ap, subst, ◌∙◌, arith, Some}
 use Rattle.std.proofs.Common.{slice_index, length-take, length-append, append_assoc, inl, inr, Result, Ok, IfOk}
 use Rattle.std.specs.Char.{to_ascii_uppercase}
 use Rattle.std.specs.Int.Digits.{digits_of}
-use Rattle.std.specs.List.{AllPass, range_with_len}
+use Rattle.std.specs.List.{AllPass}
 use Rattle.std.specs.Path.{rfind_below}
 use Rattle.std.specs.Str.{str_to_ascii_uppercase}
 use Rattle.std.proofs.Math.Seq.{drop-cons}
@@ -166,27 +166,6 @@ module _ (part : List ℕ) (number : ℕ) (some : has_some part ≡ true) (few :
     proper = candidate-proper;
     same_words = refl;
   }
-
--- the first number that is free is behind those that were tried
-module _ (test : ℕ → Bool) (end : ℕ) where
-  abbrev pub IsBehind : ℕ → Type 0
-  IsBehind i = find test (range_with_len 0 end) ≡ find test (range_with_len i (end - i))
-
-  one-more : (i : ℕ) → i < end → range_with_len i (end - i) ≡ i ∷ range_with_len (i + 1) (end - (i + 1))
-  one-more i some =
-      let more : end - i ≡ suc (end - (i + 1)) = omega (arith, some) in
-      ap (λ (n : ℕ). range_with_len i n) more
-
-  pub behind-more : (i : ℕ) → i < end → test i ≡ false → IsBehind i → IsBehind (i + 1)
-  behind-more i some taken so = so ∙ ap (find test) (one-more i some) ∙ rw taken refl
-
-  pub behind-here : (i : ℕ) → i < end → test i ≡ true → IsBehind i → find test (range_with_len 0 end) ≡ Some i
-  behind-here i some free so = so ∙ ap (find test) (one-more i some) ∙ rw free refl
-
-  pub behind-end : (i : ℕ) → end ≤ i → IsBehind i → find test (range_with_len 0 end) ≡ None
-  behind-end i past so =
-      let none : end - i ≡ 0 = omega (arith, past) in
-      so ∙ ap (λ (n : ℕ). find test (range_with_len i n)) none
 
 pub text-length : (width number : ℕ) (part : List ℕ) → length (numeral number) ≤ width
     → length (fitted_text width number part) ≤ width + 4

@@ -1,11 +1,10 @@
 -- One of the candidates that are looked at is free: a name that is there may be the candidate of seven numbers at most, one of each count
 -- of digits.
-use Rattle.std.proofs.Common.{◌≡◌, ◌⊎◌, inl, inr, ℕ, zero, suc, ◌+◌, ◌-◌, ◌*◌, ◌<◌, ◌≤◌, Bool, true, false, not, ◌||◌, cond, min, nat_eq}
+use Rattle.std.proofs.Common.{◌≡◌, ◌⊎◌, inl, inr, ℕ, zero, suc, ◌+◌, ◌-◌, ◌*◌, ◌<◌, ◌≤◌, Bool, true, false, not, ◌||◌, cond, nat_eq}
 use Rattle.std.proofs.Common.{List, [], ◌∷◌, ◌++◌}
 use Rattle.std.proofs.Common.{length, take, get_or, map, find, refl, sym, ap, subst, ◌∙◌, arith, Option, Some, None, IsSome, option_map}
 use Rattle.std.specs.Int.Digits.{digits_of, number_from_digits}
 use Rattle.std.specs.List.{IsDistinct, list_any, range_with_len}
-use Rattle.std.proofs.Math.Nat.{min-eq_left}
 use Rattle.std.proofs.lemmas.Bool.{cases_lt, eqb-true, false≢true, ne_eqb}
 use Rattle.std.proofs.lemmas.Int.Digits.{number_digits_of}
 use Rattle.std.proofs.lemmas.List.{append_cancel_left}
@@ -14,10 +13,11 @@ use Rattle.std.proofs.lemmas.Map.Keys.{IsDistinct-from_apart}
 use Rattle.std.proofs.lemmas.Map.Steps.{length-le_from_distinct_below}
 use Rattle.f11_rad50.specs.Name.{name_of, words_of}
 use Rattle.f11_rad50.proofs.Words.{name_of-words_of}
-use Rattle.f11_patterns.specs.Fitting.{candidate, first_free, fitted_name, fitted_type, has_some, is_free, kept_of, name_before}
-use Rattle.f11_patterns.specs.Fitting.{numbers_beside, numeral}
+use Rattle.f11_patterns.specs.Fitting.{candidate, fitted_name, fitted_type, has_some, kept_of, name_before, numeral}
+use Rattle.f11_patterns.specs.Giving.{first_free, is_free}
 use Rattle.f11_patterns.specs.Laws.{FittedIsThere}
 use Rattle.f11_patterns.specs.Meant.{are_alike}
+use Rattle.f11_patterns.specs.Naming.{file_naming}
 use Rattle.f11_patterns.proofs.FittingLemmas.{candidate-proper, length-numeral-le}
 use Rattle.f11_patterns.proofs.HighestLemmas.{same-words}
 
@@ -104,9 +104,6 @@ any-taken false is = sym is
 module _ (width : ℕ) (part : List ℕ) (test : ℕ → List ℕ → Bool) (there : List (List ℕ)) (few : length there ≤ 142857)
     (one : (m n : ℕ) (name : List ℕ) → m ≤ 999999 → n ≤ 999999 → test m name ≡ true → test n name ≡ true
     → fitted_name width m part ≡ fitted_name width n part) where
-  numbers : numbers_beside (length there) ≡ length there * 7 + 1
-  numbers = let all : min (length there) 142857 ≡ length there = min-eq_left few in ap (λ (k : ℕ). k * 7 + 1) all
-
   -- by its place and the count of the digits
   code : ℕ → ℕ
   code n = place_in (test n) there * 7 + length (numeral n)
@@ -136,12 +133,13 @@ module _ (width : ℕ) (part : List ℕ) (test : ℕ → List ℕ → Bool) (the
     too-many : ⊥
     too-many = let no = few-distinct code (length there * 7 + 1) (length there * 7) code-below code-one in omega (arith, no)
 
-  pub some-free : IsSome (first_free (λ n. not (list_any (test n) there)) (length there))
+  pub some-free : IsSome (first_free (λ n. not (list_any (test n) there)))
+  unfolding first_free
   some-free =
-      elim (find-or-none (λ n. not (list_any (test n) there)) (numbers_beside (length there)) 0)
-      as (λ _. IsSome (first_free (λ n. not (list_any (test n) there)) (length there))) [
+      elim (find-or-none (λ n. not (list_any (test n) there)) 1000000 0)
+      as (λ _. IsSome (find (λ n. not (list_any (test n) there)) (range_with_len 0 1000000))) [
         | inl some ↦ some
-        | inr none ↦ absurd (too-many (λ n l. any-taken (list_any (test n) there) (none n (omega arith) (omega (arith, l, numbers)))))
+        | inr none ↦ absurd (too-many (λ n l. any-taken (list_any (test n) there) (none n (omega arith) (omega (arith, l, few)))))
       ]
 
 pub some-mapped : {X Y : Type 0} (f : X → Y) (found : Option X) → IsSome found → IsSome (option_map f found)
@@ -164,4 +162,4 @@ one-alike part some m n name low high a b =
 pub fitted-is-there : FittedIsThere
 fitted-is-there there part some few =
     let free = some-free 9 part (λ n. are_alike (candidate part n)) there few (one-alike part some) in
-    rw some (some-mapped (candidate part) (first_free (is_free there part) (length there)) free)
+    rw some (some-mapped (candidate part) (first_free (is_free file_naming there part)) free)

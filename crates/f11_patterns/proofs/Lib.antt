@@ -9,5 +9,6 @@ pub mod PlainLemmas
 pub mod Worked
 pub mod NextLemmas
 pub mod NamingLemmas
+pub mod GivingLemmas
 pub mod FittingLemmas
 pub mod FreeLemmas

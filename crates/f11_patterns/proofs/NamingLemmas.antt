@@ -1,11 +1,11 @@
 -- The one file that a word names, and the last part of a path.
 use Rattle.std.proofs.Common.{◌≡◌, ◌≢◌, ◌==◌, ◌||◌, inl, inr, ℕ, suc, ◌+◌, ◌<◌, ◌≤◌, Bool, true, false, List, [], ◌∷◌, ◌++◌, All}
-use Rattle.std.proofs.Common.{length, take, drop, get_or, map, refl, sym, ap, subst, ◌∙◌, arith, Option, Some, None, SomeIff, IsSomeAnd}
-use Rattle.std.proofs.Common.{unwrap_or, slice_index_or, length-take, Bor}
+use Rattle.std.proofs.Common.{length, take, drop, get_or, refl, sym, ap, subst, ◌∙◌, arith, Option, Some, None, SomeIff, IsSomeAnd}
+use Rattle.std.proofs.Common.{unwrap_or, slice_index_or, length-take}
 use Rattle.std.specs.Char.{to_ascii_uppercase}
 use Rattle.std.specs.List.{AllPass}
 use Rattle.std.specs.Str.{str_to_ascii_uppercase}
-use Rattle.std.proofs.Math.Seq.{drop-cons, take-suc}
+use Rattle.std.proofs.Math.Seq.{take-suc}
 use Rattle.std.proofs.lemmas.Bool.Decides.{nat_tests}
 use Rattle.std.proofs.lemmas.List.{append-nil, append_assoc, drop-append-le, drop_all, get_or-drop, get_or-map, length-map}
 use Rattle.std.proofs.lemmas.List.Elements.{All-cons, All-nil, All-push}
@@ -13,8 +13,9 @@ use Rattle.f11_rad50.specs.Name.{IsName, IsProper, is_name_character, name_of, t
 use Rattle.f11_rad50.specs.Radix50.{IsCharacter, radix50}
 use Rattle.f11_rad50.proofs.Padded.{IsName-from_named, named-from_IsName}
 use Rattle.f11_rad50.proofs.Words.{IsCharacter-place, name_of-words_of, type_of-words_of}
+use Rattle.f11_patterns.specs.Giving.{IsLastPart}
 use Rattle.f11_patterns.specs.Meant.{word_at}
-use Rattle.f11_patterns.specs.Naming.{FitsWith, GetInTurn, IsLastPart, with_name}
+use Rattle.f11_patterns.specs.Naming.{FitsWith}
 use Rattle.f11_patterns.specs.Next.{with_version}
 use Rattle.f11_patterns.specs.Parts.{AreParts, Parts, is_pattern_character}
 use Rattle.f11_patterns.specs.Pattern.{IsOne, IsPlain}
@@ -110,51 +111,6 @@ pub last-made : (given name : List ℕ) (made : Option (List ℕ)) → given ≡
 last-made given name None same named h =
     absurd (h (subst (λ (ws : List ℕ). IsName (with_version ws 32767)) (sym same) (last-named name named)))
 last-made given name (Some made) same named h = h.1 ∙ ap (λ (ws : List ℕ). with_version ws 32767) same
-
--- Names that were given go on behind one another: what the others get, they all get.
-abbrev pub Naming : Type 1
-Naming = List (List ℕ) → List ℕ → Option (List ℕ) → Type 0
-
-abbrev pub GoOn : Naming → List (List ℕ) → List (List ℕ) → ℕ → List (List ℕ) → List (Option (List ℕ)) → Type 0
-GoOn Gets there paths i all names =
-    (rest : List (Option (List ℕ))) → GetInTurn Gets all (drop i paths) rest → GetInTurn Gets there paths (names ++ rest)
-
-module _ (Gets : Naming) (there paths : List (List ℕ)) (i : ℕ) (all : List (List ℕ)) (names : List (Option (List ℕ))) where
-  pub go-on : (name : Option (List ℕ)) → i < length paths → Gets all (get_or paths i []) name → GoOn Gets there paths i all names
-      → GoOn Gets there paths (i + 1) (with_name all name) (names ++ name ∷ [])
-  go-on name some gets old = λ rest is.
-      let next : suc i ≡ i + 1 = omega arith in
-      let cons : drop i paths ≡ get_or paths i [] ∷ drop (i + 1) paths =
-      drop-cons paths i [] some ∙ ap (λ (n : ℕ). get_or paths i [] ∷ drop n paths) next in
-      let here : GetInTurn Gets all (get_or paths i [] ∷ drop (i + 1) paths) (name ∷ rest) = (gets, is) in
-      subst (GetInTurn Gets there paths) (sym (append_assoc names (name ∷ []) rest))
-      (old (name ∷ rest) (subst (λ (xs : List (List ℕ)). GetInTurn Gets all xs (name ∷ rest)) (sym cons) here))
-
-  pub all-given : length paths ≤ i → GoOn Gets there paths i all names → GetInTurn Gets there paths names
-  all-given end old =
-      subst (GetInTurn Gets there paths) (append-nil names)
-      (old [] (subst (λ (xs : List (List ℕ)). GetInTurn Gets all xs []) (sym (drop_all i paths end)) tt))
-
--- the same of paths that are lent
-abbrev pub texts_of : List (Bor (List ℕ)) → List (List ℕ)
-texts_of paths = map (λ path. path.now) paths
-
-module _ (Gets : Naming) (there : List (List ℕ)) (paths : List (Bor (List ℕ))) (i : ℕ) (all : List (List ℕ))
-    (names : List (Option (List ℕ))) where
-  pub go-on-lent : (d : Bor (List ℕ)) (name : Option (List ℕ)) (all' : List (List ℕ)) (names' : List (Option (List ℕ)))
-      → i < length paths → Gets all (get_or paths i d).now name → all' ≡ with_name all name → names' ≡ names ++ name ∷ []
-      → GoOn Gets there (texts_of paths) i all names → GoOn Gets there (texts_of paths) (i + 1) all' names'
-  go-on-lent d name all' names' some gets more_all more_names old =
-      let same : get_or (texts_of paths) i [] ≡ (get_or paths i d).now = get_or-map (λ path. path.now) paths i d [] some in
-      let within : i < length (texts_of paths) = omega (arith, some, length-map paths (λ path. path.now)) in
-      let next = go-on Gets there (texts_of paths) i all names name within
-      (subst (λ (text : List ℕ). Gets all text name) (sym same) gets) old in
-      subst (λ (xs : List (Option (List ℕ))). GoOn Gets there (texts_of paths) (i + 1) all' xs) (sym more_names)
-      (subst (λ (xs : List (List ℕ)). GoOn Gets there (texts_of paths) (i + 1) xs (names ++ name ∷ [])) (sym more_all) next)
-
-  pub all-lent : length paths ≤ i → GoOn Gets there (texts_of paths) i all names → GetInTurn Gets there (texts_of paths) names
-  all-lent end old =
-      all-given Gets there (texts_of paths) i all names (omega (arith, end, length-map paths (λ path. path.now))) old
 
 -- the last part of more and more of a path
 pub record IsLastSoFar (path : List ℕ) (at start : ℕ) : Type 0 where

@@ -1,14 +1,11 @@
 -- Names that are fitted to what a volume may have, for files of the host whose own are none (profile). Characters are named by their ASCII
 -- codes.
-use Rattle.std.specs.Prelude.{ℕ, ◌+◌, ◌-◌, ◌*◌, Bool, not, nat_lt, min, if◌then◌else◌, List, [], ◌∷◌, ◌++◌, length, take, drop, map, filter}
-use Rattle.std.specs.Prelude.{find, Option, None, option_map}
+use Rattle.std.specs.Prelude.{ℕ, ◌+◌, ◌-◌, Bool, nat_lt, List, [], ◌∷◌, ◌++◌, length, take, drop, map, filter, Option}
 use Rattle.std.specs.Int.Digits.{digits_of}
-use Rattle.std.specs.List.{list_any, range_with_len}
 use Rattle.std.specs.Option.{option_map_or}
 use Rattle.std.specs.Path.{rfind_below}
 use Rattle.std.specs.Str.{str_to_ascii_uppercase}
 use Rattle.f11_rad50.specs.Name.{is_name_character, words_of}
-use Rattle.f11_patterns.specs.Meant.{are_alike}
 
 -- where the last dot of a text stands
 abbrev pub last_dot : List ℕ → Option ℕ
@@ -41,31 +38,10 @@ fitted_type part = take 3 (kept_of (type_behind part))
 abbrev pub fitted_text : ℕ → ℕ → List ℕ → List ℕ
 fitted_text width number part = fitted_name width number part ++ 46 ∷ fitted_type part
 
--- How many candidates are looked at beside so many names: 0, and seven more for each, since a name may be the candidate of seven numbers,
--- of none to six digits.
-abbrev pub numbers_beside : ℕ → ℕ
-numbers_beside many = min many 142857 * 7 + 1
-
--- the first number of these whose candidate is free
-abbrev pub first_free : (ℕ → Bool) → ℕ → Option ℕ
-first_free is_free many = find is_free (range_with_len 0 (numbers_beside many))
-
 -- On Files-11 a name has nine characters, and a fitted one version 1.
 abbrev pub candidate : List ℕ → ℕ → List ℕ
 candidate part number = words_of (fitted_name 9 number part) (fitted_type part) 1
 
--- none of these names has the name and the type of a candidate
-abbrev pub is_free : List (List ℕ) → List ℕ → ℕ → Bool
-is_free there part number = not (list_any (are_alike (candidate part number)) there)
-
 -- something of a text stays for a name or a type
 abbrev pub has_some : List ℕ → Bool
 has_some part = nat_lt 0 (length (fitted_name 9 0 part) + length (fitted_type part))
-
--- the first candidate that is free
-abbrev pub first_candidate : List (List ℕ) → List ℕ → Option (List ℕ)
-first_candidate there part = option_map (candidate part) (first_free (is_free there part) (length there))
-
--- The fitted name beside these is that, and there is none where nothing stays.
-abbrev pub fitted_among : List (List ℕ) → List ℕ → Option (List ℕ)
-fitted_among there part = if has_some part then first_candidate there part else None

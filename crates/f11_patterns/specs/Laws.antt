@@ -4,8 +4,10 @@ use Rattle.std.specs.Prelude.{◌≡◌, ◌≢◌, ℕ, List, [], ◌∷◌, Al
 use Rattle.std.specs.Str.{str_to_ascii_uppercase}
 use Rattle.f11_rad50.specs.Name.{IsName, name_of, type_of}
 use Rattle.f11_patterns.specs.declared.versions.Versions.TheVariants.{Highest}
-use Rattle.f11_patterns.specs.Fitting.{fitted_among, fitted_text, has_some}
+use Rattle.f11_patterns.specs.Fitting.{fitted_text, has_some}
+use Rattle.f11_patterns.specs.Giving.{fitted_among}
 use Rattle.f11_patterns.specs.Like.{IsLike}
+use Rattle.f11_patterns.specs.Naming.{file_naming}
 use Rattle.f11_patterns.specs.Parts.{Parts}
 use Rattle.f11_patterns.specs.Pattern.{IsPattern, Fits, IsPlain, IsOne, TextFits}
 
@@ -38,7 +40,7 @@ ExactlyMeansOne =
 -- beside fewer than 142,858 names there is a fitted one for each text of which something stays
 abbrev pub FittedIsThere : Type 0
 FittedIsThere =
-    (there : List (List ℕ)) (part : List ℕ) → has_some part ≡ true → length there ≤ 142857 → IsSome (fitted_among there part)
+    (there : List (List ℕ)) (part : List ℕ) → has_some part ≡ true → length there ≤ 142857 → IsSome (fitted_among file_naming there part)
 
 -- A.TXT;7 fits `*.TXT;*`, A.TXX;7 doesn't
 abbrev pub StarWorks : Type 0

@@ -1,6 +1,8 @@
 -- The definitions that the contracts of patterns cite.
 pub mod Chosen
 pub mod Fitting
+pub mod Giving
+pub mod Turns
 pub mod Like
 pub mod Meant
 pub mod Naming

@@ -1,13 +1,12 @@
 -- Which one file a word names, and which name a new file gets by it (RSX-11M-PLUS MCR Operations Manual, file specifications; profile).
-use Rattle.std.specs.Prelude.{◌≡◌, ◌≢◌, ◌⊎◌, ℕ, ⊤, List, [], ◌∷◌, ◌++◌, All, Option, Some, None, IsSome}
+use Rattle.std.specs.Prelude.{◌≡◌, ◌≢◌, ◌⊎◌, ℕ, List, Option, Some, None}
 use Rattle.f11_rad50.specs.Name.{version_of}
-use Rattle.f11_patterns.specs.Fitting.{fitted_among}
-use Rattle.f11_patterns.specs.declared.names.HostNames.{HostNames}
-use Rattle.f11_patterns.specs.declared.names.HostNames.TheVariants as host
+use Rattle.f11_patterns.specs.Fitting.{candidate, has_some}
+use Rattle.f11_patterns.specs.Giving.{Naming}
 use Rattle.f11_patterns.specs.declared.naming.OneName.{OneName}
 use Rattle.f11_patterns.specs.declared.naming.OneName.TheVariants as one
 use Rattle.f11_patterns.specs.declared.versions.Versions.TheVariants.{Highest}
-use Rattle.f11_patterns.specs.Meant.{IsHighestVersion}
+use Rattle.f11_patterns.specs.Meant.{IsHighestVersion, are_alike}
 use Rattle.f11_patterns.specs.Next.{HasLast, IsNext, with_version}
 use Rattle.f11_patterns.specs.Parts.{Parts}
 use Rattle.f11_patterns.specs.Pattern.{Fits, IsOne, IsPattern, with_versions}
@@ -44,49 +43,11 @@ IsNextName names (one.Whole name) next = next ≡ name
 IsNextName names (one.Highest first) next =
     (IsNext names first next) ⊎ ((HasLast names first) × (next ≡ with_version first 32767))
 
--- a text ends in a slash (47)
-abbrev pub EndsInSlash : List ℕ → Type 0
-EndsInSlash text = (dir : List ℕ) × (text ≡ dir ++ 47 ∷ [])
-
--- The last part of a path stands behind its last slash, and is all of one without.
-pub record IsLastPart (path part : List ℕ) : Type 0 where
-  pub front : List ℕ
-  pub whole : path ≡ front ++ part
-  pub behind : (front ≡ []) ⊎ EndsInSlash front
-  pub last : All (λ c. c ≢ 47) part
-
 -- Beside these names a new file gets this one by a word that names one file; or none, by one that names none.
 abbrev pub GetsByWord : List (List ℕ) → Option (List ℕ) → List ℕ → Type 0
 GetsByWord there (Some name) word = (named : OneName) × NamesOne word named × IsNextName there named name
 GetsByWord there None word = NamesNone word
 
--- A part that names no file gets the fitted name, if there is one.
-abbrev pub GetsFitted : List (List ℕ) → Option (List ℕ) → List ℕ → Type 0
-GetsFitted there name part = NamesNone part × (name ≡ fitted_among there part)
-
--- A part gets a name as a word does; or, where names are fitted, one that names a file gets it so, and any other gets the fitted one.
-abbrev pub GetsByPart : HostNames → List (List ℕ) → Option (List ℕ) → List ℕ → Type 0
-GetsByPart host.AsTheyAre there name part = GetsByWord there name part
-GetsByPart host.Fitted there name part = (IsSome name × GetsByWord there name part) ⊎ GetsFitted there name part
-
--- A file of the host gets it by the last part of its path.
-pub record GetsName (fitting : HostNames) (there : List (List ℕ)) (path : List ℕ) (name : Option (List ℕ)) : Type 0 where
-  pub part : List ℕ
-  pub last : IsLastPart path part
-  pub gets : GetsByPart fitting there name part
-
--- these names, and one more, if it is one
-abbrev pub with_name : List (List ℕ) → Option (List ℕ) → List (List ℕ)
-with_name there (Some name) = there ++ name ∷ []
-with_name there None = there
-
--- Files get such names, one behind another: each beside those that are there, and those that the ones before it got.
-abbrev pub GetInTurn : (List (List ℕ) → List ℕ → Option (List ℕ) → Type 0) → List (List ℕ) → List (List ℕ) → List (Option (List ℕ)) → Type 0
-GetInTurn Gets there [] [] = ⊤
-GetInTurn Gets there [] (name ∷ names) = ⊥
-GetInTurn Gets there (path ∷ paths) [] = ⊥
-GetInTurn Gets there (path ∷ paths) (name ∷ names) = Gets there path name × GetInTurn Gets (with_name there name) paths names
-
--- Files of the host with these paths get these.
-abbrev pub GetNames : HostNames → List (List ℕ) → List (List ℕ) → List (Option (List ℕ)) → Type 0
-GetNames fitting there paths names = GetInTurn (GetsName fitting) there paths names
+-- The names of Files-11: a part is one as a word is, and two count as the same that have the same name and type.
+abbrev pub file_naming : Naming (List ℕ)
+file_naming = record { IsNamed = GetsByWord; candidate = candidate; has_some = has_some; are_alike = are_alike }

@@ -1,11 +1,8 @@
 //! Names that are fitted to what a volume may have, for files of the host whose own are none.
 ghost use Rattle.std.specs.Prelude.{◌≡◌, ◌<◌, ◌≤◌, ◌+◌, ◌++◌, ◌∷◌, ℕ, IfSome, List, filter, length, take, true};
-ghost use Rattle.std.specs.List.{list_any};
 ghost use Rattle.f11_rad50.specs.Name.{is_name_character};
-ghost use Rattle.f11_patterns.specs.Fitting.{candidate, first_candidate, fitted_among, fitted_text, has_some, kept_of, last_dot, name_before, numbers_beside, numeral, type_behind};
-ghost use Rattle.f11_patterns.specs.Meant.{are_alike};
+ghost use Rattle.f11_patterns.specs.Fitting.{candidate, fitted_text, has_some, kept_of, last_dot, name_before, numeral, type_behind};
 
-use crate::meant::are_alike;
 use arrayvec::ArrayVec;
 use f11_rad50::Name;
 
@@ -17,12 +14,6 @@ const WIDTH: usize = 9;
 
 /// The most characters of a type.
 const TYPE_WIDTH: usize = 3;
-
-/// How many numbers may have one name as their candidate: one for each count of digits, from none to six.
-const NUMBERS_OF_A_NAME: usize = 7;
-
-/// Beside how many names more numbers are looked at for each, so that none of them has more digits.
-const MOST_NAMES: usize = 142_857;
 
 /// Where the last dot of a text stands.
 fn last_dot(text: &[u8]) -> Option<usize>
@@ -126,17 +117,8 @@ pub fn fitted_text(part: &[u8], width: usize, number: usize) -> FittedText
     text
 }
 
-/// How many candidates ([`fitted_text`]) are looked at beside so many names, from number 0 on, so that one of them is free: at most a million, since
-/// a number has six digits at most.
-pub fn numbers_beside(many: usize) -> usize
-    ensures value { result ≡ numbers_beside many }
-    ensures few { result ≤ 1000000 }
-{
-    many.min(MOST_NAMES) * NUMBERS_OF_A_NAME + 1
-}
-
 /// The candidate of a number, with version 1.
-fn candidate(part: &[u8], number: usize) -> Name
+pub(crate) fn candidate(part: &[u8], number: usize) -> Name
     requires some { has_some part.now ≡ true }
     requires few { number ≤ 999999 }
     ensures { result ≡ candidate part.now number }
@@ -147,42 +129,9 @@ fn candidate(part: &[u8], number: usize) -> Name
     Name::parse(text.as_slice()).unwrap()
 }
 
-/// Whether a name has the name and the type of one of those that are there.
-fn is_there(there: &[Name], name: &Name) -> bool
-    ensures { result ≡ list_any (are_alike name.now) there.now }
-{
-    there.iter().any(|one| are_alike(name, one))
-}
-
 /// Whether something of a part stays for a name or a type.
-fn has_some(part: &[u8]) -> bool
+pub(crate) fn has_some(part: &[u8]) -> bool
     ensures { result ≡ has_some part.now }
 {
     fitted_text(part, WIDTH, 0).len() > 1
-}
-
-/// The first candidate that is free.
-fn first_candidate(there: &[Name], part: &[u8]) -> Option<Name>
-    requires some { has_some part.now ≡ true }
-    ensures { result ≡ first_candidate there.now part.now }
-{
-    for number in 0..numbers_beside(there.len()) {
-        let name = candidate(part, number);
-        if !is_there(there, &name) {
-            return Some(name);
-        }
-    }
-    None
-}
-
-/// The fitted name of the last part of a file's path beside those that are there: the first candidate ([`fitted_text`], of at most nine
-/// characters) which has not the name and type of one of them, with version 1. `None` where nothing of the part stays. Steps: as many as there
-/// are names, times as many as there are candidates of them.
-pub(crate) fn fitted_among(there: &[Name], part: &[u8]) -> Option<Name>
-    ensures { result ≡ fitted_among there.now part.now }
-{
-    if !has_some(part) {
-        return None;
-    }
-    first_candidate(there, part)
 }

@@ -1,8 +1,11 @@
-//! The names that files of the host get, one behind another.
-ghost use Rattle.std.specs.Prelude.{◌≡◌, ◌≤◌, [], ◌∷◌, ◌++◌, IfOk, OnOk, drop, length, map};
-ghost use Rattle.f11_patterns.specs.Naming.{GetNames, GetsName, IsLastPart, with_name};
+//! The names that files of the host get on a Files-11 volume, and the last parts of their paths.
+ghost use Rattle.std.specs.Prelude.{◌≤◌, IfOk, drop, length, map};
+ghost use Rattle.f11_patterns.specs.Giving.{GetNames, IsLastPart};
+ghost use Rattle.f11_patterns.specs.Naming.{file_naming};
 
-use crate::fitting::fitted_among;
+use crate::fitting::{candidate, has_some};
+use crate::giving::{HostNaming, host_names};
+use crate::meant::are_alike;
 use crate::naming::OneName;
 use f11_bytes::NoMemory;
 use f11_rad50::Name;
@@ -38,45 +41,36 @@ pub fn last_part(path: &[u8]) -> &[u8]
     &path[last_start(path)..]
 }
 
-/// The name that a file of the host gets beside those that are there.
-fn name_among(there: &[Name], path: &str, fitting: HostNames) -> Option<Name>
-    ensures gets { GetsName fitting there.now path.now result }
-{
-    let part = last_part(path.as_bytes());
-    match OneName::of(part) {
-        Some(named) => Some(named.next_in(there)),
-        None => match fitting {
-            HostNames::AsTheyAre => None,
-            HostNames::Fitted => fitted_among(there, part),
-        },
+/// Names of Files-11.
+struct FileNaming;
+
+impl HostNaming<Name> for FileNaming {
+    ghost naming = { file_naming };
+
+    fn own_name(&self, there: &[Name], part: &[u8]) -> Option<Name> {
+        match OneName::of(part) {
+            Some(named) => Some(named.next_in(there)),
+            None => None,
+        }
+    }
+
+    fn has_some(&self, part: &[u8]) -> bool {
+        has_some(part)
+    }
+
+    fn candidate(&self, part: &[u8], number: usize) -> Name {
+        candidate(part, number)
+    }
+
+    fn are_alike(&self, name: &Name, one: &Name) -> bool {
+        are_alike(name, one)
     }
 }
 
-/// Adds a name to those that are there, if it is one.
-fn keep(there: &mut Vec<Name>, name: &Option<Name>) -> Result<(), NoMemory>
-    ensures { OnOk result (there.new.items ≡ with_name there.old.items name.now) }
-{
-    if let Some(name) = name {
-        there.push(*name)?;
-    }
-    Ok(())
-}
-
-/// Adds it to those that files get.
-fn give(names: &mut Vec<Option<Name>>, name: Option<Name>) -> Result<(), NoMemory>
-    ensures { OnOk result (names.new.items ≡ names.old.items ++ name ∷ []) }
-{
-    match names.push(name) {
-        Ok(()) => Ok(()),
-        Err(_) => Err(NoMemory),
-    }
-}
-
-/// The names that files of the host with these paths get in a directory with those names, one behind another: each by the last part of its path
-/// ([`OneName::next_in`]), beside those that are there and those that the ones before it got. One whose last part names no file gets `None`, or,
-/// where names are fitted, the first candidate for it ([`fitted_text`](crate::fitted_text), with up to nine characters in its name) of whose name
-/// and type none of these is, with version 1, and `None` where no character of it stays. Steps: at most as many as there are paths, times as many
-/// as there are names then, and for a fitted one times as many as there are candidates before it.
+/// The names that files of the host with these paths get in a directory with those names ([`host_names`]): each by the last part of its path
+/// ([`OneName::next_in`]). One whose last part names no file gets `None`, or, where names are fitted, the first candidate for it
+/// ([`fitted_text`](crate::fitted_text), with up to nine characters in its name) of whose name and type none is, with version 1, and `None` where no
+/// character of it stays, or none of a million candidates is free.
 ///
 /// # Errors
 ///
@@ -87,15 +81,8 @@ pub fn names_of(
     paths: &[&str],
     fitting: HostNames,
 ) -> Result<Vec<Option<Name>>, NoMemory>
-    ensures names { IfOk result (λ names.
-        GetNames fitting there.items (map (λ path. path.now) paths.now) names.items) }
+    ensures names { IfOk result (λ names. GetNames file_naming fitting there.items
+        (map (λ path. path.now) paths.now) names.items) }
 {
-    let mut all = there;
-    let mut names = Vec::new(alloc);
-    for path in paths {
-        let name = name_among(&all, path, fitting);
-        keep(&mut all, &name)?;
-        give(&mut names, name)?;
-    }
-    Ok(names)
+    host_names(alloc, &FileNaming, there, paths, fitting)
 }

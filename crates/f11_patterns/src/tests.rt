@@ -4,8 +4,9 @@ ghost use Rattle.f11_patterns.specs.Pattern.{Fits, TextFits};
 ghost use Rattle.f11_patterns.specs.Lent.{parts_of};
 
 use crate::like::is_like;
-use crate::{BadPattern, Pattern, Versions, next_version};
+use crate::{BadPattern, HostNames, Pattern, Versions, names_of, next_version};
 use f11_rad50::{BadName, Name};
+use std::alloc::Global;
 use std::test::Fail;
 
 /// Patterns, and a name that fits each (RSX-11M-PLUS MCR Operations Manual, wildcards; profile: small letters).
@@ -361,5 +362,43 @@ fn the_next_version_is_above_the_highest(rt: HostRuntime) -> Result<(), Fail> {
     assert!(rt; next("A.LST;1", &names) == Some(Name::parse(b"A.LST;3")?));
     assert!(rt; next("B.TXT;1", &names) == None);
     assert!(rt; next("C.TXT;4", &names) == Some(Name::parse(b"C.TXT;1")?));
+    Ok(())
+}
+
+/// Whether files of the host with these paths get these names beside one that is there.
+fn get(
+    alloc: Global,
+    there: &str,
+    paths: &[&str],
+    fitting: HostNames,
+    names: &[Option<Name>],
+) -> Result<bool, Fail> {
+    let mut all = Vec::new(alloc);
+    all.push(Name::parse(there.as_bytes())?)?;
+    let given = names_of(alloc, all, paths, fitting)?;
+    Ok(given.as_slice() == names)
+}
+
+#[test]
+fn names_that_are_names_are_given_first(rt: HostRuntime) -> Result<(), Fail> {
+    let paths = ["my file.txt", "in/MYFILE.TXT", "a-b.c", "my,file.txt"];
+    let own = Some(Name::parse(b"MYFILE.TXT;1")?);
+    let fitted = [
+        Some(Name::parse(b"MYFILE1.TXT;1")?),
+        own,
+        Some(Name::parse(b"AB1.C;1")?),
+        Some(Name::parse(b"MYFILE2.TXT;1")?),
+    ];
+    let as_they_are = [None, own, None, None];
+    assert!(rt; get(rt.alloc(), "AB.C;7", &paths, HostNames::Fitted, &fitted)?);
+    assert!(rt;
+        get(
+            rt.alloc(),
+            "AB.C;7",
+            &paths,
+            HostNames::AsTheyAre,
+            &as_they_are
+        )?
+    );
     Ok(())
 }

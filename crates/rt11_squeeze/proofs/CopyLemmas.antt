@@ -1,5 +1,5 @@
 -- A copy of a file that is made.
-use Rattle.std.proofs.Common.{◌≡◌, ◌≢◌, ℕ, false, List, [], length, Err, refl, sym, ◌∙◌, arith}
+use Rattle.std.proofs.Common.{◌≡◌, ◌≢◌, ℕ, false, List, [], length, Err, refl, sym, ◌∙◌, ap, arith}
 use Rattle.f11_dev.specs.Disk.{Disk}
 use Rattle.f11_dev.specs.Image.{Image}
 use Rattle.f11_dev.specs.Looked.{Looked}
@@ -18,7 +18,9 @@ use Rattle.rt11_volume.proofs.Named.Laws.{created-made}
 use Rattle.rt11_squeeze.specs.Blocks.{FailsToWrite, SparesOthers, WritesBlocks, blocks_transfers}
 use Rattle.rt11_squeeze.specs.Copying.{Copies, FailsToCopy, copy_transfers}
 use Rattle.rt11_squeeze.specs.Kept.{SparesFiles, volume_disk, volume_store}
+use Rattle.rt11_squeeze.specs.Rooms.{areas_listed, room_in}
 use Rattle.rt11_squeeze.proofs.CallLemmas.{unfailed-of}
+use Rattle.rt11_squeeze.proofs.RoomLemmas.{made-there}
 use Rattle.rt11_squeeze.proofs.StandLemmas.{behind-stand, carried-stand, data-behind, others-carried, same-behind}
 
 -- what stands while a file is made or deleted
@@ -83,6 +85,9 @@ module _ {D : Type 0} {met : Ghosts D} (disk : D → Disk) (name : List ℕ) (da
             file = record m.file { contents = blocks };
             none = m.none;
             one = w.named m.file [] m.one (m.blocks_are ∙ sym size);
+            place = ap (room_in (areas_listed (volume_store disk old))) size
+                ∙ made-there name count day (volume_disk disk old).image (volume_disk disk made).image s.accepted named (creates s) m.file
+                m.one;
             blocks_are = refl;
             date_is = m.date_is;
             unprotected = m.unprotected;

@@ -5,4 +5,6 @@ pub mod CopyLemmas
 pub mod ReplaceLemmas
 pub mod MoveLemmas
 pub mod SqueezeLemmas
+pub mod OutcomeLemmas
+pub mod RoomLemmas
 pub mod TellLemmas

@@ -1,11 +1,11 @@
 -- A file that is moved.
-use Rattle.std.proofs.Common.{◌≡◌, ◌≢◌, inl, inr, ℕ, ◌+◌, Bool, true, false, if◌then◌else◌, List, [], ◌∷◌, length}
+use Rattle.std.proofs.Common.{◌≡◌, ◌≢◌, inl, inr, ℕ, ◌+◌, Bool, true, false, if◌then◌else◌, List, [], ◌∷◌, ◌++◌, length, Some}
 use Rattle.std.proofs.Common.{refl, sym, ◌∙◌, ap, subst, arith}
-use Rattle.std.proofs.lemmas.List.{take_all}
+use Rattle.std.proofs.lemmas.List.{append_assoc, length-append, take_all}
 use Rattle.f11_dev.specs.Disk.{Disk}
 use Rattle.f11_dev.specs.Image.{Image}
 use Rattle.f11_dev.specs.Looked.{Looked}
-use Rattle.f11_dev.specs.Went.{Went}
+use Rattle.f11_dev.specs.Went.{Went, newest}
 use Rattle.f11_dev.specs.declared.device.Device.{Ghosts}
 use Rattle.f11_dev.proofs.WentLemmas.{went_looked, went_more, went_weaker}
 use Rattle.rt11_volume.specs.Entry.{is_same_name}
@@ -20,31 +20,98 @@ use Rattle.rt11_volume.specs.declared.volume.RtAccepted.{RtAccepted}
 use Rattle.rt11_squeeze.specs.Blocks.{FailsToRead, ReadsBlocks, blocks_transfers}
 use Rattle.rt11_squeeze.specs.Copying.{Copies, FailsToCopy, HasCopy, copy_transfers}
 use Rattle.rt11_squeeze.specs.Kept.{HasBlocksOf, SparesBehind, SparesFiles, volume_disk, volume_store}
-use Rattle.rt11_squeeze.specs.Moving.{FailsToMove, IsOnlyFile, Moves, SparesWhile, move_transfers}
+use Rattle.rt11_squeeze.specs.Moving.{FailsToMove, IsOnlyFile, Moves, SparesWhile, WasCopied, move_transfers}
 use Rattle.rt11_squeeze.specs.Replacing.{FailsToRemove, FailsToTake, Removes, TakesName, naming_transfers, removal_transfers}
+use Rattle.rt11_squeeze.specs.Rooms.{areas_listed, room_in}
 use Rattle.rt11_squeeze.proofs.BlockLemmas.{sound-looked}
 use Rattle.rt11_squeeze.proofs.StandLemmas.{behind-stand, carried-stand, moved-carried, names-apart, names-apart-back, others-carried}
 
--- no file can be made of a disk that was looked at for what barred it before
-create-looked : {a b : Disk} {most faults : ℕ} (name : List ℕ) (count : ℕ) (e : RtRefusal) → Looked a b most faults
+-- what bars a file from being made on a disk bars it on one with the same image, which is sound where that one is
+pub create-as : {a b : Disk} (name : List ℕ) (count : ℕ) (e : RtRefusal) → (IsSoundDisk a → IsSoundDisk b) → b.image ≡ a.image
     → FailsToCreate e name count b → FailsToCreate e name count a
-create-looked name count rt.Failed looked h = tt
-create-looked name count rt.NoSuchFile looked h = h
-create-looked name count rt.EndOfFile looked h = h
-create-looked name count rt.Protected looked h = h
-create-looked name count rt.DuplicateName looked h = λ s.
-    subst (λ (i : Image). HasFile name (rt_store_of i)) looked.image (h (sound-looked looked s))
-create-looked name count rt.NoSpace looked h = λ s.
-    subst (λ (i : Image). IsWithoutSpace name count (rt_store_of i)) looked.image (h (sound-looked looked s))
-create-looked name count rt.DirectoryFull looked h = λ s.
-    subst (λ (i : Image). IsDirectoryFull name count (rt_store_of i)) looked.image (h (sound-looked looked s))
-create-looked name count rt.NoMemory looked h = h
-create-looked name count rt.DeviceFault looked h = tt
+create-as name count rt.Failed sound same h = tt
+create-as name count rt.NoSuchFile sound same h = h
+create-as name count rt.EndOfFile sound same h = h
+create-as name count rt.Protected sound same h = h
+create-as name count rt.DuplicateName sound same h = λ s. subst (λ (i : Image). HasFile name (rt_store_of i)) same (h (sound s))
+create-as name count rt.NoSpace sound same h = λ s. subst (λ (i : Image). IsWithoutSpace name count (rt_store_of i)) same (h (sound s))
+create-as name count rt.DirectoryFull sound same h = λ s.
+    subst (λ (i : Image). IsDirectoryFull name count (rt_store_of i)) same (h (sound s))
+create-as name count rt.NoMemory sound same h = h
+create-as name count rt.DeviceFault sound same h = tt
 
 -- a copy is protected where the file was
 protected-as : (protected copied : Bool) → copied ≡ false → (if protected then true else copied) ≡ protected
 protected-as true copied open-copy = refl
 protected-as false copied open-copy = open-copy
+
+-- an image stood that has a copy, where a disk has one that had none before
+pub copied-stood : (P Q : Image → Type 0) {a b c : Disk} {m n f g : ℕ} (name scratch : List ℕ) (file copy : Area) → Went P a b m f
+    → Went Q b c n g → files_named name (rt_store_of a.image) ≡ file ∷ [] → files_named scratch (rt_store_of a.image) ≡ []
+    → files_named scratch (rt_store_of b.image) ≡ copy ∷ [] → copy.contents ≡ file.contents → WasCopied name scratch a c
+copied-stood P Q {a = a} {b = b} {c = c} name scratch file copy first next was none one same =
+    by first.since first.history first.image
+  where
+    by : (since : List Image) → b.history ≡ since ++ a.history → b.image ≡ newest since a.image → WasCopied name scratch a c
+    by [] history image =
+        let clash : copy ∷ [] ≡ [] =
+        sym one ∙ ap (λ (i : Image). files_named scratch (rt_store_of i)) image ∙ none in absurd (cc)
+    by (last ∷ earlier) history image = record {
+      image = last;
+      later = next.since;
+      earlier = earlier;
+      history = next.history ∙ ap (λ (h : List Image). next.since ++ h) history;
+      file = file;
+      copy = copy;
+      was = was;
+      copied = ap (λ (i : Image). files_named scratch (rt_store_of i)) (sym image) ∙ one;
+      blocks_are = same;
+    }
+
+-- the image at the end is the last that stood
+pub stood-last : (P : Image → Type 0) {a b : Disk} {m f : ℕ} (name scratch : List ℕ) → Went P a b m f → WasCopied name scratch a b
+    → (before : List Image) × (b.history ≡ b.image ∷ before)
+stood-last P {a = a} {b = b} name scratch went w = by went.since went.history went.image
+  where
+    by : (since : List Image) → b.history ≡ since ++ a.history → b.image ≡ newest since a.image
+        → (before : List Image) × (b.history ≡ b.image ∷ before)
+    by [] history image =
+        let same : length a.history ≡ length (w.later ++ (w.image ∷ (w.earlier ++ a.history))) =
+        ap (λ (h : List Image). length h) (sym history ∙ w.history) in
+        let one = length-append w.later (w.image ∷ (w.earlier ++ a.history)) in
+        let two = length-append w.earlier a.history in
+        absurd (omega (arith, same, one, two))
+    by (last ∷ earlier) history image = (earlier ++ a.history, history ∙ ap (λ (i : Image). i ∷ (earlier ++ a.history)) (sym image))
+
+-- it stood where more was done behind
+pub copied-then : (Q : Image → Type 0) {a b c : Disk} {n g : ℕ} (name scratch : List ℕ) → WasCopied name scratch a b → Went Q b c n g
+    → WasCopied name scratch a c
+copied-then Q name scratch w next = record {
+  image = w.image;
+  later = next.since ++ w.later;
+  earlier = w.earlier;
+  history = next.history ∙ ap (λ (h : List Image). next.since ++ h) w.history ∙ sym (append_assoc next.since w.later _);
+  file = w.file;
+  copy = w.copy;
+  was = w.was;
+  copied = w.copied;
+  blocks_are = w.blocks_are;
+}
+
+-- and where the disk was looked at before
+pub copied-behind : {a b c : Disk} {n g : ℕ} (name scratch : List ℕ) → Looked a b n g → WasCopied name scratch b c
+    → WasCopied name scratch a c
+copied-behind name scratch looked w = record {
+  image = w.image;
+  later = w.later;
+  earlier = w.earlier;
+  history = w.history ∙ ap (λ (h : List Image). w.later ++ (w.image ∷ (w.earlier ++ h))) looked.history;
+  file = w.file;
+  copy = w.copy;
+  was = ap (λ (i : Image). files_named name (rt_store_of i)) (sym looked.image) ∙ w.was;
+  copied = w.copied;
+  blocks_are = w.blocks_are;
+}
 
 module _ {D : Type 0} {met : Ghosts D} (disk : D → Disk) (name scratch : List ℕ) (count day : ℕ) (protected : Bool)
     (old : RtAccepted D met) where
@@ -72,7 +139,7 @@ module _ {D : Type 0} {met : Ghosts D} (disk : D → Disk) (name scratch : List 
         → FailsToMove name scratch count protected e (volume_disk disk old) (volume_disk disk new)
     move-uncopied e new fails = record {
       fresh = fails.fresh;
-      why = λ s only none. inr (create-looked scratch count e looked (fails.why (sound-looked looked s) none));
+      why = λ s only none. inr (create-as scratch count e (sound-looked looked) looked.image (fails.why (sound-looked looked s) none));
       stays = λ s only none. fails.stays (sound-looked looked s) none ∙ looked.image;
     }
 
@@ -185,10 +252,17 @@ module _ {D : Type 0} {met : Ghosts D} (disk : D → Disk) (name scratch : List 
                   fails.why (gone-sound s)
                   (record { file = (has-copy s).file; more = []; named = copy-there s only; none = none-left s only })
 
-          pub moves : (new : RtAccepted D met) → TakesName scratch name protected (volume_disk disk gone) (volume_disk disk new)
+          pub moves : (faults : ℕ) (new : RtAccepted D met)
+              → Went (SparesBehind (volume_disk disk copied)) (volume_disk disk copied) (volume_disk disk gone) removal_transfers 0
+              → Went (SparesBehind (volume_disk disk gone)) (volume_disk disk gone) (volume_disk disk new) naming_transfers faults
+              → TakesName scratch name protected (volume_disk disk gone) (volume_disk disk new)
               → Moves name scratch count day protected (volume_disk disk old) (volume_disk disk new)
-          moves new takes = record {
+          moves faults new removal naming takes = record {
             sound = λ s. takes.sound (gone-sound s);
+            copied = λ s only.
+                copied-then (SparesBehind (volume_disk disk gone)) name scratch
+                (copied-stood Spares (SparesBehind (volume_disk disk copied)) name scratch only.file (has-copy s).file went removal
+                only.named (has-copy s).none (has-copy s).one (same-blocks s only)) naming;
             moved = λ s only.
                 let c = has-copy s in
                 let t = takes.taken (gone-sound s) in
@@ -205,6 +279,8 @@ module _ {D : Type 0} {met : Ghosts D} (disk : D → Disk) (name scratch : List 
                   was = only.named;
                   is = t.is;
                   facts = λ i. record { date = date i; protected = on i; blocks = contents i };
+                  place = ap (room_in (areas_listed (volume_store disk old))) (only.count_is ∙ sym reads.count_is) ∙ c.place
+                      ∙ ap (λ (f : Area). Some f.start) (sym same-file);
                   unused = c.none;
                   unused_still = cc;
                   others = λ third one two. t.others third two one ∙ others-there s only third one two;

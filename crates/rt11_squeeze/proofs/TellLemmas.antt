@@ -4,17 +4,20 @@ use Rattle.std.proofs.Common.{IsTrue}
 use Rattle.std.proofs.Common.{List, [], ◌∷◌, ◌++◌, length, map, filter, flat_map, get_or, take, Option, Some, None, refl, sym, ap, ◌∙◌}
 use Rattle.std.proofs.Common.{subst}
 use Rattle.std.proofs.Common.{arith}
-use Rattle.std.specs.Prelude.{IfOk, IfSome, is_some}
+use Rattle.std.specs.Prelude.{IfOk, IfSome, SomeIff, codes, drop, filter_map, is_some, option_map, unwrap_or}
 use Rattle.std.proofs.Common.{Result, Ok, Err, Vec, Global}
-use Rattle.f11_dev.proofs.LookedLemmas.{looked_more}
-use Rattle.rt11_volume.specs.Files.{faults_in}
+use Rattle.f11_dev.proofs.LookedLemmas.{looked_more, looked_within}
+use Rattle.rt11_volume.specs.Files.{faults_in, is_fault}
+use Rattle.rt11_volume.specs.Directory.{IsSized}
+use Rattle.rt11_volume.specs.declared.refusal.RtRefusal.TheVariants.{NoMemory}
 use Rattle.rt11_volume.specs.declared.refusal.RtRefusal.{RtRefusal}
 use Rattle.std.specs.Int.{bit_at}
-use Rattle.std.specs.List.{All, range_with_len, slice_get}
+use Rattle.std.specs.List.{All, cons_option, range_with_len, slice_get}
+use Rattle.std.proofs.lemmas.List.Sums.{AllPass-from_list_all}
 use Rattle.std.proofs.lemmas.Bool.{eqb-true}
 use Rattle.std.proofs.lemmas.Bool.Decides.{nat_tests}
-use Rattle.std.proofs.lemmas.List.{append-nil, take_all, take_more}
-use Rattle.std.proofs.lemmas.List.Elements.{All-append, All-nil, filter_more}
+use Rattle.std.proofs.lemmas.List.{append-nil, take-append-drop, take_all, take_more}
+use Rattle.std.proofs.lemmas.List.Elements.{All-append, All-nil, filter-append, filter_map-append, filter_more}
 use Rattle.std.proofs.lemmas.List.FromFn.{length-map-range_with_len, map-range_with_len_more}
 use Rattle.std.proofs.lemmas.Option.{get_or_from_slice_get, slice_get-get_or, slice_get_within}
 use Rattle.f11_dev.specs.Disk.{Disk}
@@ -26,7 +29,10 @@ use Rattle.rt11_volume.specs.Directory.{segment_of, visited}
 use Rattle.rt11_volume.specs.Entry.{area_length, date, has_bit, is_file_named, is_one_kind, is_protected, is_same_name, kind_of, name_words}
 use Rattle.rt11_volume.specs.Entry.{status}
 use Rattle.rt11_volume.specs.Named.{Placed, area_of, files_named, placed, placed_in}
-use Rattle.rt11_volume.specs.RtName.{is_rt_name}
+use Rattle.f11_rad50.specs.Name.{is_name_character}
+use Rattle.f11_rad50.specs.Radix50.{code_of, radix50}
+use Rattle.rt11_volume.specs.RtName.{IsRtName, is_rt_name, rt_name_of, rt_words_of}
+use Rattle.rt11_volume.proofs.NameLemmas.{IsRtName-from_parts}
 use Rattle.rt11_volume.specs.Segment.{Segment, area_start, extra_bytes, segment_words}
 use Rattle.rt11_volume.specs.Store.{rt_store_of}
 use Rattle.rt11_volume.specs.Verifying.Verdict.{IsRtAccepted, IsSoundDisk}
@@ -37,7 +43,8 @@ use Rattle.rt11_volume.proofs.Searching.File.{area-ends}
 use Rattle.rt11_volume.proofs.SurveyFiles.{kind-file, name-same}
 use Rattle.rt11_volume.proofs.Verifying.Sound.{IsSoundImage, sound_from}
 use Rattle.rt11_squeeze.specs.Squeezing.{AreTold, IsTold}
-use Rattle.rt11_squeeze.specs.Telling.{TellsAll, TellsFile, TellsFiles, as_list, date_in, date_told}
+use Rattle.rt11_squeeze.specs.Telling.{FailsToTell, TellsAll, TellsEntries, TellsEntry, TellsFile, TellsFiles, as_list, date_in, date_told}
+use Rattle.rt11_squeeze.specs.Telling.{entry_to_move, file_as_told, file_to_move, scratch_of, scratch_type, single}
 use Rattle.rt11_squeeze.proofs.BlockLemmas.{sound-looked}
 use Rattle.rt11_squeeze.specs.declared.moving.FileToMove.{FileToMove}
 
@@ -244,11 +251,62 @@ module _ (name : List ℕ) (entries : List RtEntry) (i : ℕ) (e : RtEntry) (ins
   found-same found test so_far =
       one-more false test ∙ append-nil (filter (is_sound_file_named name) (take i entries)) ∙ so_far
 
+  -- where one has it that isn't the first, none is alone
+  pub found-twice : (found : Option RtEntry) → is_sound_file_named name e ≡ true → is_some found ≡ true
+      → filter (is_sound_file_named name) (take i entries) ≡ listed found
+      → single (filter (is_sound_file_named name) entries) ≡ None
+  found-twice None test met so_far = absurd (cc)
+  found-twice (Some x) test met so_far =
+      let p : RtEntry → Bool = is_sound_file_named name in
+      let more : filter p (take (i + 1) entries) ≡ x ∷ e ∷ [] = one-more true test ∙ ap (λ (es : List RtEntry). es ++ e ∷ []) so_far in
+      ap (λ (es : List RtEntry). single (filter p es)) (sym (take-append-drop (i + 1) entries))
+      ∙ ap single (filter-append p (take (i + 1) entries) (drop (i + 1) entries))
+      ∙ ap (λ (es : List RtEntry). single (es ++ filter p (drop (i + 1) entries))) more
+
 pub found-all : (name : List ℕ) (entries : List RtEntry) (i : ℕ) (found : Option RtEntry) → length entries ≤ i
     → filter (is_sound_file_named name) (take i entries) ≡ listed found
-    → IfSome found (λ e. filter (is_sound_file_named name) entries ≡ e ∷ [])
-found-all name entries i None all so_far = tt
-found-all name entries i (Some e) all so_far = ap (filter (is_sound_file_named name)) (sym (take_all i entries all)) ∙ so_far
+    → found ≡ single (filter (is_sound_file_named name) entries)
+found-all name entries i found all so_far =
+    by found ∙ ap single (sym so_far) ∙ ap (λ (es : List RtEntry). single (filter (is_sound_file_named name) es)) (take_all i entries all)
+  where
+    by : (o : Option RtEntry) → o ≡ single (listed o)
+    by None = refl
+    by (Some x) = refl
+
+-- the one entry of a list
+pub single-one : (es : List RtEntry) (e : RtEntry) → single es ≡ Some e → es ≡ e ∷ []
+single-one [] e is = absurd (cc)
+single-one (x ∷ []) e is = let same : x ≡ e = ap (λ (o : Option RtEntry). unwrap_or o e) is in ap (λ (y : RtEntry). y ∷ []) same
+single-one (x ∷ (y ∷ es)) e is = absurd (cc)
+
+-- a proper name with the type of a copy is one, too
+pub scratch-proper : (words : List ℕ) → IsRtName words → IsRtName (scratch_of words)
+unfolding rt_words_of radix50 code_of is_name_character
+scratch-proper words is =
+    IsRtName-from_parts (scratch_of words) (rt_name_of words) (codes "SQZ")
+    (record {
+      name_characters = is.proper.name_characters;
+      name_some = is.proper.name_some;
+      name_length = is.proper.name_length;
+      type_characters = AllPass-from_list_all is_name_character (codes "SQZ") refl;
+      type_length = omega arith;
+    })
+    (λ t. ap (λ (w : List ℕ). get_or w 0 0) is.same_words t ∷ ap (λ (w : List ℕ). get_or w 1 0) is.same_words t ∷ scratch_type ∷ [])
+
+pub some-of : (r : Option (List ℕ)) (P : Type 0) (words : List ℕ) → SomeIff r P words → P → r ≡ Some words
+some-of None P words iff is = absurd (iff is)
+some-of (Some w) P words iff is = ap (λ (x : List ℕ). Some x) iff.1
+
+-- what is told of an entry is the file that it tells
+pub told-exact : (image : Image) (entries : List RtEntry) (e file : RtEntry) (told : FileToMove) → e.name ≡ Some told.name
+    → Some file ≡ entry_to_move entries e → told.scratch ≡ scratch_of told.name → told.blocks ≡ file.blocks
+    → told.protected ≡ file.protected → told.date ≡ date_told image file
+    → Some told ≡ file_to_move image entries e
+told-exact image entries e file told named is scratch blocks protected dated =
+    let same : told ≡ file_as_told image told.name file =
+    λ t. record { name = told.name; scratch = scratch t; blocks = blocks t; date = dated t; protected = protected t } in
+    (λ t. Some (same t)) ∙ ap (option_map (file_as_told image told.name)) is
+    ∙ ap (λ (o : Option (List ℕ)). option_map (file_as_told image (unwrap_or o [])) (entry_to_move entries e)) (sym named)
 
 -- each of those that are told so far is as it is told
 abbrev pub AllTold : List RtEntry → Disk → List FileToMove → Type 0
@@ -279,6 +337,40 @@ told-more entries old now files (Some told) most looked all tells =
     All-append (TellsFile entries old) files (told ∷ []) all
     (told-one entries old told (told-same entries old now told most 0 looked tells))
 
+-- an entry of an image that is the same
+pub entry-same : (entries : List RtEntry) (e : RtEntry) (a b : Disk) (found : Option FileToMove) (most faults : ℕ)
+    → Looked a b most faults → TellsEntry entries e b found → TellsEntry entries e a found
+entry-same entries e a b found most faults looked tells s are =
+    tells (sound-looked looked s) (are ∙ ap directory_entries (sym looked.image))
+    ∙ ap (λ (i : Image). file_to_move i entries e) looked.image
+
+-- the files of so many entries
+abbrev pub TellsSoFar : List RtEntry → ℕ → Disk → List FileToMove → Type 0
+TellsSoFar entries i disk files =
+    IsSoundDisk disk → entries ≡ directory_entries disk.image
+    → files ≡ filter_map (file_to_move disk.image entries) (take i entries)
+
+cons-list : (o : Option FileToMove) → cons_option o [] ≡ as_list o
+cons-list None = refl
+cons-list (Some told) = refl
+
+pub so-far-more : (entries : List RtEntry) (i : ℕ) (e : RtEntry) (old now : Disk) (files : List FileToMove) (found : Option FileToMove)
+    (most : ℕ) → i < length entries → e ≡ get_or entries i e → Looked old now most 0 → TellsSoFar entries i old files
+    → TellsEntry entries e now found → TellsSoFar entries (i + 1) old (files ++ as_list found)
+so-far-more entries i e old now files found most inside is looked so-far tells s are =
+    let f : RtEntry → Option FileToMove = file_to_move old.image entries in
+    let one : found ≡ f e = entry-same entries e old now found most 0 looked tells s are in
+    (λ t. so-far s are t ++ as_list (one t))
+    ∙ ap (λ (fs : List FileToMove). filter_map f (take i entries) ++ fs) (sym (cons-list (f e)))
+    ∙ ap (λ (x : RtEntry). filter_map f (take i entries) ++ filter_map f (x ∷ [])) is
+    ∙ sym (filter_map-append f (take i entries) (get_or entries i e ∷ []))
+    ∙ ap (filter_map f) (sym (take_more entries i e inside))
+
+pub so-far-all : (entries : List RtEntry) (i : ℕ) (disk : Disk) (files : List FileToMove) → length entries ≤ i
+    → TellsSoFar entries i disk files → TellsEntries entries disk files
+so-far-all entries i disk files all so-far s are =
+    so-far s are ∙ ap (filter_map (file_to_move disk.image entries)) (take_all i entries all)
+
 -- on a sound disk of which these are the entries all are
 pub all-told : (entries : List RtEntry) (disk : Disk) (files : List FileToMove) → AllTold entries disk files
     → (IsTrue disk.honest → entries ≡ directory_entries disk.image) → TellsFiles files disk
@@ -293,9 +385,14 @@ are-told files disk tells s k told at = (tells k told at).1 s
 -- what was told of a directory that was read before
 pub tells-all : (entries : List RtEntry) (a b c : Disk) (result : Result (Vec FileToMove Global) RtRefusal) → Looked a b 62 0
     → (IsTrue a.honest → entries ≡ directory_entries a.image) → Looked b c (2 * length entries) (faults_in result)
-    → IfOk result (λ files. AllTold entries b files.items) → IfOk result (λ files. TellsAll files.items a c)
-tells-all entries a b c (Ok files) read are looked all = record {
+    → IfOk result (λ files. AllTold entries b files.items) → IfOk result (λ files. TellsEntries entries b files.items)
+    → IfOk result (λ files. TellsAll files.items a c)
+tells-all entries a b c (Ok files) read are looked all exact = record {
   entries = length entries;
+  entries_are = λ honest. ap (λ (es : List RtEntry). length es) (are honest);
+  exact = λ s.
+      exact (sound-looked read s) (are s.honest ∙ ap directory_entries (sym read.image))
+      ∙ (λ t. filter_map (file_to_move (read.image t) (are s.honest t)) (are s.honest t));
   looked = looked_more read looked;
   tells = λ k told at.
       let r = all-told entries b files.items all
@@ -304,4 +401,24 @@ tells-all entries a b c (Ok files) read are looked all = record {
         λ s. subst (λ (i : Image). IsTold told (rt_store_of i)) read.image (r.1 (sound-looked read s)),
       );
 }
-tells-all entries a b c (Err e) read are looked all = tt
+tells-all entries a b c (Err e) read are looked all exact = tt
+
+-- a directory that can't be read is none of a sound disk
+pub tells-none : (a b : Disk) → (IsTrue a.honest → ¬ IsSized a.image) → Looked a b 62 0 → TellsAll [] a b
+tells-none a b unsized looked = record {
+  entries = length (directory_entries a.image);
+  entries_are = λ honest. refl;
+  exact = λ s. absurd (unsized s.honest (sound_from a.image s.accepted).sized);
+  looked = looked_within looked (omega arith);
+  tells = λ k told at. absurd (cc);
+}
+
+-- none was read
+pub untold : (e : RtRefusal) (a b : Disk) → Looked a b 62 (faults_in {T = Unit} (Err e)) → (is_fault e ≡ false → e ≡ NoMemory)
+    → FailsToTell e a b
+untold e a b looked why = record {
+  entries = length (directory_entries a.image);
+  entries_are = λ honest. refl;
+  looked = looked_within looked (omega arith);
+  why = why;
+}

@@ -1,4 +1,5 @@
 pub mod Kept
+pub mod Rooms
 pub mod Blocks
 pub mod Copying
 pub mod Replacing

@@ -1,12 +1,13 @@
 //! All files are brought together.
-ghost use Rattle.std.specs.Prelude.{◌≡◌, ◌+◌, ◌++◌, ◌∷◌, [], false, IfOk, OnOk, length};
+ghost use Rattle.std.specs.Prelude.{◌≡◌, ◌+◌, ◌++◌, ◌∷◌, [], false, IfErr, IfOk, OnOk, length};
 ghost use Rattle.f11_dev.specs.Looked.{Looked};
 ghost use Rattle.rt11_volume.specs.Calls.{has_failed};
 ghost use Rattle.rt11_volume.specs.Files.{faults_in, is_device_fault};
 ghost use Rattle.rt11_volume.specs.Verifying.Verdict.{IsSoundDisk};
 ghost use Rattle.rt11_squeeze.specs.Kept.{volume_disk, volume_store};
 ghost use Rattle.rt11_squeeze.specs.Moving.{move_transfers};
-ghost use Rattle.rt11_squeeze.specs.Squeezing.{AreTold, BeginsAt, IsTold, Preserves, SaysOutcome, SaysPlace, ends_all, file_transfers, squeeze_transfers, way_by};
+ghost use Rattle.rt11_squeeze.specs.Rooms.{areas_listed};
+ghost use Rattle.rt11_squeeze.specs.Squeezing.{AreTold, BeginsAt, EndsEarly, IsTold, OnSound, Preserves, SqueezesEach, SqueezesOne, TellsPlace, Tries, TriesBy, ends_all, file_transfers, squeeze_transfers, way_by};
 
 use crate::moving::{FileToMove, move_file};
 use crate::outcome::Squeezed;
@@ -33,8 +34,10 @@ fn try_move<D: Device>(
     file: &FileToMove,
 ) -> Result<Option<RtRefusal>, RtRefusal>
     requires fresh { has_failed volume.old ≡ false }
-    ensures preserves { Preserves (IsTold file.now) D.disk (move_transfers file.now.blocks)
+    ensures preserves { Preserves (file.now ∷ []) D.disk (move_transfers file.now.blocks)
         result volume.old volume.new }
+    ensures tries { OnSound (IsTold file.now) (volume_disk D.disk volume.old)
+        (Tries file.now result (volume_disk D.disk volume.old) (volume_disk D.disk volume.new)) }
 {
     match move_file(alloc, volume, file) {
         Ok(()) => Ok(None),
@@ -56,9 +59,11 @@ fn try_way<D: Device>(
     way: Way,
 ) -> Result<Option<RtRefusal>, RtRefusal>
     requires fresh { has_failed volume.old ≡ false }
-    ensures preserves { Preserves (IsTold file.now) D.disk
+    ensures preserves { Preserves (file.now ∷ []) D.disk
         (move_transfers file.now.blocks + move_transfers file.now.blocks)
         result volume.old volume.new }
+    ensures tries { OnSound (IsTold file.now) (volume_disk D.disk volume.old)
+        (TriesBy way file.now result (volume_disk D.disk volume.old) (volume_disk D.disk volume.new)) }
 {
     match try_move(alloc, volume, file) {
         Ok(None) => {}
@@ -83,6 +88,11 @@ fn look<D: Device>(
     ensures next { has_failed volume.new ≡ is_device_fault result }
     ensures begins { IfOk result (λ found. IsSoundDisk (volume_disk D.disk volume.old)
         → BeginsAt file.now.name found.0 (volume_store D.disk volume.old)) }
+    ensures way { IfOk result (λ found. IsSoundDisk (volume_disk D.disk volume.old)
+        → found.1 ≡ way_by (areas_listed (volume_store D.disk volume.old)) found.0
+        file.now.blocks) }
+    ensures refused { IfErr result (λ e. OnSound (IsTold file.now)
+        (volume_disk D.disk volume.old) (EndsEarly e)) }
 {
     let start = match volume.find(&file.name) {
         Ok((start, _)) => start,
@@ -104,8 +114,10 @@ fn judge<D: Device>(
     ensures looked { Looked (volume_disk D.disk volume.old) (volume_disk D.disk volume.new)
         62 (faults_in result) }
     ensures next { has_failed volume.new ≡ is_device_fault result }
-    ensures says { IfOk result (λ outcome. SaysPlace outcome file.now.name from
+    ensures tells { IfOk result (λ outcome. TellsPlace outcome file.now.name from
         (volume_disk D.disk volume.old)) }
+    ensures refused { IfErr result (λ e. OnSound (IsTold file.now)
+        (volume_disk D.disk volume.old) (EndsEarly e)) }
 {
     match volume.find(&file.name) {
         Ok((start, _)) => {
@@ -126,10 +138,13 @@ fn squeeze_file<D: Device>(
     file: &FileToMove,
 ) -> Result<Squeezed, RtRefusal>
     requires fresh { has_failed volume.old ≡ false }
-    ensures preserves { Preserves (IsTold file.now) D.disk (file_transfers file.now)
+    ensures preserves { Preserves (file.now ∷ []) D.disk (file_transfers file.now)
         result volume.old volume.new }
-    ensures says { IfOk result (λ outcome. SaysOutcome outcome file.now.name
-        (volume_disk D.disk volume.old) (volume_disk D.disk volume.new)) }
+    ensures squeezes { IfOk result (λ outcome. OnSound (IsTold file.now)
+        (volume_disk D.disk volume.old) (SqueezesOne file.now outcome
+        (volume_disk D.disk volume.old) (volume_disk D.disk volume.new))) }
+    ensures refused { IfErr result (λ e. OnSound (IsTold file.now)
+        (volume_disk D.disk volume.old) (EndsEarly e)) }
 {
     let (from, way) = match look(alloc, volume, file) {
         Ok(found) => found,
@@ -163,17 +178,22 @@ fn push_outcome(outcomes: &mut Vec<Squeezed>, outcome: Squeezed) -> Result<(), N
 ///
 /// # Errors
 ///
-/// `DeviceFault` where a transfer failed, `NoMemory` where there was no memory, and `NoSuchFile` where there is no such file: the
-/// files behind it aren't moved then.
+/// `DeviceFault` where a transfer failed, and `NoMemory` where there was no memory: files may be moved then. On a volume with other files
+/// than it is told, also `NoSuchFile` where there is no such file.
 pub fn squeeze<D: Device>(
     alloc: Global,
     volume: &mut RtAccepted<D>,
     files: &[FileToMove],
 ) -> Result<Vec<Squeezed>, RtRefusal>
     requires fresh { has_failed volume.old ≡ false }
-    ensures preserves { Preserves (AreTold files.now) D.disk (squeeze_transfers files.now)
+    ensures preserves { Preserves files.now D.disk (squeeze_transfers files.now)
         result volume.old volume.new }
     ensures count { IfOk result (λ outcomes. length outcomes.items ≡ length files.now) }
+    ensures squeezes { IfOk result (λ outcomes. OnSound (AreTold files.now)
+        (volume_disk D.disk volume.old) (SqueezesEach files.now outcomes.items
+        (volume_disk D.disk volume.old) (volume_disk D.disk volume.new))) }
+    ensures refused { IfErr result (λ e. OnSound (AreTold files.now)
+        (volume_disk D.disk volume.old) (EndsEarly e)) }
 {
     let mut outcomes = Vec::new(alloc);
     for i in 0..files.len() {

@@ -1,10 +1,11 @@
 //! What is told of the files that may be moved.
-ghost use Rattle.std.specs.Prelude.{◌≡◌, ◌+◌, ◌*◌, ◌<◌, ◌-◌, ◌++◌, ◌∷◌, [], All, IfErr, IfOk, IfSome, IsTrue, false, OnOk, filter, length, slice_index};
+ghost use Rattle.std.specs.Prelude.{◌≡◌, ◌+◌, ◌*◌, ◌<◌, ◌-◌, ◌++◌, ◌∷◌, [], All, Some, option_map, IfErr, IfOk, IfSome, IsTrue, false, OnOk, filter, length, slice_index};
 ghost use Rattle.f11_dev.specs.Looked.{Looked};
 ghost use Rattle.rt11_volume.specs.AnyDirectory.{directory_entries, is_sound_file_named};
 ghost use Rattle.rt11_volume.specs.Files.{faults_in, is_fault};
+ghost use Rattle.rt11_volume.specs.RtName.{IsRtName};
 ghost use Rattle.rt11_volume.specs.Segment.{words_in};
-ghost use Rattle.rt11_squeeze.specs.Telling.{FailsToTell, IsMovable, IsUndated, TellsAll, TellsFile, TellsFiles, as_list, date_in, date_told, scratch_of};
+ghost use Rattle.rt11_squeeze.specs.Telling.{FailsToTell, IsMovable, IsUndated, TellsAll, TellsEntries, TellsEntry, TellsFile, TellsFiles, as_list, date_in, date_told, entry_to_move, scratch_of, single};
 
 use crate::moving::FileToMove;
 use f11_bytes::{BLOCK_SIZE, Block, NoMemory, read_word};
@@ -20,7 +21,7 @@ const BAD_TYPE: u16 = 3_244;
 
 /// The entry of the file of a name, where there is one and no more.
 fn only(entries: &[RtEntry], name: &RtName) -> Option<RtEntry>
-    ensures { IfSome result (λ e. filter (is_sound_file_named name.now) entries.now ≡ e ∷ []) }
+    ensures { result ≡ single (filter (is_sound_file_named name.now) entries.now) }
 {
     let mut found: Option<RtEntry> = None;
     for i in 0..entries.len() {
@@ -82,7 +83,8 @@ fn read_date<D: Device>(device: &mut D, entry: &RtEntry) -> Result<u16, RtRefusa
 
 /// The name that the copy of a file has, where the file may be moved.
 fn scratch_name(words: [u16; 3]) -> Option<RtName>
-    ensures { IfSome result (λ scratch. scratch ≡ scratch_of words) }
+    ensures of { IfSome result (λ scratch. scratch ≡ scratch_of words) }
+    ensures exact { IsRtName words → result ≡ Some (scratch_of words) }
 {
     let [first, second, _] = words;
     RtName::from_words([first, second, SCRATCH_TYPE])
@@ -92,6 +94,8 @@ fn scratch_name(words: [u16; 3]) -> Option<RtName>
 fn undated(entries: &[RtEntry], entry: &RtEntry) -> Option<(RtEntry, FileToMove)>
     ensures undated { IfSome result (λ found. IsUndated entries.now found.0 found.1) }
     ensures movable { IfSome result (λ found. IsMovable found.1) }
+    ensures named { IfSome result (λ found. entry.now.name ≡ Some found.1.name) }
+    ensures exact { option_map (λ found. found.0) result ≡ entry_to_move entries.now entry.now }
 {
     if !entry.is_sound_file() {
         return None;
@@ -123,6 +127,7 @@ fn told_entry<D: Device>(
     ensures looked { Looked (D.disk device.old) (D.disk device.new) 2 (faults_in result) }
     ensures tells { IfOk result (λ found. IfSome found
         (TellsFile entries.now (D.disk device.old))) }
+    ensures exact { IfOk result (TellsEntry entries.now entry.now (D.disk device.old)) }
     ensures why { IfErr result (λ e. e ≡ RtRefusal.DeviceFault) }
 {
     let (file, undated) = match undated(entries, entry) {
@@ -160,6 +165,8 @@ fn told_all<D: Device>(
     ensures looked { Looked (D.disk device.old) (D.disk device.new) (2 * length entries.now)
         (faults_in result) }
     ensures tells { IfOk result (λ files. All (TellsFile entries.now (D.disk device.old))
+        files.items) }
+    ensures exact { IfOk result (λ files. TellsEntries entries.now (D.disk device.old)
         files.items) }
     ensures why { IfErr result (λ e. is_fault e ≡ false → e ≡ RtRefusal.NoMemory) }
 {

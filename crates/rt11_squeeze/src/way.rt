@@ -1,8 +1,8 @@
 //! How a file comes to a lower block.
-ghost use Rattle.std.specs.Prelude.{◌≡◌, option_map, find};
+ghost use Rattle.std.specs.Prelude.{◌≡◌};
 ghost use Rattle.std.specs.List.{list_any};
-ghost use Rattle.rt11_squeeze.specs.Squeezing.{is_gap, is_gap_at, is_gap_before, is_room_for, way_by};
-ghost use Rattle.rt11_volume.specs.declared.area.RtArea.{RtArea as Area};
+ghost use Rattle.rt11_squeeze.specs.Rooms.{is_gap, is_gap_at, is_gap_before, room_in};
+ghost use Rattle.rt11_squeeze.specs.Squeezing.{way_by};
 
 use rt11_volume::{RtArea, RtKind};
 
@@ -28,7 +28,7 @@ fn is_gap(kind: RtKind) -> bool
 
 /// Where the first empty area of at least so many blocks begins.
 fn first_room(areas: &[RtArea], blocks: u16) -> Option<u16>
-    ensures { result ≡ option_map (λ (a : Area). a.start) (find (is_room_for blocks) areas.now) }
+    ensures { result ≡ room_in areas.now blocks }
 {
     areas
         .iter()

@@ -40,7 +40,7 @@ returns-in-Ok-remove-clause-moved g c =
     on_ok_weaker c.take_name.result
     (moves disk f.name f.scratch f.blocks f.date f.protected c.args.volume.now c.deref.result.now
     c.read_blocks.new.volume c.in-Ok.ensures.looked reads c.make_copy.new.volume c.in-Ok-make_copy.ensures.copied went
-    c.remove.new.volume c.in-Ok-remove.ensures.removed c.take_name.new.volume)
+    c.remove.new.volume c.in-Ok-remove.ensures.removed _ c.take_name.new.volume c.in-Ok-remove.ensures.went c.take_name.ensures.went)
     c.take_name.ensures.taken
 
 pub returns-in-Ok-remove-clause-refused : goal.returns-in-Ok-remove-clause-refused
