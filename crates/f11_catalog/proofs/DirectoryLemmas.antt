@@ -21,6 +21,7 @@ use Rattle.f11_catalog.specs.Lines.{directory_lines, lines_by, lines_in, lines_u
 use Rattle.f11_catalog.specs.Listing.{Writes, WritesRest}
 use Rattle.f11_catalog.specs.Records.{FindsDirectory, LacksDirectory, directory_refusal, file_found, index_by, records_found}
 use Rattle.f11_catalog.specs.declared.found.FoundDirectory.{FoundDirectory}
+use Rattle.f11_catalog.specs.declared.line_form.LineForm.{LineForm}
 use Rattle.f11_catalog.specs.declared.directory_name.DirectoryName.{DirectoryName}
 use Rattle.f11_catalog.proofs.LineLemmas.{found-is, id-is, some-number, some-record}
 use Rattle.f11_catalog.proofs.ListingLemmas.{lists-all, reads-none, writes-none, writes-one, writes-then}
@@ -42,9 +43,10 @@ readable-names (Some f) is = elim (cases_Bool (is_directory f)) [
       let some : Some NotDirectory ≡ None = sym (ap (λ (b : Bool). cond b None (Some NotDirectory)) other) ∙ is in absurd cc
 ]
 
-module _ {W : Type 0} (index wide : Index) (contents : W → Option (List ℕ)) (name : DirectoryName) (id : FileId) (old mid : Disk) where
+module _ {W : Type 0} (form : LineForm) (index wide : Index) (contents : W → Option (List ℕ)) (name : DirectoryName) (id : FileId)
+    (old mid : Disk) where
   abbrev text : Image → Table → List ℕ
-  text image t = lines_in wide image t id name
+  text image t = lines_in form wide image t id name
 
   -- a record names no directory
   pub no-directory : (refusal : Refusal) (writer : W) → LacksDirectory index wide id refusal old mid
@@ -52,7 +54,7 @@ module _ {W : Type 0} (index wide : Index) (contents : W → Option (List ℕ)) 
   no-directory refusal writer none =
       writes-none text index old mid contents writer
       (λ honest.
-      ap (λ (b : Bool). cond b (lines_under wide old.image (table index old) name id) [])
+      ap (λ (b : Bool). cond b (lines_under form wide old.image (table index old) name id) [])
       (refused-none (file_found wide old.image (table index old) id) refusal (none.refused honest)))
       (_, none.looked)
 
@@ -60,28 +62,30 @@ module _ {W : Type 0} (index wide : Index) (contents : W → Option (List ℕ)) 
   pub directory-listed : (by : Index) (found : FoundDirectory) (new : Disk) (before heading after : W)
       → FindsDirectory index wide id found old mid → by ≡ index_by found.in_use index wide
       → Appends (contents before) (contents heading) (directory_text name ++ 10 ∷ [])
-      → WritesRest (record_lines wide) index by found.directory mid new contents heading after
+      → WritesRest (record_lines form wide) index by found.directory mid new contents heading after
       → Writes text index old new contents before after
   directory-listed by found new before heading after finds is head rest = record {
     written = both.written;
     is = λ honest.
         both.is honest
         ∙ append_assoc (directory_text name) (10 ∷ [])
-        (record_lines wide old.image (table index old) (records_found wide old.image (table index old) id))
-        ∙ sym (ap (λ (b : Bool). cond b (lines_under wide old.image (table index old) name id) [])
+        (record_lines form wide old.image (table index old) (records_found wide old.image (table index old) id))
+        ∙ sym (ap (λ (b : Bool). cond b (lines_under form wide old.image (table index old) name id) [])
         (readable-names (file_found wide old.image (table index old) id) (finds.readable honest)));
     takes = both.takes;
     reads = both.reads;
   }
     where
-      all : Writes (λ image t. record_lines wide image t (records_found wide image t id)) index old new contents heading after
-      all = lists-all (record_lines wide) index wide by id contents finds is rest
+      all : Writes (λ image t. record_lines form wide image t (records_found wide image t id)) index old new contents heading after
+      all = lists-all (record_lines form wide) index wide by id contents finds is rest
 
-      both : Writes (λ image t. (directory_text name ++ 10 ∷ []) ++ record_lines wide image t (records_found wide image t id)) index old new
+      both : Writes (λ image t. (directory_text name ++ 10 ∷ []) ++ record_lines form wide image t (records_found wide image t id)) index
+          old new
           contents
           before after
       both =
-          writes-then (λ _ _. directory_text name ++ 10 ∷ []) (λ image t. record_lines wide image t (records_found wide image t id)) index
+          writes-then (λ _ _. directory_text name ++ 10 ∷ []) (λ image t. record_lines form wide image t (records_found wide image t id))
+          index
           contents
           (writes-one (λ _ _. directory_text name ++ 10 ∷ []) index old old contents before heading (directory_text name ++ 10 ∷ [])
           (λ _. refl) head (reads-none old)) all
@@ -108,23 +112,23 @@ module _ (bytes : List ℕ) (r : Record) (is : r ≡ record_of_bytes bytes) wher
       ∙ ap (by (record_id bytes)) (sym (found-is bytes r is (Some name) named.0.0 named))
       ∙ ap (λ (id : FileId). by id (Some name)) (sym (id-is bytes r is))
 
-  module _ {W : Type 0} (index wide : Index) (contents : W → Option (List ℕ)) where
+  module _ {W : Type 0} (form : LineForm) (index wide : Index) (contents : W → Option (List ℕ)) where
     -- the record has no name
     pub no-name : (disk : Disk) (writer : W) → SomeIff None ((r.id.number ≢ 0) × IsName r.words) r.words
-        → Writes (λ image t. directory_lines wide image t bytes) index disk disk contents writer writer
+        → Writes (λ image t. directory_lines form wide image t bytes) index disk disk contents writer writer
     no-name disk writer named =
-        writes-none (λ image t. directory_lines wide image t bytes) index disk disk contents writer
-        (λ _. by-no-name [] (lines_by wide disk.image (table index disk)) named (λ id. refl)) (reads-none disk)
+        writes-none (λ image t. directory_lines form wide image t bytes) index disk disk contents writer
+        (λ _. by-no-name [] (lines_by form wide disk.image (table index disk)) named (λ id. refl)) (reads-none disk)
 
     -- or one, and the lines of that directory were written
     pub named-lines : (name : List ℕ) → SomeIff (Some name) ((r.id.number ≢ 0) × IsName r.words) r.words
         → (old new : Disk) (before after : W)
-        → Writes (λ image t. lines_in wide image t r.id (directory_called name)) index old new contents before after
-        → Writes (λ image t. directory_lines wide image t bytes) index old new contents before after
+        → Writes (λ image t. lines_in form wide image t r.id (directory_called name)) index old new contents before after
+        → Writes (λ image t. directory_lines form wide image t bytes) index old new contents before after
     named-lines name named old new before after writes = record {
       written = writes.written;
       is = λ honest.
-          writes.is honest ∙ sym (by-name [] (lines_by wide old.image (table index old)) name named);
+          writes.is honest ∙ sym (by-name [] (lines_by form wide old.image (table index old)) name named);
       takes = writes.takes;
       reads = writes.reads;
     }

@@ -1,6 +1,5 @@
 -- A record that isn't empty, looked for among records that are read one after another.
-use Rattle.std.proofs.Common.{◌≡◌, ℕ, Bool, true, false, not, ◌||◌, IsTrue, List, [], ◌∷◌, refl, sym, ap, ◌∙◌}
-use Rattle.f11_chain.specs.Calls.{table}
+use Rattle.std.proofs.Common.{◌≡◌, ℕ, Bool, true, false, not, ◌||◌, IsTrue, List, ◌∷◌, refl, sym, ap, ◌∙◌}
 use Rattle.f11_dev.specs.Disk.{Disk}
 use Rattle.f11_dir.specs.declared.record.Record.{Record}
 use Rattle.f11_index.specs.IndexFile.{Index}
@@ -8,7 +7,7 @@ use Rattle.f11_store.specs.Directory.{is_empty}
 use Rattle.f11_store.specs.declared.files.FileId.{FileId}
 use Rattle.f11_catalog.specs.Holding.{FindsSome, TellsSome, has_some, is_used}
 use Rattle.f11_catalog.specs.Records.{FindsDirectory, HasNoRecord, Reads, ReadsRecord}
-use Rattle.f11_catalog.specs.Records.{index_by, records_found, records_to_come}
+use Rattle.f11_catalog.specs.Records.{index_by, records_to_come}
 use Rattle.f11_catalog.specs.declared.directory.DirectoryReader.{DirectoryReader}
 use Rattle.f11_catalog.specs.declared.found.FoundDirectory.{FoundDirectory}
 use Rattle.f11_catalog.proofs.ListingLemmas.{coming-later, reads-none, reads-then}

@@ -28,6 +28,7 @@ use Rattle.f11_catalog.specs.Listing.{BreaksOff, Writes, WritesFile}
 use Rattle.f11_catalog.specs.Records.{Reads, file_named}
 use Rattle.f11_catalog.specs.declared.fault.ListFault.{ListFault}
 use Rattle.f11_catalog.specs.declared.fault.ListFault.TheVariants.{DeviceFault, CannotWrite}
+use Rattle.f11_catalog.specs.declared.line_form.LineForm.{LineForm}
 use Rattle.f11_catalog.proofs.ComingLemmas.{named-none, named-some}
 use Rattle.f11_catalog.proofs.ListingLemmas.{reads-none, reads-then, said-later, writes-none, writes-one}
 use Rattle.f11_catalog.proofs.OpenLemmas.{header-facts}
@@ -74,26 +75,27 @@ module _ (bytes : List ℕ) (r : Record) (is : r ≡ record_of_bytes bytes) wher
       → found ≡ name_found (record_name bytes)
   found-is found some named = name_by_test found r.words (is-named found r.words some named) ∙ ap name_found words-are
 
-  line-is : (wide : Index) (image : Image) (t : Table) → is_empty bytes ≡ false
-      → record_line wide image t bytes
-      ≡ named_line (name_shown (record_name bytes)) r.id (file_named image t r.id) (file_named image (table_in image wide) r.id)
-  line-is wide image t some =
-      ap (λ (b : Bool). cond b [] (named_line (name_shown (record_name bytes)) (record_id bytes) (file_named image t (record_id bytes))
+  line-is : (form : LineForm) (wide : Index) (image : Image) (t : Table) → is_empty bytes ≡ false
+      → record_line form wide image t bytes
+      ≡ named_line form (name_shown (record_name bytes)) r.id (file_named image t r.id) (file_named image (table_in image wide) r.id)
+  line-is form wide image t some =
+      ap (λ (b : Bool). cond b [] (named_line form (name_shown (record_name bytes)) (record_id bytes) (file_named image t (record_id bytes))
       (file_named image (table_in image wide) (record_id bytes))))
       some
-      ∙ ap (λ (id : FileId). named_line (name_shown (record_name bytes)) id (file_named image t id)
+      ∙ ap (λ (id : FileId). named_line form (name_shown (record_name bytes)) id (file_named image t id)
       (file_named image (table_in image wide) id)) (sym id-is)
 
 -- The line of a file was written that was found by its identification: a text that is this is written.
-module _ {W : Type 0} (index : Index) (contents : W → Option (List ℕ)) (text : Image → Table → List ℕ) (in_use : Bool) (name : List ℕ)
-    (id : FileId) (old mid new : Disk) (before after : W) where
-  pub file-line : (file : FileReader) → OpensFile index id file old mid → WritesFile index in_use name id file mid new contents before after
+module _ {W : Type 0} (form : LineForm) (index : Index) (contents : W → Option (List ℕ)) (text : Image → Table → List ℕ) (in_use : Bool)
+    (name : List ℕ) (id : FileId) (old mid new : Disk) (before after : W) where
+  pub file-line : (file : FileReader) → OpensFile index id file old mid
+      → WritesFile form index in_use name id file mid new contents before after
       → ((f : File) → file_named old.image (table index old) id ≡ Some f
-      → text old.image (table index old) ≡ file_line in_use name id (facts_of f))
+      → text old.image (table index old) ≡ file_line form in_use name id (facts_of f))
       → Writes text index old new contents before after
   file-line file opens writes is =
       writes-one text index old new contents before after
-      (file_line in_use name id (facts_in file.header writes.blocks))
+      (file_line form in_use name id (facts_in file.header writes.blocks))
       (λ honest.
       let t = table index old in
       let f = file_of old.image t file.number in
@@ -103,73 +105,75 @@ module _ {W : Type 0} (index : Index) (contents : W → Option (List ℕ)) (text
       let facts : facts_in file.header writes.blocks ≡ facts_of f =
       ap (λ (h : List ℕ). facts_in h writes.blocks) (opens.header_is honest)
       ∙ header-facts old.image t file.number writes.blocks (count ∙ ap length (opens.blocks honest)) in
-      is f (named-some old.image t id file.number (opens.is_id honest)) ∙ ap (file_line in_use name id) (sym facts))
+      is f (named-some old.image t id file.number (opens.is_id honest)) ∙ ap (file_line form in_use name id) (sym facts))
       writes.takes (reads-then (_, opens.looked) writes.reads)
 
 -- The line of a file whose slot isn't in use, or of none.
-module _ {W : Type 0} (wide : Index) (contents : W → Option (List ℕ)) (name : List ℕ) (id : FileId) (old mid : Disk) (before : W) where
+module _ {W : Type 0} (form : LineForm) (wide : Index) (contents : W → Option (List ℕ)) (name : List ℕ) (id : FileId) (old mid : Disk)
+    (before : W) where
   abbrev other_line : Image → Table → List ℕ
-  other_line image t = named_line name id None (file_named image t id)
+  other_line image t = named_line form name id None (file_named image t id)
 
   pub no-file-line : (after : W) → FindsNone wide id old mid → Appends (contents before) (contents after) (entry_line name id)
       → Writes other_line wide old mid contents before after
   no-file-line after none takes =
       writes-one other_line wide old mid contents before after (entry_line name id)
-      (λ honest. ap (named_line name id None) (named-none old.image (table wide old) id (none.none honest)))
+      (λ honest. ap (named_line form name id None) (named-none old.image (table wide old) id (none.none honest)))
       takes (_, none.looked)
 
   pub out-of-use-line : (file : FileReader) (new : Disk) (after : W) → OpensFile wide id file old mid
-      → WritesFile wide false name id file mid new contents before after → Writes other_line wide old new contents before after
+      → WritesFile form wide false name id file mid new contents before after → Writes other_line wide old new contents before after
   out-of-use-line file new after opens writes =
-      file-line wide contents other_line false name id old mid new before after file opens writes (λ f is. ap (named_line name id None) is)
+      file-line form wide contents other_line false name id old mid new before after file opens writes
+      (λ f is. ap (named_line form name id None) is)
 
-module _ (bytes : List ℕ) (r : Record) (is : r ≡ record_of_bytes bytes) {W : Type 0} (index wide : Index) (contents : W → Option (List ℕ))
-  where
-    abbrev text : Image → Table → List ℕ
-    text image t = record_line wide image t bytes
+module _ (bytes : List ℕ) (r : Record) (is : r ≡ record_of_bytes bytes) {W : Type 0} (form : LineForm) (index wide : Index)
+    (contents : W → Option (List ℕ)) where
+  abbrev text : Image → Table → List ℕ
+  text image t = record_line form wide image t bytes
 
-    -- an empty record has none
-    pub empty-line : (disk : Disk) (writer : W) (b : Bool) → Decides b (r.id.number ≡ 0) → b ≡ true
-        → Writes text index disk disk contents writer writer
-    empty-line disk writer b decides empty =
-        writes-none text index disk disk contents writer
-        (λ honest.
-        ap (λ (b : Bool). cond b [] (named_line (name_shown (record_name bytes)) (record_id bytes)
-        (file_named disk.image (table index disk) (record_id bytes)) (file_named disk.image (table_in disk.image wide) (record_id bytes))))
-        (is-empty bytes r is b decides ∙ empty)) (reads-none disk)
+  -- an empty record has none
+  pub empty-line : (disk : Disk) (writer : W) (b : Bool) → Decides b (r.id.number ≡ 0) → b ≡ true
+      → Writes text index disk disk contents writer writer
+  empty-line disk writer b decides empty =
+      writes-none text index disk disk contents writer
+      (λ honest.
+      ap (λ (b : Bool). cond b [] (named_line form (name_shown (record_name bytes)) (record_id bytes)
+      (file_named disk.image (table index disk) (record_id bytes)) (file_named disk.image (table_in disk.image wide) (record_id bytes))))
+      (is-empty bytes r is b decides ∙ empty)) (reads-none disk)
 
-    module _ (found : Option (List ℕ)) (b : Bool) (decides : Decides b (r.id.number ≡ 0)) (some : b ≡ false)
-        (named : SomeIff found ((r.id.number ≢ 0) × IsName r.words) r.words) (old mid : Disk) where
-      number : r.id.number ≢ 0
-      number none = let no : true ≡ false = sym (decides.1 none) ∙ some in absurd cc
+  module _ (found : Option (List ℕ)) (b : Bool) (decides : Decides b (r.id.number ≡ 0)) (some : b ≡ false)
+      (named : SomeIff found ((r.id.number ≢ 0) × IsName r.words) r.words) (old mid : Disk) where
+    number : r.id.number ≢ 0
+    number none = let no : true ≡ false = sym (decides.1 none) ∙ some in absurd cc
 
-      line : (image : Image) (t : Table) → text image t
-          ≡ named_line (found_shown found) r.id (file_named image t r.id) (file_named image (table_in image wide) r.id)
-      line image t = line-is bytes r is wide image t (is-empty bytes r is b decides ∙ some)
-          ∙ ap (λ xs. named_line xs r.id (file_named image t r.id) (file_named image (table_in image wide) r.id))
-          (sym (ap found_shown (found-is bytes r is found number named)))
+    line : (image : Image) (t : Table) → text image t
+        ≡ named_line form (found_shown found) r.id (file_named image t r.id) (file_named image (table_in image wide) r.id)
+    line image t = line-is bytes r is form wide image t (is-empty bytes r is b decides ∙ some)
+        ∙ ap (λ xs. named_line form xs r.id (file_named image t r.id) (file_named image (table_in image wide) r.id))
+        (sym (ap found_shown (found-is bytes r is found number named)))
 
-      -- one that names no file whose slot is in use
-      pub other-line : (new : Disk) (before after : W) → FindsNone index r.id old mid
-          → Writes (λ image t. named_line (found_shown found) r.id None (file_named image t r.id)) wide mid new contents before after
-          → Writes text index old new contents before after
-      other-line new before after none writes = record {
-        written = writes.written;
-        is = λ honest.
-            writes.is (none.looked.honest ∙ honest)
-            ∙ ap (λ (i : Image). named_line (found_shown found) r.id None (file_named i (table_in i wide) r.id)) none.looked.image
-            ∙ sym (line old.image (table index old)
-            ∙ ap (λ f. named_line (found_shown found) r.id f (file_named old.image (table_in old.image wide) r.id))
-            (named-none old.image (table index old) r.id (none.none honest)));
-        takes = writes.takes;
-        reads = reads-then (_, none.looked) writes.reads;
-      }
+    -- one that names no file whose slot is in use
+    pub other-line : (new : Disk) (before after : W) → FindsNone index r.id old mid
+        → Writes (λ image t. named_line form (found_shown found) r.id None (file_named image t r.id)) wide mid new contents before after
+        → Writes text index old new contents before after
+    other-line new before after none writes = record {
+      written = writes.written;
+      is = λ honest.
+          writes.is (none.looked.honest ∙ honest)
+          ∙ ap (λ (i : Image). named_line form (found_shown found) r.id None (file_named i (table_in i wide) r.id)) none.looked.image
+          ∙ sym (line old.image (table index old)
+          ∙ ap (λ f. named_line form (found_shown found) r.id f (file_named old.image (table_in old.image wide) r.id))
+          (named-none old.image (table index old) r.id (none.none honest)));
+      takes = writes.takes;
+      reads = reads-then (_, none.looked) writes.reads;
+    }
 
-      -- and one that names one
-      pub found-line : (new : Disk) (before after : W) (file : FileReader) → OpensFile index r.id file old mid
-          → WritesFile index true (found_shown found) r.id file mid new contents before after
-          → Writes text index old new contents before after
-      found-line new before after file opens writes =
-          file-line index contents text true (found_shown found) r.id old mid new before after file opens writes
-          (λ f is. line old.image (table index old)
-          ∙ ap (λ f. named_line (found_shown found) r.id f (file_named old.image (table_in old.image wide) r.id)) is)
+    -- and one that names one
+    pub found-line : (new : Disk) (before after : W) (file : FileReader) → OpensFile index r.id file old mid
+        → WritesFile form index true (found_shown found) r.id file mid new contents before after
+        → Writes text index old new contents before after
+    found-line new before after file opens writes =
+        file-line form index contents text true (found_shown found) r.id old mid new before after file opens writes
+        (λ f is. line old.image (table index old)
+        ∙ ap (λ f. named_line form (found_shown found) r.id f (file_named old.image (table_in old.image wide) r.id)) is)

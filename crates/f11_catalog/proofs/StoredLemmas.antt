@@ -16,6 +16,7 @@ use Rattle.f11_volume.specs.Contents.{file_of}
 use Rattle.f11_catalog.specs.Lines.{name_shown, named_line, record_line}
 use Rattle.f11_catalog.specs.Laws.{file_stored, with_own_blocks}
 use Rattle.f11_catalog.specs.Records.{file_found, file_named, is_id_of_file, records_of}
+use Rattle.f11_catalog.specs.declared.line_form.LineForm.{LineForm}
 
 -- a file as requests see it has its sequence number, and from file 4 on is what it is
 seen-sequence : (n : ℕ) (f : File) → (as_seen n f).sequence ≡ f.sequence
@@ -103,15 +104,16 @@ pub found-stored : (wide : Index) (image : Image) (home : HomeFields) (id : File
 found-stored wide image home id f here high is =
     ap (λ (o : Option File). option_or o (file_named image (table_in image wide) id)) (sym (stored-alike image home id here high) ∙ is)
 
-pub shown-file : (wide : Index) (image : Image) (home : HomeFields) (r : List ℕ) → is_empty r ≡ false → (record_id r).volume ≡ 0
+pub shown-file : (form : LineForm) (wide : Index) (image : Image) (home : HomeFields) (r : List ℕ) → is_empty r ≡ false
+    → (record_id r).volume ≡ 0
     → nat_le (record_id r).number 3 ≡ false
-    → record_line wide image (table_of image home) r
-    ≡ named_line (name_shown (record_name r)) (record_id r) (store.file_of (store_of image home) (record_id r))
+    → record_line form wide image (table_of image home) r
+    ≡ named_line form (name_shown (record_name r)) (record_id r) (store.file_of (store_of image home) (record_id r))
     (file_named image (table_in image wide) (record_id r))
-shown-file wide image home r some here high =
+shown-file form wide image home r some here high =
     let other : Option File = file_named image (table_in image wide) (record_id r) in
     ap (λ (b : Bool). cond b []
-    (named_line (name_shown (record_name r)) (record_id r) (file_named image (table_of image home) (record_id r)) other))
+    (named_line form (name_shown (record_name r)) (record_id r) (file_named image (table_of image home) (record_id r)) other))
     some
-    ∙ ap (λ (f : Option File). named_line (name_shown (record_name r)) (record_id r) f other)
+    ∙ ap (λ (f : Option File). named_line form (name_shown (record_name r)) (record_id r) f other)
     (sym (stored-alike image home (record_id r) here high))

@@ -3,6 +3,7 @@ use Rattle.std.specs.Prelude.{ℕ, ◌*◌, Bool, List, min}
 use Rattle.f11_header.specs.Fields.{attributes, characteristics, ident_area, owner, protection}
 use Rattle.f11_store.specs.Directory.{is_directory}
 use Rattle.f11_store.specs.File.{no_file, stated_end}
+use Rattle.f11_catalog.specs.LongLine.{dates_in, records_in}
 use Rattle.f11_catalog.specs.declared.facts.FileFacts.{FileFacts}
 
 -- of a file of so many blocks
@@ -13,6 +14,8 @@ facts_in header blocks = record {
   owner = owner header;
   protection = protection header;
   characteristics = characteristics header;
+  dates = dates_in (ident_area header);
+  records = records_in (attributes header);
 }
 
 -- a first header is that of a directory

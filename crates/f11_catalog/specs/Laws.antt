@@ -18,6 +18,7 @@ use Rattle.f11_volume.specs.map.HeaderBlock.{segment_number}
 use Rattle.f11_catalog.specs.AllDirectories.{DirectoryAt, all_directories, id_at, is_named, name_in}
 use Rattle.f11_catalog.specs.AllFiles.{AreLed, all_files, is_among, is_led}
 use Rattle.f11_catalog.specs.Lines.{name_found, name_shown, named_line, names_directory, record_line}
+use Rattle.f11_catalog.specs.declared.line_form.LineForm.{LineForm}
 use Rattle.f11_catalog.specs.Records.{file_found, file_named, file_unused, is_id_of_file, records_found, records_of}
 use Rattle.f11_catalog.specs.declared.walk.place.Place.TheVariants.{Entered}
 
@@ -107,8 +108,8 @@ FindsTheStoresFile =
 -- and the line of a record that names one of these is that of the store's file, else that of one whose slot isn't in use
 abbrev pub ShowsTheStoresFile : Type 0
 ShowsTheStoresFile =
-    (wide : Index) (image : Image) (home : HomeFields) (r : List ℕ) → is_empty r ≡ false → (record_id r).volume ≡ 0 →
+    (form : LineForm) (wide : Index) (image : Image) (home : HomeFields) (r : List ℕ) → is_empty r ≡ false → (record_id r).volume ≡ 0 →
     nat_le (record_id r).number 3 ≡ false →
-    record_line wide image (table_of image home) r
-    ≡ named_line (name_shown (record_name r)) (record_id r) (store.file_of (store_of image home) (record_id r))
+    record_line form wide image (table_of image home) r
+    ≡ named_line form (name_shown (record_name r)) (record_id r) (store.file_of (store_of image home) (record_id r))
     (file_named image (table_in image wide) (record_id r))

@@ -1,4 +1,5 @@
 pub mod Records
+pub mod LongLine
 pub mod Facts
 pub mod Users
 pub mod DirectoryNames

@@ -18,6 +18,7 @@ use Rattle.f11_catalog.specs.Records.{Reads, directory_refusal, file_found, reco
 use Rattle.f11_catalog.specs.declared.directory.DirectoryReader.{DirectoryReader}
 use Rattle.f11_catalog.specs.declared.fault.ListFault.{ListFault}
 use Rattle.f11_catalog.specs.declared.fault.ListFault.TheVariants.{DeviceFault, CannotWrite}
+use Rattle.f11_catalog.specs.declared.line_form.LineForm.{LineForm}
 
 -- A text was written, which on an honest device is this one of its image and its headers.
 pub record Writes {W : Type 0} (text : Image → Table → List ℕ) (index : Index) (old new : Disk) (contents : W → Option (List ℕ))
@@ -34,11 +35,12 @@ pub record Lists {W : Type 0} (text : Image → Table → List (List ℕ) → Li
   pub writes : Writes (λ image t. text image t (records_found wide image t id)) index old new contents before after
 
 -- The line of a file was written whose first header is in hand, with so many blocks as are to come.
-pub record WritesFile {W : Type 0} (index : Index) (in_use : Bool) (name : List ℕ) (id : FileId) (file : FileReader) (old new : Disk)
+pub record WritesFile {W : Type 0} (form : LineForm) (index : Index) (in_use : Bool) (name : List ℕ) (id : FileId) (file : FileReader)
+    (old new : Disk)
     (contents : W → Option (List ℕ)) (before after : W) : Type 0 where
   pub blocks : ℕ
   pub count : IsTrue old.honest → blocks ≡ length (blocks_to_come (table index old) file)
-  pub takes : Appends (contents before) (contents after) (file_line in_use name id (facts_in file.header blocks))
+  pub takes : Appends (contents before) (contents after) (file_line form in_use name id (facts_in file.header blocks))
   pub reads : Reads old new 0
 
 -- The text of the records that were still to come was written, of a directory that is read by this index file.

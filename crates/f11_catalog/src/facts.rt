@@ -2,7 +2,10 @@
 ghost use Rattle.f11_store.specs.File.{most_blocks};
 ghost use Rattle.std.specs.Prelude.{◌≡◌, ◌≤◌, IsTrue};
 ghost use Rattle.f11_header.specs.Header.{holds_header};
+ghost use Rattle.f11_volume.specs.map.HeaderBlock.{segment_number};
 
+use crate::dates::FileDates;
+use crate::record_form::RecordForm;
 use crate::records::stated_end;
 use f11_bytes::Block;
 use f11_header::Header;
@@ -18,6 +21,8 @@ pub(crate) struct FileFacts {
     pub(crate) owner: Uic,
     pub(crate) protection: u16,
     pub(crate) characteristics: u16,
+    pub(crate) dates: FileDates,
+    pub(crate) records: RecordForm,
 }
 
 impl FileFacts {
@@ -26,6 +31,7 @@ impl FileFacts {
     /// What the first header of a file of so many blocks says of it.
     pub(crate) fn of(header: &Block, blocks: u32) -> FileFacts
         requires header { IsTrue (holds_header header.now) }
+        requires first { segment_number header.now ≡ 0 }
         requires few { blocks ≤ most_blocks }
         ensures { result ≡ facts_in header.now blocks }
     {
@@ -36,6 +42,8 @@ impl FileFacts {
             owner: header.owner(),
             protection: header.protection(),
             characteristics: header.characteristics(),
+            dates: FileDates::of(header.ident()),
+            records: RecordForm::of(&header.attributes()),
         }
     }
 }

@@ -5,6 +5,7 @@
 //! records of a block.
 #![tactic(auto)]
 
+mod dates;
 mod directory;
 mod directory_name;
 mod facts;
@@ -12,9 +13,11 @@ mod fault;
 mod found;
 mod holding;
 pub mod laws;
+mod line_form;
 mod list;
 mod name_list;
 mod own_name;
+mod record_form;
 mod record_line;
 mod records;
 mod search;
@@ -26,6 +29,7 @@ pub use directory_name::DirectoryName;
 pub use f11_volume::f11_map;
 pub use fault::{ListFault, WalkFault};
 pub use holding::has_records;
+pub use line_form::LineForm;
 pub use list::{list_directories, list_directory};
 pub use name_list::names;
 pub use records::stated_end;

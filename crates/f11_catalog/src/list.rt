@@ -10,6 +10,7 @@ use crate::directory::DirectoryReader;
 use crate::directory_name::DirectoryName;
 use crate::fault::ListFault;
 use crate::found::FoundDirectory;
+use crate::line_form::LineForm;
 use crate::record_line::write_record;
 use f11_dev::{Device, DeviceFault};
 use f11_dir::Record;
@@ -17,8 +18,8 @@ use f11_index::IndexFile;
 use f11_store::{FileId, Refusal};
 use std::io::Write;
 
-/// Writes a line for each record of a directory that isn't empty, in their order: a file's, or that it names none. `wide` is the index file
-/// that takes each slot as in use ([`IndexFile::with_all_in_use`]): by it a file or the directory itself is found whose slot's bit is lost.
+/// Writes a line for each record of a directory that isn't empty, in their order: a file's, of this form, or that it names none. `wide` is
+/// the index file that takes each slot as in use ([`IndexFile::with_all_in_use`]): by it a file or the directory itself is found whose slot's bit is lost.
 ///
 /// # Errors
 ///
@@ -30,12 +31,14 @@ pub fn list_directory<D: Device, W: Write>(
     index: &IndexFile,
     wide: &IndexFile,
     writer: &mut W,
+    form: LineForm,
     directory: FileId,
 ) -> Result<Result<(), Refusal>, ListFault>
     requires within { IndexLiesWithin (index_kept index.now) (length (D.disk device.old).image) }
     requires wide { IndexLiesWithin (index_kept wide.now) (length (D.disk device.old).image) }
     ensures lists { IfOk result (λ answer. OnOk answer
-        (Lists (record_lines (index_kept wide.now)) (index_kept index.now) (index_kept wide.now) directory
+        (Lists (record_lines form (index_kept wide.now))
+        (index_kept index.now) (index_kept wide.now) directory
         (D.disk device.old) (D.disk device.new) W.contents writer.old writer.new)) }
     ensures refused { IfOk result (λ answer. IfErr answer (λ refusal. (writer.new ≡ writer.old)
         × IsRefused (index_kept index.now) (index_kept wide.now) directory refusal
@@ -49,7 +52,7 @@ pub fn list_directory<D: Device, W: Write>(
     };
     let by = found.index_by(index, wide);
     let mut directory = found.directory;
-    write_records(device, by, index, wide, writer, &mut directory)?;
+    write_records(device, by, index, wide, writer, form, &mut directory)?;
     Ok(Ok(()))
 }
 
@@ -60,6 +63,7 @@ fn write_records<D: Device, W: Write>(
     index: &IndexFile,
     wide: &IndexFile,
     writer: &mut W,
+    form: LineForm,
     directory: &mut DirectoryReader,
 ) -> Result<(), ListFault>
     requires by { IndexLiesWithin (index_kept by.now) (length (D.disk device.old).image) }
@@ -67,14 +71,15 @@ fn write_records<D: Device, W: Write>(
     requires wide { IndexLiesWithin (index_kept wide.now) (length (D.disk device.old).image) }
     requires reading { IsReadingRecords (index_kept by.now) directory.old (D.disk device.old) }
     ensures writes { OnOk result
-        (WritesRest (record_lines (index_kept wide.now)) (index_kept index.now) (index_kept by.now)
+        (WritesRest (record_lines form (index_kept wide.now))
+        (index_kept index.now) (index_kept by.now)
         directory.old
         (D.disk device.old) (D.disk device.new) W.contents writer.old writer.new) }
     ensures failed { IfErr result (λ fault. BreaksOff fault (D.disk device.old) (D.disk device.new)) }
 {
     loop {
         match directory.next(device, by) {
-            Ok(Some(record)) => write_record(device, index, wide, writer, &record)?,
+            Ok(Some(record)) => write_record(device, index, wide, writer, form, &record)?,
             Ok(None) => return Ok(()),
             Err(DeviceFault) => return Err(ListFault::DeviceFault),
         }
@@ -92,12 +97,14 @@ pub fn list_directories<D: Device, W: Write>(
     index: &IndexFile,
     wide: &IndexFile,
     writer: &mut W,
+    form: LineForm,
     directory: FileId,
 ) -> Result<Result<(), Refusal>, ListFault>
     requires within { IndexLiesWithin (index_kept index.now) (length (D.disk device.old).image) }
     requires wide { IndexLiesWithin (index_kept wide.now) (length (D.disk device.old).image) }
     ensures lists { IfOk result (λ answer. OnOk answer
-        (Lists (all_directory_lines (index_kept wide.now)) (index_kept index.now) (index_kept wide.now) directory
+        (Lists (all_directory_lines form (index_kept wide.now))
+        (index_kept index.now) (index_kept wide.now) directory
         (D.disk device.old) (D.disk device.new) W.contents writer.old writer.new)) }
     ensures refused { IfOk result (λ answer. IfErr answer (λ refusal. (writer.new ≡ writer.old)
         × IsRefused (index_kept index.now) (index_kept wide.now) directory refusal
@@ -111,7 +118,7 @@ pub fn list_directories<D: Device, W: Write>(
     };
     let by = found.index_by(index, wide);
     let mut directory = found.directory;
-    write_directories(device, by, index, wide, writer, &mut directory)?;
+    write_directories(device, by, index, wide, writer, form, &mut directory)?;
     Ok(Ok(()))
 }
 
@@ -122,6 +129,7 @@ fn write_directories<D: Device, W: Write>(
     index: &IndexFile,
     wide: &IndexFile,
     writer: &mut W,
+    form: LineForm,
     directory: &mut DirectoryReader,
 ) -> Result<(), ListFault>
     requires by { IndexLiesWithin (index_kept by.now) (length (D.disk device.old).image) }
@@ -129,14 +137,15 @@ fn write_directories<D: Device, W: Write>(
     requires wide { IndexLiesWithin (index_kept wide.now) (length (D.disk device.old).image) }
     requires reading { IsReadingRecords (index_kept by.now) directory.old (D.disk device.old) }
     ensures writes { OnOk result
-        (WritesRest (all_directory_lines (index_kept wide.now)) (index_kept index.now) (index_kept by.now)
+        (WritesRest (all_directory_lines form (index_kept wide.now))
+        (index_kept index.now) (index_kept by.now)
         directory.old
         (D.disk device.old) (D.disk device.new) W.contents writer.old writer.new) }
     ensures failed { IfErr result (λ fault. BreaksOff fault (D.disk device.old) (D.disk device.new)) }
 {
     loop {
         match directory.next(device, by) {
-            Ok(Some(record)) => write_named(device, index, wide, writer, &record)?,
+            Ok(Some(record)) => write_named(device, index, wide, writer, form, &record)?,
             Ok(None) => return Ok(()),
             Err(DeviceFault) => return Err(ListFault::DeviceFault),
         }
@@ -149,12 +158,14 @@ fn write_named<D: Device, W: Write>(
     index: &IndexFile,
     wide: &IndexFile,
     writer: &mut W,
+    form: LineForm,
     record: &Record,
 ) -> Result<(), ListFault>
     requires within { IndexLiesWithin (index_kept index.now) (length (D.disk device.old).image) }
     requires wide { IndexLiesWithin (index_kept wide.now) (length (D.disk device.old).image) }
     ensures writes { OnOk result ((bytes : List ℕ) → «record».now ≡ record_of_bytes bytes
-        → Writes (λ image t. directory_lines (index_kept wide.now) image t bytes) (index_kept index.now)
+        → Writes (λ image t. directory_lines form (index_kept wide.now) image t bytes)
+        (index_kept index.now)
         (D.disk device.old) (D.disk device.new) W.contents writer.old writer.new) }
     ensures failed { IfErr result (λ fault. BreaksOff fault (D.disk device.old) (D.disk device.new)) }
 {
@@ -162,7 +173,7 @@ fn write_named<D: Device, W: Write>(
         return Ok(());
     };
     let name = DirectoryName::of(&name);
-    write_directory(device, index, wide, writer, name, record.id)
+    write_directory(device, index, wide, writer, form, name, record.id)
 }
 
 /// Writes what a directory is called and its lines, where it is one.
@@ -171,13 +182,15 @@ fn write_directory<D: Device, W: Write>(
     index: &IndexFile,
     wide: &IndexFile,
     writer: &mut W,
+    form: LineForm,
     name: DirectoryName,
     id: FileId,
 ) -> Result<(), ListFault>
     requires within { IndexLiesWithin (index_kept index.now) (length (D.disk device.old).image) }
     requires wide { IndexLiesWithin (index_kept wide.now) (length (D.disk device.old).image) }
     ensures writes { OnOk result
-        (Writes (λ image t. lines_in (index_kept wide.now) image t id name) (index_kept index.now)
+        (Writes (λ image t. lines_in form (index_kept wide.now) image t id name)
+        (index_kept index.now)
         (D.disk device.old) (D.disk device.new) W.contents writer.old writer.new) }
     ensures failed { IfErr result (λ fault. BreaksOff fault (D.disk device.old) (D.disk device.new)) }
 {
@@ -192,5 +205,5 @@ fn write_directory<D: Device, W: Write>(
     }
     let by = found.index_by(index, wide);
     let mut directory = found.directory;
-    write_records(device, by, index, wide, writer, &mut directory)
+    write_records(device, by, index, wide, writer, form, &mut directory)
 }

@@ -6,11 +6,13 @@ ghost use Rattle.f11_index.specs.Kept.{index_kept, IndexLiesWithin};
 ghost use Rattle.f11_catalog.specs.Lines.{record_line, file_line, entry_line, found_shown, named_line};
 ghost use Rattle.f11_catalog.specs.Records.{file_named};
 ghost use Rattle.f11_catalog.specs.Listing.{Writes, WritesFile, BreaksOff};
-ghost use Rattle.f11_reader.specs.Reading.{IsReading};
+ghost use Rattle.f11_reader.specs.Reading.{IsReading, header_in_hand};
+ghost use Rattle.f11_volume.specs.map.HeaderBlock.{segment_number};
 
 use crate::facts::FileFacts;
 use crate::fault::ListFault;
-use crate::shown::{ShownMarks, ShownName, ShownUse};
+use crate::line_form::LineForm;
+use crate::shown::{ShownMarks, ShownMore, ShownName, ShownProtection, ShownUse};
 use f11_dev::{Device, DeviceFault};
 use f11_dir::Record;
 use f11_index::IndexFile;
@@ -21,7 +23,8 @@ use std::io::{self, Write};
 
 /// Writes the line of a record of a directory: `file NAME.TYP;V N,S blocks B bytes E owner [g,m] prot W`, and behind it ` contiguous`,
 /// ` marked` or ` open` where the file is that, and ` out of use` where the bit of its slot is 0, with `?` for a name that is none; or `entry NAME.TYP;V N,S no file` where the record
-/// names no file. Nothing for an empty record. Protection word, user's code and a name's version are octal, all else is decimal (profile).
+/// names no file. Nothing for an empty record. Protection word, user's code and a name's version are octal, all else is decimal (profile). In
+/// a long line the protection is `[RWED,RWED,RWED,R]`, and dates and how records are kept stand behind it ([`LineForm::Long`]).
 ///
 /// # Errors
 ///
@@ -31,12 +34,14 @@ pub(crate) fn write_record<D: Device, W: Write>(
     index: &IndexFile,
     wide: &IndexFile,
     writer: &mut W,
+    form: LineForm,
     record: &Record,
 ) -> Result<(), ListFault>
     requires within { IndexLiesWithin (index_kept index.now) (length (D.disk device.old).image) }
     requires wide { IndexLiesWithin (index_kept wide.now) (length (D.disk device.old).image) }
     ensures writes { OnOk result ((bytes : List ℕ) → «record».now ≡ record_of_bytes bytes
-        → Writes (λ image t. record_line (index_kept wide.now) image t bytes) (index_kept index.now)
+        → Writes (λ image t. record_line form (index_kept wide.now) image t bytes)
+        (index_kept index.now)
         (D.disk device.old) (D.disk device.new) W.contents writer.old writer.new) }
     ensures failed { IfErr result (λ fault. BreaksOff fault (D.disk device.old) (D.disk device.new)) }
 {
@@ -45,8 +50,8 @@ pub(crate) fn write_record<D: Device, W: Write>(
     }
     let name = record.name();
     match FileReader::open(device, index, record.id) {
-        Ok(Some(file)) => write_found(device, index, writer, name, record.id, &file, true),
-        Ok(None) => write_out_of_use(device, wide, writer, name, record.id),
+        Ok(Some(file)) => write_found(device, index, writer, form, name, record.id, &file, true),
+        Ok(None) => write_out_of_use(device, wide, writer, form, name, record.id),
         Err(DeviceFault) => Err(ListFault::DeviceFault),
     }
 }
@@ -56,17 +61,18 @@ fn write_out_of_use<D: Device, W: Write>(
     device: &mut D,
     wide: &IndexFile,
     writer: &mut W,
+    form: LineForm,
     name: Option<Name>,
     id: FileId,
 ) -> Result<(), ListFault>
     requires within { IndexLiesWithin (index_kept wide.now) (length (D.disk device.old).image) }
-    ensures writes { OnOk result (Writes (λ image t. named_line (found_shown name) id None
+    ensures writes { OnOk result (Writes (λ image t. named_line form (found_shown name) id None
         (file_named image t id)) (index_kept wide.now)
         (D.disk device.old) (D.disk device.new) W.contents writer.old writer.new) }
     ensures failed { IfErr result (λ fault. BreaksOff fault (D.disk device.old) (D.disk device.new)) }
 {
     match FileReader::open(device, wide, id) {
-        Ok(Some(file)) => write_found(device, wide, writer, name, id, &file, false),
+        Ok(Some(file)) => write_found(device, wide, writer, form, name, id, &file, false),
         Ok(None) => match write_entry(writer, name, id) {
             Ok(()) => Ok(()),
             Err(_) => Err(ListFault::CannotWrite),
@@ -80,6 +86,7 @@ fn write_found<D: Device, W: Write>(
     device: &mut D,
     index: &IndexFile,
     writer: &mut W,
+    form: LineForm,
     name: Option<Name>,
     id: FileId,
     file: &FileReader,
@@ -87,7 +94,8 @@ fn write_found<D: Device, W: Write>(
 ) -> Result<(), ListFault>
     requires within { IndexLiesWithin (index_kept index.now) (length (D.disk device.old).image) }
     requires reading { IsReading (index_kept index.now) file.now (D.disk device.old) }
-    ensures writes { OnOk result (WritesFile (index_kept index.now) in_use (found_shown name) id file.now
+    requires first { segment_number (header_in_hand file.now) ≡ 0 }
+    ensures writes { OnOk result (WritesFile form (index_kept index.now) in_use (found_shown name) id file.now
         (D.disk device.old) (D.disk device.new) W.contents writer.old writer.new) }
     ensures failed { IfErr result (λ fault. BreaksOff fault (D.disk device.old) (D.disk device.new)) }
 {
@@ -96,7 +104,7 @@ fn write_found<D: Device, W: Write>(
         Err(DeviceFault) => return Err(ListFault::DeviceFault),
     };
     let facts = FileFacts::of(file.header(), blocks);
-    match write_file(writer, name, id, &facts, in_use) {
+    match write_file(writer, form, name, id, &facts, in_use) {
         Ok(()) => Ok(()),
         Err(_) => Err(ListFault::CannotWrite),
     }
@@ -105,13 +113,14 @@ fn write_found<D: Device, W: Write>(
 /// Writes the line of a file.
 fn write_file<W: Write>(
     writer: &mut W,
+    form: LineForm,
     name: Option<Name>,
     id: FileId,
     facts: &FileFacts,
     in_use: bool,
 ) -> io::Result<()>
     ensures { OnOk result (Appends (W.contents writer.old) (W.contents writer.new)
-        (file_line in_use (found_shown name) id facts.now)) }
+        (file_line form in_use (found_shown name) id facts.now)) }
 {
     let FileFacts {
         blocks,
@@ -119,13 +128,17 @@ fn write_file<W: Write>(
         owner,
         protection,
         characteristics,
+        dates: _,
+        records: _,
     } = *facts;
     let name = ShownName(name);
     let marks = ShownMarks(characteristics);
     let out_of_use = ShownUse(in_use);
+    let protection = ShownProtection(form, protection);
+    let more = ShownMore(form, *facts);
     writeln!(
         writer,
-        "file {name} {id} blocks {blocks} bytes {bytes} owner {owner} prot {protection:o}{marks}{out_of_use}"
+        "file {name} {id} blocks {blocks} bytes {bytes} owner {owner} prot {protection}{more}{marks}{out_of_use}"
     )
 }
 

@@ -12,4 +12,4 @@ mod rights;
 
 pub use decimal::{read_count, read_number};
 pub use octal::{read_protection, read_uic};
-pub use rights::read_rights;
+pub use rights::{ShownRights, read_rights};

@@ -3,7 +3,11 @@ ghost use Rattle.std.specs.Prelude.{◌≡◌, ◌≢◌, ◌<◌, ◌==◌, ℕ
 ghost use Rattle.std.specs.Str.{str_to_ascii_uppercase};
 ghost use Rattle.f11_store.specs.declared.protection.Class.TheVariants.{System};
 ghost use Rattle.f11_store.specs.declared.protection.Right.{Right};
-ghost use Rattle.f11_numbers.specs.Rights.{SpellsRights, granted, letter_of};
+ghost use Rattle.f11_store.specs.Rights.{denies};
+ghost use Rattle.f11_numbers.specs.Rights.{SpellsRights, granted, letter_of, shown};
+
+use f11_store::{Class, Right};
+use std::fmt;
 
 /// The protection word that a text spells as RSX-11 shows it, `[RWED,RWED,RWED,R]`: in brackets, with commas between
 /// them, what the system, the owner, the group and the world are granted, each some of the letters R, W, E and D in this
@@ -68,5 +72,62 @@ fn past<'a>(text: &'a [u8], character: u8) -> Option<&'a [u8]>
     match text {
         [first, rest @ ..] if first.to_ascii_uppercase() == character => Some(rest),
         _ => None,
+    }
+}
+
+/// A protection word as RSX-11 shows it, and [`read_rights`] reads it: `[RWED,RWED,RWED,R]`.
+#[derive(Clone, Copy, Debug, PartialEq, Eq)]
+pub struct ShownRights(pub u16);
+
+/// What a class is granted by a protection word.
+#[derive(Clone, Copy)]
+struct ShownClass(u16, Class);
+
+/// Whether a protection word denies a class a right.
+fn is_denied(word: u16, class: Class, right: Right) -> bool
+    ensures { result ≡ denies word class right }
+{
+    let place = 4 * class as u16 + right as u16;
+    (word >> place) & 1 == 1
+}
+
+/// The letter of a right where a class isn't denied it, else nothing.
+fn letter(word: u16, class: Class, right: Right) -> &'static str
+    ensures { result.now ≡ shown word class right }
+{
+    if is_denied(word, class, right) {
+        return "";
+    }
+    match right {
+        Right::Read => "R",
+        Right::Write => "W",
+        Right::Extend => "E",
+        Right::Delete => "D",
+    }
+}
+
+impl fmt::Display for ShownClass {
+    ghost output = { λ c. Some (granted c.0 c.1) };
+
+    fn fmt<W: fmt::Write>(&self, f: &mut fmt::Formatter<W>) -> fmt::Result {
+        let read = letter(self.0, self.1, Right::Read);
+        let write = letter(self.0, self.1, Right::Write);
+        let extend = letter(self.0, self.1, Right::Extend);
+        let delete = letter(self.0, self.1, Right::Delete);
+        write!(f, "{read}{write}{extend}{delete}")
+    }
+}
+
+impl fmt::Display for ShownRights {
+    ghost use Rattle.f11_numbers.specs.Rights.{rights_text};
+
+    ghost output = { λ r. Some (rights_text r.0) };
+
+    fn fmt<W: fmt::Write>(&self, f: &mut fmt::Formatter<W>) -> fmt::Result {
+        let system = ShownClass(self.0, Class::System);
+        let owner = ShownClass(self.0, Class::Owner);
+        let group = ShownClass(self.0, Class::Group);
+        let world = ShownClass(self.0, Class::World);
+        write!(f, "[{system},{owner},{group},{world}]")
     }
 }

@@ -9,7 +9,7 @@ returns-clause-lists g c =
     let opens = rw c.in-Ok-Ok.field-0-is at c.in-Ok-Ok.ensures.opens in
     record {
       readable = opens.readable;
-      writes = lists-all (record_lines (index_kept c.args.wide.now)) _ _ _ _ _ opens c.index_by-by.ensures
+      writes = lists-all (record_lines c.args.form (index_kept c.args.wide.now)) _ _ _ _ _ opens c.index_by-by.ensures
           c.in_ok-write_records.ensures.writes;
     }
 

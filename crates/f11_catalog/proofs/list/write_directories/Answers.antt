@@ -10,7 +10,8 @@ loop-record-preserved g c =
     let read = rw c.in-Ok-Some.field-0-is at c.in-Ok-Some.ensures.reads in
     let one = c.in_ok-write_named-in-Ok-Some.ensures.writes read.bytes read.record_is in
     record {
-      written = first-read (directory_lines (index_kept c.args.wide.now)) _ _ _ read.bytes c.loop-record.invariant.written read.next
+      written =
+          first-read (directory_lines c.args.form (index_kept c.args.wide.now)) _ _ _ read.bytes c.loop-record.invariant.written read.next
           read.reads _ _ one;
       reading = holds-on one.reads.1 c.in-Ok-Some.ensures.reading;
     }
@@ -24,7 +25,7 @@ returns-in_err-write_named-in-Ok-Some-clause-failed g c =
 pub returns-in-Ok-None-clause-writes : goal.returns-in-Ok-None-clause-writes
 returns-in-Ok-None-clause-writes g c =
     let none = rw c.in-Ok-None.field-0-is at c.in-Ok-None.ensures.ended in
-    first-all (directory_lines (index_kept c.args.wide.now)) _ _ _ c.loop-record.invariant.written none.none _ none.reads
+    first-all (directory_lines c.args.form (index_kept c.args.wide.now)) _ _ _ c.loop-record.invariant.written none.none _ none.reads
 
 pub returns-in-Err-clause-failed : goal.returns-in-Err-clause-failed
 returns-in-Err-clause-failed g c = reads-then c.loop-record.invariant.written.reads c.in-Err.ensures.failed

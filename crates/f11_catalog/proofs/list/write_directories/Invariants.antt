@@ -8,7 +8,8 @@ use Rattle.f11_catalog.proofs.list.write_directories.Given as goal
 abbrev pub invariant-loop-record : goal.invariant-loop-record
 invariant-loop-record g l =
     record {
-      written : WritesFirst (directory_lines (index_kept l.wide)) (index_kept l.index) (index_kept l.by) l.initial.directory l.directory
+      written : WritesFirst (directory_lines l.form (index_kept l.wide)) (index_kept l.index) (index_kept l.by) l.initial.directory
+          l.directory
           (g.D.Device.disk l.initial.device)
           (g.D.Device.disk l.device) g.W.Write.contents l.initial.writer l.writer;
       reading : IsReadingRecords (index_kept l.by) l.directory (g.D.Device.disk l.device);

@@ -5,12 +5,12 @@ use Rattle.f11_catalog.proofs.list.write_directory.Goals as goal
 
 pub returns-in-Ok-Err-clause-writes : goal.returns-in-Ok-Err-clause-writes
 returns-in-Ok-Err-clause-writes g c =
-    no-directory _ _ _ _ _ _ _ _ _ (rw c.in-Ok-Err.field-0-is at c.in-Ok-Err.ensures.refused)
+    no-directory _ _ _ _ _ _ _ _ _ _ (rw c.in-Ok-Err.field-0-is at c.in-Ok-Err.ensures.refused)
 
 pub returns-clause-writes : goal.returns-clause-writes
 returns-clause-writes g c =
     on_ok_weaker c.write_records.result
-    (directory-listed _ _ _ _ _ _ _ _ _ _ _ _ _ (rw c.in-Ok-Ok.field-0-is at c.in-Ok-Ok.ensures.opens) c.index_by-by.ensures
+    (directory-listed _ _ _ _ _ _ _ _ _ _ _ _ _ _ (rw c.in-Ok-Ok.field-0-is at c.in-Ok-Ok.ensures.opens) c.index_by-by.ensures
     c.in-Ok.ensures.bytes)
     c.write_records.ensures.writes
 

@@ -11,7 +11,8 @@ loop-record-preserved g c =
     let one = c.in_ok-write_record-in-Ok-Some.ensures.writes read.bytes read.record_is in
     record {
       written =
-          first-read (record_line (index_kept c.args.wide.now)) _ _ _ read.bytes c.loop-record.invariant.written read.next read.reads _
+          first-read (record_line c.args.form (index_kept c.args.wide.now)) _ _ _ read.bytes c.loop-record.invariant.written read.next
+          read.reads _
           _ one;
       reading = holds-on one.reads.1 c.in-Ok-Some.ensures.reading;
     }
@@ -25,7 +26,7 @@ returns-in_err-write_record-in-Ok-Some-clause-failed g c =
 pub returns-in-Ok-None-clause-writes : goal.returns-in-Ok-None-clause-writes
 returns-in-Ok-None-clause-writes g c =
     let none = rw c.in-Ok-None.field-0-is at c.in-Ok-None.ensures.ended in
-    first-all (record_line (index_kept c.args.wide.now)) _ _ _ c.loop-record.invariant.written none.none _ none.reads
+    first-all (record_line c.args.form (index_kept c.args.wide.now)) _ _ _ c.loop-record.invariant.written none.none _ none.reads
 
 pub returns-in-Err-clause-failed : goal.returns-in-Err-clause-failed
 returns-in-Err-clause-failed g c = reads-then c.loop-record.invariant.written.reads c.in-Err.ensures.failed

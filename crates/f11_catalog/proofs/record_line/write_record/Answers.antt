@@ -4,12 +4,12 @@ use Rattle.f11_catalog.proofs.record_line.write_record.Goals as goal
 
 pub returns-then-is_empty-clause-writes : goal.returns-then-is_empty-clause-writes
 returns-then-is_empty-clause-writes g c = λ bytes is.
-    empty-line bytes _ is _ _ _ _ _ _ c.is_empty.ensures c.if-is_empty.true
+    empty-line bytes _ is _ _ _ _ _ _ _ c.is_empty.ensures c.if-is_empty.true
 
 pub returns-in-Ok-Some-clause-writes : goal.returns-in-Ok-Some-clause-writes
 returns-in-Ok-Some-clause-writes g c =
     on_ok_weaker c.write_found.result (λ writes bytes is.
-    found-line bytes _ is _ _ _ _ _ c.is_empty.ensures c.if-is_empty.false c.name-name.ensures _ _ _ _ _ c.in-Ok-Some.file
+    found-line bytes _ is _ _ _ _ _ _ c.is_empty.ensures c.if-is_empty.false c.name-name.ensures _ _ _ _ _ c.in-Ok-Some.file
     (rw c.in-Ok-Some.field-0-is at c.in-Ok-Some.ensures.opens) writes) c.write_found.ensures.writes
 
 pub returns-in-Ok-Some-clause-failed : goal.returns-in-Ok-Some-clause-failed
@@ -20,7 +20,7 @@ returns-in-Ok-Some-clause-failed g c =
 pub returns-in-Ok-None-clause-writes : goal.returns-in-Ok-None-clause-writes
 returns-in-Ok-None-clause-writes g c =
     on_ok_weaker c.write_out_of_use.result (λ writes bytes is.
-    other-line bytes _ is _ _ _ _ _ c.is_empty.ensures c.if-is_empty.false c.name-name.ensures _ _ _ _ _
+    other-line bytes _ is _ _ _ _ _ _ c.is_empty.ensures c.if-is_empty.false c.name-name.ensures _ _ _ _ _
     (rw c.in-Ok-None.field-0-is at c.in-Ok-None.ensures.none) writes) c.write_out_of_use.ensures.writes
 
 pub returns-in-Ok-None-clause-failed : goal.returns-in-Ok-None-clause-failed
