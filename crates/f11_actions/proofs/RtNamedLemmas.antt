@@ -1,22 +1,22 @@
 -- Names on RT-11 that are fitted.
 use Rattle.std.proofs.Common.{◌≡◌, ◌==◌, ℕ, ◌+◌, ◌-◌, ◌<◌, ◌≤◌, Bool, true, false, not, nat_lt, List, [], ◌∷◌, ◌++◌, length}
-use Rattle.std.proofs.Common.{take, get_or, refl, sym, ap, ◌∙◌, arith, inl, inr, length-append, slice_index_or, append-nil, suc, Option}
-use Rattle.std.proofs.Common.{Some, None, ◌&&◌, slice_index}
+use Rattle.std.proofs.Common.{take, get_or, refl, sym, ap, ◌∙◌, arith, inl, inr, length-append, slice_index_or, suc, Option}
+use Rattle.std.proofs.Common.{◌&&◌, slice_index}
 use Rattle.std.specs.List.{AllPass, cons_option, filter_map}
 use Rattle.std.proofs.Math.Seq.{take-suc}
 use Rattle.std.proofs.lemmas.Bool.{cases_lt, eqb-true, false≢true}
 use Rattle.std.proofs.lemmas.Bool.Decides.{nat_tests}
 use Rattle.std.proofs.lemmas.List.Elements.{All-head, filter_map-append}
 use Rattle.f11_rad50.specs.Name.{is_name_character}
-use Rattle.f11_patterns.specs.Fitting.{first_free, fitted_name, fitted_text, fitted_type, kept_of, name_before, numeral}
+use Rattle.f11_patterns.specs.Giving.{first_free, is_free}
+use Rattle.f11_patterns.specs.Fitting.{fitted_name, fitted_text, fitted_type, kept_of, name_before, numeral}
 use Rattle.f11_patterns.proofs.FittingLemmas.{length-numeral-le, name-characters, name-length, numeral-zero, some-numeral, type-characters}
 use Rattle.f11_patterns.proofs.FittingLemmas.{type-length}
 use Rattle.f11_patterns.proofs.FreeLemmas.{some-free, some-mapped}
-use Rattle.f11_patterns.specs.Naming.{with_name}
 use Rattle.rt11_volume.specs.Entry.{is_same_name}
 use Rattle.rt11_volume.specs.RtName.{IsRtProper, RtSpells, rt_name_of, rt_words_of}
 use Rattle.rt11_volume.proofs.NameLemmas.{rt_name_of-words}
-use Rattle.f11_actions.specs.RtNamed.{RtFittedIsThere, has_rt_some, is_rt_free, rt_candidate}
+use Rattle.f11_actions.specs.RtNamed.{RtFittedIsThere, has_rt_some, rt_candidate, rt_naming}
 
 -- a candidate is a name where something stays
 module _ (part : List ℕ) (number : ℕ) (some : has_rt_some part ≡ true) (few : number ≤ 999999) where
@@ -73,17 +73,13 @@ has-some-by-dot part text is =
 
 -- one item more has a name, or none
 module _ {X : Type 0} (h : X → Option (List ℕ)) where
-  with-one : (names : List (List ℕ)) (name : Option (List ℕ)) → with_name names name ≡ names ++ cons_option name []
-  with-one names None = sym (append-nil names)
-  with-one names (Some name) = refl
-
   pub names-more : (xs : List X) (i : ℕ) (d : X) (names names' : List (List ℕ)) (name : Option (List ℕ)) → i < length xs
-      → name ≡ h (get_or xs i d) → names' ≡ with_name names name → names ≡ filter_map h (take i xs)
+      → name ≡ h (get_or xs i d) → names' ≡ names ++ cons_option name [] → names ≡ filter_map h (take i xs)
       → names' ≡ filter_map h (take (i + 1) xs)
   names-more xs i d names names' name some is more so =
       let next : i + 1 ≡ suc i = omega arith in
       let whole : take (i + 1) xs ≡ take i xs ++ get_or xs i d ∷ [] = ap (λ (n : ℕ). take n xs) next ∙ take-suc xs i d some in
-      more ∙ with-one names name ∙ ap (λ (o : Option (List ℕ)). names ++ cons_option o []) is
+      more ∙ ap (λ (o : Option (List ℕ)). names ++ cons_option o []) is
       ∙ ap (λ (ns : List (List ℕ)). ns ++ cons_option (h (get_or xs i d)) []) so
       ∙ sym (ap (filter_map h) whole ∙ filter_map-append h (take i xs) (get_or xs i d ∷ []))
 
@@ -112,4 +108,4 @@ one-same part some m n name low high a b =
 pub rt-fitted-is-there : RtFittedIsThere
 rt-fitted-is-there there part some few =
     let free = some-free 6 part (λ n. is_same_name (rt_candidate part n)) there few (one-same part some) in
-    rw some (some-mapped (rt_candidate part) (first_free (is_rt_free there part) (length there)) free)
+    rw some (some-mapped (rt_candidate part) (first_free (is_free rt_naming there part)) free)

@@ -2,7 +2,7 @@
 use Rattle.std.specs.Prelude.{◌≡◌, ◌⊎◌, ℕ, true, false, List, [], ◌∷◌, ◌++◌, Option, Result, Ok, Err}
 use Rattle.f11_dev.specs.Disk.{Disk}
 use Rattle.f11_commands.specs.DirectoryRecords.{FindsRecords, HasNoRecords}
-use Rattle.f11_commands.specs.Looking.{FailsToLook}
+use Rattle.f11_commands.specs.Looking.{LookFails}
 use Rattle.f11_commands.specs.declared.name_list.NoNames.{NoNames}
 use Rattle.f11_commands.specs.declared.outcome.Failure.{Failure}
 use Rattle.f11_commands.specs.declared.outcome.FileAnswer.{FileAnswer}
@@ -31,5 +31,5 @@ pub data EndsDeletion {W : Type 0} (directory name : List ℕ) (told : Result Fi
   kept : (read : Disk) → FindsRecords directory name (Ok true) old read
       → EndsUndone (kept_lines directory name) told read new contents before after
       → EndsDeletion directory name told old new contents before after
-  failed : (failure : Failure) → FailsToLook failure old new → told ≡ Err failure → after ≡ before
+  failed : (failure : Failure) → LookFails failure old new → told ≡ Err failure → after ≡ before
       → EndsDeletion directory name told old new contents before after

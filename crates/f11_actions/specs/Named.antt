@@ -3,7 +3,8 @@ use Rattle.std.specs.Prelude.{◌≡◌, ℕ, List, [], Option, Some, None, Ok}
 use Rattle.f11_dev.specs.Disk.{Disk}
 use Rattle.f11_commands.specs.DirectoryNames.{FindsNames, HasNoNames}
 use Rattle.f11_commands.specs.declared.name_list.NoNames.{NoNames}
-use Rattle.f11_patterns.specs.Naming.{GetNames, IsFound, IsNextName}
+use Rattle.f11_patterns.specs.Giving.{GetNames}
+use Rattle.f11_patterns.specs.Naming.{IsFound, IsNextName, file_naming}
 use Rattle.f11_patterns.specs.declared.names.HostNames.{HostNames}
 use Rattle.f11_patterns.specs.declared.naming.OneName.{OneName}
 use Rattle.f11_patterns.specs.declared.naming.OneName.TheVariants as one
@@ -32,9 +33,9 @@ TellsFound directory named name old new = TellsName IsFound directory named name
 abbrev pub TellsNext : List ℕ → OneName → List ℕ → Disk → Disk → Type 0
 TellsNext directory named name old new = TellsName IsNextName directory named name old new
 
--- Files of the host with these paths get these names in a directory, one behind another, beside those that are there.
+-- Files of the host with these paths get these names in a directory, beside those that are there.
 pub record TellsNew (fitting : HostNames) (directory : List ℕ) (paths : List (List ℕ)) (names : List (Option (List ℕ)))
     (why : Option NoNames) (old new : Disk) : Type 0 where
   pub there : List (List ℕ)
   pub are : ThereAre why directory there old new
-  pub get : GetNames fitting there paths names
+  pub get : GetNames file_naming fitting there paths names

@@ -1,14 +1,12 @@
 -- Which names files of the host get on an RT-11 volume that is faulty or not (profile).
-use Rattle.std.specs.Prelude.{◌≡◌, ◌⊎◌, ℕ, ◌≤◌, Bool, true, not, nat_lt, if◌then◌else◌, List, [], length, Option, Some, None, IsSome}
-use Rattle.std.specs.Prelude.{option_map}
-use Rattle.std.specs.List.{filter_map, list_any}
+use Rattle.std.specs.Prelude.{◌≡◌, ℕ, ◌≤◌, Bool, true, nat_lt, if◌then◌else◌, List, [], length, Option, Some, None, IsSome}
+use Rattle.std.specs.List.{filter_map}
 use Rattle.std.specs.Str.{str_to_ascii_uppercase}
 use Rattle.f11_dev.specs.Disk.{Disk}
 use Rattle.f11_dev.specs.Looked.{Looked}
-use Rattle.f11_patterns.specs.Fitting.{first_free, fitted_name, fitted_type}
-use Rattle.f11_patterns.specs.Naming.{GetInTurn, IsLastPart}
+use Rattle.f11_patterns.specs.Fitting.{fitted_name, fitted_type}
+use Rattle.f11_patterns.specs.Giving.{GetNames, Naming, fitted_among}
 use Rattle.f11_patterns.specs.declared.names.HostNames.{HostNames}
-use Rattle.f11_patterns.specs.declared.names.HostNames.TheVariants as host
 use Rattle.f11_commands.specs.declared.outcome.Failure.{Failure}
 use Rattle.f11_commands.specs.declared.outcome.Failure.TheVariants.{CannotWrite, DeviceFault, NoMemory}
 use Rattle.rt11_volume.specs.AnyDirectory.{is_file_area}
@@ -35,53 +33,39 @@ pub record RtThereAre (names : List (List ℕ)) (old new : Disk) : Type 0 where
   pub surveys : Surveys found old new
   pub are : names ≡ names_found found
 
--- The candidate of a number has six characters.
+-- The candidate of a number has six characters at most.
 abbrev pub rt_candidate : List ℕ → ℕ → List ℕ
 rt_candidate part number = rt_words_of (fitted_name 6 number part) (fitted_type part)
-
--- none of these names is a candidate
-abbrev pub is_rt_free : List (List ℕ) → List ℕ → ℕ → Bool
-is_rt_free there part number = not (list_any (is_same_name (rt_candidate part number)) there)
 
 -- something of a part stays for a name
 abbrev pub has_rt_some : List ℕ → Bool
 has_rt_some part = nat_lt 0 (length (fitted_name 6 0 part))
-
--- the first candidate that is free
-abbrev pub first_rt_candidate : List (List ℕ) → List ℕ → Option (List ℕ)
-first_rt_candidate there part = option_map (rt_candidate part) (first_free (is_rt_free there part) (length there))
-
--- The fitted name beside these is that, and there is none where nothing stays for a name.
-abbrev pub rt_fitted_among : List (List ℕ) → List ℕ → Option (List ℕ)
-rt_fitted_among there part = if has_rt_some part then first_rt_candidate there part else None
-
--- Beside fewer than 142,858 names there is a fitted one for each part of which something stays for a name.
-abbrev pub RtFittedIsThere : Type 0
-RtFittedIsThere =
-    (there : List (List ℕ)) (part : List ℕ) → has_rt_some part ≡ true → length there ≤ 142857 → IsSome (rt_fitted_among there part)
 
 -- The name that a part is, small letters as capitals, if it is one.
 abbrev pub IsRtNamed : Option (List ℕ) → List ℕ → Type 0
 IsRtNamed (Some name) part = RtSpells (str_to_ascii_uppercase part) name
 IsRtNamed None part = (name : List ℕ) → ¬ RtSpells (str_to_ascii_uppercase part) name
 
--- A part gets the name that it is; or, where names are fitted, one that is a name gets that, and any other gets the fitted one.
-abbrev pub GetsByRtPart : HostNames → List (List ℕ) → Option (List ℕ) → List ℕ → Type 0
-GetsByRtPart host.AsTheyAre there name part = IsRtNamed name part
-GetsByRtPart host.Fitted there name part =
-    (IsSome name × IsRtNamed name part) ⊎ (IsRtNamed None part × (name ≡ rt_fitted_among there part))
+-- The names of RT-11: which one a part is doesn't depend on those that are there.
+abbrev pub rt_naming : Naming (List ℕ)
+rt_naming = record {
+  IsNamed = λ there name part. IsRtNamed name part;
+  candidate = rt_candidate;
+  has_some = has_rt_some;
+  are_alike = is_same_name;
+}
 
--- A file of the host gets it by the last part of its path.
-pub record GetsRtName (fitting : HostNames) (there : List (List ℕ)) (path : List ℕ) (name : Option (List ℕ)) : Type 0 where
-  pub part : List ℕ
-  pub last : IsLastPart path part
-  pub gets : GetsByRtPart fitting there name part
+-- Beside fewer than 142,858 names there is a fitted one for each part of which something stays for a name.
+abbrev pub RtFittedIsThere : Type 0
+RtFittedIsThere =
+    (there : List (List ℕ)) (part : List ℕ) → has_rt_some part ≡ true → length there ≤ 142857
+    → IsSome (fitted_among rt_naming there part)
 
--- Files of the host with these paths get these names, one behind another, beside those that a volume has.
+-- Files of the host with these paths get these names beside those that a volume has.
 pub record TellsRtNew (fitting : HostNames) (paths : List (List ℕ)) (names : List (Option (List ℕ))) (old new : Disk) : Type 0 where
   pub there : List (List ℕ)
   pub are : RtThereAre there old new
-  pub get : GetInTurn (GetsRtName fitting) there paths names
+  pub get : GetNames rt_naming fitting there paths names
 
 -- The look for names broke off: a transfer failed, or there was no memory.
 abbrev pub FailsToFindRtNames : Failure → Disk → Disk → Type 0

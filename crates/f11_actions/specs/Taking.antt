@@ -4,6 +4,7 @@ use Rattle.f11_dev.specs.Disk.{Disk}
 use Rattle.f11_commands.specs.AnyVolume.{FailsToServe}
 use Rattle.f11_commands.specs.CopyCommand.{refused_line}
 use Rattle.f11_commands.specs.DirectoryNames.{FailsToFindNames, HasNoNames}
+use Rattle.f11_catalog.specs.declared.line_form.LineForm.TheVariants.{Short}
 use Rattle.f11_commands.specs.LsCommand.{PrintsListing}
 use Rattle.f11_commands.specs.Output.{WriterTakes}
 use Rattle.f11_commands.specs.declared.ls.Served.{Served}
@@ -37,7 +38,7 @@ RefusesFiles e faulty told contents before after =
 -- it ended as `ls` of the directory does
 abbrev pub EndsAsListing : {W : Type 0} → List ℕ → Result Served Failure → Disk → Disk → (W → Option (List ℕ)) → W → W → Type 0
 EndsAsListing directory told old new contents before after =
-    IfOk told (λ served. PrintsListing (Some directory) served old new contents before after)
+    IfOk told (λ served. PrintsListing Short (Some directory) served old new contents before after)
     × IfErr told (λ failure. FailsToServe failure old new contents before after)
 
 -- nothing is taken out of a volume: no name is meant; the directory has none, by a refusal, or since the volume can't be read; or the look

@@ -80,9 +80,9 @@ pub fn next_name<D: Device>(
     }
 }
 
-/// The names that files of the host with these paths get in such a directory, one behind another, by the last parts of their paths
-/// ([`names_of`]), beside those that the directory has, and why it has none where it can't be read. One whose last part names no file gets
-/// `None`, or, where names are fitted, a fitted one, and `None` where no character of it stays. Nothing is written to the volume.
+/// The names that files of the host with these paths get in such a directory by the last parts of their paths ([`names_of`]), beside those that
+/// the directory has, and why it has none where it can't be read. One whose last part names no file gets `None`, or, where names are fitted, a
+/// fitted one, and `None` where there is none. Nothing is written to the volume.
 ///
 /// # Errors
 ///

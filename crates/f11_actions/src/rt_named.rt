@@ -1,19 +1,18 @@
 //! The names that files of the host get on an RT-11 volume.
-ghost use Rattle.std.specs.Prelude.{◌≡◌, ◌≤◌, ◌++◌, ◌∷◌, [], ℕ, IfErr, IfNone, IfOk, IfSome, List, OnOk, length, map, slice_index_or, take, true};
+ghost use Rattle.std.specs.Prelude.{◌≡◌, ◌≤◌, ℕ, IfErr, IfNone, IfOk, IfSome, List, OnOk, length, map, slice_index_or, take, true};
 ghost use Rattle.std.specs.Char.{to_ascii_uppercase};
-ghost use Rattle.std.specs.List.{filter_map, list_any};
+ghost use Rattle.std.specs.List.{filter_map};
 ghost use Rattle.std.specs.Str.{str_to_ascii_uppercase};
 ghost use Rattle.f11_dev.specs.Looked.{Looked};
-ghost use Rattle.f11_patterns.specs.Naming.{GetInTurn, with_name};
 ghost use Rattle.rt11_volume.specs.Calls.{FailsToLook, most_transfers};
 ghost use Rattle.rt11_volume.specs.Entry.{is_same_name};
 ghost use Rattle.rt11_volume.specs.RtName.{RtSpells};
-ghost use Rattle.f11_actions.specs.RtNamed.{FailsToFindRtNames, GetsRtName, RtThereAre, TellsRtNew, file_name, first_rt_candidate, has_rt_some, rt_candidate, rt_fitted_among};
+ghost use Rattle.f11_actions.specs.RtNamed.{FailsToFindRtNames, RtThereAre, TellsRtNew, file_name, has_rt_some, rt_candidate, rt_naming};
 
 use f11_bytes::NoMemory;
 use f11_commands::Failure;
 use f11_dev::Device;
-use f11_patterns::{HostNames, fitted_text, last_part, numbers_beside};
+use f11_patterns::{HostNames, HostNaming, fitted_text, host_names};
 use rt11_volume::{LookFault, RtEntry, RtName, RtSurvey, survey};
 use std::alloc::Global;
 
@@ -30,24 +29,16 @@ fn file_name(entry: &RtEntry) -> Option<RtName>
     if entry.is_file() { entry.name } else { None }
 }
 
-/// Adds a name to those that are there, if it is one.
-fn keep(there: &mut Vec<RtName>, name: &Option<RtName>) -> Result<(), NoMemory>
-    ensures { OnOk result (there.new.items ≡ with_name there.old.items name.now) }
-{
-    if let Some(name) = name {
-        there.push(*name)?;
-    }
-    Ok(())
-}
-
 /// The names of the files that have these entries.
 fn names_in(alloc: Global, entries: &[RtEntry]) -> Result<Vec<RtName>, NoMemory>
     ensures { IfOk result (λ names. names.items ≡ filter_map file_name entries.now) }
 {
     let mut names = Vec::new(alloc);
     for entry in entries {
-        let name = file_name(entry);
-        keep(&mut names, &name)?;
+        match file_name(entry) {
+            Some(name) => names.push(name)?,
+            None => {}
+        }
     }
     Ok(names)
 }
@@ -116,13 +107,6 @@ fn is_same(one: &RtName, other: &RtName) -> bool
     a == c && (b == d && kind == other_kind)
 }
 
-/// Whether a name is one of those that are there.
-fn is_there(there: &[RtName], name: &RtName) -> bool
-    ensures { result ≡ list_any (is_same_name name.now) there.now }
-{
-    there.iter().any(|one| is_same(name, one))
-}
-
 /// The first character of a text, and a dot where it has none.
 fn first_of(text: &[u8]) -> u8
     ensures { result ≡ slice_index_or text.now 0 46 }
@@ -138,78 +122,33 @@ fn has_some(part: &[u8]) -> bool
     first_of(text.as_slice()) != b'.'
 }
 
-/// The first candidate that is free.
-fn first_candidate(there: &[RtName], part: &[u8]) -> Option<RtName>
-    requires some { has_rt_some part.now ≡ true }
-    ensures { result ≡ first_rt_candidate there.now part.now }
-{
-    for number in 0..numbers_beside(there.len()) {
-        let name = candidate(part, number);
-        if !is_there(there, &name) {
-            return Some(name);
-        }
-    }
-    None
-}
+/// Names of RT-11.
+struct RtNaming;
 
-/// The fitted name beside those that are there.
-fn fitted_among(there: &[RtName], part: &[u8]) -> Option<RtName>
-    ensures { result ≡ rt_fitted_among there.now part.now }
-{
-    if !has_some(part) {
-        return None;
-    }
-    first_candidate(there, part)
-}
+impl HostNaming<RtName> for RtNaming {
+    ghost naming = { rt_naming };
 
-/// The name that a file of the host gets beside those that are there.
-fn name_among(there: &[RtName], path: &str, fitting: HostNames) -> Option<RtName>
-    ensures gets { GetsRtName fitting there.now path.now result }
-{
-    let part = last_part(path.as_bytes());
-    match name_of(part) {
-        Some(name) => Some(name),
-        None => match fitting {
-            HostNames::AsTheyAre => None,
-            HostNames::Fitted => fitted_among(there, part),
-        },
+    fn own_name(&self, _there: &[RtName], part: &[u8]) -> Option<RtName> {
+        name_of(part)
+    }
+
+    fn has_some(&self, part: &[u8]) -> bool {
+        has_some(part)
+    }
+
+    fn candidate(&self, part: &[u8], number: usize) -> RtName {
+        candidate(part, number)
+    }
+
+    fn are_alike(&self, name: &RtName, one: &RtName) -> bool {
+        is_same(name, one)
     }
 }
 
-/// Adds it to those that files get.
-fn give(names: &mut Vec<Option<RtName>>, name: Option<RtName>) -> Result<(), NoMemory>
-    ensures { OnOk result (names.new.items ≡ names.old.items ++ name ∷ []) }
-{
-    match names.push(name) {
-        Ok(()) => Ok(()),
-        Err(_) => Err(NoMemory),
-    }
-}
-
-/// The names that files of the host with these paths get beside those that are there, one behind another.
-fn rt_names_of(
-    alloc: Global,
-    there: Vec<RtName>,
-    paths: &[&str],
-    fitting: HostNames,
-) -> Result<Vec<Option<RtName>>, NoMemory>
-    ensures names { IfOk result (λ names. GetInTurn (GetsRtName fitting) there.items
-        (map (λ path. path.now) paths.now) names.items) }
-{
-    let mut all = there;
-    let mut names = Vec::new(alloc);
-    for path in paths {
-        let name = name_among(&all, path, fitting);
-        keep(&mut all, &name)?;
-        give(&mut names, name)?;
-    }
-    Ok(names)
-}
-
-/// The names that files of the host with these paths get on the RT-11 volume on a device, one behind another, by the last parts of their paths, small
-/// letters as capitals, beside those that the files of its directory have and those that the ones before it got. One whose last part is no name gets
-/// `None`, or, where names are fitted, the first candidate for it ([`fitted_text`], with up to six characters in its name) which none of these is, and
-/// `None` where no character of its name stays. Where the directory can't be read no names are there. It serves any volume, faulty or not, reads its
+/// The names that files of the host with these paths get on the RT-11 volume on a device, by the last parts of their paths, small letters as
+/// capitals. One whose last part is no name gets `None`, or, where names are fitted, the first candidate for it ([`fitted_text`], with up to six
+/// characters in its name) which is none of the names that files of the volume's directory have, that the other paths are, and that fitted ones before
+/// it got; and `None` where no character of its name stays, or none of a million candidates is free. Where the directory can't be read no names are there. It serves any volume, faulty or not, reads its
 /// directory, at most 62 blocks, and writes nothing. Steps: at most as many as there are paths, times as many as there are names then, and for a
 /// fitted one times as many as there are candidates before it.
 ///
@@ -233,7 +172,7 @@ pub fn new_rt_names<D: Device>(
         Err(LookFault::DeviceFault) => return Err(Failure::DeviceFault),
         Err(LookFault::NoMemory) => return Err(Failure::NoMemory),
     };
-    match rt_names_of(alloc, there, paths, fitting) {
+    match host_names(alloc, &RtNaming, there, paths, fitting) {
         Ok(names) => Ok(names),
         Err(_) => Err(Failure::NoMemory),
     }

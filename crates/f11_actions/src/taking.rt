@@ -7,6 +7,7 @@ ghost use Rattle.f11_patterns.specs.Lent.{parts_of};
 
 use crate::line::{write_all_copy_line, write_copy_line};
 use crate::meant::meant_names;
+use f11_catalog::LineForm;
 use f11_commands::{Answer, Failure, NoNames, Served, print_ls, refuse_files};
 use f11_dev::Device;
 use f11_patterns::Pattern;
@@ -76,7 +77,13 @@ fn begin<D: Device, W: Write>(
             }
         }
         Ok(Err(NoNames::Refused(refusal))) => Err((device, refuse(refusal, faulty, writer))),
-        Ok(Err(NoNames::Unreadable)) => Err(print_ls(alloc, device, writer, Some(*directory))),
+        Ok(Err(NoNames::Unreadable)) => Err(print_ls(
+            alloc,
+            device,
+            writer,
+            LineForm::Short,
+            Some(*directory),
+        )),
         Err(failure) => Err((device, Err(failure))),
     }
 }

@@ -11,6 +11,7 @@ mod RunLemmas
 mod UpdateLemmas
 mod BrokenLemmas
 pub mod CopyLemmas
+pub mod CountingLemmas
 mod NamedLemmas
 mod OthersLemmas
 mod ReadOnlyLemmas

@@ -17,7 +17,7 @@ use Rattle.f11_store.specs.declared.refusals.Refusal.{Refusal}
 use Rattle.f11_commands.specs.AnyVolume.{unless_refused}
 use Rattle.f11_commands.specs.DirectoryNames.{names_with, unless}
 use Rattle.f11_commands.specs.DirectoryRecords.{some_with}
-use Rattle.f11_commands.specs.Looking.{Ask, FailsToLook, FindsIndexes, FindsTold, LooksFor, failure_by}
+use Rattle.f11_commands.specs.Looking.{Ask, LookFails, FindsIndexes, FindsTold, LooksFor, failure_by}
 use Rattle.f11_commands.specs.declared.outcome.Failure.{Failure}
 use Rattle.f11_commands.proofs.AnyVolumeLemmas.{index-of-volume, said-of-volume}
 
@@ -105,12 +105,12 @@ module _ (index wide : Index) (old new : Disk) where
 
 -- the look broke off behind that
 pub looks-fail : (fault : WalkFault) (old mid new : Disk) → Reads old mid 0 → FailsToName fault mid new
-    → FailsToLook (failure_by fault) old new
+    → LookFails (failure_by fault) old new
 looks-fail faults.DeviceFault old mid new reads fails = reads-then reads fails
 looks-fail faults.NoMemory old mid new reads fails = reads-then reads fails
 
 -- and its failure is handed on
 pub failure-handed : {T : Type 0} (r : Result T Failure) (failure : Failure) (old new : Disk) → IsErrAnd r (λ e. e ≡ failure)
-    → FailsToLook failure old new → IfErr r (λ e. FailsToLook e old new)
+    → LookFails failure old new → IfErr r (λ e. LookFails e old new)
 failure-handed (Ok x) failure old new is fails = absurd is
-failure-handed (Err e) failure old new is fails = subst (λ (f : Failure). FailsToLook f old new) (sym is) fails
+failure-handed (Err e) failure old new is fails = subst (λ (f : Failure). LookFails f old new) (sym is) fails

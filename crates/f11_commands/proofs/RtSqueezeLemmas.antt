@@ -4,7 +4,7 @@ use Rattle.std.proofs.Common.{Result, Vec}
 use Rattle.std.specs.Global.{Global}
 use Rattle.std.specs.Io.KnownBytes.{Appends}
 use Rattle.std.specs.List.{flat_map, slice_get, zip}
-use Rattle.std.specs.Prelude.{unwrap_or}
+use Rattle.std.specs.Prelude.{IfErr, IfOk, Ok, Err, unwrap_or}
 use Rattle.std.proofs.lemmas.List.{take_all}
 use Rattle.std.proofs.lemmas.Slice.Zip.{length-zip}
 use Rattle.f11_catalog.proofs.ListingLemmas.{appends-then}
@@ -14,7 +14,7 @@ use Rattle.f11_dev.specs.declared.device.Device.{Ghosts}
 use Rattle.f11_dev.proofs.LookedLemmas.{looked_more}
 use Rattle.f11_dev.proofs.WentLemmas.{went_weaker}
 use Rattle.rt11_squeeze.specs.Kept.{volume_disk, volume_store}
-use Rattle.rt11_squeeze.specs.Squeezing.{AreTold, Preserves, squeeze_transfers}
+use Rattle.rt11_squeeze.specs.Squeezing.{AreTold, EndsEarly, OnSound, Preserves, SqueezesEach, squeeze_transfers}
 use Rattle.rt11_squeeze.specs.Telling.{TellsAll}
 use Rattle.rt11_squeeze.specs.declared.moving.FileToMove.{FileToMove}
 use Rattle.rt11_squeeze.specs.declared.outcome.Squeezed.{Squeezed}
@@ -24,7 +24,7 @@ use Rattle.rt11_volume.specs.Verifying.Verdict.{IsRtAccepted, IsSoundDisk}
 use Rattle.rt11_volume.specs.declared.refusal.RtRefusal.{RtRefusal}
 use Rattle.rt11_volume.specs.declared.volume.RtAccepted.{RtAccepted}
 use Rattle.f11_commands.specs.CopyCommand.{VerifiesRt}
-use Rattle.f11_commands.specs.RtSqueeze.{SqueezesFiles}
+use Rattle.f11_commands.specs.RtSqueeze.{SqueezesAll, SqueezesFiles}
 use Rattle.f11_commands.proofs.LineLemmas.{lines-more}
 
 -- two elements at the same place
@@ -68,9 +68,21 @@ told-still files a b c tells verified s =
 pub squeezes-files : {D : Type 0} {met : Ghosts D} (disk : D → Disk) (files : List FileToMove)
     (squeezed : Result (Vec Squeezed Global) RtRefusal) (old new : RtAccepted D met)
     → (IsSoundDisk (volume_disk disk old) → AreTold files (volume_store disk old))
-    → Preserves (AreTold files) disk (squeeze_transfers files) squeezed old new
+    → Preserves files disk (squeeze_transfers files) squeezed old new
+    → IfOk squeezed (λ outcomes. OnSound (AreTold files) (volume_disk disk old) (SqueezesEach files outcomes.items (volume_disk disk old)
+    (volume_disk disk new)))
+    → IfErr squeezed (λ e. OnSound (AreTold files) (volume_disk disk old) (EndsEarly e))
     → SqueezesFiles files squeezed (volume_disk disk old) (volume_disk disk new)
-squeezes-files disk files squeezed old new told preserves = record {
+squeezes-files disk files squeezed old new told preserves squeezes refused = record {
   went = went_weaker _ _ (λ image spares s. spares (told s) s) preserves.went;
   kept = λ none s. preserves.kept none s (told s);
+  each = λ s. by squeezed squeezes refused s;
 }
+  where
+    by : (r : Result (Vec Squeezed Global) RtRefusal)
+        → IfOk r (λ outcomes. OnSound (AreTold files) (volume_disk disk old) (SqueezesEach files outcomes.items (volume_disk disk old)
+        (volume_disk disk new)))
+        → IfErr r (λ e. OnSound (AreTold files) (volume_disk disk old) (EndsEarly e)) → IsSoundDisk (volume_disk disk old)
+        → SqueezesAll files r (volume_disk disk old) (volume_disk disk new)
+    by (Ok outcomes) squeezes refused s = squeezes s (told s)
+    by (Err e) squeezes refused s = refused s (told s)

@@ -10,7 +10,7 @@ use Rattle.f11_index.specs.Table.{Table}
 use Rattle.f11_store.specs.declared.files.FileId.{FileId}
 use Rattle.f11_store.specs.declared.refusals.Refusal.{Refusal}
 use Rattle.f11_commands.specs.AnyVolume.{directory_named, unless_refused}
-use Rattle.f11_commands.specs.Looking.{Ask, FailsToLook, FindsNothing, FindsTold, LooksFor}
+use Rattle.f11_commands.specs.Looking.{Ask, LookFails, FindsNothing, FindsTold, LooksFor}
 use Rattle.f11_commands.specs.declared.name_list.NoNames.{NoNames}
 use Rattle.f11_commands.specs.declared.outcome.Failure.{Failure}
 
@@ -39,4 +39,4 @@ abbrev pub HasNoNames : NoNames → List ℕ → Disk → Disk → Type 0
 HasNoNames why directory old new = FindsNothing (names_under directory) why old new
 
 abbrev pub FailsToFindNames : Failure → Disk → Disk → Type 0
-FailsToFindNames failure old new = FailsToLook failure old new
+FailsToFindNames failure old new = LookFails failure old new

@@ -26,6 +26,7 @@ pub mod PutCommand
 pub mod Laws
 pub mod PutAll
 pub mod PutEach
+pub mod PuttingCounts
 pub mod Report
 pub mod RtReport
 pub mod Lines

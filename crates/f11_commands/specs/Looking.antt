@@ -50,7 +50,7 @@ failure_by faults.DeviceFault = DeviceFault
 failure_by faults.NoMemory = NoMemory
 
 -- The look broke off: a transfer failed, or there was no memory.
-abbrev pub FailsToLook : Failure → Disk → Disk → Type 0
-FailsToLook DeviceFault old new = Reads old new 1
-FailsToLook NoMemory old new = Reads old new 0
-FailsToLook CannotWrite old new = ⊥
+abbrev pub LookFails : Failure → Disk → Disk → Type 0
+LookFails DeviceFault old new = Reads old new 1
+LookFails NoMemory old new = Reads old new 0
+LookFails CannotWrite old new = ⊥

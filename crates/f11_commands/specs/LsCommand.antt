@@ -3,6 +3,7 @@ use Rattle.std.specs.Prelude.{◌≡◌, ℕ, IsTrue, List, Option, Some, None, 
 use Rattle.f11_catalog.specs.Lines.{all_directory_lines, record_lines}
 use Rattle.f11_catalog.specs.Records.{Reads, directory_refusal, file_found, records_found}
 use Rattle.f11_catalog.specs.chain.Calls.{table}
+use Rattle.f11_catalog.specs.declared.line_form.LineForm.{LineForm}
 use Rattle.f11_dev.specs.Disk.{Disk}
 use Rattle.f11_dev.specs.Image.{Image}
 use Rattle.f11_flx.specs.declared.refusal.FlxRefusal.TheVariants.{Files}
@@ -27,27 +28,27 @@ lines_or None lines = Ok lines
 lines_or (Some refusal) lines = Err refusal
 
 -- of a directory with an identification: a line for each record
-abbrev pub directory_listed : Index → Image → Table → FileId → Result (List ℕ) Refusal
-directory_listed wide image t id =
-    lines_or (directory_refusal (file_found wide image t id)) (record_lines wide image t (records_found wide image t id))
+abbrev pub directory_listed : LineForm → Index → Image → Table → FileId → Result (List ℕ) Refusal
+directory_listed form wide image t id =
+    lines_or (directory_refusal (file_found wide image t id)) (record_lines form wide image t (records_found wide image t id))
 
 -- of the master file directory: the lines of each directory that it names
-abbrev pub directories_listed : Index → Image → Table → Result (List ℕ) Refusal
-directories_listed wide image t = lines_or (directory_refusal (file_found wide image t master_directory))
-    (all_directory_lines wide image t (records_found wide image t master_directory))
+abbrev pub directories_listed : LineForm → Index → Image → Table → Result (List ℕ) Refusal
+directories_listed form wide image t = lines_or (directory_refusal (file_found wide image t master_directory))
+    (all_directory_lines form wide image t (records_found wide image t master_directory))
 
 -- of the directory with a name
-abbrev pub one_listed : Index → Image → Table → List ℕ → Result (List ℕ) Refusal
-one_listed wide image t directory = unless_refused (directory_listed wide image t) (directory_named wide image t directory)
+abbrev pub one_listed : LineForm → Index → Image → Table → List ℕ → Result (List ℕ) Refusal
+one_listed form wide image t directory = unless_refused (directory_listed form wide image t) (directory_named wide image t directory)
 
 -- of what is asked for: the directory with a name, or all
-abbrev pub listed : Index → Image → Table → Option (List ℕ) → Result (List ℕ) Refusal
-listed wide image t (Some directory) = one_listed wide image t directory
-listed wide image t None = directories_listed wide image t
+abbrev pub listed : LineForm → Index → Image → Table → Option (List ℕ) → Result (List ℕ) Refusal
+listed form wide image t (Some directory) = one_listed form wide image t directory
+listed form wide image t None = directories_listed form wide image t
 
 -- of a volume, where a file is read by its record though the bit of its slot is 0
-abbrev pub volume_listed : Image → HomeFields → Option (List ℕ) → Result (List ℕ) Refusal
-volume_listed image home directory = listed (all_in_use (index_of image home)) image (table_of image home) directory
+abbrev pub volume_listed : LineForm → Image → HomeFields → Option (List ℕ) → Result (List ℕ) Refusal
+volume_listed form image home directory = listed form (all_in_use (index_of image home)) image (table_of image home) directory
 
 -- what is written: the lines, or why there are none
 abbrev pub listing_text : Result (List ℕ) Refusal → List ℕ
@@ -73,37 +74,40 @@ pub record IsNotListed (lists : Image → Table → Result (List ℕ) Refusal) (
   pub reads : Reads old new 0
 
 -- What is asked for was listed, of the files that an index file has.
-pub record ListsIndex {W : Type 0} (index wide : Index) (directory : Option (List ℕ)) (answer : Answer) (old new : Disk)
+pub record ListsIndex {W : Type 0} (form : LineForm) (index wide : Index) (directory : Option (List ℕ)) (answer : Answer) (old new : Disk)
     (contents : W → Option (List ℕ))
     (before after : W) : Type 0 where
   pub text : List ℕ
-  pub text_is : IsTrue old.honest → text ≡ listing_text (listed wide old.image (table index old) directory)
-  pub answer_is : IsTrue old.honest → answer ≡ listing_answer (listed wide old.image (table index old) directory)
+  pub text_is : IsTrue old.honest → text ≡ listing_text (listed form wide old.image (table index old) directory)
+  pub answer_is : IsTrue old.honest → answer ≡ listing_answer (listed form wide old.image (table index old) directory)
   pub takes : WriterTakes contents before after text
   pub reads : Reads old new 0
 
 -- What is asked for was listed, of a volume that can be read.
-pub record ListsFiles {W : Type 0} (directory : Option (List ℕ)) (answer : Answer) (old new : Disk) (contents : W → Option (List ℕ))
+pub record ListsFiles {W : Type 0} (form : LineForm) (directory : Option (List ℕ)) (answer : Answer) (old new : Disk)
+    (contents : W → Option (List ℕ))
     (before after : W) : Type 0 where
   pub home : HomeFields
   pub readable : IsTrue old.honest → IsReadable old.image home
   pub text : List ℕ
-  pub text_is : IsTrue old.honest → text ≡ listing_text (volume_listed old.image home directory)
-  pub answer_is : IsTrue old.honest → answer ≡ listing_answer (volume_listed old.image home directory)
+  pub text_is : IsTrue old.honest → text ≡ listing_text (volume_listed form old.image home directory)
+  pub answer_is : IsTrue old.honest → answer ≡ listing_answer (volume_listed form old.image home directory)
   pub takes : WriterTakes contents before after text
   pub reads : Reads old new 0
 
 -- What `ls` does to a volume: it can be read, or can't.
-pub data ListsVolume {W : Type 0} (directory : Option (List ℕ)) (answer : Answer) (old new : Disk) (contents : W → Option (List ℕ))
+pub data ListsVolume {W : Type 0} (form : LineForm) (directory : Option (List ℕ)) (answer : Answer) (old new : Disk)
+    (contents : W → Option (List ℕ))
     (before after : W) : Type 0 where
-  lists : ListsFiles directory answer old new contents before after → ListsVolume directory answer old new contents before after
-  tells : TellsFault answer old new contents before after → ListsVolume directory answer old new contents before after
+  lists : ListsFiles form directory answer old new contents before after → ListsVolume form directory answer old new contents before after
+  tells : TellsFault answer old new contents before after → ListsVolume form directory answer old new contents before after
 
 -- The volume was verified and what is asked for listed: it is said whether it has faults.
-pub record PrintsListing {W : Type 0} (directory : Option (List ℕ)) (served : Served) (old new : Disk) (contents : W → Option (List ℕ))
+pub record PrintsListing {W : Type 0} (form : LineForm) (directory : Option (List ℕ)) (served : Served) (old new : Disk)
+    (contents : W → Option (List ℕ))
     (before after : W) : Type 0 where
   pub verified : IsVerified served.faulty old
-  pub lists : ListsVolume directory served.answer old new contents before after
+  pub lists : ListsVolume form directory served.answer old new contents before after
 
 -- The files that an index file has couldn't be listed: a transfer failed, or the writer takes no more.
 abbrev pub FailsToListIndex : Failure → Disk → Disk → Type 0

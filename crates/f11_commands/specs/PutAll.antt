@@ -1,5 +1,5 @@
 -- What `put --all` does beside `put --each`: directories are made on the mounted volume, and lines name the directory of a file (profile).
-use Rattle.std.specs.Prelude.{◌≡◌, ◌⊎◌, ℕ, true, List, [], ◌∷◌, codes, Option, Some, None, Result, Ok, Err}
+use Rattle.std.specs.Prelude.{◌≡◌, ◌⊎◌, ℕ, List, [], ◌∷◌, codes, Option, Some, None, Result, Ok, Err, is_ok}
 use Rattle.std.specs.Fmt.{decimal}
 use Rattle.std.specs.List.{concat}
 use Rattle.f11_catalog.specs.DirectoryNames.{directory_text}
@@ -18,15 +18,16 @@ use Rattle.f11_store.specs.declared.refusals.Refusal.{Refusal}
 use Rattle.f11_commands.specs.Copying.{master_directory, operator}
 use Rattle.f11_commands.specs.Output.{WriterTakes}
 use Rattle.f11_commands.specs.PutCommand.{HoldFor, Hosts, PutsByName, PutsNamed}
-use Rattle.f11_commands.specs.PutEach.{TellsBy, counts_of, ending, is_made, refusal_of, volume_of}
+use Rattle.f11_commands.specs.PutEach.{counts_of, ending, refusal_of, volume_of}
+use Rattle.f11_commands.specs.PuttingCounts.{TellsBy}
 use Rattle.f11_commands.specs.Stopping.{StopsPut, WhereUnheld}
 use Rattle.f11_commands.specs.declared.outcome.Failure.{Failure}
 use Rattle.f11_commands.specs.declared.outcome.Failure.TheVariants.{CannotWrite}
 use Rattle.f11_commands.specs.declared.outcome.FileAnswer.{FileAnswer}
 use Rattle.f11_commands.specs.declared.outcome.FileAnswer.TheVariants.{Done, Refused}
 use Rattle.f11_commands.specs.declared.put.Putting.{Putting}
-use Rattle.f11_commands.specs.declared.put.puts.PutCounts.{PutCounts}
 use Rattle.f11_commands.specs.declared.put.puts.Puts.{Puts}
+use Rattle.f11_commands.specs.declared.put_counts.PutCounts.{PutCounts}
 
 -- the line of a file that was made in a directory, of so many blocks, and of one that was refused
 abbrev pub line_in : DirectoryName → List ℕ → Result ℕ HostRefusal → List ℕ
@@ -44,7 +45,7 @@ made_line place (Err e) = concat (directory_text place ∷ codes " not made " �
 abbrev pub TellsIn : {W : Type 0} → DirectoryName → List ℕ → Result ℕ HostRefusal → Result FileAnswer Failure → PutCounts → PutCounts →
     (W → Option (List ℕ)) → W → W → Type 0
 TellsIn place name result told counts counts' contents before after =
-    TellsBy (ending result) (line_in place name result) (is_made result) told counts counts' contents before after
+    TellsBy (ending result) (line_in place name result) (is_ok result) told counts counts' contents before after
 
 -- A file was to be made on the volume as it was, as by `put`, and what came of it was told with its directory.
 pub record PutsOneIn {D W : Type 0} {met : Ghosts D} (place : DirectoryName) (p : Putting) (bytes : ℕ) (told : Result FileAnswer Failure)

@@ -1,36 +1,31 @@
 -- What `put --each` does: files of the host are made on a mounted volume, one after another (profile).
-use Rattle.std.specs.Prelude.{◌≡◌, ◌⊎◌, ◌==◌, ℕ, not, Bool, true, false, if◌then◌else◌, List, [], ◌∷◌, codes, Option, Some, None, Result}
-use Rattle.std.specs.Prelude.{Ok, Err}
+use Rattle.std.specs.Prelude.{◌≡◌, ◌⊎◌, ℕ, false, List, [], ◌∷◌, codes, Option, Some, None, Result, Ok, Err, is_ok}
 use Rattle.std.specs.Fmt.{decimal}
 use Rattle.std.specs.List.{concat}
 use Rattle.f11_dev.specs.Disk.{Disk, with_transfer}
 use Rattle.f11_dev.specs.declared.device.Device.{Ghosts}
-use Rattle.f11_flx.specs.Copying.{is_whole}
 use Rattle.f11_flx.specs.Refusal.{flx_refusal_name}
 use Rattle.f11_flx.specs.declared.refusal.FlxRefusal.{FlxRefusal}
-use Rattle.f11_host.specs.Refusal.{as_copy, copy_result}
+use Rattle.f11_host.specs.Refusal.{as_copy}
 use Rattle.f11_host.specs.declared.refusal.HostRefusal.{HostRefusal}
 use Rattle.f11_host.specs.declared.refusal.HostRefusal.TheVariants.{Files}
 use Rattle.f11_rad50.specs.Name.{name_text}
-use Rattle.f11_serving.specs.fcp.Lists.{is_sound, store_of_volume}
 use Rattle.f11_serving.specs.fcp.Mounting.{Mounts}
-use Rattle.f11_serving.specs.fcp.Serving.{StaysAccepted, state_in}
+use Rattle.f11_serving.specs.fcp.Serving.{StaysAccepted, is_spent, state_in}
 use Rattle.f11_serving.specs.fcp.declared.volume.Volume.{Volume}
 use Rattle.f11_store.specs.declared.refusals.Refusal.TheVariants as refusal
-use Rattle.f11_commands.specs.AllCommand.{more_if}
 use Rattle.f11_commands.specs.CopyCommand.{EndsFiles, FailsToMount, VerifiesFiles}
-use Rattle.f11_commands.specs.Output.{WriterTakes}
 use Rattle.f11_commands.specs.PutCommand.{HoldFor, Hosts, PutsByName, PutsNamed}
+use Rattle.f11_commands.specs.PuttingCounts.{TellsBy, TellsCounts, TellsLeftOut, no_files}
 use Rattle.f11_commands.specs.Stopping.{StopsPut, WhereUnheld}
+use Rattle.f11_commands.specs.Syncing.{GivesBack, is_behind_fault}
 use Rattle.f11_commands.specs.declared.outcome.Failure.{Failure}
-use Rattle.f11_commands.specs.declared.outcome.Failure.TheVariants.{CannotWrite, DeviceFault, NoMemory}
+use Rattle.f11_commands.specs.declared.outcome.Failure.TheVariants.{DeviceFault, NoMemory}
 use Rattle.f11_commands.specs.declared.outcome.FileAnswer.{FileAnswer}
-use Rattle.f11_commands.specs.declared.outcome.FileAnswer.TheVariants.{Done, Refused}
 use Rattle.f11_commands.specs.declared.put.Putting.{Putting}
-use Rattle.f11_commands.specs.declared.put.each.Unput.{Unput}
-use Rattle.f11_commands.specs.declared.put.each.Unput.TheVariants.{BadName, CannotOpen}
-use Rattle.f11_commands.specs.declared.put.puts.PutCounts.{PutCounts}
 use Rattle.f11_commands.specs.declared.put.puts.Puts.{Puts}
+use Rattle.f11_commands.specs.declared.put_counts.PutCounts.{PutCounts}
+use Rattle.f11_commands.specs.declared.put_counts.Unput.{Unput}
 
 -- the volume, and how many files were made on it, and weren't
 abbrev pub volume_of : {D : Type 0} {met : Ghosts D} → Puts D met → Volume D met
@@ -39,25 +34,9 @@ volume_of puts = puts.volume
 abbrev pub counts_of : {D : Type 0} {met : Ghosts D} → Puts D met → PutCounts
 counts_of puts = puts.counts
 
--- one wasn't
-abbrev pub has_refused : {D : Type 0} {met : Ghosts D} → Puts D met → Bool
-has_refused puts = not ((counts_of puts).refused == 0)
-
 -- the device, as it is
 abbrev pub disk_of : {D : Type 0} {met : Ghosts D} → Puts D met → Disk
 disk_of puts = (state_in (volume_of puts)).disk
-
-abbrev pub no_files : PutCounts
-no_files = record { made = 0; refused = 0 }
-
--- one more, which was made or wasn't
-abbrev pub counted : Bool → PutCounts → PutCounts
-counted is_made counts = record { made = more_if is_made counts.made; refused = more_if (not is_made) counts.refused }
-
--- whether it was
-abbrev pub is_made : Result ℕ HostRefusal → Bool
-is_made (Ok blocks) = true
-is_made (Err e) = false
 
 -- as which refusal of a copy one is told
 abbrev pub refusal_of : HostRefusal → FlxRefusal
@@ -76,39 +55,11 @@ abbrev pub one_line : List ℕ → Result ℕ HostRefusal → List ℕ
 one_line name (Ok blocks) = concat (name_text name ∷ codes " copied " ∷ decimal blocks ∷ (10 ∷ []) ∷ [])
 one_line name (Err e) = concat (name_text name ∷ codes " no " ∷ flx_refusal_name (refusal_of e) ∷ (10 ∷ []) ∷ [])
 
--- that of a file of the host for which nothing was asked
-abbrev pub unput_text : Unput → List ℕ
-unput_text BadName = codes "BadName"
-unput_text CannotOpen = codes "CannotOpen"
-
-abbrev pub left_out_line : List ℕ → Unput → List ℕ
-left_out_line host why = concat (host ∷ codes " no " ∷ unput_text why ∷ (10 ∷ []) ∷ [])
-
--- and the last one
-abbrev pub counts_line : PutCounts → List ℕ
-counts_line counts =
-    concat (codes "all " ∷ decimal counts.made ∷ codes " copied, " ∷ decimal counts.refused ∷ codes " not copied" ∷ (10 ∷ []) ∷ [])
-
--- how a file is told and counted: by its line, which the writer takes or doesn't; or as the failure that ends the others
-abbrev pub TellsBy : {W : Type 0} → Option Failure → (line : List ℕ) → (made : Bool) → Result FileAnswer Failure → PutCounts → PutCounts →
-    (W → Option (List ℕ)) → W → W → Type 0
-TellsBy (Some failure) line made told counts counts' contents before after =
-    (told ≡ Err failure) × (counts' ≡ counts) × (after ≡ before)
-TellsBy None line made told counts counts' contents before after =
-    (counts' ≡ counted made counts)
-    × (((told ≡ Ok (if made then Done else Refused)) × WriterTakes contents before after line)
-    ⊎ (told ≡ Err CannotWrite))
-
+-- how a file is told and counted
 abbrev pub TellsOne : {W : Type 0} → List ℕ → Result ℕ HostRefusal → Result FileAnswer Failure → PutCounts → PutCounts →
     (W → Option (List ℕ)) → W → W → Type 0
 TellsOne name result told counts counts' contents before after =
-    TellsBy (ending result) (one_line name result) (is_made result) told counts counts' contents before after
-
--- how the last line is told
-abbrev pub TellsCounts : {W : Type 0} → PutCounts → Result FileAnswer Failure → (W → Option (List ℕ)) → W → W → Type 0
-TellsCounts counts told contents before after =
-    ((told ≡ Ok (if counts.refused == 0 then Done else Refused)) × WriterTakes contents before after (counts_line counts))
-    ⊎ (told ≡ Err CannotWrite)
+    TellsBy (ending result) (one_line name result) (is_ok result) told counts counts' contents before after
 
 -- The volume was verified and has no fault, and it is mounted; no file was made yet, and nothing was written.
 pub record BeginsPuts {D W : Type 0} {met : Ghosts D} (old : Disk) (puts : Puts D met) (before after : W) : Type 0 where
@@ -143,9 +94,7 @@ pub record PutsOne {D W : Type 0} {met : Ghosts D} (p : Putting) (bytes : ℕ) (
 pub record LeavesOut {D W : Type 0} {met : Ghosts D} (host : List ℕ) (why : Unput) (told : Result (Unit {0}) Failure)
     (old new : Puts D met) (contents : W → Option (List ℕ)) (before after : W) : Type 0 where
   pub volume : volume_of new ≡ volume_of old
-  pub counts : counts_of new ≡ counted false (counts_of old)
-  pub tells :
-      ((told ≡ Ok tt) × WriterTakes contents before after (left_out_line host why)) ⊎ (told ≡ Err CannotWrite)
+  pub tells : TellsLeftOut host why told (counts_of old) (counts_of new) contents before after
 
 -- how the command ends: the device was synced, and the last line told; or the sync failed, and nothing was written
 abbrev pub EndsPuts : {D W : Type 0} {met : Ghosts D} → Puts D met → Result FileAnswer Failure → Disk → (W → Option (List ℕ)) → W → W →
@@ -154,7 +103,8 @@ EndsPuts puts told new contents before after =
     ((new ≡ disk_of puts) × TellsCounts (counts_of puts) told contents before after)
     ⊎ ((new ≡ with_transfer false (disk_of puts)) × (told ≡ Err DeviceFault) × (after ≡ before))
 
--- and where they broke off: by this failure, with the device synced unless it is a device fault; or the sync failed
-abbrev pub KeepsBroken : {D : Type 0} {met : Ghosts D} → Failure → Puts D met → Failure → Disk → Type 0
+-- and where they broke off by a failure: nothing is transferred where a request has failed the volume or it is a device fault; else the
+-- device is synced
+abbrev pub KeepsBroken : {D : Type 0} {met : Ghosts D} → Failure → Puts D met → (told : Failure) → Disk → Type 0
 KeepsBroken failure puts told new =
-    ((new ≡ disk_of puts) × (told ≡ failure)) ⊎ ((new ≡ with_transfer false (disk_of puts)) × (told ≡ DeviceFault))
+    GivesBack (is_behind_fault (is_spent (volume_of puts)) failure) failure told (disk_of puts) new

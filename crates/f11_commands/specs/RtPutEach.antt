@@ -1,6 +1,6 @@
 -- What `rt-put --each` does: files of the host are made on an RT-11 volume, one after another (profile).
-use Rattle.std.specs.Prelude.{◌≡◌, ◌⊎◌, ◌==◌, ℕ, not, Bool, true, false, if◌then◌else◌, List, [], ◌∷◌, ◌++◌, codes, Option, Some, None}
-use Rattle.std.specs.Prelude.{Result, Ok, Err}
+use Rattle.std.specs.Prelude.{◌≡◌, ◌⊎◌, ℕ, Bool, true, false, if◌then◌else◌, List, [], ◌∷◌, ◌++◌, codes, Option, Some, None, Result}
+use Rattle.std.specs.Prelude.{Ok, Err, is_ok}
 use Rattle.std.specs.Fmt.{decimal}
 use Rattle.f11_dev.specs.Disk.{Disk, with_transfer}
 use Rattle.f11_dev.specs.declared.device.Device.{Ghosts}
@@ -10,14 +10,14 @@ use Rattle.rt11_volume.specs.RtName.{rt_name_text}
 use Rattle.rt11_volume.specs.declared.refusal.RtRefusal.TheVariants as refusal
 use Rattle.rt11_volume.specs.declared.volume.RtAccepted.{RtAccepted}
 use Rattle.f11_commands.specs.CopyCommand.{VerifiesRt}
-use Rattle.f11_commands.specs.Output.{WriterTakes}
-use Rattle.f11_commands.specs.PutEach.{TellsBy, TellsCounts, counted, left_out_line, no_files}
+use Rattle.f11_commands.specs.PuttingCounts.{TellsBy, TellsCounts, TellsLeftOut, no_files}
 use Rattle.f11_commands.specs.RtPut.{PutsFile, is_fault_of}
+use Rattle.f11_commands.specs.Syncing.{GivesBack, is_behind_fault}
 use Rattle.f11_commands.specs.declared.outcome.Failure.{Failure}
-use Rattle.f11_commands.specs.declared.outcome.Failure.TheVariants.{CannotWrite, DeviceFault, NoMemory}
+use Rattle.f11_commands.specs.declared.outcome.Failure.TheVariants.{DeviceFault, NoMemory}
 use Rattle.f11_commands.specs.declared.outcome.FileAnswer.{FileAnswer}
-use Rattle.f11_commands.specs.declared.put.each.Unput.{Unput}
-use Rattle.f11_commands.specs.declared.put.puts.PutCounts.{PutCounts}
+use Rattle.f11_commands.specs.declared.put_counts.PutCounts.{PutCounts}
+use Rattle.f11_commands.specs.declared.put_counts.Unput.{Unput}
 use Rattle.f11_commands.specs.declared.rt_file.Stop.{Stop}
 use Rattle.f11_commands.specs.declared.rt_file.Stop.TheVariants.{Volume, Host}
 use Rattle.f11_commands.specs.declared.rt_put.puts.RtPuts.{RtPuts}
@@ -32,10 +32,6 @@ has_failed_by puts = puts.failed
 abbrev pub counts_of : {D : Type 0} {met : Ghosts D} → RtPuts D met → PutCounts
 counts_of puts = puts.counts
 
--- one wasn't
-abbrev pub has_refused : {D : Type 0} {met : Ghosts D} → RtPuts D met → Bool
-has_refused puts = not ((counts_of puts).refused == 0)
-
 -- the device, as it is
 abbrev pub disk_of : {D : Type 0} {met : Ghosts D} → (D → Disk) → RtPuts D met → Disk
 disk_of disk puts = disk (volume_device (volume_of puts))
@@ -46,12 +42,7 @@ rt_ending (Err (Volume refusal.DeviceFault)) = Some DeviceFault
 rt_ending (Err (Volume refusal.NoMemory)) = Some NoMemory
 rt_ending _ = None
 
--- whether a file was made
-abbrev pub is_made : Result ℕ Stop → Bool
-is_made (Ok blocks) = true
-is_made (Err stop) = false
-
--- its line, and that of one that was refused
+-- the line of a file that was made, of so many blocks, and of one that was refused
 abbrev pub rt_line : List ℕ → Result ℕ Stop → List ℕ
 rt_line name (Ok blocks) = rt_name_text name ++ (codes " copied " ++ (decimal blocks ++ 10 ∷ []))
 rt_line name (Err (Volume e)) = rt_name_text name ++ (codes " no " ++ (refusal_name e ++ 10 ∷ []))
@@ -61,7 +52,7 @@ rt_line name (Err Host) = rt_name_text name ++ (codes " no Unread" ++ 10 ∷ [])
 abbrev pub TellsOneRt : {W : Type 0} → List ℕ → Result ℕ Stop → Result FileAnswer Failure → PutCounts → PutCounts →
     (W → Option (List ℕ)) → W → W → Type 0
 TellsOneRt name result told counts counts' contents before after =
-    TellsBy (rt_ending result) (rt_line name result) (is_made result) told counts counts' contents before after
+    TellsBy (rt_ending result) (rt_line name result) (is_ok result) told counts counts' contents before after
 
 -- The volume was verified and has no fault; no file was made yet, and nothing was written.
 pub record BeginsRtPuts {D W : Type 0} {met : Ghosts D} (disk : D → Disk) (old : Disk) (puts : RtPuts D met) (before after : W) : Type 0
@@ -101,9 +92,7 @@ pub record LeavesOutRt {D W : Type 0} {met : Ghosts D} (host : List ℕ) (why : 
     (old new : RtPuts D met) (contents : W → Option (List ℕ)) (before after : W) : Type 0 where
   pub volume : volume_of new ≡ volume_of old
   pub failed : has_failed_by new ≡ has_failed_by old
-  pub counts : counts_of new ≡ counted false (counts_of old)
-  pub tells :
-      ((told ≡ Ok tt) × WriterTakes contents before after (left_out_line host why)) ⊎ (told ≡ Err CannotWrite)
+  pub tells : TellsLeftOut host why told (counts_of old) (counts_of new) contents before after
 
 -- The device was synced, and the last line told.
 pub record EndsKept {W : Type 0} (counts : PutCounts) (told : Result FileAnswer Failure) (done new : Disk) (contents : W → Option (List ℕ))
@@ -124,7 +113,8 @@ EndsRtPuts disk puts told new contents before after =
     ((has_failed_by puts ≡ false) × EndsKept (counts_of puts) told (disk_of disk puts) new contents before after)
     ⊎ (EndsByFault (has_failed_by puts) told (disk_of disk puts) new before after)
 
--- and where they broke off: by this failure, with the device synced unless it is a device fault; or the sync failed
-abbrev pub KeepsRt : {D : Type 0} {met : Ghosts D} → (D → Disk) → Failure → RtPuts D met → Failure → Disk → Type 0
-KeepsRt disk failure puts told new =
-    ((new ≡ disk_of disk puts) × (told ≡ failure)) ⊎ ((new ≡ with_transfer false (disk_of disk puts)) × (told ≡ DeviceFault))
+-- and where they broke off by a failure: nothing is transferred where a transfer has failed or it is a device fault; else the device is
+-- synced
+abbrev pub KeepsBrokenRt : {D : Type 0} {met : Ghosts D} → (D → Disk) → Failure → RtPuts D met → (told : Failure) → Disk → Type 0
+KeepsBrokenRt disk failure puts told new =
+    GivesBack (is_behind_fault (has_failed_by puts) failure) failure told (disk_of disk puts) new

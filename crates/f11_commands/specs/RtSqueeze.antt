@@ -9,7 +9,7 @@ use Rattle.f11_dev.specs.Disk.{Disk, with_transfer}
 use Rattle.f11_dev.specs.Went.{Went}
 use Rattle.f11_flx.specs.declared.refusal.FlxRefusal.TheVariants.{Rt}
 use Rattle.rt11_squeeze.specs.Kept.{SparesFiles}
-use Rattle.rt11_squeeze.specs.Squeezing.{KeepsAllFiles, squeeze_transfers}
+use Rattle.rt11_squeeze.specs.Squeezing.{EndsEarly, KeepsAllFiles, SqueezesEach, squeeze_transfers}
 use Rattle.rt11_squeeze.specs.Telling.{FailsToTell, TellsAll}
 use Rattle.rt11_squeeze.specs.declared.moving.FileToMove.{FileToMove}
 use Rattle.rt11_squeeze.specs.declared.outcome.Squeezed.{Squeezed}
@@ -104,11 +104,17 @@ EndsSqueezed files squeezed told done new contents before after =
     ⊎ ((TellsKept files squeezed told done new contents before after)
     ⊎ (IsUnsynced squeezed told done new contents before after))
 
--- Files were brought to lower blocks. Each image that stood meanwhile has the blocks of each file, and unless a transfer failed the files
--- of each name are those that there were, wherever they lie.
+-- what became of each file, or why it was ended before the last of them
+abbrev pub SqueezesAll : List FileToMove → Result (Vec Squeezed Global) RtRefusal → Disk → Disk → Type 0
+SqueezesAll files (Ok outcomes) old new = SqueezesEach files outcomes.items old new
+SqueezesAll files (Err e) old new = EndsEarly e
+
+-- Files were brought to lower blocks, each as its outcome says. Each image that stood meanwhile has the blocks of each file, and unless a
+-- transfer failed the files of each name are those that there were, and others than these lie where they lay.
 pub record SqueezesFiles (files : List FileToMove) (squeezed : Result (Vec Squeezed Global) RtRefusal) (old new : Disk) : Type 0 where
   pub went : Went (SparesFiles old) old new (squeeze_transfers files) (faults_in squeezed)
-  pub kept : is_device_fault squeezed ≡ false → IsSoundDisk old → KeepsAllFiles old new
+  pub kept : is_device_fault squeezed ≡ false → IsSoundDisk old → KeepsAllFiles files old new
+  pub each : IsSoundDisk old → SqueezesAll files squeezed old new
 
 -- as what it is told that the directory couldn't be read
 abbrev pub look_failure : RtRefusal → Failure

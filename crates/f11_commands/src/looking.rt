@@ -2,7 +2,7 @@
 ghost use Rattle.std.specs.Prelude.{IfErr, IfOk};
 ghost use Rattle.f11_index.specs.Kept.{index_kept};
 ghost use Rattle.f11_commands.specs.AnyVolume.{CannotBeRead};
-ghost use Rattle.f11_commands.specs.Looking.{FailsToLook, FindsIndexes};
+ghost use Rattle.f11_commands.specs.Looking.{LookFails, FindsIndexes};
 
 use crate::outcome::Failure;
 use crate::volume::{VolumeFault, read_index};
@@ -25,7 +25,7 @@ pub(crate) fn read_indexes<D: Device>(
     ensures none { IfOk result (λ answer. IfErr answer (λ fault.
         CannotBeRead fault (D.disk device.old) (D.disk device.new))) }
     ensures failed { IfErr result (λ failure.
-        FailsToLook failure (D.disk device.old) (D.disk device.new)) }
+        LookFails failure (D.disk device.old) (D.disk device.new)) }
 {
     let index = match read_index(alloc, device) {
         Ok(Ok((_, index))) => index,

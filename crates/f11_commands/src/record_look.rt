@@ -3,7 +3,7 @@ ghost use Rattle.std.specs.Prelude.{Err, IfErr, IfOk, Ok, OnErr, length};
 ghost use Rattle.f11_catalog.specs.Records.{Reads};
 ghost use Rattle.f11_index.specs.Kept.{index_kept, IndexLiesWithin};
 ghost use Rattle.f11_commands.specs.DirectoryRecords.{FindsRecords, HasNoRecords, LooksForRecords};
-ghost use Rattle.f11_commands.specs.Looking.{FailsToLook};
+ghost use Rattle.f11_commands.specs.Looking.{LookFails};
 
 use crate::finding::MASTER_DIRECTORY;
 use crate::looking::read_indexes;
@@ -37,7 +37,7 @@ pub fn leads_to_records<D: Device>(
     ensures none { IfOk result (λ answer. IfErr answer (λ why.
         HasNoRecords why directory.now name.now (D.disk device.old) (D.disk device.new))) }
     ensures failed { IfErr result (λ failure.
-        FailsToLook failure (D.disk device.old) (D.disk device.new)) }
+        LookFails failure (D.disk device.old) (D.disk device.new)) }
 {
     let (index, wide) = match read_indexes(alloc, device)? {
         Ok(both) => both,

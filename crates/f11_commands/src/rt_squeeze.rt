@@ -28,7 +28,7 @@ use std::io::{self, Write};
 /// # Errors
 ///
 /// [`Failure::DeviceFault`] where a transfer failed, or the sync when all are moved, [`Failure::NoMemory`] where there was no memory, and
-/// [`Failure::CannotWrite`] where the writer takes no more: then files may be moved.
+/// [`Failure::CannotWrite`] where the writer takes no more. With each of them files may be moved already.
 pub fn print_rt_squeeze<D: Device, W: Write>(
     alloc: Global,
     device: D,

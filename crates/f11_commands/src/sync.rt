@@ -1,7 +1,9 @@
 //! What a command wrote is kept before it says so.
 ghost use Rattle.std.specs.Prelude.{◌≡◌, false, IfErr, IfOk};
 ghost use Rattle.f11_dev.specs.Disk.{with_transfer};
+ghost use Rattle.f11_commands.specs.Syncing.{GivesBack, is_behind_fault};
 
+use crate::outcome::Failure;
 use f11_dev::{Device, DeviceFault};
 
 /// Waits until what was written to a device is where a machine that stops keeps it, and gives the device back.
@@ -17,5 +19,27 @@ pub fn synced<D: Device>(device: D) -> Result<D, D>
     match device.sync() {
         Ok(()) => Ok(device),
         Err(DeviceFault) => Err(device),
+    }
+}
+
+/// Whether nothing is to be transferred any more behind a failure.
+fn is_behind_fault(failed: bool, failure: Failure) -> bool
+    ensures { result ≡ is_behind_fault failed failure }
+{
+    failed || matches!(failure, Failure::DeviceFault)
+}
+
+/// Gives a device back behind a failure, and as which failure it is told. It is synced, unless a transfer has failed, as is known of the
+/// volume (`failed`) or told by the failure: nothing is transferred then.
+pub fn given_back<D: Device>(failed: bool, device: D, failure: Failure) -> (D, Failure)
+    ensures gives { GivesBack (is_behind_fault failed failure) failure result.1
+        (D.disk device) (D.disk result.0) }
+{
+    if is_behind_fault(failed, failure) {
+        return (device, failure);
+    }
+    match synced(device) {
+        Ok(device) => (device, failure),
+        Err(device) => (device, Failure::DeviceFault),
     }
 }

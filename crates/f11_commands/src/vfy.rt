@@ -16,8 +16,8 @@ use std::io::Write;
 ///
 /// # Errors
 ///
-/// [`Failure::DeviceFault`] where a transfer failed, [`Failure::NoMemory`] where there was no memory, and
-/// [`Failure::CannotWrite`] where the writer takes no more: then it may hold a part of the lines.
+/// [`Failure::DeviceFault`] where a transfer failed, [`Failure::NoMemory`] where there was no memory, or there are more lines than are kept
+/// (4,194,304), and [`Failure::CannotWrite`] where the writer takes no more: then it may hold a part of the lines.
 pub fn print_vfy<D: Device, W: Write>(
     alloc: Global,
     device: D,

@@ -1,3 +1,4 @@
 pub mod Directory
 pub mod Outcome
+pub mod Stopping
 pub mod Taking

@@ -120,9 +120,14 @@ pub fn run<'a, W: Write>(
             };
             volumes::init(rt, image, blocks, &params, writer, remark)
         }
-        Words::Ls { image } => volumes::ls(rt, image, None, writer, remark),
-        Words::LsIn { image, directory } => {
-            volumes::ls(rt, image, Some(name_of(directory)), writer, remark)
+        Words::Ls { is_long, image } => volumes::ls(rt, is_long, image, None, writer, remark),
+        Words::LsIn {
+            is_long,
+            image,
+            directory,
+        } => {
+            let directory = Some(name_of(directory));
+            volumes::ls(rt, is_long, image, directory, writer, remark)
         }
         Words::Mkdir { image, directory } => {
             files::make_directory(rt, image, directory, writer, remark)

@@ -1,4 +1,9 @@
 //! The command `put --each`: files of the host that are put on a volume, each under its own name.
+ghost use Rattle.std.specs.Prelude.{◌≡◌, ◌&&◌, OnOk, length};
+ghost use Rattle.f11_commands.specs.PutEach.{counts_of};
+ghost use Rattle.f11_commands.specs.PuttingCounts.{CountsAll, CountsOne, has_refused, no_files};
+ghost use Rattle.f11_pip.specs.Stopping.{stops};
+
 use crate::heard::Heard;
 use crate::host_files::{ended, tell_no_directory, tell_nuls, tell_why};
 use crate::hosts::Hosts;
@@ -102,32 +107,57 @@ fn names_of<D: Device>(
     Ok(names)
 }
 
-/// Puts one file after another, but none behind one that is refused where that is asked for.
+/// Puts one file after another, but none behind one that is refused where that is asked for. Each is counted once.
 fn put_all<W: Write>(
     rt: &HostRuntime,
     each: &Each<'_>,
     names: &[Option<Name>],
     puts: &mut Puts<FileImage<File>>,
     writer: &mut W,
-) -> Result<(), f11_commands::Failure> {
-    for (at, name) in names.iter().enumerate() {
-        let host = each.hosts.at(at);
-        match name {
-            Some(name) => put_one(rt, each, None, host, *name, puts, writer)?,
-            None => {
-                remarks::tell(rt, host, Why::NO_NAME);
-                puts.leave_out(host, Unput::BadName, writer)?;
-            }
-        }
-        if each.manner == Manner::Stops && puts.has_refused() {
-            break;
+) -> Result<(), f11_commands::Failure>
+    requires none { counts_of puts.old ≡ no_files }
+    ensures counts { OnOk result (CountsAll (stops each.now.manner) (length names.now)
+        (counts_of puts.old) (counts_of puts.new)) }
+{
+    for at in 0..names.len() {
+        put_named(rt, each, None, each.hosts.at(at), names[at], puts, writer)?;
+        if is_ended(each.manner, puts) {
+            return Ok(());
         }
     }
     Ok(())
 }
 
+/// Whether no other file is put: one is refused, and that ends them.
+fn is_ended(manner: Manner, puts: &Puts<FileImage<File>>) -> bool
+    ensures { result ≡ (stops manner && has_refused (counts_of puts.now)) }
+{
+    matches!(manner, Manner::Stops) && puts.has_refused()
+}
+
+/// Puts one file under its name, or tells that it can't have one. It is counted once.
+pub fn put_named<W: Write>(
+    rt: &HostRuntime,
+    each: &Each<'_>,
+    place: Option<&DirectoryName>,
+    host: &str,
+    name: Option<Name>,
+    puts: &mut Puts<FileImage<File>>,
+    writer: &mut W,
+) -> Result<(), f11_commands::Failure>
+    ensures counts { OnOk result (CountsOne (counts_of puts.old) (counts_of puts.new)) }
+{
+    match name {
+        Some(name) => put_one(rt, each, place, host, name, puts, writer),
+        None => {
+            remarks::tell(rt, host, Why::NO_NAME);
+            puts.leave_out(host, Unput::BadName, writer)
+        }
+    }
+}
+
 /// Puts one file, or tells that it can't be opened; its line has the place in front where one is given.
-pub fn put_one<W: Write>(
+fn put_one<W: Write>(
     rt: &HostRuntime,
     each: &Each<'_>,
     place: Option<&DirectoryName>,
@@ -135,7 +165,9 @@ pub fn put_one<W: Write>(
     name: Name,
     puts: &mut Puts<FileImage<File>>,
     writer: &mut W,
-) -> Result<(), f11_commands::Failure> {
+) -> Result<(), f11_commands::Failure>
+    ensures counts { OnOk result (CountsOne (counts_of puts.old) (counts_of puts.new)) }
+{
     let mut unopened = None;
     let mut source = match Source::open(rt, each.mode, host, &mut unopened) {
         Ok(source) => source,
@@ -154,12 +186,7 @@ pub fn put_one<W: Write>(
         blocks: source.blocks,
     };
     let mut heard = Heard::new(writer, None);
-    let bytes = source.bytes;
-    let (first, again) = (&mut source.first, &mut source.again);
-    let told = match place {
-        Some(place) => puts.put_in(place, &putting, first, again, bytes, &mut heard)?,
-        None => puts.put(&putting, first, again, bytes, &mut heard)?,
-    };
+    let told = put_source(place, &putting, &mut source, puts, &mut heard)?;
     if told == FileAnswer::Done {
         tell_fitted(rt, host, &name);
         tell_nuls(rt, each.mode, host, &source);
@@ -167,6 +194,24 @@ pub fn put_one<W: Write>(
         tell_refused(rt, each, host, &name, source.bytes, line);
     }
     Ok(())
+}
+
+/// Puts a file that is open.
+fn put_source<W: Write>(
+    place: Option<&DirectoryName>,
+    putting: &Putting,
+    source: &mut Source,
+    puts: &mut Puts<FileImage<File>>,
+    writer: &mut W,
+) -> Result<FileAnswer, f11_commands::Failure>
+    ensures counts { OnOk result (CountsOne (counts_of puts.old) (counts_of puts.new)) }
+{
+    let bytes = source.bytes;
+    let (first, again) = (&mut source.first, &mut source.again);
+    match place {
+        Some(place) => puts.put_in(place, putting, first, again, bytes, writer),
+        None => puts.put(putting, first, again, bytes, writer),
+    }
 }
 
 /// Says which name a file gets that is put under another than its own, since that can't be one.

@@ -18,10 +18,11 @@ const VERSION: &str = "f11_pip 0.1, built with Rattle, logic dac8208d650f15bf";
 const FILES: [Synopsis; 14] = [
     Synopsis {
         command: Subcommand::Ls,
-        words: "f11_pip ls IMAGE [DIR]",
+        words: "f11_pip ls [-l] IMAGE [DIR]",
         does: "lists all directories, or one",
         about: &[
             "of a volume that has faults, too; a line a record: name, blocks, bytes, owner and protection word",
+            "-l: also when it was created and revised, how often, when it expires, and how its records are kept; the protection as [RWED,RWED,RWED,R]",
             "DIR: a UIC, octal, as 200,1, or a name, as [USERFILES]; 0,0 is the master file directory",
         ],
         example: "f11_pip ls pack.dsk 200,1",

@@ -16,6 +16,7 @@ use crate::remarks::{self, Remark, Why, opened};
 use crate::sources::Source;
 use crate::volumes::judged;
 use f11_actions::{found_name, next_name};
+use f11_commands::f11_catalog::LineForm;
 use f11_commands::f11_flx::CopyMode;
 use f11_commands::f11_rad50::Name;
 use f11_commands::{
@@ -348,7 +349,13 @@ pub fn lacks_directory(rt: &HostRuntime, image: &str, directory: Name) -> bool {
     };
     let mut nowhere = io::sink();
     let mut heard = Heard::new(&mut nowhere, None);
-    let _ = print_ls(rt.alloc(), device, &mut heard, Some(directory));
+    let _ = print_ls(
+        rt.alloc(),
+        device,
+        &mut heard,
+        LineForm::Short,
+        Some(directory),
+    );
     heard.refusal() == Some(NO_SUCH_ENTRY)
 }
 

@@ -117,7 +117,7 @@ impl Why {
     );
     /// Files of an RT-11 volume stay before which an empty area lies.
     pub const NOT_SQUEEZED: Why = Why::Said(
-        "some files stay, since a file is copied before its old place is given up, and no empty area that serves for it is as long; rt-get --all, rt-init and rt-put --each bring all together",
+        "some files stay, since a file is copied before its old place is given up, and no empty area that serves for it is as long; rt-get --all, rt-init and rt-put --each bring all together, but without protection, dates and boot blocks, and with bad blocks under other files",
     );
     /// So do some since the name of their copies is that of files.
     pub const COPY_THERE: Why = Why::Said(

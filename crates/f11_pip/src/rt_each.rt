@@ -1,4 +1,9 @@
 //! The command `rt-put --each`: files of the host that are put on an RT-11 volume, each under its own name.
+ghost use Rattle.std.specs.Prelude.{◌≡◌, ◌&&◌, OnOk, length};
+ghost use Rattle.f11_commands.specs.PuttingCounts.{CountsAll, CountsOne, has_refused, no_files};
+ghost use Rattle.f11_commands.specs.RtPutEach.{counts_of};
+ghost use Rattle.f11_pip.specs.Stopping.{stops};
+
 use crate::heard::Heard;
 use crate::host_files::ended;
 use crate::hosts::Hosts;
@@ -17,7 +22,7 @@ use f11_patterns::{HostNames, last_part};
 use f11_words::Manner;
 use rt11_text::FromHost;
 use std::fs::File;
-use std::io::Write;
+use std::io::{BufReader, Write};
 
 /// Files of the host that are put on an RT-11 volume.
 #[derive(Clone, Copy)]
@@ -81,28 +86,52 @@ fn names_of<D: Device>(
     Ok(new_rt_names(rt.alloc(), device, &paths, each.fitting)?)
 }
 
-/// Puts one file after another, but none behind one that is refused where that is asked for.
+/// Puts one file after another, but none behind one that is refused where that is asked for. Each is counted once.
 fn put_all<W: Write>(
     rt: &HostRuntime,
     each: &RtEach<'_>,
     names: &[Option<RtName>],
     puts: &mut RtPuts<FileImage<File>>,
     writer: &mut W,
-) -> Result<(), f11_commands::Failure> {
-    for (at, name) in names.iter().enumerate() {
-        let host = each.hosts.at(at);
-        match name {
-            Some(name) => put_one(rt, each, host, name, puts, writer)?,
-            None => {
-                remarks::tell(rt, host, Why::NO_RT_NAME);
-                puts.leave_out(host, Unput::BadName, writer)?;
-            }
-        }
-        if each.manner == Manner::Stops && puts.has_refused() {
-            break;
+) -> Result<(), f11_commands::Failure>
+    requires none { counts_of puts.old ≡ no_files }
+    ensures counts { OnOk result (CountsAll (stops each.now.manner) (length names.now)
+        (counts_of puts.old) (counts_of puts.new)) }
+{
+    for at in 0..names.len() {
+        put_named(rt, each, each.hosts.at(at), names[at], puts, writer)?;
+        if is_ended(each.manner, puts) {
+            return Ok(());
         }
     }
     Ok(())
+}
+
+/// Whether no other file is put: one is refused, and that ends them.
+fn is_ended(manner: Manner, puts: &RtPuts<FileImage<File>>) -> bool
+    ensures { result ≡ (stops manner && has_refused (counts_of puts.now)) }
+{
+    matches!(manner, Manner::Stops) && puts.has_refused()
+}
+
+/// Puts one file under its name, or tells that it can't have one. It is counted once.
+fn put_named<W: Write>(
+    rt: &HostRuntime,
+    each: &RtEach<'_>,
+    host: &str,
+    name: Option<RtName>,
+    puts: &mut RtPuts<FileImage<File>>,
+    writer: &mut W,
+) -> Result<(), f11_commands::Failure>
+    ensures counts { OnOk result (CountsOne (counts_of puts.old) (counts_of puts.new)) }
+{
+    match name {
+        Some(name) => put_one(rt, each, host, &name, puts, writer),
+        None => {
+            remarks::tell(rt, host, Why::NO_RT_NAME);
+            puts.leave_out(host, Unput::BadName, writer)
+        }
+    }
 }
 
 /// A file of the host that is open, and how many bytes it gives.
@@ -142,27 +171,41 @@ fn put_one<W: Write>(
     name: &RtName,
     puts: &mut RtPuts<FileImage<File>>,
     writer: &mut W,
-) -> Result<(), f11_commands::Failure> {
+) -> Result<(), f11_commands::Failure>
+    ensures counts { OnOk result (CountsOne (counts_of puts.old) (counts_of puts.new)) }
+{
     let Some((file, bytes)) = source_of(rt, each.mode, host)? else {
         return puts.leave_out(host, Unput::CannotOpen, writer);
     };
-    let Ok(mut file) = in_pieces(rt, file) else {
+    let Ok(file) = in_pieces(rt, file) else {
         return Err(f11_commands::Failure::NoMemory);
     };
     let mut heard = Heard::new(writer, None);
-    let told = match each.mode {
-        CopyMode::Image => puts.put(name, &mut file, bytes, &mut heard)?,
-        CopyMode::Text => {
-            let mut text = FromHost::new(file);
-            puts.put(name, &mut text, bytes, &mut heard)?
-        }
-    };
+    let told = put_source(each.mode, name, file, bytes, puts, &mut heard)?;
     if told == FileAnswer::Done {
         tell_fitted(rt, host, name);
     } else if let Some(line) = heard.refusal_of_file() {
         tell_refused(rt, each.image, host, name, line);
     }
     Ok(())
+}
+
+/// Puts a file that is open, and gives so many bytes in this mode.
+fn put_source<W: Write>(
+    mode: CopyMode,
+    name: &RtName,
+    file: BufReader<File>,
+    bytes: u64,
+    puts: &mut RtPuts<FileImage<File>>,
+    writer: &mut W,
+) -> Result<FileAnswer, f11_commands::Failure>
+    ensures counts { OnOk result (CountsOne (counts_of puts.old) (counts_of puts.new)) }
+{
+    let mut file = file;
+    match mode {
+        CopyMode::Image => puts.put(name, &mut file, bytes, writer),
+        CopyMode::Text => puts.put(name, &mut FromHost::new(file), bytes, writer),
+    }
 }
 
 /// Says which name a file gets that is put under another than its own, since that can't be one.

@@ -1,6 +1,10 @@
 //! The command `put --all`: the files of a folder of the host that are put on a volume, each in the directory as which its folder is called.
+ghost use Rattle.std.specs.Prelude.{◌≡◌, false, OnOk, length};
+ghost use Rattle.f11_commands.specs.PutEach.{counts_of};
+ghost use Rattle.f11_commands.specs.PuttingCounts.{CountsAll};
+
 use crate::directory::place_of;
-use crate::each::{Each, ended_puts, put_one};
+use crate::each::{Each, ended_puts, put_named};
 use crate::hosts::Hosts;
 use crate::image::{opened_to_write, tell_fault};
 use crate::meant::is_folder;
@@ -57,6 +61,16 @@ struct Filled {
     paths: Vec<String>,
     /// Under which name each is put; `None` of one that can't be such a name.
     names: Vec<Option<Name>>,
+}
+
+impl Filled {
+    /// Under which name the file in this place is put.
+    fn name_at(&self, at: usize) -> Option<Name> {
+        match self.names.get(at) {
+            Some(name) => *name,
+            None => None,
+        }
+    }
 }
 
 /// Puts the files of the folders in a folder on a volume, each in the directory as which its folder is called; a directory that isn't there is
@@ -252,7 +266,7 @@ fn tell_lost(rt: &HostRuntime, folder: &str) {
     );
 }
 
-/// Makes a directory where it isn't there, and puts its files.
+/// Makes a directory where it isn't there, and puts its files, each of which is counted once.
 fn put_filled<W: Write>(
     rt: &HostRuntime,
     all: &All<'_>,
@@ -260,11 +274,12 @@ fn put_filled<W: Write>(
     protection: u16,
     puts: &mut Puts<FileImage<File>>,
     writer: &mut W,
-) -> Result<(), f11_commands::Failure> {
+) -> Result<(), f11_commands::Failure>
+    ensures counts { OnOk result (CountsAll false (length filled.now.paths.items)
+        (counts_of puts.old) (counts_of puts.new)) }
+{
     let place = DirectoryName::of(&filled.name);
-    if filled.is_missing {
-        puts.make_directory(&place, filled.name, filled.owner, protection, writer)?;
-    }
+    make_missing(&place, filled, protection, puts, writer)?;
     let each = Each {
         manner: Manner::GoesOn,
         mode: all.mode,
@@ -276,17 +291,48 @@ fn put_filled<W: Write>(
         },
         fitting: HostNames::AsTheyAre,
     };
-    for (at, name) in filled.names.iter().enumerate() {
-        let Some(path) = filled.paths.get(at) else {
-            continue;
-        };
-        match name {
-            Some(name) => put_one(rt, &each, Some(&place), path.as_str(), *name, puts, writer)?,
-            None => {
-                remarks::tell(rt, path.as_str(), Why::NO_NAME);
-                puts.leave_out(path.as_str(), Unput::BadName, writer)?;
-            }
-        }
+    put_files(rt, &each, &place, filled, puts, writer)
+}
+
+/// Makes a directory where it isn't there. No file is counted.
+fn make_missing<W: Write>(
+    place: &DirectoryName,
+    filled: &Filled,
+    protection: u16,
+    puts: &mut Puts<FileImage<File>>,
+    writer: &mut W,
+) -> Result<(), f11_commands::Failure>
+    ensures counts { counts_of puts.new ≡ counts_of puts.old }
+{
+    if filled.is_missing {
+        puts.make_directory(place, filled.name, filled.owner, protection, writer)?;
+    }
+    Ok(())
+}
+
+/// Puts the files of a directory, each of which is counted once.
+fn put_files<W: Write>(
+    rt: &HostRuntime,
+    each: &Each<'_>,
+    place: &DirectoryName,
+    filled: &Filled,
+    puts: &mut Puts<FileImage<File>>,
+    writer: &mut W,
+) -> Result<(), f11_commands::Failure>
+    ensures counts { OnOk result (CountsAll false (length filled.now.paths.items)
+        (counts_of puts.old) (counts_of puts.new)) }
+{
+    for at in 0..filled.paths.len() {
+        let path = filled.paths[at].as_str();
+        put_named(
+            rt,
+            each,
+            Some(place),
+            path,
+            filled.name_at(at),
+            puts,
+            writer,
+        )?;
     }
     Ok(())
 }

@@ -5,6 +5,7 @@ use crate::image::{created, opened_to_read, opened_to_write, tell_fault, tell_re
 use crate::outcome::Failure;
 use crate::refusals::{NO_SUCH_ENTRY, not_found};
 use crate::remarks::{self, Remark, Why};
+use f11_commands::f11_catalog::LineForm;
 use f11_commands::f11_rad50::Name;
 use f11_commands::f11_vfy::{InitParams, MOST_BLOCKS};
 use f11_commands::{
@@ -47,17 +48,23 @@ pub fn home<'a, W: Write>(
     Ok(looked(rt, image, System::Files11, answer?, remark))
 }
 
-/// Lists one directory of a volume, or all.
+/// Lists one directory of a volume, or all, by long lines or short ones.
 pub fn ls<'a, W: Write>(
     rt: &HostRuntime,
+    is_long: bool,
     image: &'a str,
     directory: Option<Name>,
     writer: &mut W,
     remark: &mut Option<Remark<'a>>,
 ) -> Result<Answer, Failure> {
+    let form = if is_long {
+        LineForm::Long
+    } else {
+        LineForm::Short
+    };
     let device = opened_to_read(rt, image, remark)?;
     let mut heard = Heard::new(writer, None);
-    let (device, served) = print_ls(rt.alloc(), device, &mut heard, directory);
+    let (device, served) = print_ls(rt.alloc(), device, &mut heard, form, directory);
     tell_read_fault(rt, image, device);
     if let Some(line) = heard.refusal() {
         tell_unlisted(rt, directory.unwrap_or(directory_name(MASTER)), line);

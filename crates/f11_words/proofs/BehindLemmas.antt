@@ -114,7 +114,7 @@ takes-words Init = (
   λ h word rest. (refl, refl, refl),
   (λ h word rest. (refl, refl, refl), (λ h word rest. (refl, refl, refl), (λ h word rest. (refl, refl, refl), (λ h word. refl, tt)))),
 )
-takes-words Ls = (λ h word. refl, (λ h word. refl, tt))
+takes-words Ls = (tt, (λ h word. refl, (λ h word. refl, tt)))
 takes-words Mkdir = (λ h word. refl, (λ h word. refl, tt))
 takes-words Name = (λ h word. refl, tt)
 takes-words Prot = (tt, (λ h rest. (refl, refl), (λ h word. refl, (λ h word. refl, (λ h word. refl, (λ h word. refl, tt))))))
@@ -171,7 +171,7 @@ takes-first FlxToRt = tt
 takes-first Get = λ rest. (refl, refl)
 takes-first Home = tt
 takes-first Init = tt
-takes-first Ls = tt
+takes-first Ls = λ rest. (refl, refl)
 takes-first Mkdir = tt
 takes-first Name = tt
 takes-first Prot = λ rest. (refl, refl)
@@ -232,8 +232,10 @@ line-met (get_all_line (Some mode) image folder) = (refl, refl, refl)
 line-met (home_line image) = (tt, refl, refl)
 line-met (init_line blocks slots label None image) = (tt, refl, refl)
 line-met (init_line blocks slots label (Some max) image) = (tt, refl, refl)
-line-met (ls_line image) = (refl, refl, refl)
-line-met (ls_in_line image dir) = (tt, refl, refl)
+line-met (ls_line false image) = (refl, refl, refl)
+line-met (ls_line true image) = (refl, refl, refl)
+line-met (ls_in_line false image dir) = (tt, refl, refl)
+line-met (ls_in_line true image dir) = (tt, refl, refl)
 line-met (mkdir_line image dir) = (tt, refl, refl)
 line-met (name_line word) = (tt, refl, refl)
 line-met (prot_line GoesOn image dir name word) = (tt, refl, refl)

@@ -310,10 +310,10 @@ SpellsOneOrNone None None = Unit {0}
 SpellsOneOrNone _ _ = ⊥
 
 -- the words ask that this directory be listed, or without a text all
-abbrev pub AsksLs : List ℕ → Option (List ℕ) → Words → Type 0
-AsksLs name dir (Ls image) = (image.now ≡ name) × SpellsOneOrNone dir None
-AsksLs name dir (LsIn image directory) = (image.now ≡ name) × SpellsOneOrNone dir (Some directory)
-AsksLs name dir _ = ⊥
+abbrev pub AsksLs : Bool → List ℕ → Option (List ℕ) → Words → Type 0
+AsksLs long name dir (Ls is_long image) = (is_long ≡ long) × (image.now ≡ name) × SpellsOneOrNone dir None
+AsksLs long name dir (LsIn is_long image directory) = (is_long ≡ long) × (image.now ≡ name) × SpellsOneOrNone dir (Some directory)
+AsksLs long name dir _ = ⊥
 
 -- the words ask for this name's words
 abbrev pub AsksName : List ℕ → Words → Type 0
@@ -336,8 +336,8 @@ Asks (get_blocks_line told image dir name host) words = AsksGet told true None i
 Asks (get_all_line mode image folder) words = AsksGetAll mode image folder words
 Asks (home_line image) words = AsksHome image words
 Asks (init_line blocks slots label max image) words = AsksInit blocks slots label max image words
-Asks (ls_line image) words = AsksLs image None words
-Asks (ls_in_line image dir) words = AsksLs image (Some dir) words
+Asks (ls_line long image) words = AsksLs long image None words
+Asks (ls_in_line long image dir) words = AsksLs long image (Some dir) words
 Asks (mkdir_line image dir) words = AsksMkdir image dir words
 Asks (name_line text) words = AsksName text words
 Asks (prot_line manner image dir name word) words = AsksProt manner image dir name word words
@@ -408,8 +408,8 @@ IsUnreadable (get_blocks_line told image dir name host) = IsNoDirectory dir
 IsUnreadable (get_all_line mode image folder) = IsNoTakingMode mode
 IsUnreadable (home_line image) = ⊥
 IsUnreadable (init_line blocks slots label max image) = IsNoInit blocks slots max
-IsUnreadable (ls_line image) = ⊥
-IsUnreadable (ls_in_line image dir) = IsNoDirectory dir
+IsUnreadable (ls_line long image) = ⊥
+IsUnreadable (ls_in_line long image dir) = IsNoDirectory dir
 IsUnreadable (mkdir_line image dir) = IsNoDirectory dir
 IsUnreadable (name_line text) = ⊥
 IsUnreadable (prot_line manner image dir name word) = IsNoDirectory dir ⊎ IsNoWord word

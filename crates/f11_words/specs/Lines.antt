@@ -65,8 +65,8 @@ pub data CommandLine : Type 0 where
   get_all_line : (mode : Option (List ℕ)) → (image folder : List ℕ) → CommandLine
   home_line : (image : List ℕ) → CommandLine
   init_line : (blocks slots label : List ℕ) → (max : Option (List ℕ)) → (image : List ℕ) → CommandLine
-  ls_line : (image : List ℕ) → CommandLine
-  ls_in_line : (image dir : List ℕ) → CommandLine
+  ls_line : (long : Bool) (image : List ℕ) → CommandLine
+  ls_in_line : (long : Bool) (image dir : List ℕ) → CommandLine
   mkdir_line : (image dir : List ℕ) → CommandLine
   name_line : (word : List ℕ) → CommandLine
   prot_line : Manner → (image dir name word : List ℕ) → CommandLine
@@ -106,8 +106,8 @@ command_in (get_blocks_line told image dir name host) = Get
 command_in (get_all_line mode image folder) = Get
 command_in (home_line image) = Home
 command_in (init_line blocks slots label max image) = Init
-command_in (ls_line image) = Ls
-command_in (ls_in_line image dir) = Ls
+command_in (ls_line long image) = Ls
+command_in (ls_in_line long image dir) = Ls
 command_in (mkdir_line image dir) = Mkdir
 command_in (name_line word) = Name
 command_in (prot_line manner image dir name word) = Prot
@@ -150,8 +150,8 @@ given_in (get_all_line mode image folder) =
     is_there false ∷ is_there true ∷ is_there false ∷ says mode ∷ text image ∷ text folder ∷ says None ∷ says None ∷ []
 given_in (home_line image) = text image ∷ []
 given_in (init_line blocks slots label max image) = text blocks ∷ text slots ∷ text label ∷ says max ∷ text image ∷ []
-given_in (ls_line image) = text image ∷ says None ∷ []
-given_in (ls_in_line image dir) = text image ∷ text dir ∷ []
+given_in (ls_line long image) = is_there long ∷ text image ∷ says None ∷ []
+given_in (ls_in_line long image dir) = is_there long ∷ text image ∷ text dir ∷ []
 given_in (mkdir_line image dir) = text image ∷ text dir ∷ []
 given_in (name_line word) = text word ∷ []
 given_in (prot_line manner image dir name word) = manner_given manner ++ text image ∷ text dir ∷ text name ∷ text word ∷ []

@@ -152,10 +152,10 @@ pub record ReadsRtPut (matches : ArgMatches) (result : Option Words) : Type 0 wh
   pub each : (manner : Manner) (fitted : Bool) (mode : Option Text) → (rt host : Text)
       → Reads (rt_put_each_line manner fitted mode rt host) matches result
 
--- What those of `ls` are: for all directories, or for one.
+-- What those of `ls` are: for all directories, or for one, by long lines or short ones.
 pub record ReadsLs (matches : ArgMatches) (result : Option Words) : Type 0 where
-  pub all : (image : Text) → Reads (ls_line image) matches result
-  pub one : (image dir : Text) → Reads (ls_in_line image dir) matches result
+  pub all : (long : Bool) (image : Text) → Reads (ls_line long image) matches result
+  pub one : (long : Bool) (image dir : Text) → Reads (ls_in_line long image dir) matches result
 
 -- What those of `rt-prot` are: with the file protected, or so no more.
 pub record ReadsRtProt (matches : ArgMatches) (result : Option Words) : Type 0 where

@@ -108,7 +108,7 @@ words_of Get =
 words_of Home = needed (codes "image") ∷ []
 words_of Init = option (codes "blocks") true ∷ option (codes "slots") true ∷ option (codes "label") true ∷ option (codes "max") false
     ∷ needed (codes "image") ∷ []
-words_of Ls = needed (codes "image") ∷ place (codes "dir") false ∷ []
+words_of Ls = letter (codes "l") 108 ∷ needed (codes "image") ∷ place (codes "dir") false ∷ []
 words_of Mkdir = needed (codes "image") ∷ needed (codes "dir") ∷ []
 words_of Name = needed (codes "text") ∷ []
 words_of Prot = manner_words ++ file_words (codes "dir") ++ needed (codes "word") ∷ []

@@ -216,7 +216,11 @@ impl Subcommand {
                     Word::Place("image", true),
                 ]
             }
-            Subcommand::Ls => &[Word::Place("image", true), Word::Place("dir", false)],
+            Subcommand::Ls => &[
+                Word::Letter("l", 'l'),
+                Word::Place("image", true),
+                Word::Place("dir", false),
+            ],
             Subcommand::Mkdir => &[Word::Place("image", true), Word::Place("dir", true)],
             Subcommand::Name => &[Word::Place("text", true)],
             Subcommand::Prot => {

@@ -55,13 +55,15 @@ fn max_files_of(given: &ArgMatches<'_>) -> Option<u16>
 pub fn ls_of<'a>(given: &ArgMatches<'a>) -> Option<Words<'a>>
     ensures { ReadsWords subcommand.Ls given.now result }
 {
+    let is_long = given.get_flag("l");
     let image = given.get_str("image")?;
     match given.get_str("dir") {
         Some(_) => Some(Words::LsIn {
+            is_long,
             image,
             directory: directory_of(given)?,
         }),
-        None => Some(Words::Ls { image }),
+        None => Some(Words::Ls { is_long, image }),
     }
 }
 

@@ -87,12 +87,14 @@ pub enum Words<'a> {
         label: &'a str,
         max_files: u16,
     },
-    /// `ls IMAGE`: of all directories
+    /// `ls [-l] IMAGE`: of all directories, by long lines or short ones
     Ls {
+        is_long: bool,
         image: &'a str,
     },
-    /// `ls IMAGE DIR`: of one
+    /// `ls [-l] IMAGE DIR`: of one
     LsIn {
+        is_long: bool,
         image: &'a str,
         directory: Directory,
     },

@@ -1,5 +1,6 @@
 //! Volumes, and the names of RT-11 files.
 use f11_bytes::NoMemory;
+use f11_commands::f11_catalog::LineForm;
 use f11_commands::{Answer, Failure, Served, print_ls, print_rt_list, print_rt_vfy, print_vfy};
 use f11_dev::{DeviceFault, Memory};
 use f11_fixtures::{
@@ -113,7 +114,7 @@ fn answer_in(served: Result<Served, Failure>) -> Result<Answer, Failure> {
 }
 
 fn print_names(alloc: Global, device: Memory, lines: &mut Lines) -> Given {
-    let (device, served) = print_ls(alloc, device, lines, None);
+    let (device, served) = print_ls(alloc, device, lines, LineForm::Short, None);
     (device, answer_in(served))
 }
 

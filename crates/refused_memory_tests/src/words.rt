@@ -23,6 +23,7 @@ fn words_are_read(rt: HostRuntime) -> Result<(), Fail> {
 
     let words = ["f11_pip", "ls", "a.dsk", "[200,1]"];
     let listing = Words::LsIn {
+        is_long: false,
         image: "a.dsk",
         directory: Directory::Of(Uic {
             group: 128,

@@ -2,12 +2,14 @@
 ghost use Rattle.std.specs.Prelude.{OnOk};
 ghost use Rattle.f11_commands.specs.Output.{WriterTakes};
 ghost use Rattle.f11_commands.specs.PutAll.{TellsIn, TellsMade, line_in};
+ghost use Rattle.f11_commands.specs.PuttingCounts.{CountsOne};
 
 use crate::finding::{MASTER_DIRECTORY, OPERATOR, first_lun, first_task};
 use crate::outcome::{Failure, FileAnswer};
 use crate::put::each::{ending, refusal_of};
-use crate::put::puts::{PutCounts, Puts};
+use crate::put::puts::Puts;
 use crate::put::{Putting, put_by_name};
+use crate::put_counts::PutCounts;
 use f11_catalog::DirectoryName;
 use f11_dev::Device;
 use f11_host::HostRefusal;
@@ -44,17 +46,11 @@ fn tell_in<W: Write>(
 ) -> Result<FileAnswer, Failure>
     ensures tells { TellsIn place.now name.now made result counts.old counts.new
         W.contents writer.old writer.new }
+    ensures counts { OnOk result (CountsOne counts.old counts.new) }
 {
-    if let Some(failure) = ending(&made) {
-        return Err(failure);
-    }
-    counts.add(made.is_ok());
+    let answer = counts.count(ending(&made), made.is_ok())?;
     write_in(writer, place, name, made)?;
-    if made.is_ok() {
-        Ok(FileAnswer::Done)
-    } else {
-        Ok(FileAnswer::Refused)
-    }
+    Ok(answer)
 }
 
 /// Writes the line of a directory, of what came of it; but of one that ends the others nothing.
@@ -92,6 +88,7 @@ fn tell_unmade<W: Write>(
 impl<D: Device> Puts<D> {
     ghost use Rattle.f11_commands.specs.PutAll.{MakesOne, PutsOneIn};
     ghost use Rattle.f11_commands.specs.PutCommand.{hosts};
+    ghost use Rattle.f11_commands.specs.PutEach.{counts_of};
 
     /// Makes a directory of this name for its owner, with that protection, as [`carry_out`] does, and writes its line, `PLACE made`, or `PLACE
     /// not made` and the refusal's name. No file is counted. It answers [`FileAnswer::Done`] or [`FileAnswer::Refused`].
@@ -142,6 +139,7 @@ impl<D: Device> Puts<D> {
             (hosts (R.remaining host.old) (R.remaining again.old))
             (hosts (R.remaining host.new) (R.remaining again.new))
             self.old self.new W.contents writer.old writer.new }
+        ensures counts { OnOk result (CountsOne (counts_of self.old) (counts_of self.new)) }
     {
         let made = put_by_name(&mut self.volume, put, host, again, bytes);
         tell_in(place, &put.name, made, &mut self.counts, writer)

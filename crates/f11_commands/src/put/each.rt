@@ -1,62 +1,25 @@
 //! The command `put --each`: files of the host that are made on a volume, one after another.
 ghost use Rattle.std.specs.Prelude.{◌≡◌, IfErr, IfOk, OnOk};
 ghost use Rattle.f11_commands.specs.Output.{WriterTakes};
-ghost use Rattle.f11_commands.specs.PutEach.{BeginsPuts, EndsBefore, TellsCounts, TellsOne, counted, counts_line, ending, left_out_line, one_line};
-ghost use Rattle.f11_commands.specs.PutEach.{refusal_of};
+ghost use Rattle.f11_commands.specs.PutEach.{BeginsPuts, EndsBefore, TellsOne, ending, one_line, refusal_of};
+ghost use Rattle.f11_commands.specs.PuttingCounts.{CountsOne};
 
 use crate::finding::dismount;
-use crate::get::all::counts::count_if;
 use crate::outcome::{Failure, FileAnswer};
-use crate::put::puts::{PutCounts, Puts};
+use crate::put::puts::Puts;
 use crate::put::{Putting, put_by_name};
-use crate::sync::synced;
+use crate::put_counts::{PutCounts, Unput, tell_counts};
+use crate::sync::{given_back, synced};
 use crate::verifying::{Ended, accept_files};
 use f11_dev::Device;
 use f11_flx::FlxRefusal;
 use f11_host::HostRefusal;
 use f11_rad50::Name;
-use f11_serving::f11_fcp::Volume;
+use f11_serving::f11_fcp::{Failed, Volume};
 use f11_serving::f11_files::OpenFault;
 use f11_store::Refusal;
 use std::alloc::Global;
-use std::fmt;
 use std::io::{self, Read, Write};
-
-/// Why nothing is asked of the volume for a file of the host.
-#[derive(Clone, Copy, Debug, PartialEq, Eq)]
-pub enum Unput {
-    /// Its name can't be that of a file of the volume.
-    BadName,
-    /// It can't be opened.
-    CannotOpen,
-}
-
-impl fmt::Display for Unput {
-    ghost use Rattle.std.specs.Prelude.{Some};
-    ghost use Rattle.f11_commands.specs.PutEach.{unput_text};
-
-    ghost output = { λ why. Some (unput_text why) };
-
-    /// Writes `BadName` or `CannotOpen` (profile).
-    fn fmt<W: fmt::Write>(&self, f: &mut fmt::Formatter<W>) -> fmt::Result {
-        f.write_str(match self {
-            Unput::BadName => "BadName",
-            Unput::CannotOpen => "CannotOpen",
-        })
-    }
-}
-
-impl PutCounts {
-    /// One more file was made, or wasn't.
-    pub(crate) fn add(&mut self, is_made: bool)
-        ensures { self.new ≡ counted is_made self.old }
-    {
-        *self = PutCounts {
-            made: count_if(self.made, is_made),
-            refused: count_if(self.refused, !is_made),
-        };
-    }
-}
 
 /// Verifies the Files-11 volume on a device, and mounts it, so that files are made on it. Where it has faults it writes the lines of `vfy`.
 ///
@@ -79,10 +42,7 @@ pub fn begin_puts<D: Device, W: Write>(
     };
     match Volume::mount(alloc, accepted) {
         Ok(volume) => {
-            let counts = PutCounts {
-                made: 0,
-                refused: 0,
-            };
+            let counts = PutCounts::none();
             Ok(Puts { volume, counts })
         }
         Err(OpenFault::DeviceFault(device) | OpenFault::Damaged(device)) => {
@@ -144,38 +104,17 @@ fn tell_one<W: Write>(
 ) -> Result<FileAnswer, Failure>
     ensures tells { TellsOne name.now made result counts.old counts.new
         W.contents writer.old writer.new }
+    ensures counts { OnOk result (CountsOne counts.old counts.new) }
 {
-    if let Some(failure) = ending(&made) {
-        return Err(failure);
-    }
-    counts.add(made.is_ok());
+    let answer = counts.count(ending(&made), made.is_ok())?;
     write_one(writer, name, made)?;
-    if made.is_ok() {
-        Ok(FileAnswer::Done)
-    } else {
-        Ok(FileAnswer::Refused)
-    }
-}
-
-/// Writes the last line: how many were made, and how many weren't.
-pub(crate) fn tell_counts<W: Write>(
-    counts: PutCounts,
-    writer: &mut W,
-) -> Result<FileAnswer, Failure>
-    ensures tells { TellsCounts counts result W.contents writer.old writer.new }
-{
-    let (made, refused) = (counts.made, counts.refused);
-    writeln!(writer, "all {made} copied, {refused} not copied")?;
-    if refused == 0 {
-        Ok(FileAnswer::Done)
-    } else {
-        Ok(FileAnswer::Refused)
-    }
+    Ok(answer)
 }
 
 impl<D: Device> Puts<D> {
     ghost use Rattle.f11_commands.specs.PutCommand.{hosts};
-    ghost use Rattle.f11_commands.specs.PutEach.{EndsPuts, KeepsBroken, LeavesOut, PutsOne, has_refused};
+    ghost use Rattle.f11_commands.specs.PutEach.{EndsPuts, KeepsBroken, LeavesOut, PutsOne, counts_of};
+    ghost use Rattle.f11_commands.specs.PuttingCounts.{CountsOne, has_refused};
 
     /// Makes a file of so many bytes that `host` gives, as [`print_put`](crate::print_put) does, and writes its line: `NAME.TYP;V copied N`, N
     /// being how many blocks the file has, or `NAME.TYP;V no` and the refusal's name, `Unread` where `host` or `again` couldn't be read to that
@@ -198,6 +137,7 @@ impl<D: Device> Puts<D> {
             (hosts (R.remaining host.old) (R.remaining again.old))
             (hosts (R.remaining host.new) (R.remaining again.new))
             self.old self.new W.contents writer.old writer.new }
+        ensures counts { OnOk result (CountsOne (counts_of self.old) (counts_of self.new)) }
     {
         let made = put_by_name(&mut self.volume, put, host, again, bytes);
         tell_one(&put.name, made, &mut self.counts, writer)
@@ -216,17 +156,16 @@ impl<D: Device> Puts<D> {
     ) -> Result<(), Failure>
         ensures leaves { LeavesOut host.now why result self.old self.new
             W.contents writer.old writer.new }
+        ensures counts { CountsOne (counts_of self.old) (counts_of self.new) }
     {
-        self.counts.add(false);
-        writeln!(writer, "{host} no {why}")?;
-        Ok(())
+        self.counts.leave_out(host, why, writer)
     }
 
     /// Whether one of the files wasn't made.
     pub fn has_refused(&self) -> bool
-        ensures { result ≡ has_refused self.now }
+        ensures { result ≡ has_refused (counts_of self.now) }
     {
-        self.counts.refused != 0
+        self.counts.has_refused()
     }
 
     /// Gives the volume up, syncs its device, and writes the last line: `all N copied, K not copied`. It answers [`FileAnswer::Refused`] where
@@ -245,18 +184,15 @@ impl<D: Device> Puts<D> {
         }
     }
 
-    /// Gives the volume up where the files broke off by a failure, and syncs its device unless a transfer failed. The device comes back, and
-    /// how the command ends: by that failure, or [`Failure::DeviceFault`] where the sync failed.
+    /// Gives the volume up where the files broke off by a failure, and syncs its device, unless a request has failed the volume or the failure is
+    /// [`Failure::DeviceFault`]: nothing is transferred then. The device comes back, and how the command ends: by that failure, or
+    /// [`Failure::DeviceFault`] where the sync failed.
     pub fn break_off(self, failure: Failure) -> (D, Failure)
         ensures keeps { KeepsBroken failure self result.1 (D.disk result.0) }
     {
-        let device = dismount(self.volume);
-        if failure == Failure::DeviceFault {
-            return (device, failure);
-        }
-        match synced(device) {
-            Ok(device) => (device, failure),
-            Err(device) => (device, Failure::DeviceFault),
+        match self.volume.dismount() {
+            Ok(accepted) => given_back(false, accepted.device(), failure),
+            Err(Failed(device)) => given_back(true, device, failure),
         }
     }
 }

@@ -2,16 +2,16 @@
 ghost use Rattle.std.specs.Prelude.{◌≡◌, IfErr, IfOk, OnOk};
 ghost use Rattle.f11_commands.specs.CopyCommand.{EndsRt};
 ghost use Rattle.f11_commands.specs.Output.{WriterTakes};
+ghost use Rattle.f11_commands.specs.PuttingCounts.{CountsOne};
 ghost use Rattle.f11_commands.specs.RtPut.{is_fault_of};
 ghost use Rattle.f11_commands.specs.RtPutEach.{BeginsRtPuts, TellsOneRt, rt_ending, rt_line};
 
 use crate::outcome::{Failure, FileAnswer};
-use crate::put::each::{Unput, tell_counts};
-use crate::put::puts::PutCounts;
+use crate::put_counts::{PutCounts, Unput, tell_counts};
 use crate::rt_file::{Stop, is_fault};
 use crate::rt_put::put;
 use crate::rt_put::puts::RtPuts;
-use crate::sync::synced;
+use crate::sync::{given_back, synced};
 use crate::verifying::{Ended, accept_rt};
 use f11_dev::Device;
 use rt11_volume::{RtName, RtRefusal};
@@ -38,14 +38,10 @@ pub fn begin_rt_puts<D: Device, W: Write>(
         Ok(volume) => volume,
         Err(ended) => return Err(ended),
     };
-    let counts = PutCounts {
-        made: 0,
-        refused: 0,
-    };
     Ok(RtPuts {
         volume,
         failed: false,
-        counts,
+        counts: PutCounts::none(),
     })
 }
 
@@ -93,22 +89,17 @@ fn tell_one<W: Write>(
 ) -> Result<FileAnswer, Failure>
     ensures tells { TellsOneRt name.now made result counts.old counts.new
         W.contents writer.old writer.new }
+    ensures counts { OnOk result (CountsOne counts.old counts.new) }
 {
-    if let Some(failure) = ending(&made) {
-        return Err(failure);
-    }
-    counts.add(made.is_ok());
+    let answer = counts.count(ending(&made), made.is_ok())?;
     write_one(writer, name, made)?;
-    if made.is_ok() {
-        Ok(FileAnswer::Done)
-    } else {
-        Ok(FileAnswer::Refused)
-    }
+    Ok(answer)
 }
 
 impl<D: Device> RtPuts<D> {
     ghost use Rattle.rt11_volume.specs.Calls.{has_failed};
-    ghost use Rattle.f11_commands.specs.RtPutEach.{EndsRtPuts, KeepsRt, LeavesOutRt, PutsOneRt, has_refused};
+    ghost use Rattle.f11_commands.specs.PuttingCounts.{CountsOne, has_refused};
+    ghost use Rattle.f11_commands.specs.RtPutEach.{EndsRtPuts, KeepsBrokenRt, LeavesOutRt, PutsOneRt, counts_of};
 
     /// Makes a file of so many bytes that `host` gives, as [`print_rt_put`](crate::print_rt_put) does, and writes its line: `NAME.TYP copied N`,
     /// N being how many blocks the file has, or `NAME.TYP no` and the refusal's name, `Unread` where `host` couldn't be read to that length. It is
@@ -128,6 +119,7 @@ impl<D: Device> RtPuts<D> {
     ) -> Result<FileAnswer, Failure>
         ensures puts { PutsOneRt name.now bytes D.disk result (R.remaining host.old)
             (R.remaining host.new) self.old self.new W.contents writer.old writer.new }
+        ensures counts { OnOk result (CountsOne (counts_of self.old) (counts_of self.new)) }
     {
         if self.failed {
             return Err(Failure::DeviceFault);
@@ -150,17 +142,16 @@ impl<D: Device> RtPuts<D> {
     ) -> Result<(), Failure>
         ensures leaves { LeavesOutRt host.now why result self.old self.new
             W.contents writer.old writer.new }
+        ensures counts { CountsOne (counts_of self.old) (counts_of self.new) }
     {
-        self.counts.add(false);
-        writeln!(writer, "{host} no {why}")?;
-        Ok(())
+        self.counts.leave_out(host, why, writer)
     }
 
     /// Whether one of the files wasn't made.
     pub fn has_refused(&self) -> bool
-        ensures { result ≡ has_refused self.now }
+        ensures { result ≡ has_refused (counts_of self.now) }
     {
-        self.counts.refused != 0
+        self.counts.has_refused()
     }
 
     /// Gives the volume up, syncs its device unless a transfer failed, and writes the last line: `all N copied, K not copied`. It answers
@@ -188,18 +179,12 @@ impl<D: Device> RtPuts<D> {
         }
     }
 
-    /// Gives the volume up where the files broke off by a failure, and syncs its device unless a transfer failed. The device comes back, and
-    /// how the command ends: by that failure, or [`Failure::DeviceFault`] where the sync failed.
+    /// Gives the volume up where the files broke off by a failure, and syncs its device, unless a transfer has failed or the failure is
+    /// [`Failure::DeviceFault`]: nothing is transferred then. The device comes back, and how the command ends: by that failure, or
+    /// [`Failure::DeviceFault`] where the sync failed.
     pub fn break_off(self, failure: Failure) -> (D, Failure)
-        ensures keeps { KeepsRt D.disk failure self result.1 (D.disk result.0) }
+        ensures keeps { KeepsBrokenRt D.disk failure self result.1 (D.disk result.0) }
     {
-        let device = self.volume.device();
-        if failure == Failure::DeviceFault {
-            return (device, failure);
-        }
-        match synced(device) {
-            Ok(device) => (device, failure),
-            Err(device) => (device, Failure::DeviceFault),
-        }
+        given_back(self.failed, self.volume.device(), failure)
     }
 }

@@ -2,7 +2,7 @@
 ghost use Rattle.std.specs.Prelude.{◌≡◌, false};
 ghost use Rattle.rt11_volume.specs.Calls.{has_failed};
 
-use crate::put::puts::PutCounts;
+use crate::put_counts::PutCounts;
 use f11_dev::Device;
 use rt11_volume::RtAccepted;
 

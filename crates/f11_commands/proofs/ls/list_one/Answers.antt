@@ -7,13 +7,13 @@ use Rattle.f11_commands.proofs.ls.list_one.Goals as goal
 pub returns-in-Ok-Ok-clause-lists : goal.returns-in-Ok-Ok-clause-lists
 returns-in-Ok-Ok-clause-lists g c =
     let found = rw c.in-Ok-Ok.field-0-is at c.in-Ok-Ok.ensures.found in
-    found-then c.list_directory.result (λ _ lists. one-lists _ _ _ _ _ _ _ found _ _ _ lists) c.list_directory.ensures.lists
+    found-then c.list_directory.result (λ _ lists. one-lists _ _ _ _ _ _ _ _ found _ _ _ lists) c.list_directory.ensures.lists
 
 pub returns-in-Ok-Ok-clause-refused : goal.returns-in-Ok-Ok-clause-refused
 returns-in-Ok-Ok-clause-refused g c =
     let found = rw c.in-Ok-Ok.field-0-is at c.in-Ok-Ok.ensures.found in
     refused-then c.list_directory.result
-    (λ _ refused. (refused.0, one-refused _ _ g.W.Write.contents _ _ _ _ found _ _ refused.1))
+    (λ _ refused. (refused.0, one-refused _ _ _ g.W.Write.contents _ _ _ _ found _ _ refused.1))
     c.list_directory.ensures.refused
 
 pub returns-in-Ok-Ok-clause-failed : goal.returns-in-Ok-Ok-clause-failed

@@ -1,7 +1,7 @@
-use Rattle.std.proofs.Common.{◌≡◌, List, inr, subst, sym}
-use Rattle.f11_dev.specs.Disk.{Disk}
+use Rattle.std.proofs.Common.{List, inr, subst, sym}
+use Rattle.std.specs.Prelude.{IfErr, IfOk}
 use Rattle.rt11_squeeze.specs.Kept.{volume_disk}
-use Rattle.rt11_squeeze.specs.Squeezing.{AreTold, Preserves, squeeze_transfers}
+use Rattle.rt11_squeeze.specs.Squeezing.{AreTold, EndsEarly, OnSound, Preserves, SqueezesEach, squeeze_transfers}
 use Rattle.rt11_squeeze.specs.declared.moving.FileToMove.{FileToMove}
 use Rattle.f11_commands.specs.RtSqueeze.{EndsSqueezed, SqueezesFiles}
 use Rattle.f11_commands.proofs.RtSqueezeLemmas.{squeezes-files, told-still}
@@ -18,8 +18,12 @@ returns g c =
     let squeezes : SqueezesFiles files squeezed (volume_disk disk volume) (volume_disk disk after) =
     squeezes-files disk files squeezed volume after
     (told-still files (disk c.args.device) _ (volume_disk disk volume) c.in-Ok.ensures.tells accepted.0)
-    (subst (λ (fs : List FileToMove). Preserves (AreTold fs) disk (squeeze_transfers fs) squeezed volume after)
+    (subst (λ (fs : List FileToMove). Preserves fs disk (squeeze_transfers fs) squeezed volume after)
     c.deref.ensures.value c.squeeze-squeezed.ensures.preserves)
+    (subst (λ (fs : List FileToMove). IfOk squeezed (λ outcomes. OnSound (AreTold fs) (volume_disk disk volume) (SqueezesEach fs
+    outcomes.items (volume_disk disk volume) (volume_disk disk after)))) c.deref.ensures.value c.squeeze-squeezed.ensures.squeezes)
+    (subst (λ (fs : List FileToMove). IfErr squeezed (λ e. OnSound (AreTold fs) (volume_disk disk volume) (EndsEarly e)))
+    c.deref.ensures.value c.squeeze-squeezed.ensures.refused)
     in
     record {
       ends = inr (inr (record {

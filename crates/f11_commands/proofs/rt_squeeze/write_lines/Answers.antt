@@ -1,6 +1,5 @@
-use Rattle.std.proofs.Common.{◌≡◌, ◌≤◌, length, List, ℕ, ◌∙◌, Some, ap, sym, arith, subst}
+use Rattle.std.proofs.Common.{◌≤◌, ◌∙◌, Some, ap, sym, arith, subst}
 use Rattle.rt11_squeeze.specs.declared.moving.FileToMove.{FileToMove}
-use Rattle.std.specs.Io.KnownBytes.{Appends}
 use Rattle.std.proofs.lemmas.Option.{slice_get-get_or}
 use Rattle.f11_commands.specs.RtSqueeze.{squeezed_line}
 use Rattle.f11_commands.proofs.RtSqueezeLemmas.{pairs-all, pairs-more}

@@ -4,8 +4,8 @@ use Rattle.f11_words.proofs.volumes.ls_of.Goals as goal
 
 pub returns-in_err-directory_of-in-Some : goal.returns-in_err-directory_of-in-Some
 returns-in_err-directory_of-in-Some c = record {
-  all = λ image has. let none : Some c.in-Some.field-0.now ≡ None = c.in-Some.ensures ∙ has.1.0 in absurd cc;
-  one = λ image uic has.
+  all = λ long image has. let none : Some c.in-Some.field-0.now ≡ None = c.in-Some.ensures ∙ has.1.1.0 in absurd cc;
+  one = λ long image uic has.
       at-none _ c.from_residual-in_err-directory_of-in-Some.result c.from_residual-in_err-directory_of-in-Some.ensures
-      (c.in_err-directory_of-in-Some.ensures uic has.1.0);
+      (c.in_err-directory_of-in-Some.ensures uic has.1.1.0);
 }

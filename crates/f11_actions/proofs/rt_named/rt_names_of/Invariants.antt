@@ -1,9 +1,0 @@
-use Rattle.std.proofs.Common.{map}
-use Rattle.f11_patterns.proofs.NamingLemmas.{GoOn}
-use Rattle.f11_actions.specs.RtNamed.{GetsRtName}
-use Rattle.f11_actions.proofs.rt_named.rt_names_of.Given as goal
-
--- the names so far, behind which the others go on
-abbrev pub invariant-loop-path : goal.invariant-loop-path
-invariant-loop-path l =
-    GoOn (GetsRtName l.fitting) l.fn.there.items (map (λ path. path.now) l.paths) l.path-index l.all.items l.names.items
