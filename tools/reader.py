@@ -1,4 +1,5 @@
 """Reads files and directories of Files-11 images, by docs/FORMATS.md, without a look at the program's code or definitions."""
+import datetime
 import re
 
 from images import BLOCK, CHARACTERS
@@ -40,6 +41,46 @@ def identified(number, sequence, volume):
     return f"{number},{sequence}" + (f",{volume}" if volume else "")
 
 
+MONTHS = ("JAN", "FEB", "MAR", "APR", "MAY", "JUN", "JUL", "AUG", "SEP", "OCT", "NOV", "DEC")
+RECORDS = {1: "fixed", 2: "variable", 3: "sequenced"}
+
+
+def dated(b):
+    """The date in seven bytes, as it is shown; nothing where none is kept, and None where they are no date."""
+    if b in (bytes(7), b" " * 7):
+        return ""
+    found = re.fullmatch(rb"([ 0-9][0-9])([A-Z]{3})([0-C])([0-9])", b)
+    if not found or found[2].decode() not in MONTHS:
+        return None
+    year = 1900 + 10 * (found[3][0] - 48) + int(found[4])
+    try:
+        return datetime.date(year, 1 + MONTHS.index(found[2].decode()), int(found[1])).isoformat()
+    except ValueError:
+        return None
+
+
+def timed(b):
+    """Likewise the time in six bytes."""
+    if b in (bytes(6), b" " * 6):
+        return ""
+    if not re.fullmatch(rb"(?:[01][0-9]|2[0-3])(?:[0-5][0-9]){2}", b):
+        return None
+    return ":".join(b[i : i + 2].decode() for i in (0, 2, 4))
+
+
+def moment(b):
+    """Likewise a date and the time behind it."""
+    date, time = dated(b[:7]), timed(b[7:])
+    if date is None or time is None or not date and time:
+        return None
+    return f"{date} {time}".strip()
+
+
+def behind(what, date):
+    """A date behind what it is of, in a long line."""
+    return "" if date == "" else f" {what} {'?' if date is None else date}"
+
+
 class Header:
     """A block as a file header."""
 
@@ -72,6 +113,23 @@ class Header:
 
     def marks(self):
         return " contiguous" * (self.b[12] >> 7 & 1) + " marked" * (self.b[13] >> 7 & 1) + " open" * (self.b[12] >> 6 & 1)
+
+    def rights(self):
+        """What each class is granted."""
+        denied = word(self.b, 10)
+        return f"[{','.join(''.join(letter for k, letter in enumerate('RWED') if not denied >> 4 * c + k & 1) for c in range(4))}]"
+
+    def dates(self):
+        b = self.b[2 * self.b[0]:][:46]
+        times = f" times {word(b, 10)}" if word(b, 10) else ""
+        return behind("created", moment(b[25:38])) + behind("revised", moment(b[12:25])) + times + behind("expires", dated(b[38:45]))
+
+    def record_form(self):
+        """How its records are kept."""
+        if not self.b[14]:
+            return ""
+        marks = (name for k, name in enumerate((" fortran", " carriage", " print", " unspanned")) if self.b[15] >> k & 1)
+        return f" {RECORDS.get(self.b[14], 'records')} {word(self.b, 16)}{''.join(marks)}"
 
     def is_directory(self):
         return word(self.b, 2 * self.b[0] + 6) == DIR and self.b[14] == 1 and word(self.b, 16) == 16
@@ -213,14 +271,15 @@ class Files:
             raise Refused("NotDirectory")
         return of
 
-    def listed(self, *directory):
-        """The lines of a directory."""
+    def listed(self, *directory, is_long=False):
+        """The lines of a directory, short or long."""
         for _, *found, name in self.records(directory[0], self.directory(*directory)):
             what = f"{shown(name)} {identified(*found)}"
             if found[0] and self.is_there(*found):
                 of = self.by(*found)
                 h, blocks = of[found[0]], len(self.places(found[0], of))
-                facts = f"blocks {blocks} bytes {min(h.end(), BLOCK * blocks)} owner {h.uic()} prot {word(h.b, 10):o}"
+                more = f"{h.rights()}{h.dates()}{h.record_form()}" if is_long else f"{word(h.b, 10):o}"
+                facts = f"blocks {blocks} bytes {min(h.end(), BLOCK * blocks)} owner {h.uic()} prot {more}"
                 yield f"file {what} {facts}{h.marks()}" + ("" if self.has(*found) else " out of use")
             elif found[0]:
                 yield f"entry {what} no file"
@@ -256,11 +315,11 @@ class Files:
                 return led
             led |= more
 
-    def all_listed(self):
+    def all_listed(self, is_long=False):
         """The lines of all directories."""
         for text, _, found in self.directories():
             yield text
-            yield from self.listed(*found)
+            yield from self.listed(*found, is_long=is_long)
 
     def found(self, directory, name):
         """What the first record of a directory with a name has: number, sequence number and volume."""
@@ -269,9 +328,9 @@ class Files:
                 return found
         raise Refused("NoSuchEntry")
 
-    def user(self, name):
+    def user(self, name, is_long=False):
         """The lines of the user's directory with a name."""
-        return self.listed(*self.found((4, 4, 0), name))
+        return self.listed(*self.found((4, 4, 0), name), is_long=is_long)
 
     def sought(self, directory, name):
         """The number of the file that a directory has under a name, and the headers by which it is read."""
@@ -336,11 +395,11 @@ class Files:
         return [shown(words) for d in directories for _, *found, words in self.records(d) if found[0] and is_name(words)]
 
 
-def listing(image, user=None):
-    """The lines of `ls`."""
+def listing(image, user=None, is_long=False):
+    """The lines of `ls`, and of `ls -l`."""
     try:
         files = Files(image)
-        return [*(files.all_listed() if user is None else files.user(user))]
+        return [*(files.all_listed(is_long) if user is None else files.user(user, is_long))]
     except Wrong as wrong:
         return [f"fault {wrong}"]
     except Refused as refused:
