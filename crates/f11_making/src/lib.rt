@@ -4,7 +4,7 @@
 //! on the file that is accessed. What makes a file from any source asks by the same steps: [`create`], [`extend`] and [`enter`].
 //!
 //! What is done to a file by its name, an [`Action`], and an empty file, [`make`], is said by the plan of what it asks: a tree of questions,
-//! each by the answers before. [`carry_out`] does it on a volume.
+//! each by the answers before. [`carry_out`] does it on a volume. Whoever has other plans asks by [`ask_done`], [`ask_file_for`] and [`undo`].
 #![tactic(auto)]
 
 mod action;
@@ -24,4 +24,4 @@ pub use attributes::{blocks_to_end, end, is_directory_name};
 pub use f11_fcp;
 pub use making::{Entry, create, enter, extend};
 pub use named::{carry_out, make};
-pub use steps::is_fatal;
+pub use steps::{ask_done, ask_file_for, is_fatal, undo};
