@@ -1,0 +1,5 @@
+pub mod PlaceLemmas
+pub mod CoverLemmas
+pub mod ArrangeLemmas
+pub mod BlockLemmas
+pub mod FloppyLemmas
