@@ -107,7 +107,7 @@ fn names_of<D: Device>(
     Ok(names)
 }
 
-/// Puts one file after another, but none behind one that is refused where that is asked for. Each is counted once.
+/// Puts one file after another, but none behind one that is refused where that is asked for. Each of those is counted once, where no failure ends them.
 fn put_all<W: Write>(
     rt: &HostRuntime,
     each: &Each<'_>,
@@ -135,7 +135,7 @@ fn is_ended(manner: Manner, puts: &Puts<FileImage<File>>) -> bool
     matches!(manner, Manner::Stops) && puts.has_refused()
 }
 
-/// Puts one file under its name, or tells that it can't have one. It is counted once.
+/// Puts one file under its name, or tells that it can't have one. It is counted once, but where the call fails.
 pub fn put_named<W: Write>(
     rt: &HostRuntime,
     each: &Each<'_>,

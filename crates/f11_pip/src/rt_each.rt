@@ -86,7 +86,7 @@ fn names_of<D: Device>(
     Ok(new_rt_names(rt.alloc(), device, &paths, each.fitting)?)
 }
 
-/// Puts one file after another, but none behind one that is refused where that is asked for. Each is counted once.
+/// Puts one file after another, but none behind one that is refused where that is asked for. Each of those is counted once, where no failure ends them.
 fn put_all<W: Write>(
     rt: &HostRuntime,
     each: &RtEach<'_>,
@@ -114,7 +114,7 @@ fn is_ended(manner: Manner, puts: &RtPuts<FileImage<File>>) -> bool
     matches!(manner, Manner::Stops) && puts.has_refused()
 }
 
-/// Puts one file under its name, or tells that it can't have one. It is counted once.
+/// Puts one file under its name, or tells that it can't have one. It is counted once, but where the call fails.
 fn put_named<W: Write>(
     rt: &HostRuntime,
     each: &RtEach<'_>,

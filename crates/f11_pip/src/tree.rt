@@ -266,7 +266,7 @@ fn tell_lost(rt: &HostRuntime, folder: &str) {
     );
 }
 
-/// Makes a directory where it isn't there, and puts its files, each of which is counted once.
+/// Makes a directory where it isn't there, and puts its files, each of which is counted once where no failure ends them.
 fn put_filled<W: Write>(
     rt: &HostRuntime,
     all: &All<'_>,
@@ -310,7 +310,7 @@ fn make_missing<W: Write>(
     Ok(())
 }
 
-/// Puts the files of a directory, each of which is counted once.
+/// Puts the files of a directory, each of which is counted once where no failure ends them.
 fn put_files<W: Write>(
     rt: &HostRuntime,
     each: &Each<'_>,

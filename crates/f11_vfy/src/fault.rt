@@ -10,7 +10,7 @@ use f11_dev::DeviceFault;
 pub enum ReadFault {
     /// A transfer failed.
     DeviceFault,
-    /// There was no memory.
+    /// There was no memory, or a list of findings is full.
     NoMemory,
 }
 

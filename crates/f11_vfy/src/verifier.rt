@@ -56,7 +56,7 @@ enum NotesOf {
 pub enum VfyError<D: Device> {
     /// A transfer failed.
     DeviceFault(D),
-    /// There was no memory.
+    /// There was no memory, or more is found than a list of findings keeps ([`f11_findings::MOST_FINDINGS`]).
     NoMemory(D),
 }
 
@@ -83,7 +83,7 @@ pub enum VfyError<D: Device> {
 ///
 /// # Errors
 ///
-/// `DeviceFault` where a transfer failed, and `NoMemory` where there was no memory.
+/// `DeviceFault` where a transfer failed, and `NoMemory` where there was no memory, or where a list of findings is full.
 pub fn verify<D: Device>(alloc: Global, device: D) -> Result<Report<D>, VfyError<D>>
     ensures report { IfOk result (λ report. IsReport D.disk (D.disk device) report) }
     ensures failed { IfErr result (λ error. HasNoReport D.disk (D.disk device) error) }
@@ -107,7 +107,7 @@ pub fn verify<D: Device>(alloc: Global, device: D) -> Result<Report<D>, VfyError
 ///
 /// # Errors
 ///
-/// `DeviceFault` where a transfer failed, and `NoMemory` where there was no memory.
+/// `DeviceFault` where a transfer failed, and `NoMemory` where there was no memory, or where a list of findings is full.
 pub fn judge<D: Device>(alloc: Global, device: D) -> Result<Verdict<D>, VfyError<D>>
     ensures judged { IfOk result (λ verdict. IsJudged D.disk (D.disk device) verdict) }
     ensures failed { IfErr result (λ error. HasNoReport D.disk (D.disk device) error) }
@@ -131,7 +131,7 @@ pub fn judge<D: Device>(alloc: Global, device: D) -> Result<Verdict<D>, VfyError
 ///
 /// # Errors
 ///
-/// `DeviceFault` where a transfer failed, and `NoMemory` where there was no memory.
+/// `DeviceFault` where a transfer failed, and `NoMemory` where there was no memory, or where a list of findings is full.
 pub fn is_faulty<D: Device>(alloc: Global, device: D) -> Result<(D, bool), VfyError<D>>
     ensures told { IfOk result (λ told. TellsVerdict told.1 (D.disk device) (D.disk told.0)) }
     ensures failed { IfErr result (λ error. HasNoReport D.disk (D.disk device) error) }
