@@ -6,7 +6,6 @@
 
 mod copies;
 mod copying;
-mod dates;
 mod entries;
 mod fitting;
 pub mod laws;
@@ -15,7 +14,6 @@ mod outcome;
 mod reading;
 #[cfg(test)]
 mod tests;
-mod writing;
 
 pub use copies::copy_all;
 pub use copying::copy_file;

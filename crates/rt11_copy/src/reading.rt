@@ -3,9 +3,9 @@ ghost use Rattle.std.specs.Prelude.{◌≡◌, ◌+◌, ◌≤◌, ◌++◌, ◌
 ghost use Rattle.f11_dev.specs.Looked.{Looked};
 ghost use Rattle.rt11_copy.specs.Reading.{HasArea, ReadsArea, ReadsFile, look_faults, read_transfers};
 
-use crate::dates::read_date;
 use f11_bytes::{BLOCK_SIZE, Block, NoMemory};
 use f11_dev::Device;
+use rt11_squeeze::read_date;
 use rt11_volume::{LookFault, RtEntry};
 use std::alloc::Global;
 

@@ -4,11 +4,11 @@ ghost use Rattle.rt11_volume.specs.Calls.{has_failed};
 
 use crate::copies::copy_all;
 use crate::copying::copy_file;
-use crate::dates::read_date;
 use crate::fitting::{RtNeed, blocks_for, need_of, will_fit};
 use crate::outcome::{RtCopied, RtUncopied};
 use f11_bytes::Block;
 use f11_dev::{Device, DeviceFault, FailOnce, Memory};
+use rt11_squeeze::read_date;
 use rt11_volume::{
     RtAccepted, RtEntries, RtEntry, RtKind, RtName, RtRefusal, RtReport, RtSurvey, init, survey,
     verify,

@@ -11,8 +11,13 @@ use f11_bytes::Block;
 use f11_dev::Device;
 use rt11_volume::{RtAccepted, RtName, RtRefusal};
 
-/// Makes a file of these blocks, with this date, in the front of the first empty area that is as long.
-pub(crate) fn make_copy<D: Device>(
+/// Makes a file of these blocks, with this date, in the front of the first empty area that is as long. At each moment the blocks of each
+/// file that there was stand on the volume.
+///
+/// # Errors
+///
+/// As those of [`RtAccepted::create`], before anything is written; and `DeviceFault` where a transfer failed.
+pub fn make_copy<D: Device>(
     volume: &mut RtAccepted<D>,
     name: &RtName,
     date: u16,

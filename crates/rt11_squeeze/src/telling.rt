@@ -57,8 +57,12 @@ fn date_of(low: &Block, high: &Block, i: u16) -> u16
     word_of(low, high, 5 + usize::from(i) * (7 + extra / 2) + 6)
 }
 
-/// Reads the date of an entry: 0 where its segment isn't on the device.
-fn read_date<D: Device>(device: &mut D, entry: &RtEntry) -> Result<u16, RtRefusal>
+/// Reads the date of an entry, a word as RT-11 keeps it, by two transfers: 0 where its segment isn't on the device.
+///
+/// # Errors
+///
+/// `DeviceFault` where a transfer failed.
+pub fn read_date<D: Device>(device: &mut D, entry: &RtEntry) -> Result<u16, RtRefusal>
     ensures looked { Looked (D.disk device.old) (D.disk device.new) 2 (faults_in result) }
     ensures read { IfOk result (λ date. IsTrue (D.disk device.old).honest
         → 4 + 2 * entry.now.segment + 1 < length (D.disk device.old).image
