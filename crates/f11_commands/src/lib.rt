@@ -92,7 +92,7 @@ pub use rights::print_rights;
 pub use rt_all::begin::begin_all_rt;
 pub use rt_all::found::{RtFate, RtFileAt, RtPlace, RtWhyNot};
 pub use rt_all::state::{RtCounts, TakingAllRt};
-pub use rt_any::RtServed;
+pub use rt_any::{RtServed, read_directory};
 pub use rt_delete::print_rt_delete;
 pub use rt_get::found::FoundRtFile;
 pub use rt_get::text::write_rt_text;

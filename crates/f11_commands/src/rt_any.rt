@@ -30,9 +30,14 @@ pub(crate) fn served(state: RtState, told: Result<FileAnswer, Failure>) -> Resul
     Ok(RtServed { answer, state })
 }
 
-/// Looks how the RT-11 volume on a device is, and reads its entries. Where its directory hasn't the size that it should have it writes the
-/// lines of `rt-vfy`; then, or where it fails, it says how the command ends.
-pub(crate) fn read_directory<D: Device, W: Write>(
+/// Looks how the RT-11 volume on a device is, and reads its entries. Nothing is written to the device.
+///
+/// # Errors
+///
+/// How the command ends: with [`FileAnswer::Faulty`] where the directory hasn't the size that it should have, of which it writes the lines of
+/// `rt-vfy`; [`Failure::DeviceFault`] where a transfer failed, [`Failure::NoMemory`] where there was no memory, and
+/// [`Failure::CannotWrite`] where the writer takes no more.
+pub fn read_directory<D: Device, W: Write>(
     alloc: Global,
     device: &mut D,
     writer: &mut W,
