@@ -32,7 +32,7 @@ mod RtTakingLemmas
 mod RtTextLemmas
 mod RtFillLemmas
 mod RtPutLemmas
-mod RtSqueezeLemmas
+pub mod RtSqueezeLemmas
 mod RtChangeLemmas
 pub use Rattle.f11_serving.proofs as serving
 pub use Rattle.f11_flx.proofs as flx
