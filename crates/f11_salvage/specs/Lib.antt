@@ -1,0 +1,4 @@
+pub mod RtPack
+pub mod RtSize
+pub mod RtLines
+pub mod RtCopy
