@@ -52,6 +52,9 @@ no-zeros n is = no-blocks (zero_blocks n) (length-zeros n ∙ is)
 other-way : (a b : ℕ) → (a == b) ≡ false → (b == a) ≡ false
 other-way a b is = ne_eqb b a (λ same. true-false (sym (same_number a) ∙ ap (λ n. a == n) (sym same) ∙ is))
 
+apart-from : (s : Store) (a b : ℕ) → s.in_use a ≡ false → s.in_use b ≡ true → (a == b) ≡ false
+apart-from s a b unused used = ne_eqb a b (λ same. true-false (sym used ∙ ap s.in_use (sym same) ∙ unused))
+
 -- a name isn't entered into the index file
 entered-own : (who : Who) (d : FileId) (name : List ℕ) (id : FileId) (t : Store)
     → first_refusal t who.task who.caller (request.Enter d name id) ≡ None → (d.number == 1) ≡ false
@@ -132,12 +135,13 @@ module _ {H : Type 0} (K : Giving H) (who : Who) (file : FileToMake) (lun : ℕ)
       )
 
   -- the blocks were allocated
-  allocated : (in_one_run : Bool) (attr : List ℕ) (n : ℕ) (v w : Both Store H) → Such attr [] open-now v.volume
-      → Runs plain K who (allocates in_one_run lun n) (Ok tt) v w → Such attr (zero_blocks n) open-now w.volume × (w.source ≡ v.source)
-  allocated false attr n v w h g =
+  allocated : (in_one_run : Bool) (attr : List ℕ) (n : ℕ) (v w : Both Store H) → file.in_one_run ≡ in_one_run
+      → Such attr [] open-now v.volume → Runs plain K who (allocates in_one_run lun n) (Ok tt) v w
+      → Such attr (zero_blocks n) open-now w.volume × (w.source ≡ v.source)
+  allocated false attr n v w wanted h g =
       let one = ask-parts plain K who (done (request.Extend lun n)) tt v w g in
       (such-extended file who lun id s attr n v.volume w.volume h one.asked, one.same)
-  allocated true attr n v w h g =
+  allocated true attr n v w wanted h g =
       by (else-parts plain K who (ask (done (request.Contiguous lun n))) (ask (done (request.Extend lun n))) tt v w g)
     where
       by : Runs plain K who (ask (done (request.Contiguous lun n))) (Ok tt) v w
@@ -145,7 +149,7 @@ module _ {H : Type 0} (K : Giving H) (who : Who) (file : FileToMake) (lun : ℕ)
           → Such attr (zero_blocks n) open-now w.volume × (w.source ≡ v.source)
       by (inl k) =
           let one = ask-parts plain K who (done (request.Contiguous lun n)) tt v w k in
-          (such-laid file who lun id s attr n v.volume w.volume h one.asked, one.same)
+          (such-laid file who lun id s attr n v.volume w.volume wanted h one.asked, one.same)
       by (inr k) =
           let none = refused-one (request.Contiguous lun n) k.e v k.w k.first in
           let one = ask-parts plain K who (done (request.Extend lun n)) tt k.w w k.rest in (
@@ -154,12 +158,13 @@ module _ {H : Type 0} (K : Giving H) (who : Who) (file : FileToMake) (lun : ℕ)
           )
 
   -- the file was filled and given up
-  filled : (in_one_run : Bool) (attr : List ℕ) (n : ℕ) (v w : Both Store H) → s.access who.task lun ≡ None → Such attr [] open-now v.volume
-      → Runs plain K who (fills in_one_run lun n) (Ok tt) v w → Filled attr [] n s.access v w
-  filled in_one_run attr n v w free h g =
+  filled : (in_one_run : Bool) (attr : List ℕ) (n : ℕ) (v w : Both Store H) → file.in_one_run ≡ in_one_run
+      → s.access who.task lun ≡ None → Such attr [] open-now v.volume → Runs plain K who (fills in_one_run lun n) (Ok tt) v w
+      → Filled attr [] n s.access v w
+  filled in_one_run attr n v w wanted free h g =
       let one = ok-parts plain K who (allocates in_one_run lun n)
       (λ x. if_granted (pours lun 0 n) (λ y. ask (done (request.Deaccess lun)))) tt v w g in
-      let laid = allocated in_one_run attr n v one.w h one.first in
+      let laid = allocated in_one_run attr n v one.w wanted h one.first in
       let two = ok-parts plain K who (pours lun 0 n) (λ y. ask (done (request.Deaccess lun))) tt one.w w one.rest in
       let full = poured attr [] (zero_blocks n) n one.w two.w (length-zeros n) laid.0 two.first in
       let last = ask-parts plain K who (done (request.Deaccess lun)) tt two.w w two.rest in
@@ -171,20 +176,20 @@ module _ {H : Type 0} (K : Giving H) (who : Who) (file : FileToMake) (lun : ℕ)
         such = such-closed file who lun id s attr full.blocks two.w.volume w.volume free full.such last.asked;
       }
 
-  filled-if : (empty in_one_run : Bool) (attr : List ℕ) (n : ℕ) (v w : Both Store H) → (n == 0) ≡ empty → Such attr [] s.access v.volume
-      → Runs plain K who (fills_if empty in_one_run lun n id) (Ok tt) v w → Filled attr [] n s.access v w
-  filled-if true in_one_run attr n v w none h g = record {
+  filled-if : (empty in_one_run : Bool) (attr : List ℕ) (n : ℕ) (v w : Both Store H) → (n == 0) ≡ empty → file.in_one_run ≡ in_one_run
+      → Such attr [] s.access v.volume → Runs plain K who (fills_if empty in_one_run lun n id) (Ok tt) v w → Filled attr [] n s.access v w
+  filled-if true in_one_run attr n v w none wanted h g = record {
     blocks = [];
     count = sym (eqb-true n 0 none);
     given = ap (λ (b : Both Store H). b.source) g.1;
     such = subst (λ (b : Both Store H). Such attr [] s.access b.volume) (sym g.1) h;
   }
-  filled-if false in_one_run attr n v w some h g =
+  filled-if false in_one_run attr n v w some wanted h g =
       let one = ok-parts plain K who (ask (done (request.Access id mode.Write lun)))
       (λ x. or_undone (request.Deaccess lun) (fills in_one_run lun n)) tt v w g in
       let asked = ask-parts plain K who (done (request.Access id mode.Write lun)) tt v one.w one.first in
       let opened = such-opened file who lun id s attr v.volume one.w.volume h asked.asked in
-      let full = filled in_one_run attr n one.w w opened.1 opened.0
+      let full = filled in_one_run attr n one.w w wanted opened.1 opened.0
       (undone-parts plain K who (request.Deaccess lun) (fills in_one_run lun n) tt one.w w one.rest) in
       record {
         blocks = full.blocks;
@@ -215,6 +220,7 @@ module _ {H : Type 0} (K : Giving H) (who : Who) (file : FileToMake) (lun : ℕ)
         was_free = h.unused;
         owner_is = h.owner;
         protection_is = refl;
+        mark = h.mark;
         ident_is = h.ident;
         attr_is = h.attr_is;
         blocks_are = h.blocks_are;
@@ -267,7 +273,7 @@ made-is-made-of {H} K who file lun dir name id s s' h k g =
     let three = undone-parts plain K who (request.Delete i) (fills_and_finishes file lun dir name i) tt one.w two.w two.first in
     let four = ok-parts plain K who (fills_if (file.blocks == 0) file.in_one_run lun file.blocks i) (λ x. finishes file dir name i) tt one.w
     two.w three in
-    let full = filled-if K who file lun i s (file.blocks == 0) file.in_one_run (without_end file.attr) file.blocks one.w four.w refl
+    let full = filled-if K who file lun i s (file.blocks == 0) file.in_one_run (without_end file.attr) file.blocks one.w four.w refl refl
     (such-created file who i s one.w.volume made.asked) four.first in
     let done = finished K who file lun i s dir name (without_end file.attr) full.blocks four.w two.w full.such four.rest in
     let ends : both s' k ≡ two.w = two.rest.1 in
@@ -276,8 +282,8 @@ made-is-made-of {H} K who file lun dir name id s s' h k g =
       count = full.count;
       given = subst (λ b. IsGiven K full.blocks h b) (sym (ap (λ (b : Both Store H). b.source) ends ∙ done.1))
           (subst (λ b. IsGiven K full.blocks b four.w.source) made.same full.given);
-      makes = λ apart. subst (λ b. HasMadeCopy file dir name i full.blocks s b) (sym (ap (λ (b : Both Store H). b.volume) ends))
-          (done.0 apart);
+      makes = λ used. subst (λ b. HasMadeCopy file dir name i full.blocks s b) (sym (ap (λ (b : Both Store H). b.volume) ends))
+          (done.0 (apart-from s i.number dir.number full.such.unused used));
     })
   where
     inside : (j : FileId) → (a : Result FileId CopyFault) → Ok id ≡ a → a ≡ Ok j → id ≡ j

@@ -114,10 +114,10 @@ module _ (index : Index) (file : FileReader) (size count : ℕ) (missing : Optio
         (omega arith)
 
 pub old-file-is-copied : {D : Type 0} {met : Ghosts D} (disk : D → Disk) (old : OldFile D met) → OldFileIsCopied disk old
-old-file-is-copied disk old who file lun dir name id s s' new honest ran apart =
+old-file-is-copied disk old who file lun dir name id s s' new honest ran used =
     let made = made-is-made-of (GivesOld disk) who file lun dir name id s s' old new ran in
     let gives = gives-blocks disk made.blocks old new made.given honest in
     let are : made.blocks ≡ take file.blocks (old_blocks disk old) =
     sym (ap (λ n. take n (old_blocks disk old)) (sym made.count) ∙ ap (take (length made.blocks)) gives.are
     ∙ take-append_seam made.blocks (old_blocks disk new)) in
-    subst (λ l. HasMadeCopy file dir name id l s s') are (made.makes apart)
+    subst (λ l. HasMadeCopy file dir name id l s s') are (made.makes used)

@@ -1,13 +1,14 @@
 -- A file that is made, as far as it has come, over the plain store.
-use Rattle.std.proofs.Common.{◌≡◌, ℕ, ◌-◌, ◌≤◌, ◌==◌, ◌&&◌, not, Bool, true, false, if◌then◌else◌, List, [], ◌++◌}
+use Rattle.std.proofs.Common.{◌≡◌, inl, inr, ℕ, ◌-◌, ◌≤◌, ◌==◌, ◌&&◌, not, Bool, true, false, if◌then◌else◌, List, [], ◌++◌}
 use Rattle.std.proofs.Common.{Ok, Option, Some, None, is_some, option_map, refl, sym, ap, ◌∙◌, subst, arith}
+use Rattle.std.specs.Int.{bit_at}
 use Rattle.std.specs.Prelude.{slice_set, unwrap_or}
 use Rattle.std.proofs.lemmas.Bool.{and_parts, eqb-true}
 use Rattle.f11_store.specs.Causes.{is_bad}
 use Rattle.f11_store.specs.Changes.{Lengthens, LaysOut, after_giving_up, file_created, grown_file, is_due, laid_file, with_access}
 use Rattle.f11_store.specs.Changes.{with_block}
 use Rattle.f11_store.specs.Changes.{with_change, with_replacement, without_file_at}
-use Rattle.f11_store.specs.File.{File, is_marked, need, no_file, zero_blocks}
+use Rattle.f11_store.specs.File.{File, is_marked, need, no_file, with_contiguous, without_contiguous, zero_blocks}
 use Rattle.f11_store.specs.Headroom.{slots_first}
 use Rattle.f11_store.specs.SlotsFirst.{IsReady}
 use Rattle.f11_store.specs.Step.{next_id}
@@ -19,7 +20,6 @@ use Rattle.f11_store.specs.declared.refusals.Refusal.TheVariants.{BadArgument, L
 use Rattle.f11_store.specs.declared.requests.Reply.{Reply}
 use Rattle.f11_store.specs.declared.requests.Reply.TheVariants as reply
 use Rattle.f11_store.specs.declared.requests.Request.TheVariants as request
-use Rattle.f11_store.proofs.FateLaws.{mark-of-cleared, mark-of-marked}
 use Rattle.f11_store.proofs.FileLaws.{least_free_is_free, made_id}
 use Rattle.f11_store.proofs.SlotsFirst.{gained-is-ready}
 use Rattle.f11_store.proofs.StoreLemmas.{none_first, none_rest, same_number}
@@ -29,17 +29,30 @@ use Rattle.f11_making.specs.Asking.{writes as writes_block}
 use Rattle.f11_making.specs.FilesPlan.{AsksFile, file_in, for_user}
 use Rattle.f11_making.proofs.GainedLemmas.{not-index}
 use Rattle.f11_copying.specs.Copies.{without_end}
+use Rattle.f11_copying.specs.Made.{HasMark}
 use Rattle.f11_copying.specs.declared.file.FileToMake.{FileToMake}
 
--- So far a store is s with one file more: that is to be made, has these blocks and attributes, and is marked for no deletion; and accesses
--- are these.
+cleared : (in_one_run : Bool) (word : ℕ) → HasMark in_one_run word → without_contiguous word ≡ 0
+cleared in_one_run word (inl none) = ap without_contiguous none
+cleared in_one_run word (inr set) = ap without_contiguous set.1
+
+set-mark : (in_one_run : Bool) (word : ℕ) → HasMark in_one_run word → with_contiguous word ≡ 128
+set-mark in_one_run word (inl none) = ap with_contiguous none
+set-mark in_one_run word (inr set) = ap with_contiguous set.1
+
+unmarked : (in_one_run : Bool) (word : ℕ) → HasMark in_one_run word → (bit_at word 15 == 1) ≡ false
+unmarked in_one_run word (inl none) = ap (λ n. bit_at n 15 == 1) none
+unmarked in_one_run word (inr set) = ap (λ n. bit_at n 15 == 1) set.1
+
+-- So far a store is s with one file more: that is to be made, has these blocks and attributes, and no mark but the contiguous one, where it
+-- is to lie in one run; and accesses are these.
 pub record IsSuch (file : FileToMake) (id : FileId) (attr : List ℕ) (blocks : List (List ℕ)) (accesses : ℕ → ℕ → Option Access)
     (s t : Store) : Type 0
   where
     pub now : File
     pub there : t.file id.number ≡ Some now
     pub sequence : now.sequence ≡ id.sequence
-    pub unmarked : is_marked now ≡ false
+    pub mark : HasMark file.in_one_run now.characteristics
     pub owner : now.owner ≡ file.owner
     pub ident : now.ident ≡ file.ident
     pub attr_is : now.attr ≡ attr
@@ -67,7 +80,7 @@ such-created file who id s t h =
       there = ap (λ (x : Store). x.file (least_free r)) made.makes
           ∙ ap (λ b. if b then Some new else r.file (least_free r)) (same_number (least_free r));
       sequence = refl;
-      unmarked = refl;
+      mark = inl refl;
       owner = refl;
       ident = refl;
       attr_is = refl;
@@ -101,14 +114,15 @@ module _ (file : FileToMake) (who : Who) (lun : ℕ) (id : FileId) (s : Store) w
   -- it becomes another, from a store in which all but it and the index file are as they were
   replaced : (attr attr' : List ℕ) (blocks blocks' : List (List ℕ)) (accesses : ℕ → ℕ → Option Access) (t u : Store)
       → (h : Such attr blocks accesses t) → (new : File) → u.file id.number ≡ Some new → new.sequence ≡ h.now.sequence
-      → is_marked new ≡ is_marked h.now → new.owner ≡ h.now.owner → new.ident ≡ h.now.ident → new.attr ≡ attr' → new.blocks ≡ blocks'
+      → HasMark file.in_one_run new.characteristics → new.owner ≡ h.now.owner → new.ident ≡ h.now.ident → new.attr ≡ attr'
+      → new.blocks ≡ blocks'
       → ((n : ℕ) → (n == id.number) ≡ false → (n == 1) ≡ false → u.file n ≡ t.file n) → u.access ≡ t.access
       → Such attr' blocks' accesses u
-  replaced attr attr' blocks blocks' accesses t u h new there sequence marked owner ident attr-is blocks-are others access = record {
+  replaced attr attr' blocks blocks' accesses t u h new there sequence mark owner ident attr-is blocks-are others access = record {
     now = new;
     there = there;
     sequence = sequence ∙ h.sequence;
-    unmarked = marked ∙ h.unmarked;
+    mark = mark;
     owner = owner ∙ h.owner;
     ident = ident ∙ h.ident;
     attr_is = attr-is;
@@ -140,7 +154,7 @@ module _ (file : FileToMake) (who : Who) (lun : ℕ) (id : FileId) (s : Store) w
       now = h.now;
       there = ap (λ (x : Store). x.file id.number) same ∙ h.there;
       sequence = h.sequence;
-      unmarked = h.unmarked;
+      mark = h.mark;
       owner = h.owner;
       ident = h.ident;
       attr_is = h.attr_is;
@@ -191,7 +205,7 @@ module _ (file : FileToMake) (who : Who) (lun : ℕ) (id : FileId) (s : Store) w
       (ap (λ (x : Store). x.file id.number) grows.store_is
       ∙ ap (λ b. if b then Some new else r.file id.number) (same_number id.number))
       (ap (λ (f : File). f.sequence) same)
-      (ap (λ b. b == 1) (mark-of-cleared grows.before.characteristics) ∙ ap (λ (f : File). is_marked f) same)
+      (inl (ap (λ (f : File). without_contiguous f.characteristics) same ∙ cleared file.in_one_run h.now.characteristics h.mark))
       (ap (λ (f : File). f.owner) same) (ap (λ (f : File). f.ident) same) (ap (λ (f : File). f.attr) same ∙ h.attr_is)
       (ap (λ (f : File). f.blocks ++ zero_blocks n) same ∙ ap (λ l. l ++ zero_blocks n) h.blocks_are)
       (λ m apart other. ap (λ (x : Store). x.file m) grows.store_is ∙ ap (λ b. if b then Some new else r.file m) apart
@@ -199,9 +213,9 @@ module _ (file : FileToMake) (who : Who) (lun : ℕ) (id : FileId) (s : Store) w
       (ap (λ (x : Store). x.access) grows.store_is ∙ ready.access)
 
   -- in one run, maybe
-  pub such-laid : (attr : List ℕ) (n : ℕ) (t u : Store) → Such attr [] opened-by t
+  pub such-laid : (attr : List ℕ) (n : ℕ) (t u : Store) → file.in_one_run ≡ true → Such attr [] opened-by t
       → Grants plain who (asks (request.Contiguous lun n)) t u → Such attr (zero_blocks n) opened-by u
-  such-laid attr n t u h g =
+  such-laid attr n t u wanted h g =
       let lays : LaysOut t id.number n u = subst (λ (i : FileId). LaysOut t i.number n u) (held attr [] t h) g.3.changes in
       let before : Some lays.before ≡ Some h.now = sym lays.was ∙ h.there in
       let same : lays.before ≡ h.now = cc in
@@ -210,7 +224,7 @@ module _ (file : FileToMake) (who : Who) (lun : ℕ) (id : FileId) (s : Store) w
       (ap (λ (x : Store). x.file id.number) lays.store_is
       ∙ ap (λ b. if b then Some new else t.file id.number) (same_number id.number))
       (ap (λ (f : File). f.sequence) same)
-      (ap (λ b. b == 1) (mark-of-marked lays.before.characteristics) ∙ ap (λ (f : File). is_marked f) same)
+      (inr (wanted, ap (λ (f : File). with_contiguous f.characteristics) same ∙ set-mark file.in_one_run h.now.characteristics h.mark))
       (ap (λ (f : File). f.owner) same) (ap (λ (f : File). f.ident) same) (ap (λ (f : File). f.attr) same ∙ h.attr_is) refl
       (λ m apart other. ap (λ (x : Store). x.file m) lays.store_is ∙ ap (λ b. if b then Some new else t.file m) apart)
       (ap (λ (x : Store). x.access) lays.store_is)
@@ -223,7 +237,7 @@ module _ (file : FileToMake) (who : Who) (lun : ℕ) (id : FileId) (s : Store) w
       let changed : u ≡ with_change t id.number set =
       g.2.changes ∙ ap (λ (i : FileId). with_change t i.number (with_block vbn block)) (held attr blocks t h) in
       replaced attr attr blocks (slice_set blocks (vbn - 1) block) opened-by t u h (set h.now)
-      (there-changed t u set h.now changed h.there) refl refl refl refl h.attr_is (ap (λ l. slice_set l (vbn - 1) block) h.blocks_are)
+      (there-changed t u set h.now changed h.there) refl h.mark refl refl h.attr_is (ap (λ l. slice_set l (vbn - 1) block) h.blocks_are)
       (λ n apart other. others-changed t u set changed n apart) (ap (λ (x : Store). x.access) changed)
 
   -- it is given up,
@@ -234,14 +248,14 @@ module _ (file : FileToMake) (who : Who) (lun : ℕ) (id : FileId) (s : Store) w
       let named : file_named t id ≡ h.now = ap (λ o. unwrap_or o no_file)
       (there-file t id (record { file = h.now; is = h.there; sequence = h.sequence })) in
       let due : is_due w id ≡ false = ap (λ f. is_marked f && not (is_accessed w id)) named
-      ∙ ap (λ b. b && not (is_accessed w id)) h.unmarked in
+      ∙ ap (λ b. b && not (is_accessed w id)) (unmarked file.in_one_run h.now.characteristics h.mark) in
       let same : u ≡ w = g.3.changes ∙ ap (λ o. after_giving_up t who.task lun o) (holds attr blocks t h)
       ∙ ap (λ b. if b then without_file_at w id.number else w) due in
       record {
         now = h.now;
         there = ap (λ (x : Store). x.file id.number) same ∙ h.there;
         sequence = h.sequence;
-        unmarked = h.unmarked;
+        mark = h.mark;
         owner = h.owner;
         ident = h.ident;
         attr_is = h.attr_is;
@@ -267,5 +281,5 @@ module _ (file : FileToMake) (who : Who) (lun : ℕ) (id : FileId) (s : Store) w
       → Grants plain who (asks (request.WriteAttr id (change.Attr attr'))) t u → Such attr' blocks s.access u
   such-stated attr attr' blocks t u h g =
       let set : File → File = with_replacement (change.Attr attr') in
-      replaced attr attr' blocks blocks s.access t u h (set h.now) (there-changed t u set h.now g.3.changes h.there) refl refl refl refl
+      replaced attr attr' blocks blocks s.access t u h (set h.now) (there-changed t u set h.now g.3.changes h.there) refl h.mark refl refl
       refl h.blocks_are (λ n apart other. others-changed t u set g.3.changes n apart) (ap (λ (x : Store). x.access) g.3.changes)

@@ -1,6 +1,6 @@
 -- What contracts know of a file of a volume that is copied, and what its blocks are (Files-11 On-Disk Structure Level 1, "File Header" and
 -- "Map Area").
-use Rattle.std.specs.Prelude.{◌≡◌, ◌⊎◌, ℕ, ◌+◌, ◌*◌, ◌==◌, ◌||◌, Bool, false, not, nat_lt, IsTrue, List, ◌++◌, length, take}
+use Rattle.std.specs.Prelude.{◌≡◌, ◌⊎◌, ℕ, ◌+◌, ◌*◌, ◌||◌, Bool, true, not, nat_lt, IsTrue, List, ◌++◌, length, take}
 use Rattle.std.specs.Prelude.{Option, Some, None, Ok}
 use Rattle.f11_chain.specs.Calls.{table}
 use Rattle.f11_dev.specs.Disk.{Disk}
@@ -95,9 +95,9 @@ abbrev pub OldFileGives : {D : Type 0} {met : Ghosts D} → (D → Disk) → Old
 OldFileGives {D} {met} disk old = (blocks : List (List ℕ)) (new : OldFile D met) → IsGiven (GivesOld disk) blocks old new
     → IsTrue (disk (behind_file old)).honest → GivesItsBlocks disk blocks old new
 
--- So a file that was made of it has its blocks, as many as it was to have, in a directory that is another file.
+-- So a file that was made of it has its blocks, as many as it was to have, in a directory that was there before.
 abbrev pub OldFileIsCopied : {D : Type 0} {met : Ghosts D} → (D → Disk) → OldFile D met → Type 0
 OldFileIsCopied {D} {met} disk old = (who : Who) (file : FileToMake) (lun : ℕ) (dir : FileId) (name : List ℕ) (id : FileId) (s s' : Store)
     (new : OldFile D met) → IsTrue (disk (behind_file old)).honest
-    → Runs plain (GivesOld disk) who (copies file lun dir name) (Ok id) (both s old) (both s' new) → (id.number == dir.number) ≡ false
+    → Runs plain (GivesOld disk) who (copies file lun dir name) (Ok id) (both s old) (both s' new) → s.in_use dir.number ≡ true
     → HasMadeCopy file dir name id (take file.blocks (old_blocks disk old)) s s'
