@@ -29,6 +29,8 @@ use Rattle.f11_words.specs.Lines.{
   quiet_run_line,
   ren_line,
   rights_line,
+  rt_copy_line,
+  rt_copy_onto_line,
   rt_del_line,
   rt_get_all_line,
   rt_get_line,
@@ -69,6 +71,7 @@ use Rattle.f11_words.specs.declared.usage.Subcommand.TheVariants.{
   Put,
   Ren,
   Rights,
+  RtCopy,
   RtDel,
   RtGet,
   RtInit,
@@ -137,6 +140,10 @@ takes-words Put = (
 )
 takes-words Ren = (λ h word. refl, (λ h word. refl, (λ h word. refl, (λ h word. refl, tt))))
 takes-words Rights = (λ h word. refl, (λ h word. refl, (λ h word. refl, tt)))
+takes-words RtCopy = (
+  λ h rest. (refl, refl),
+  (λ h word rest. (refl, refl, refl), (λ h word rest. (refl, refl, refl), (λ h word. refl, (λ h word. refl, tt)))),
+)
 takes-words RtDel = (λ h word. refl, (λ h word. refl, tt))
 takes-words RtGet =
     (λ h rest. (refl, refl), (λ h word rest. (refl, refl, refl), (λ h word. refl, (λ h word. refl, (λ h word. refl, tt)))))
@@ -179,6 +186,7 @@ takes-first Purge = λ rest. (refl, refl)
 takes-first Put = λ rest. (refl, refl)
 takes-first Ren = tt
 takes-first Rights = tt
+takes-first RtCopy = tt
 takes-first RtDel = tt
 takes-first RtGet = tt
 takes-first RtInit = tt
@@ -265,6 +273,11 @@ line-met (put_all_line None folder image) = (refl, refl, refl)
 line-met (put_all_line (Some mode) folder image) = (refl, refl, refl)
 line-met (ren_line image dir name new) = (tt, refl, refl)
 line-met (rights_line caller owner word) = (tt, refl, refl)
+line-met (rt_copy_line None None old new) = (tt, refl, refl)
+line-met (rt_copy_line None (Some segments) old new) = (tt, refl, refl)
+line-met (rt_copy_line (Some blocks) None old new) = (tt, refl, refl)
+line-met (rt_copy_line (Some blocks) (Some segments) old new) = (tt, refl, refl)
+line-met (rt_copy_onto_line old new) = (tt, refl, refl)
 line-met (rt_del_line rt name) = (tt, refl, refl)
 line-met (rt_get_line None rt name host) = (tt, refl, refl)
 line-met (rt_get_line (Some mode) rt name host) = (tt, refl, refl)

@@ -32,6 +32,7 @@ use Rattle.f11_words.specs.declared.usage.Subcommand.TheVariants.{
   Put,
   Ren,
   Rights,
+  RtCopy,
   RtDel,
   RtGet,
   RtInit,
@@ -117,6 +118,7 @@ command-met Purge = (refl, refl, refl, refl)
 command-met Put = (refl, refl, refl, refl)
 command-met Ren = (refl, refl, refl, refl)
 command-met Rights = (refl, refl, refl, refl)
+command-met RtCopy = (refl, refl, refl, refl)
 command-met RtDel = (refl, refl, refl, refl)
 command-met RtGet = (refl, refl, refl, refl)
 command-met RtInit = (refl, refl, refl, refl)

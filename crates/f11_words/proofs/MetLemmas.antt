@@ -31,6 +31,8 @@ use Rattle.f11_words.specs.Lines.{
   quiet_run_line,
   ren_line,
   rights_line,
+  rt_copy_line,
+  rt_copy_onto_line,
   rt_del_line,
   rt_get_all_line,
   rt_get_line,
@@ -70,6 +72,7 @@ use Rattle.f11_words.specs.declared.usage.Subcommand.TheVariants.{
   Put,
   Ren,
   Rights,
+  RtCopy,
   RtDel,
   RtGet,
   RtInit,
@@ -107,6 +110,7 @@ named-is Purge = refl
 named-is Put = refl
 named-is Ren = refl
 named-is Rights = refl
+named-is RtCopy = refl
 named-is RtDel = refl
 named-is RtGet = refl
 named-is RtInit = refl
@@ -178,6 +182,8 @@ reads-line matches result (put_each_line manner fitted mode image dir host) read
 reads-line matches result (put_all_line mode folder image) reads = reads.all mode folder image
 reads-line matches result (ren_line image dir name new) reads = reads image dir name new
 reads-line matches result (rights_line caller owner word) reads = reads caller owner word
+reads-line matches result (rt_copy_line blocks segments old new) reads = reads.fresh blocks segments old new
+reads-line matches result (rt_copy_onto_line old new) reads = reads.onto old new
 reads-line matches result (rt_del_line rt name) reads = reads rt name
 reads-line matches result (rt_get_line mode rt name host) reads = reads.file mode rt name host
 reads-line matches result (rt_get_all_line rt folder) reads = reads.all rt folder

@@ -25,6 +25,8 @@ use Rattle.f11_words.specs.Lines.{
   quiet_run_line,
   ren_line,
   rights_line,
+  rt_copy_line,
+  rt_copy_onto_line,
   rt_del_line,
   rt_get_all_line,
   rt_get_line,
@@ -74,6 +76,8 @@ use Rattle.f11_words.specs.declared.words.Words.TheVariants.{
   PutEach,
   Ren,
   Rights,
+  RtCopy,
+  RtCopyOnto,
   RtDel,
   RtGet,
   RtGetAll,
@@ -238,6 +242,24 @@ AsksInit blocks slots label max image (Init to count slots_are label_is files) =
     (to.now ≡ image) × SpellsCount blocks count × SpellsNumber slots slots_are × (label_is.now ≡ label) × SpellsMax max files
 AsksInit blocks slots label max image _ = ⊥
 
+-- the number that a text spells, and none where there is no text
+abbrev pub SpellsNumberOrNone : Option (List ℕ) → Option ℕ → Type 0
+SpellsNumberOrNone (Some text) (Some number) = SpellsNumber text number
+SpellsNumberOrNone None None = Unit {0}
+SpellsNumberOrNone _ _ = ⊥
+
+-- the words ask that all files of this RT-11 volume be copied to a fresh one in this image, of so many blocks and segments where numbers
+-- are given, and else of as many as the volume has
+abbrev pub AsksRtCopy : Option (List ℕ) → Option (List ℕ) → List ℕ → List ℕ → Words → Type 0
+AsksRtCopy blocks segments from to (RtCopy count segments_are old new) =
+    SpellsNumberOrNone blocks count × SpellsNumberOrNone segments segments_are × (old.now ≡ from) × (new.now ≡ to)
+AsksRtCopy blocks segments from to _ = ⊥
+
+-- the words ask that they be copied to the one that is there
+abbrev pub AsksRtCopyOnto : List ℕ → List ℕ → Words → Type 0
+AsksRtCopyOnto from to (RtCopyOnto old new) = (old.now ≡ from) × (new.now ≡ to)
+AsksRtCopyOnto from to _ = ⊥
+
 -- the words ask that this file of the RT-11 volume in this image be deleted
 abbrev pub AsksRtDel : List ℕ → List ℕ → Words → Type 0
 AsksRtDel image text (RtDel rt name) = (rt.now ≡ image) × (name.now ≡ text)
@@ -347,6 +369,8 @@ Asks (put_each_line manner fitted mode image dir host) words = AsksPutEach manne
 Asks (put_all_line mode folder image) words = AsksPutAll mode folder image words
 Asks (ren_line image dir name new) words = AsksRen image dir name new words
 Asks (rights_line caller owner word) words = AsksRights caller owner word words
+Asks (rt_copy_line blocks segments old new) words = AsksRtCopy blocks segments old new words
+Asks (rt_copy_onto_line old new) words = AsksRtCopyOnto old new words
 Asks (rt_del_line rt name) words = AsksRtDel rt name words
 Asks (rt_get_line mode rt name host) words = AsksRtGet mode rt name host words
 Asks (rt_get_all_line rt folder) words = AsksRtGetAll rt folder words
@@ -367,13 +391,13 @@ Asks (vfy_line image) words = AsksVfy false image words
 Asks (update_line image) words = AsksVfy true image words
 
 -- a text is there, and no number
-abbrev pub IsNoMax : Option (List ℕ) → Type 0
-IsNoMax None = ⊥
-IsNoMax (Some text) = ¬ IsNumber text
+abbrev pub IsNoNumberOrNone : Option (List ℕ) → Type 0
+IsNoNumberOrNone None = ⊥
+IsNoNumberOrNone (Some text) = ¬ IsNumber text
 
 -- one of the numbers of `init` isn't one
 abbrev pub IsNoInit : List ℕ → List ℕ → Option (List ℕ) → Type 0
-IsNoInit blocks slots max = ¬ IsCount blocks ⊎ (¬ IsNumber slots ⊎ IsNoMax max)
+IsNoInit blocks slots max = ¬ IsCount blocks ⊎ (¬ IsNumber slots ⊎ IsNoNumberOrNone max)
 
 -- a text is there, and no mode
 abbrev pub IsNoModeOrNone : Option (List ℕ) → Type 0
@@ -419,6 +443,8 @@ IsUnreadable (put_each_line manner fitted mode image dir host) = IsNoMove mode d
 IsUnreadable (put_all_line mode folder image) = IsNoModeOrNone mode
 IsUnreadable (ren_line image dir name new) = IsNoDirectory dir ⊎ IsNoTarget new
 IsUnreadable (rights_line caller owner word) = IsNoUic caller ⊎ (IsNoUic owner ⊎ ¬ IsProtection word)
+IsUnreadable (rt_copy_line blocks segments old new) = IsNoNumberOrNone blocks ⊎ IsNoNumberOrNone segments
+IsUnreadable (rt_copy_onto_line old new) = ⊥
 IsUnreadable (rt_del_line rt name) = ⊥
 IsUnreadable (rt_get_line mode rt name host) = IsNoModeOrNone mode
 IsUnreadable (rt_get_all_line rt folder) = ⊥

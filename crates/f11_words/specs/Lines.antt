@@ -18,6 +18,7 @@ use Rattle.f11_words.specs.declared.usage.Subcommand.TheVariants.{
   Put,
   Ren,
   Rights,
+  RtCopy,
   RtDel,
   RtGet,
   RtInit,
@@ -76,6 +77,8 @@ pub data CommandLine : Type 0 where
   put_all_line : (mode : Option (List ℕ)) → (folder image : List ℕ) → CommandLine
   ren_line : (image dir name new : List ℕ) → CommandLine
   rights_line : (caller owner word : List ℕ) → CommandLine
+  rt_copy_line : (blocks segments : Option (List ℕ)) → (old new : List ℕ) → CommandLine
+  rt_copy_onto_line : (old new : List ℕ) → CommandLine
   rt_del_line : (rt name : List ℕ) → CommandLine
   rt_get_line : (mode : Option (List ℕ)) → (rt name host : List ℕ) → CommandLine
   rt_get_all_line : (rt folder : List ℕ) → CommandLine
@@ -117,6 +120,8 @@ command_in (put_each_line manner fitted mode image dir host) = Put
 command_in (put_all_line mode folder image) = Put
 command_in (ren_line image dir name new) = Ren
 command_in (rights_line caller owner word) = Rights
+command_in (rt_copy_line blocks segments old new) = RtCopy
+command_in (rt_copy_onto_line old new) = RtCopy
 command_in (rt_del_line rt name) = RtDel
 command_in (rt_get_line mode rt name host) = RtGet
 command_in (rt_get_all_line rt folder) = RtGet
@@ -165,6 +170,8 @@ given_in (put_all_line mode folder image) =
     ∷ []
 given_in (ren_line image dir name new) = text image ∷ text dir ∷ text name ∷ text new ∷ []
 given_in (rights_line caller owner word) = text caller ∷ text owner ∷ text word ∷ []
+given_in (rt_copy_line blocks segments old new) = is_there false ∷ says blocks ∷ says segments ∷ text old ∷ text new ∷ []
+given_in (rt_copy_onto_line old new) = is_there true ∷ says None ∷ says None ∷ text old ∷ text new ∷ []
 given_in (rt_del_line rt name) = text rt ∷ text name ∷ []
 given_in (rt_get_line mode rt name host) = is_there false ∷ says mode ∷ text rt ∷ text name ∷ text host ∷ []
 given_in (rt_get_all_line rt folder) = is_there true ∷ says None ∷ text rt ∷ text folder ∷ says None ∷ []

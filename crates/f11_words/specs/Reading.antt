@@ -26,6 +26,8 @@ use Rattle.f11_words.specs.Lines.{
   quiet_run_line,
   ren_line,
   rights_line,
+  rt_copy_line,
+  rt_copy_onto_line,
   rt_del_line,
   rt_get_all_line,
   rt_get_line,
@@ -64,6 +66,7 @@ use Rattle.f11_words.specs.declared.usage.Subcommand.TheVariants.{
   Put,
   Ren,
   Rights,
+  RtCopy,
   RtDel,
   RtGet,
   RtInit,
@@ -141,6 +144,11 @@ pub record ReadsPut (matches : ArgMatches) (result : Option Words) : Type 0 wher
       → Reads (put_each_line manner fitted mode image dir host) matches result
   pub all : (mode : Option Text) → (folder image : Text) → Reads (put_all_line mode folder image) matches result
 
+-- What those of `rt-copy` are: to a fresh volume, or to one that is there.
+pub record ReadsRtCopy (matches : ArgMatches) (result : Option Words) : Type 0 where
+  pub fresh : (blocks segments : Option Text) → (old new : Text) → Reads (rt_copy_line blocks segments old new) matches result
+  pub onto : (old new : Text) → Reads (rt_copy_onto_line old new) matches result
+
 -- What those of `rt-get` are: for one file, or for all files.
 pub record ReadsRtGet (matches : ArgMatches) (result : Option Words) : Type 0 where
   pub file : (mode : Option Text) → (rt name host : Text) → Reads (rt_get_line mode rt name host) matches result
@@ -194,6 +202,7 @@ ReadsWords Purge matches result =
 ReadsWords Put matches result = ReadsPut matches result
 ReadsWords Ren matches result = (image dir name new : Text) → Reads (ren_line image dir name new) matches result
 ReadsWords Rights matches result = (caller owner word : Text) → Reads (rights_line caller owner word) matches result
+ReadsWords RtCopy matches result = ReadsRtCopy matches result
 ReadsWords RtDel matches result = (rt name : Text) → Reads (rt_del_line rt name) matches result
 ReadsWords RtGet matches result = ReadsRtGet matches result
 ReadsWords RtInit matches result = (blocks segments image : Text) → Reads (rt_init_line blocks segments image) matches result

@@ -17,6 +17,7 @@ use Rattle.f11_words.specs.declared.usage.Subcommand.TheVariants.{
   Put,
   Ren,
   Rights,
+  RtCopy,
   RtDel,
   RtGet,
   RtInit,
@@ -47,8 +48,8 @@ needed name = place name true
 -- the commands
 abbrev pub all_commands : List Subcommand
 all_commands =
-    Del ∷ Dump ∷ FlxFromRt ∷ FlxToRt ∷ Get ∷ Home ∷ Init ∷ Ls ∷ Mkdir ∷ Name ∷ Prot ∷ Purge ∷ Put ∷ Ren ∷ Rights ∷ RtDel ∷ RtGet ∷ RtInit
-    ∷ RtList ∷ RtLs ∷ RtProt ∷ RtPut ∷ RtRen ∷ RtSqueeze ∷ RtVfy ∷ Run ∷ Trunc ∷ Vfy ∷ []
+    Del ∷ Dump ∷ FlxFromRt ∷ FlxToRt ∷ Get ∷ Home ∷ Init ∷ Ls ∷ Mkdir ∷ Name ∷ Prot ∷ Purge ∷ Put ∷ Ren ∷ Rights ∷ RtCopy ∷ RtDel ∷ RtGet
+    ∷ RtInit ∷ RtList ∷ RtLs ∷ RtProt ∷ RtPut ∷ RtRen ∷ RtSqueeze ∷ RtVfy ∷ Run ∷ Trunc ∷ Vfy ∷ []
 
 -- a command's name
 abbrev pub name_of : Subcommand → List ℕ
@@ -67,6 +68,7 @@ name_of Purge = codes "purge"
 name_of Put = codes "put"
 name_of Ren = codes "ren"
 name_of Rights = codes "rights"
+name_of RtCopy = codes "rt-copy"
 name_of RtDel = codes "rt-del"
 name_of RtGet = codes "rt-get"
 name_of RtInit = codes "rt-init"
@@ -118,6 +120,8 @@ words_of Put =
     ∷ needed (codes "dir") ∷ place (codes "name") false ∷ place (codes "host") false ∷ []
 words_of Ren = file_words (codes "dir") ++ needed (codes "new") ∷ []
 words_of Rights = needed (codes "uic") ∷ needed (codes "owner") ∷ needed (codes "word") ∷ []
+words_of RtCopy =
+    flag (codes "onto") ∷ option (codes "blocks") false ∷ option (codes "segments") false ∷ needed (codes "old") ∷ needed (codes "new") ∷ []
 words_of RtDel = needed (codes "rt") ∷ needed (codes "name") ∷ []
 words_of RtGet =
     flag (codes "all") ∷ option (codes "mode") false ∷ needed (codes "rt") ∷ needed (codes "name") ∷ place (codes "host") false ∷ []

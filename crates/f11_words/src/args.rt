@@ -3,6 +3,7 @@ ghost use Rattle.std.specs.Prelude.{◌≡◌, ℕ, Bool, List, Option, MatchOpt
 ghost use Rattle.clap.specs.Words.{first_value, found_of};
 ghost use Rattle.f11_numbers.specs.Octal.{SpellsUic};
 ghost use Rattle.f11_words.specs.Asking.{IsMode, IsNoModeOrNone, IsNoWord, SpellsMode, SpellsModeOrNone, SpellsWord};
+ghost use Rattle.f11_words.specs.Asking.{IsNoNumberOrNone, SpellsNumberOrNone};
 ghost use Rattle.f11_words.specs.Asking.{IsNoTakingMode, IsTakingMode, SpellsTakingMode, SpellsTakingModeOrNone};
 ghost use Rattle.f11_words.specs.Directory.{IsNoDirectory, IsNoTarget, IsNoUic, SpellsDirectory, SpellsTarget};
 ghost use Rattle.f11_words.specs.Lines.{is_stopping, is_told as told_by, manner_from};
@@ -13,7 +14,7 @@ use crate::directory::{Directory, read_directory, read_target};
 use crate::words::{Manner, TakingMode};
 use clap::ArgMatches;
 use f11_flx::CopyMode;
-use f11_numbers::{read_protection, read_rights, read_uic};
+use f11_numbers::{read_number, read_protection, read_rights, read_uic};
 use f11_store::Uic;
 
 /// Whether there is a word of this name.
@@ -100,6 +101,17 @@ pub fn mode_of(given: &ArgMatches<'_>) -> Option<CopyMode>
         → MatchOption result (¬ IsMode text) (SpellsMode text) }
 {
     mode_in(given.get_str("mode")?)
+}
+
+/// The number that a word of this name spells, and none where none is there.
+pub fn number_or_none(given: &ArgMatches<'_>, name: &str) -> Option<Option<u16>>
+    ensures { (text : Option (List ℕ)) → first_value (found_of given.now) name.now ≡ text
+        → MatchOption result (IsNoNumberOrNone text) (SpellsNumberOrNone text) }
+{
+    match given.get_str(name) {
+        Some(text) => read_number(text).map(Some),
+        None => Some(None),
+    }
 }
 
 /// The protection word that a text spells, in octal or as RSX-11 shows it.

@@ -11,8 +11,8 @@ use crate::files::{del_of, mkdir_of, prot_of, purge_of, ren_of, trunc_of};
 use crate::host_files::{get_of, put_of};
 use crate::program::program;
 use crate::rt11::{
-    rt_del_of, rt_get_of, rt_init_of, rt_list_of, rt_ls_of, rt_prot_of, rt_put_of, rt_ren_of,
-    rt_squeeze_of, rt_vfy_of,
+    rt_copy_of, rt_del_of, rt_get_of, rt_init_of, rt_list_of, rt_ls_of, rt_prot_of, rt_put_of,
+    rt_ren_of, rt_squeeze_of, rt_vfy_of,
 };
 use crate::spelled::{name_of, rights_of};
 use crate::usage::Subcommand;
@@ -114,6 +114,7 @@ fn words_of<'a>(command: Subcommand, given: &ArgMatches<'a>) -> Option<Words<'a>
         Subcommand::Put => put_of(given),
         Subcommand::Ren => ren_of(given),
         Subcommand::Rights => rights_of(given),
+        Subcommand::RtCopy => rt_copy_of(given),
         Subcommand::RtDel => rt_del_of(given),
         Subcommand::RtGet => rt_get_of(given),
         Subcommand::RtInit => rt_init_of(given),

@@ -1,14 +1,51 @@
 //! The words of the commands on an RT-11 volume.
 ghost use Rattle.std.specs.Prelude.{ℕ, Bool, List, Option};
-ghost use Rattle.f11_words.specs.Lines.{rt_get_all_line, rt_get_line, rt_put_each_line, rt_put_line};
+ghost use Rattle.f11_words.specs.Lines.{rt_copy_line, rt_copy_onto_line, rt_get_all_line, rt_get_line, rt_put_each_line, rt_put_line};
 ghost use Rattle.f11_words.specs.Reading.{Reads, ReadsWords};
 ghost use Rattle.f11_words.specs.declared.usage.Subcommand.TheVariants as subcommand;
 ghost use Rattle.f11_words.specs.declared.words.Manner.{Manner};
 
-use crate::args::{has, manner_of, mode_or_image};
+use crate::args::{has, manner_of, mode_or_image, number_or_none};
 use crate::words::Words;
 use clap::ArgMatches;
 use f11_numbers::read_number;
+
+pub fn rt_copy_of<'a>(given: &ArgMatches<'a>) -> Option<Words<'a>>
+    ensures { ReadsWords subcommand.RtCopy given.now result }
+{
+    if given.get_flag("onto") {
+        rt_copy_onto_of(given)
+    } else {
+        rt_copy_fresh_of(given)
+    }
+}
+
+/// The words of `rt-copy` to a fresh volume.
+fn rt_copy_fresh_of<'a>(given: &ArgMatches<'a>) -> Option<Words<'a>>
+    ensures { (blocks segments : Option (List ℕ)) → (old new : List ℕ)
+        → Reads (rt_copy_line blocks segments old new) given.now result }
+{
+    let old = given.get_str("old")?;
+    let new = given.get_str("new")?;
+    Some(Words::RtCopy {
+        blocks: number_or_none(given, "blocks")?,
+        segments: number_or_none(given, "segments")?,
+        old,
+        new,
+    })
+}
+
+/// The words of `rt-copy` to a volume that is there, among which is no number.
+fn rt_copy_onto_of<'a>(given: &ArgMatches<'a>) -> Option<Words<'a>>
+    ensures { (old new : List ℕ) → Reads (rt_copy_onto_line old new) given.now result }
+{
+    if has(given, "blocks") || has(given, "segments") {
+        return None;
+    }
+    let old = given.get_str("old")?;
+    let new = given.get_str("new")?;
+    Some(Words::RtCopyOnto { old, new })
+}
 
 pub fn rt_del_of<'a>(given: &ArgMatches<'a>) -> Option<Words<'a>>
     ensures { ReadsWords subcommand.RtDel given.now result }

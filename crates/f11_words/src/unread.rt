@@ -89,14 +89,8 @@ fn first_unread<'a>(command: Subcommand, given: &ArgMatches<'a>) -> Option<Unrea
         Subcommand::Rights => user(given, "uic")
             .or(user(given, "owner"))
             .or(protection(given)),
-        Subcommand::RtInit => {
-            number(given, "blocks", "--blocks", 65_535).or(number(
-                given,
-                "segments",
-                "--segments",
-                31,
-            ))
-        }
+        Subcommand::RtCopy => rt_copy(given),
+        Subcommand::RtInit => rt_size(given),
         Subcommand::RtGet => rt_get(given),
         Subcommand::RtPut => rt_put(given),
         Subcommand::Home
@@ -176,6 +170,22 @@ fn rt_get<'a>(given: &ArgMatches<'a>) -> Option<Unread<'a>> {
         );
     }
     mode(given).or(there(given, "host", "HOST"))
+}
+
+fn rt_copy<'a>(given: &ArgMatches<'a>) -> Option<Unread<'a>> {
+    if given.get_flag("onto") {
+        return unless(
+            given.get_str("blocks").is_none() && given.get_str("segments").is_none(),
+            "--onto",
+            Why::Alone("OLD and NEW"),
+        );
+    }
+    rt_size(given)
+}
+
+/// How many blocks and segments a fresh RT-11 volume has.
+fn rt_size<'a>(given: &ArgMatches<'a>) -> Option<Unread<'a>> {
+    number(given, "blocks", "--blocks", 65_535).or(number(given, "segments", "--segments", 31))
 }
 
 /// That a word is missing, unless it is there.

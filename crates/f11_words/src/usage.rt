@@ -21,6 +21,7 @@ pub enum Subcommand {
     Put,
     Ren,
     Rights,
+    RtCopy,
     RtDel,
     RtGet,
     RtInit,
@@ -51,7 +52,7 @@ pub(crate) enum Word {
 
 impl Subcommand {
     /// All commands.
-    pub(crate) fn all() -> [Subcommand; 28]
+    pub(crate) fn all() -> [Subcommand; 29]
         ensures { result ≡ all_commands }
     {
         [
@@ -70,6 +71,7 @@ impl Subcommand {
             Subcommand::Put,
             Subcommand::Ren,
             Subcommand::Rights,
+            Subcommand::RtCopy,
             Subcommand::RtDel,
             Subcommand::RtGet,
             Subcommand::RtInit,
@@ -107,6 +109,7 @@ impl Subcommand {
             "put" => Some(Subcommand::Put),
             "ren" => Some(Subcommand::Ren),
             "rights" => Some(Subcommand::Rights),
+            "rt-copy" => Some(Subcommand::RtCopy),
             "rt-del" => Some(Subcommand::RtDel),
             "rt-get" => Some(Subcommand::RtGet),
             "rt-init" => Some(Subcommand::RtInit),
@@ -144,6 +147,7 @@ impl Subcommand {
             Subcommand::Put => "put",
             Subcommand::Ren => "ren",
             Subcommand::Rights => "rights",
+            Subcommand::RtCopy => "rt-copy",
             Subcommand::RtDel => "rt-del",
             Subcommand::RtGet => "rt-get",
             Subcommand::RtInit => "rt-init",
@@ -269,6 +273,15 @@ impl Subcommand {
                     Word::Place("uic", true),
                     Word::Place("owner", true),
                     Word::Place("word", true),
+                ]
+            }
+            Subcommand::RtCopy => {
+                &[
+                    Word::Flag("onto"),
+                    Word::Option("blocks", false),
+                    Word::Option("segments", false),
+                    Word::Place("old", true),
+                    Word::Place("new", true),
                 ]
             }
             Subcommand::RtDel => &[Word::Place("rt", true), Word::Place("name", true)],

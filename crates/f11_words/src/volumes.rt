@@ -1,7 +1,7 @@
 //! The words of the commands on a Files-11 volume.
 ghost use Rattle.std.specs.Prelude.{◌≡◌, ℕ, List, Option, MatchOption, codes};
 ghost use Rattle.clap.specs.Words.{first_value, found_of};
-ghost use Rattle.f11_words.specs.Asking.{IsNoMax, SpellsMax};
+ghost use Rattle.f11_words.specs.Asking.{IsNoNumberOrNone, SpellsMax};
 ghost use Rattle.f11_words.specs.Reading.{ReadsWords};
 ghost use Rattle.f11_words.specs.declared.usage.Subcommand.TheVariants as subcommand;
 
@@ -44,7 +44,7 @@ pub fn init_of<'a>(given: &ArgMatches<'a>) -> Option<Words<'a>>
 /// How many files a volume may have, among the words of `init`.
 fn max_files_of(given: &ArgMatches<'_>) -> Option<u16>
     ensures { (max : Option (List ℕ)) → first_value (found_of given.now) (codes "max") ≡ max
-        → MatchOption result (IsNoMax max) (SpellsMax max) }
+        → MatchOption result (IsNoNumberOrNone max) (SpellsMax max) }
 {
     match given.get_str("max") {
         Some(text) => read_number(text),

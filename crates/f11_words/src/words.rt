@@ -161,6 +161,19 @@ pub enum Words<'a> {
         owner: Uic,
         protection: u16,
     },
+    /// `rt-copy [--blocks N] [--segments N] OLD NEW`: an RT-11 volume whose files are copied to a fresh one, and how many blocks and segments
+    /// that has, 0 to 65,535 each, where they are given
+    RtCopy {
+        blocks: Option<u16>,
+        segments: Option<u16>,
+        old: &'a str,
+        new: &'a str,
+    },
+    /// `rt-copy --onto OLD NEW`: an RT-11 volume whose files are copied to one that is there
+    RtCopyOnto {
+        old: &'a str,
+        new: &'a str,
+    },
     /// `rt-del RT NAME`: a file of an RT-11 volume
     RtDel {
         rt: &'a str,

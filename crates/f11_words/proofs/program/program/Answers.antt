@@ -22,7 +22,7 @@ loop-command-preserved c =
 pub returns : goal.returns
 returns c =
     let empty : App = new_app (codes "f11_pip") in
-    let all : c.loop-command.command-index ≡ 28 = omega (arith, c.loop-command-test.false, c.loop-command.auto.command-index-end) in
+    let all : c.loop-command.command-index ≡ 29 = omega (arith, c.loop-command-test.false, c.loop-command.auto.command-index-end) in
     c.loop-command.invariant
     ∙ ap (λ n. fold with_command empty (take n c.all-command-items.result)) all
-    ∙ ap (λ commands. fold with_command empty (take 28 commands)) c.all-command-items.ensures
+    ∙ ap (λ commands. fold with_command empty (take 29 commands)) c.all-command-items.ensures
