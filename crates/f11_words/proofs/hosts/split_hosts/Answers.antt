@@ -1,4 +1,4 @@
-use Rattle.std.proofs.Common.{◌≡◌, ◌-◌, ℕ, Option, Some, length, sym, ◌∙◌, ap, drop, map, min, string_bytes}
+use Rattle.std.proofs.Common.{◌≡◌, ◌-◌, ℕ, length, sym, ◌∙◌, ap, drop, map, min, string_bytes}
 use Rattle.f11_words.proofs.HostsLemmas.{others-behind, stand-behind}
 use Rattle.f11_words.specs.Hosts.{behind_options}
 use Rattle.f11_words.proofs.hosts.split_hosts.Goals as goal
