@@ -76,7 +76,7 @@ module _ (from read : Disk) (image : read.image ≡ from.image) (honest : read.h
     reads = reads-file-as e c.day c.blocks c.reads;
     makes = c.makes;
   }
-  became-as (NotCopied why) e old new f = failed-as why e old new f
+  became-as (NotCopied why) e old new f = record { fails = failed-as why e old new f.fails; stays = f.stays }
 
 -- one more behind others
 each-more : (from : Disk) (e : RtEntry) (outcome : RtCopied) {entries : List RtEntry} {outcomes : List RtCopied} {old now : Disk}

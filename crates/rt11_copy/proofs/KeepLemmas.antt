@@ -9,7 +9,7 @@ use Rattle.rt11_volume.specs.Verifying.Verdict.{IsRtAccepted, IsSoundDisk}
 use Rattle.rt11_volume.specs.declared.any_entries.RtEntry.{RtEntry}
 use Rattle.rt11_squeeze.specs.Kept.{SparesFiles}
 use Rattle.rt11_squeeze.proofs.StandLemmas.{CarriesFiles, IsCarried, carried-stand, names-apart}
-use Rattle.rt11_copy.specs.Copies.{KeepsEachFile, KeepsVolume}
+use Rattle.rt11_copy.specs.Copies.{IsLeft, KeepsEachFile, KeepsVolume}
 use Rattle.rt11_copy.specs.Copying.{CopiesFile, FailsToCopyFile, Makes, is_volume_fault}
 use Rattle.rt11_copy.specs.declared.outcome.RtUncopied.{RtUncopied}
 use Rattle.rt11_copy.specs.declared.outcome.RtUncopied.TheVariants.{NoFile, StatusWrong, NoName, PastEnd, Unreadable, Refused}
@@ -23,9 +23,6 @@ keeps-more a b c first next = record {
   sound = λ s. next.sound (first.sound s);
   files = λ s name file more at. next.files (first.sound s) name file more (first.files s name file more at);
 }
-
-keeps-untouched : (old new : Disk) → new ≡ old → KeepsVolume old new
-keeps-untouched old new is = subst (KeepsVolume old) (sym is) (keeps-none old)
 
 -- where nothing was written
 keeps-image : (old new : Disk) → new.honest ≡ old.honest → (IsSoundDisk old → new.image ≡ old.image) → KeepsVolume old new
@@ -44,15 +41,23 @@ keeps-made name day protected blocks old new makes = record {
       h.others other (names-apart name other (rt_store_of old.image) file more h.none at) ∙ at;
 }
 
--- or wasn't
+-- or wasn't, and no transfer failed
+stays-failed : (why : RtUncopied) (e : RtEntry) (from old new : Disk) → FailsToCopyFile why e from old new
+    → is_volume_fault {T = Unit} (Err why) ≡ false → IsSoundDisk old → new.image ≡ old.image
+stays-failed NoFile e from old new fails passes s = ap (λ (d : Disk). d.image) fails.untouched
+stays-failed StatusWrong e from old new fails passes s = ap (λ (d : Disk). d.image) fails.untouched
+stays-failed NoName e from old new fails passes s = ap (λ (d : Disk). d.image) fails.untouched
+stays-failed PastEnd e from old new fails passes s = ap (λ (d : Disk). d.image) fails.untouched
+stays-failed Unreadable e from old new fails passes s = ap (λ (d : Disk). d.image) fails.untouched
+stays-failed (Refused refusal) e from old new fails passes s = fails.stays s passes
+
+pub left-so : (why : RtUncopied) (e : RtEntry) (from old new : Disk) → FailsToCopyFile why e from old new
+    → is_volume_fault {T = Unit} (Err why) ≡ false → IsLeft why e from old new
+left-so why e from old new fails passes = record { fails = fails; stays = stays-failed why e from old new fails passes }
+
 pub keeps-failed : (why : RtUncopied) (e : RtEntry) (from old new : Disk) → FailsToCopyFile why e from old new
     → is_volume_fault {T = Unit} (Err why) ≡ false → new.honest ≡ old.honest → KeepsVolume old new
-keeps-failed NoFile e from old new fails passes honest = keeps-untouched old new fails.untouched
-keeps-failed StatusWrong e from old new fails passes honest = keeps-untouched old new fails.untouched
-keeps-failed NoName e from old new fails passes honest = keeps-untouched old new fails.untouched
-keeps-failed PastEnd e from old new fails passes honest = keeps-untouched old new fails.untouched
-keeps-failed Unreadable e from old new fails passes honest = keeps-untouched old new fails.untouched
-keeps-failed (Refused refusal) e from old new fails passes honest = keeps-image old new honest (λ s. fails.stays s passes)
+keeps-failed why e from old new fails passes honest = keeps-image old new honest (stays-failed why e from old new fails passes)
 
 -- the blocks of each file are those of one still
 keeps-carried : (old new : RtStore) → KeepsEachFile old new → CarriesFiles old new

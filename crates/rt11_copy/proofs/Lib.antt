@@ -6,3 +6,4 @@ pub mod KeepLemmas
 pub mod CopiesLemmas
 pub mod FitLemmas
 pub mod SegmentLemmas
+pub mod AloneLemmas

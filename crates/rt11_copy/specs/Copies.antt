@@ -37,10 +37,15 @@ abbrev pub as_result : RtCopied → Result Unit RtUncopied
 as_result Copied = Ok tt
 as_result (NotCopied why) = Err why
 
+-- The file of an entry wasn't copied, for this, and the image of a sound volume is as it was.
+pub record IsLeft (why : RtUncopied) (e : RtEntry) (from old new : Disk) : Type 0 where
+  pub fails : FailsToCopyFile why e from old new
+  pub stays : IsSoundDisk old → new.image ≡ old.image
+
 -- what became of the file of an entry
 abbrev pub Became : RtCopied → RtEntry → Disk → Disk → Disk → Type 0
 Became Copied e from old new = CopiesFile e from old new
-Became (NotCopied why) e from old new = FailsToCopyFile why e from old new
+Became (NotCopied why) e from old new = IsLeft why e from old new
 
 -- A volume is sound still, and each file that there was is as it was, at its place.
 pub record KeepsVolume (old new : Disk) : Type 0 where

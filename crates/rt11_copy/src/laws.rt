@@ -5,3 +5,8 @@ ghost use Rattle.rt11_copy.specs.Laws as laws;
 pub fn entries()
     ensures segments { laws.EntriesHaveSegments }
 {}
+
+/// What comes to a volume by files that are copied to it, one after another.
+pub fn copies()
+    ensures alone { laws.NothingElseComes }
+{}
