@@ -11,7 +11,7 @@ use crate::remarks::{self, Remark};
 use crate::rt_each::{RtEach, put_rt_each};
 use crate::script::serve;
 use crate::tree::{All, put_all};
-use crate::{files, rt_files, rt_folder, rt_volumes, volumes};
+use crate::{files, rt_copies, rt_files, rt_folder, rt_volumes, volumes};
 use f11_commands::f11_vfy::InitParams;
 use f11_commands::{Answer, Direction, print_name, print_rights};
 use f11_patterns::HostNames;
@@ -213,6 +213,13 @@ pub fn run<'a, W: Write>(
             owner,
             protection,
         } => Ok(print_rights(caller, owner, protection, writer)?),
+        Words::RtCopy {
+            blocks,
+            segments,
+            old,
+            new,
+        } => rt_copies::copy(rt, blocks, segments, old, new, writer, remark),
+        Words::RtCopyOnto { old, new } => rt_copies::copy_onto(rt, old, new, writer, remark),
         Words::RtDel { rt: image, name } => rt_files::delete(rt, image, name, writer, remark),
         Words::RtGet {
             mode,

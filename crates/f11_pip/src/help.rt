@@ -180,7 +180,7 @@ const FILES: [Synopsis; 14] = [
 ];
 
 /// Those on RT-11 volumes.
-const RT11: [Synopsis; 10] = [
+const RT11: [Synopsis; 11] = [
     Synopsis {
         command: Subcommand::RtLs,
         words: "f11_pip rt-ls RT",
@@ -244,6 +244,18 @@ const RT11: [Synopsis; 10] = [
             "files of the type BAD, and those of a name that several have, stay, with no line; each other one that moves, or can't, has one, and counts",
         ],
         example: "f11_pip rt-squeeze rt.dsk",
+    },
+    Synopsis {
+        command: Subcommand::RtCopy,
+        words: "f11_pip rt-copy [--blocks N] [--segments N] OLD NEW | rt-copy --onto OLD NEW",
+        does: "copies all files to a fresh volume, or to one that is there",
+        about: &[
+            "OLD: of a volume that has faults, too; NEW is made, and mustn't be there; a line each, and counts, and the lines of rt-vfy on NEW",
+            "--blocks, --segments: as of rt-init; where one isn't given as OLD has it, or more segments where the files need them",
+            "--onto: NEW is of a volume that is accepted, and keeps its files",
+            "a file keeps its date and its protection; the boot block isn't copied",
+        ],
+        example: "f11_pip rt-copy old.dsk new.dsk",
     },
     Synopsis {
         command: Subcommand::RtVfy,

@@ -1,7 +1,8 @@
 //! The program: `f11_pip COMMAND ..` works on Files-11 volumes in image files.
 //!
 //! [`main`] has the words read ([`f11_words`]) and the work done ([`run`]), which opens the files in their order and calls the command's
-//! function of [`f11_commands`], and ends with the [`status`] of the outcome. The crate stands on these two, on [`f11_dev`] and [`f11_read_ahead`], for images, and on [`f11_store`].
+//! function of [`f11_commands`], or of [`f11_salvage`] where all files of a volume are copied, and ends with the [`status`] of the outcome. The
+//! crate stands on these, on [`f11_dev`] and [`f11_read_ahead`], for images, and on [`f11_store`].
 #![tactic(auto)]
 
 mod chosen;
@@ -21,6 +22,7 @@ mod meant;
 mod outcome;
 mod refusals;
 mod remarks;
+mod rt_copies;
 mod rt_each;
 mod rt_files;
 mod rt_folder;

@@ -240,6 +240,26 @@ pub fn of_rt_renaming<'a>(
     of_rt(line, image, word)
 }
 
+/// What there is to say where files aren't copied to the RT-11 volume of this image, the last of them, of this name, for this cause.
+pub fn of_rt_copying<'a>(refusal: &str, image: &'a str, name: &'a str) -> Option<Remark<'a>> {
+    let (word, why) = match refusal {
+        "DuplicateName" => (
+            name,
+            "the volume that is copied to has a file of that name, which may be the first of several; rt-ren gives one another",
+        ),
+        "NoSpace" => (
+            image,
+            "no empty area is as long as a file that isn't copied; rt-list lists them",
+        ),
+        "DirectoryFull" => (
+            image,
+            "its directory has no room for one file more; without --onto the fresh volume has as many segments as the files need",
+        ),
+        _ => return None,
+    };
+    Some(refused(word, why))
+}
+
 /// What it means that a line of a script is answered so.
 pub fn of_request(line: &str) -> Option<&'static str> {
     let why = match line {

@@ -8,6 +8,7 @@ use f11_commands::{
     print_rt_vfy,
 };
 use f11_dev::{BLOCK_SIZE, CannotOpen, Device, Fault, MAX_BLOCKS};
+use f11_salvage::RtTooSmall;
 use std::env::{Env, FillError};
 use std::fs::{self, File};
 use std::io::{self, Read};
@@ -76,6 +77,9 @@ pub enum Why {
     /// It is fewer blocks than a fresh volume with so many slots takes, which are so many.
     #[error("too few for so many slots, which take {0}")]
     TooFew(u32),
+    /// An RT-11 volume has no room for all files of another, but with so many blocks and segments.
+    #[error("no room for all files; --blocks {0} --segments {1} would do")]
+    NoRoom(u32, u16),
     /// Fewer file headers are free on the volume in it than may be needed.
     #[error("it may need {0} file headers, and fewer are free or can be had: delete files, or take a fresh volume, init with --slots {1} or more")]
     FewHeaders(u64, u64),
@@ -117,7 +121,7 @@ impl Why {
     );
     /// Files of an RT-11 volume stay before which an empty area lies.
     pub const NOT_SQUEEZED: Why = Why::Said(
-        "some files stay, since a file is copied before its old place is given up, and no empty area that serves for it is as long; rt-get --all, rt-init and rt-put --each bring all together, but without protection, dates and boot blocks, and with bad blocks under other files",
+        "some files stay, since a file is copied before its old place is given up, and no empty area that serves for it is as long; rt-copy brings all together on a fresh volume, but without the boot block, and with bad blocks under other files",
     );
     /// So do some since the name of their copies is that of files.
     pub const COPY_THERE: Why = Why::Said(
@@ -233,6 +237,10 @@ impl Why {
     pub const RT_FAULTY: Why = Why::Said(
         "the volume has faults: rt-vfy tells them, and docs/VFY.md what to do",
     );
+    /// No RT-11 volume has room for all files of the one in it.
+    pub const NEVER_ROOM: Why = Why::Said(
+        "no RT-11 volume surely has room for all its files; rt-get --all takes them out",
+    );
     /// Its file is longer than an image can be.
     pub const TOO_LONG: Why = Why::Said("longer than 16777216 blocks, the rest is left out");
 }
@@ -308,6 +316,15 @@ pub fn passed_by_segments(segments: u16) -> Remark<'static> {
         limit("--segments", "1 to 31")
     } else {
         limit("--blocks", "at least 7, and two more for each segment")
+    }
+}
+
+/// Why a fresh volume has no room for all files of another, in these images, and of which size it would have.
+pub fn of_small<'a>(why: RtTooSmall, old: &'a str, new: &'a str) -> Remark<'a> {
+    match why {
+        RtTooSmall::BadParameter => limit("--segments", "1 to 31"),
+        RtTooSmall::Wants(size) => Remark::of(new, Why::NoRoom(size.blocks, size.segments)),
+        RtTooSmall::Never => Remark::of(old, Why::NEVER_ROOM),
     }
 }
 
