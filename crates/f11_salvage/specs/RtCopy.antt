@@ -1,7 +1,6 @@
 -- What `rt-copy` does: all files of an RT-11 volume, faulty or not, are copied to another (RT-11 System User's Guide, COPY; profile).
 use Rattle.std.specs.Prelude.{◌≡◌, ◌⊎◌, ℕ, Bool, false, List, Option, Result, Ok, Err, Vec}
 use Rattle.std.specs.Global.{Global}
-use Rattle.std.specs.Io.KnownBytes.{Keeps}
 use Rattle.f11_dev.specs.Disk.{Disk, with_transfer}
 use Rattle.f11_dev.specs.Went.{Went}
 use Rattle.rt11_copy.specs.Copies.{CopiesAll, EndsCopying, OnlyRead, reads_all, writes_all}
