@@ -1,5 +1,5 @@
 -- Which blocks are live headers, and which are killed ones.
-use Rattle.std.proofs.Common.{◌≡◌, ◌≢◌, ℕ, ◌+◌, ◌*◌, ◌%◌, ◌<◌, ◌≤◌, List, length, Bool, true, false, Option, Some, None, IsTrue}
+use Rattle.std.proofs.Common.{◌≡◌, ◌≢◌, ℕ, ◌+◌, ◌*◌, ◌<◌, ◌≤◌, List, length, Bool, true, false, Option, Some, None, IsTrue}
 use Rattle.std.proofs.Common.{◌⊎◌, ◌↔◌, inl, inr, refl, ap, sym, subst, ◌∙◌, eqb-true, eq-eqb, arith}
 use Rattle.std.specs.Prelude.{slice_index}
 use Rattle.std.specs.Cmp.{both_ways as same_Bool}
@@ -14,7 +14,7 @@ use Rattle.f11_header.specs.Header.{holds_header, IsHeader}
 use Rattle.f11_header.specs.Writing.{dead_header, with_check_word}
 use Rattle.f11_header.proofs.FieldLemmas.{valid-with_check_word}
 use Rattle.f11_header.proofs.AreaLemmas.{KeepsAreas}
-use Rattle.f11_header.proofs.HeaderFacts.{HeaderFacts, header_facts, map_within, ident_within}
+use Rattle.f11_header.proofs.HeaderFacts.{header_facts, map_within, ident_within}
 use Rattle.f11_scan.specs.Uses.{IsLive, IsKilled, is_live, is_killed, use_of_block}
 use Rattle.f11_scan.specs.declared.header_use.HeaderUse.{HeaderUse}
 use Rattle.f11_scan.specs.declared.header_use.HeaderUse.TheVariants.{Live, Killed}

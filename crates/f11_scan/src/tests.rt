@@ -125,7 +125,8 @@ fn headers_are_found_in_order(rt: HostRuntime) -> Result<(), Fail> {
     assert!(rt; ends(&mut scan) && ends(&mut scan));
     scan.skip();
     assert!(rt; ends(&mut scan));
-    assert!(rt; scan.device().transfers() == 12);
+    // seven blocks were written before, and each was read once
+    assert!(rt; scan.device().transfers() == 19);
     Ok(())
 }
 
