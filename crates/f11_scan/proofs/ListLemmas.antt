@@ -19,7 +19,8 @@ abbrev headers_in : Image → ℕ → ℕ → List ℕ
 headers_in image from n = filter (is_header_at image) (range_with_len from n)
 
 -- the first of them is one, or isn't
-in-kept : (image : Image) (from n : ℕ) → is_header_at image from ≡ true → headers_in image from (suc n) ≡ from ∷ headers_in image (from + 1) n
+in-kept : (image : Image) (from n : ℕ) → is_header_at image from ≡ true
+    → headers_in image from (suc n) ≡ from ∷ headers_in image (from + 1) n
 in-kept image from n is =
     ap (λ (t : Bool). cond t (from ∷ headers_in image (from + 1) n) (headers_in image (from + 1) n)) is
 
@@ -57,13 +58,20 @@ is_some-from : (o : Option HeaderUse) → o ≢ None → is_some o ≡ true
 is_some-from (Some u) some = refl
 is_some-from None some = absurd (some refl)
 
+-- the first of the list is the one before which there is none, and where there is none the list is empty
+pub from-next : (image : Image) (from lbn : ℕ) → from ≤ lbn → lbn < length image → HasNoHeader image from lbn
+    → use_of_block (image_block image lbn) ≢ None → headers_from image from ≡ lbn ∷ headers_from image (lbn + 1)
+from-next image from lbn behind within none some =
+    let left : length image - lbn ≡ suc (length image - (lbn + 1)) = omega (arith, within) in
+    in-passed image from lbn (length image - from) (length image - lbn) behind (omega (arith, behind, within)) none
+    ∙ ap (λ (n : ℕ). headers_in image lbn n) left
+    ∙ in-kept image lbn (length image - (lbn + 1)) (is_some-from (use_of_block (image_block image lbn)) some)
+
+pub from-none : (image : Image) (from : ℕ) → HasNoHeader image from (length image) → headers_from image from ≡ []
+from-none image from none = in-none image from (length image - from) (λ lbn above below. none lbn above (omega (arith, above, below)))
+
 -- a scan finds just the headers of the list, in order
 pub scans-each : (image : Image) (from : ℕ) (found : List ℕ) → Scans image from found → found ≡ headers_from image from
-scans-each image from [] none =
-    sym (in-none image from (length image - from) (λ lbn above below. none lbn above (omega (arith, above, below))))
+scans-each image from [] none = sym (from-none image from none)
 scans-each image from (lbn ∷ rest) (behind, within, none, some, more) =
-    let left : length image - lbn ≡ suc (length image - (lbn + 1)) = omega (arith, within) in
-    ap (λ (l : List ℕ). lbn ∷ l) (scans-each image (lbn + 1) rest more)
-    ∙ sym (in-passed image from lbn (length image - from) (length image - lbn) behind (omega (arith, behind, within)) none
-    ∙ ap (λ (n : ℕ). headers_in image lbn n) left
-    ∙ in-kept image lbn (length image - (lbn + 1)) (is_some-from (use_of_block (image_block image lbn)) some))
+    ap (λ (l : List ℕ). lbn ∷ l) (scans-each image (lbn + 1) rest more) ∙ sym (from-next image from lbn behind within none some)

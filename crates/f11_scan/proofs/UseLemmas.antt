@@ -214,4 +214,5 @@ use-ident_within b u told first =
 -- what a call tells that tells this
 pub use-where : (b : List ℕ) (u : Option HeaderUse) → IsBlock b → use_of_block b ≡ u
     → ((u ≡ Some Live) ↔ IsLive b) × ((u ≡ Some Killed) ↔ IsKilled b)
-use-where b u block is = subst (λ (o : Option HeaderUse). ((o ≡ Some Live) ↔ IsLive b) × ((o ≡ Some Killed) ↔ IsKilled b)) is (use-exact b block)
+use-where b u block is =
+    subst (λ (o : Option HeaderUse). ((o ≡ Some Live) ↔ IsLive b) × ((o ≡ Some Killed) ↔ IsKilled b)) is (use-exact b block)

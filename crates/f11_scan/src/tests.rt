@@ -1,7 +1,10 @@
 //! That each header of an image is found, live or killed, and no other block.
+ghost use Rattle.std.specs.Prelude.{◌≡◌, length, IfOk, IsTrue};
+ghost use Rattle.f11_scan.specs.Scan.{headers_from, place_of, scanned_disk};
+
 use crate::{HeaderUse, Scan, use_of};
 use f11_bytes::{Block, write_word, zeros};
-use f11_dev::{Device, FailOnce, Memory};
+use f11_dev::{Device, DeviceFault, FailOnce, Memory};
 use f11_header::f11_store::{FileId, Uic};
 use f11_header::{HeaderMut, blank, kill};
 use std::alloc::Global;
@@ -68,6 +71,18 @@ fn device(alloc: Global) -> Result<Memory, Fail> {
     Ok(device)
 }
 
+/// How many headers there are from where the scan is: what a command does first, going from one to the next.
+fn count<D: Device>(scan: &mut Scan<D>) -> Result<u32, DeviceFault>
+    ensures { IfOk result (λ n. IsTrue (scanned_disk D.disk scan.old).honest
+        → n ≡ length (headers_from (scanned_disk D.disk scan.old).image (place_of scan.old))) }
+{
+    let mut n = 0;
+    while let Some(_) = scan.next()? {
+        n += 1;
+    }
+    Ok(n)
+}
+
 /// Whether the next header is in this block, of this use and this segment.
 fn finds<D: Device>(scan: &mut Scan<D>, lbn: u32, header_use: HeaderUse, segment: u8) -> bool {
     match scan.next() {
@@ -117,6 +132,8 @@ fn headers_are_told(rt: HostRuntime) -> Result<(), Fail> {
 
 #[test]
 fn headers_are_found_in_order(rt: HostRuntime) -> Result<(), Fail> {
+    let mut scan = Scan::new(device(rt.alloc())?);
+    assert!(rt; count(&mut scan)? == 4 && ends(&mut scan));
     let mut scan = Scan::new(device(rt.alloc())?);
     assert!(rt; finds(&mut scan, 1, HeaderUse::Live, 0));
     assert!(rt; finds(&mut scan, 4, HeaderUse::Killed, 0) && scan.place() == 5);
