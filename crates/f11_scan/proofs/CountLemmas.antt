@@ -21,9 +21,6 @@ pub record Counted (start : ℕ) (old now : Disk) (n place : ℕ) : Type 0 where
 some-not-none : (u : HeaderUse) → Some u ≢ None
 some-not-none u is = both_ways false refl (sym (ap (λ (o : Option HeaderUse). is_some o) is))
 
-pub counted-none : (d : Disk) (start : ℕ) → Counted start d d 0 start
-counted-none d start = record { few = omega arith; image = refl; honest = refl; counts = λ honest. omega arith }
-
 pub counted-more : (start : ℕ) (old now new : Disk) (n from to most : ℕ) (found : FoundHeader) → Counted start old now n from
     → FindsHeader found now from to → Looked now new most 0 → Counted start old new (n + 1) to
 counted-more start old now new n from to most found counted finds looked = record {
