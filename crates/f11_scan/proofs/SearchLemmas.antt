@@ -9,4 +9,3 @@ pub record HasPassed (old now : Disk) (from to : ℕ) : Type 0 where
   pub behind : from ≤ to
   pub looks : Looked old now (to - from) 0
   pub none : IsTrue old.honest → HasNoHeader old.image from to
-
